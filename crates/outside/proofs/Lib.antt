@@ -1,0 +1,4 @@
+pub mod CountLemmas
+pub mod OutputLemmas
+pub mod StreamLemmas
+pub mod FileLemmas

@@ -1,0 +1,14 @@
+-- Counts of three devices over several steps.
+use Rattle.std.proofs.Common.{ℕ, arith}
+use Rattle.outside.specs.declared.devices.Devices.{Devices}
+use Rattle.outside.specs.Streams.{NoCountFell}
+
+pub NoCountFell-refl : {I O E : Type 0} (input : I → ℕ) (out : O → ℕ) (err : E → ℕ) (dev : Devices I O E) → NoCountFell input out err dev dev
+NoCountFell-refl input out err dev = record { input_later = omega arith; out_later = omega arith; err_later = omega arith }
+
+pub NoCountFell-trans : {I O E : Type 0} {input : I → ℕ} {out : O → ℕ} {err : E → ℕ} {old middle new : Devices I O E} → NoCountFell input out err old middle → NoCountFell input out err middle new → NoCountFell input out err old new
+NoCountFell-trans p q = record {
+  input_later = omega (arith, p.input_later, q.input_later);
+  out_later = omega (arith, p.out_later, q.out_later);
+  err_later = omega (arith, p.err_later, q.err_later);
+}

@@ -1,0 +1,12 @@
+pub mod Count
+pub mod Input
+pub mod Output
+pub mod Files
+pub mod Turned
+pub mod Causes
+pub mod Streams
+pub mod Calls
+pub mod Memory
+pub mod Content
+pub mod Register
+pub mod Adapted
