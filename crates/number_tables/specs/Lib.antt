@@ -1,0 +1,13 @@
+pub mod Codes
+pub mod Errors
+pub mod Flags
+pub mod MapNumbers
+pub mod MaskChanges
+pub mod Numbered
+pub mod OpenNumbers
+pub mod PollNumbers
+pub mod Requests
+pub mod Resources
+pub mod SaNumbers
+pub mod SignalLaws
+pub mod Signals
