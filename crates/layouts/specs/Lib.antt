@@ -1,0 +1,6 @@
+pub mod Dirents
+pub mod Frames
+pub mod Native
+pub mod Number
+pub mod O32
+pub mod Shape

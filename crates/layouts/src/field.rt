@@ -1,0 +1,157 @@
+//! Reading and writing one field of a structure in place.
+ghost use Rattle.std.specs.Prelude.{◌≡◌, ◌+◌, ◌^◌, ◌<◌, ◌≤◌, ◌++◌, IsTrue, length, take, drop, pos};
+ghost use Rattle.layouts.specs.Number as spec;
+ghost use Rattle.layouts.specs.Number.{IsPlaced, field_at, field_value, fit_of, after_put, bytes_of, EachByteOutside};
+
+use byteorder::{BigEndian, ByteOrder, LittleEndian};
+
+/// A number in a structure: where it stands, how long it is, and whether it may be below 0.
+#[derive(Clone, Copy, PartialEq, Eq)]
+pub struct Field {
+    /// Where it begins, in bytes from the structure's start.
+    pub offset: u16,
+    /// How many bytes it has, 1 to 8.
+    pub width: u8,
+    /// Whether its top bit counts as negative (two's complement).
+    pub signed: bool,
+}
+
+/// A structure: its size in bytes, the order of the bytes in its numbers, and its fields.
+pub struct Layout {
+    /// In bytes.
+    pub size: u16,
+    /// Whether the first byte of a number counts most.
+    pub big: bool,
+    /// A byte in no field is 0.
+    pub fields: &'static [Field],
+}
+
+/// Whether a value was in its field's range.
+#[derive(Clone, Copy, PartialEq, Eq)]
+pub enum Fit {
+    /// It was, and stands in the field.
+    Fits,
+    /// It was not, and nothing was written.
+    TooWide,
+}
+
+/// The value of a field, by its place in the table.
+pub fn get(layout: &Layout, field: usize, bytes: &[u8]) -> i128
+    requires in_table { field < length layout.now.fields.now }
+    requires placed { IsPlaced layout.now.size (field_at layout.now.fields.now field) }
+    requires whole { length bytes.now ≡ layout.now.size }
+    ensures { result ≡ field_value layout.now.big (field_at layout.now.fields.now field) bytes.now }
+{
+    let field = layout.fields[field];
+    let width = usize::from(field.width);
+    let bytes = &bytes[usize::from(field.offset)..];
+    let number = if layout.big {
+        BigEndian::read_uint(bytes, width)
+    } else {
+        LittleEndian::read_uint(bytes, width)
+    };
+    value_of(field, number)
+}
+
+/// Puts a value into a field, by its place in the table, where the value is in the field's range.
+pub fn put(layout: &Layout, field: usize, bytes: &mut [u8], value: i128) -> Fit
+    requires in_table { field < length layout.now.fields.now }
+    requires placed { IsPlaced layout.now.size (field_at layout.now.fields.now field) }
+    requires whole { length bytes.old ≡ layout.now.size }
+    ensures fit { result ≡ fit_of (field_at layout.now.fields.now field) value }
+    ensures bytes { bytes.new ≡ after_put layout.now.big (field_at layout.now.fields.now field) value bytes.old }
+
+    // After a put that fits the field has the value, and every other byte is as it was.
+    ensures value { result ≡ Fit.Fits → field_value layout.now.big (field_at layout.now.fields.now field) bytes.new ≡ value }
+    ensures others { EachByteOutside (field_at layout.now.fields.now field) bytes.old bytes.new }
+{
+    put_into(layout.big, layout.fields[field], bytes, value)
+}
+
+/// Puts a value into a field, where the value is in the field's range.
+fn put_into(big: bool, field: Field, bytes: &mut [u8], value: i128) -> Fit
+    requires { IsPlaced (length bytes.old) field }
+    ensures fit { result ≡ fit_of field value }
+    ensures bytes { bytes.new ≡ after_put big field value bytes.old }
+{
+    if !is_in_range(field, value) {
+        return Fit::TooWide;
+    }
+    let number = number_of(field, value);
+    write(big, field, bytes, number);
+    Fit::Fits
+}
+
+/// 256 to this power.
+fn limit(width: u8) -> i128
+    requires { width ≤ 8 }
+    ensures { result ≡ pos (256 ^ width) }
+{
+    match width {
+        0 => 1,
+        1 => 0x100,
+        2 => 0x1_0000,
+        3 => 0x100_0000,
+        4 => 0x1_0000_0000,
+        5 => 0x100_0000_0000,
+        6 => 0x1_0000_0000_0000,
+        7 => 0x100_0000_0000_0000,
+        _ => 0x1_0000_0000_0000_0000,
+    }
+}
+
+/// What a field's number is as a value.
+fn value_of(field: Field, number: u64) -> i128
+    requires { field.width ≤ 8 }
+    ensures { result ≡ spec.value_of field.signed field.width number }
+{
+    let value = i128::from(number);
+    let limit = limit(field.width);
+    if field.signed && value >= limit / 2 {
+        value - limit
+    } else {
+        value
+    }
+}
+
+/// Whether a value is in a field's range.
+fn is_in_range(field: Field, value: i128) -> bool
+    requires { field.width ≤ 8 }
+    ensures { result ≡ spec.is_in_range field.signed field.width value }
+{
+    let limit = limit(field.width);
+    if field.signed {
+        -(limit / 2) <= value && value < limit / 2
+    } else {
+        0 <= value && value < limit
+    }
+}
+
+/// The number that stands for a value of the field's range.
+fn number_of(field: Field, value: i128) -> u64
+    requires few { field.width ≤ 8 }
+    requires in_range { IsTrue (spec.is_in_range field.signed field.width value) }
+    ensures value { result ≡ spec.number_of field.width value }
+    ensures fits { result < 256 ^ field.width }
+{
+    if value < 0 {
+        (value + limit(field.width)) as u64
+    } else {
+        value as u64
+    }
+}
+
+/// Puts a number of the field's width into its bytes.
+fn write(big: bool, field: Field, bytes: &mut [u8], number: u64)
+    requires placed { IsPlaced (length bytes.old) field }
+    requires fits { number < 256 ^ field.width }
+    ensures { bytes.new ≡ take field.offset bytes.old ++ bytes_of big field.width number ++ drop (field.offset + field.width) bytes.old }
+{
+    let width = usize::from(field.width);
+    let bytes = &mut bytes[usize::from(field.offset)..];
+    if big {
+        BigEndian::write_uint(bytes, number, width);
+    } else {
+        LittleEndian::write_uint(bytes, number, width);
+    }
+}
