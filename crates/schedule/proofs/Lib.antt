@@ -1,0 +1,4 @@
+pub mod Digits
+pub mod FirstFault
+pub mod InTurn
+pub mod Pieces
