@@ -1,0 +1,15 @@
+//! The guest's memory: pages of 4096 bytes with a protection, loads and stores, and the program break.
+#![tactic(auto)]
+
+mod access;
+mod page;
+mod page_store;
+mod range;
+mod space;
+mod walk;
+
+pub use access::{Access, Denied, MapError, NoMemory, StoreError, Why};
+pub use space::Space;
+
+#[cfg(test)]
+mod tests;

@@ -1,0 +1,212 @@
+//! The guest's memory as the calls of the machine see it.
+ghost use Rattle.std.specs.Prelude.{◌≡◌, ◌+◌, ◌*◌, ◌<◌, ◌≤◌, ◌^◌, ◌↔◌, length, IfOk, OnOk, OnErr, IfErr, IsErrOf};
+ghost use Rattle.std.specs.FinMap as map;
+ghost use Rattle.guest_space.specs.Access.{first_denied, bytes_before, readable_prefix, writable_prefix, unless_denied, user_end};
+ghost use Rattle.guest_space.specs.Answers.{IsStoreAnswer, LeavesPrefix, LeavesMapped};
+ghost use Rattle.guest_space.specs.Bytes.{bytes_at, read, written, copied_out, are_ready};
+ghost use Rattle.guest_space.specs.Memory.{IsValid};
+ghost use Rattle.guest_space.specs.Mapping.{with_zeros, with_protection, mapped_run, page_limit};
+
+use crate::access::{Access, Denied, MapError, NoMemory, StoreError};
+use crate::page::PAGE_SIZE;
+use crate::page_store::PageStore;
+use crate::range::{absent_pages, map_zeros, mapped_pages, protect_pages};
+use crate::walk::{first_denied, load_in_page, number, read_bytes, write_bytes};
+use std::alloc::Global;
+use std::marker::Model;
+
+/// The greatest number of pages that may be mapped at a time.
+const PAGE_LIMIT: usize = 131_072;
+
+/// The memory of a guest program. Contracts see it as a `Memory` of `specs/Memory.antt`: a finite map
+/// from page numbers to pages, the program break and the place where the break began. Addresses have
+/// 32 bits, a page has 4096 bytes, and user space ends at 0x7FFF8000.
+#[derive(Drop)]
+pub struct Space {
+    pages: PageStore,
+    program_break: u32,
+    break_start: u32,
+    alloc: Global,
+}
+
+impl Model for Space {
+    ghost use Rattle.guest_space.specs.Memory.{Memory, memory_code, IsValid};
+
+    ghost Value = { Memory };
+
+    ghost coded = { memory_code };
+
+    ghost view = { λ s. record { pages = s.pages; program_break = s.program_break; break_start = s.break_start } };
+
+    ghost invariant = { λ s. IsValid s.pages };
+}
+
+impl Space {
+    /// A memory with no page, and with the break and its start at 0. It takes its pages from `alloc`.
+    pub fn new(alloc: Global) -> Result<Space, NoMemory>
+        ensures empty { IfOk result (λ s. s ≡ record { pages = map.empty; program_break = 0; break_start = 0 }) }
+        ensures valid { IfOk result (λ s. IsValid s.pages) }
+    {
+        Ok(Space {
+            pages: PageStore::new(alloc),
+            program_break: 0,
+            break_start: 0,
+            alloc,
+        })
+    }
+
+    /// Makes `at` the program break and the break's start (brk(2)).
+    pub fn set_break(&mut self, at: u32)
+        ensures both { self.new ≡ record self.old { program_break = at; break_start = at } }
+        ensures valid { IsValid self.new.pages }
+    {
+        self.program_break = at;
+        self.break_start = at;
+    }
+
+    /// The big-endian number of the `n` bytes from `addr` on, `n` from 1 to 4, or the first of them
+    /// that may not be loaded. It takes no memory.
+    pub fn load(&self, addr: u32, n: u32) -> Result<u32, Denied>
+        requires low { 1 ≤ n }
+        requires high { n ≤ 4 }
+        ensures value { result ≡ read self.now addr n }
+        ensures fits { IfOk result (λ value. value < 256 ^ n) }
+    {
+        if addr % PAGE_SIZE + n <= PAGE_SIZE {
+            return load_in_page(&self.pages, addr, n);
+        }
+        let mut buffer = [0u8; 4];
+        let bytes = &mut buffer[..n as usize];
+        self.copy_in(addr, bytes)?;
+        Ok(number(bytes))
+    }
+
+    /// The big-endian word of the four bytes from `addr` on, or the first of them that may not be
+    /// fetched. That an address is a multiple of 4 is the caller's matter. It takes no memory.
+    pub fn fetch(&self, addr: u32) -> Result<u32, Denied>
+        ensures { result ≡ read self.now addr 4 }
+    {
+        self.load(addr, 4)
+    }
+
+    /// Writes the lowest `n` bytes of `value`, `n` from 1 to 4, big-endian from `addr` on: all of them,
+    /// or none with the first byte that may not be stored to. It asks for memory only where a byte's
+    /// page was not written since it was mapped, and a refusal then changes nothing.
+    pub fn store(&mut self, addr: u32, n: u32, value: u32) -> Result<(), StoreError>
+        requires low { 1 ≤ n }
+        requires high { n ≤ 4 }
+        ensures ok { OnOk result (self.new ≡ written self.old addr n value) }
+        ensures err { OnErr result (self.new ≡ self.old) }
+        ensures answer { IsStoreAnswer
+            (first_denied Access.Store self.old.pages addr n) (are_ready self.old.pages addr n) result }
+        ensures valid { IsValid self.new.pages }
+    {
+        let bytes = value.to_be_bytes();
+        self.write(addr, &bytes[4 - n as usize..])?;
+        Ok(())
+    }
+
+    /// The greatest m, at most `n`, such that each of the first m bytes from `addr` on may be loaded.
+    /// None of these wraps past 2^32, and none lies past user space. It takes no memory.
+    pub fn readable(&self, addr: u32, n: u32) -> u32
+        ensures value { result ≡ readable_prefix self.now.pages addr n }
+        ensures within { 0 < result → addr + result ≤ user_end }
+    {
+        self.prefix(Access::Load, addr, n)
+    }
+
+    /// The same, of bytes that may be stored to.
+    pub fn writable(&self, addr: u32, n: u32) -> u32
+        ensures value { result ≡ writable_prefix self.now.pages addr n }
+        ensures within { 0 < result → addr + result ≤ user_end }
+    {
+        self.prefix(Access::Store, addr, n)
+    }
+
+    /// Reads the bytes from `addr` on into `buf`: all of them, or none with the first byte that may
+    /// not be loaded. It takes no memory.
+    pub fn copy_in(&self, addr: u32, buf: &mut [u8]) -> Result<(), Denied>
+        ensures answer { result ≡ unless_denied (first_denied Access.Load self.now.pages addr (length buf.old)) tt }
+        ensures ok { OnOk result (buf.new ≡ bytes_at self.now.pages addr (length buf.old)) }
+        ensures err { OnErr result (buf.new ≡ buf.old) }
+    {
+        if let Some(denied) = first_denied(&self.pages, Access::Load, addr, buf.len()) {
+            return Err(denied);
+        }
+        read_bytes(&self.pages, addr, buf);
+        Ok(())
+    }
+
+    /// Writes the bytes from `addr` on: all of them, or none with the first byte that may not be
+    /// stored to. It asks for memory only where a byte's page was not written since it was mapped, and
+    /// after a refusal of that a first part of the bytes is written.
+    pub fn copy_out(&mut self, addr: u32, bytes: &[u8]) -> Result<(), StoreError>
+        ensures ok { OnOk result (self.new ≡ copied_out self.old addr bytes.now) }
+        ensures err { IfErr result (λ e. LeavesPrefix e self.old self.new addr bytes.now) }
+        ensures answer { IsStoreAnswer (first_denied Access.Store self.old.pages addr (length bytes.now))
+            (are_ready self.old.pages addr (length bytes.now)) result }
+        ensures valid { IsValid self.new.pages }
+    {
+        self.write(addr, bytes)?;
+        Ok(())
+    }
+
+    /// Maps `count` pages of zeros from page `first` on, with this protection (1 read, 2 write,
+    /// 4 execute, added up), in place of those that are there. Full comes exactly where more than
+    /// 131,072 pages would be mapped, and then nothing changes. NoPlace never comes. After NoMemory a
+    /// first part of the pages was mapped.
+    pub fn map(&mut self, first: u32, count: u32, prot: u8) -> Result<(), MapError>
+        requires end { first + count ≤ 524280 }
+        requires protection { prot ≤ 7 }
+        ensures ok { OnOk result (self.new ≡ record self.old { pages = with_zeros self.old.pages first count prot }) }
+        ensures full { IsErrOf result MapError.Full ↔ (page_limit < map.len (with_zeros self.old.pages first count prot)) }
+        ensures err { IfErr result (λ e. LeavesMapped e self.old self.new first count prot) }
+        ensures valid { IsValid self.new.pages }
+    {
+        if self.pages.len() + absent_pages(&self.pages, first, count) > PAGE_LIMIT {
+            return Err(MapError::Full);
+        }
+        map_zeros(&mut self.pages, self.alloc, first, count, prot)?;
+        Ok(())
+    }
+
+    /// Gives the pages from `first` on, at most `count` and up to the first that is absent, this
+    /// protection, and answers their number (mprotect(2)).
+    pub fn protect(&mut self, first: u32, count: u32, prot: u8) -> u32
+        requires end { first + count ≤ 524280 }
+        requires protection { prot ≤ 7 }
+        ensures count { result ≡ mapped_run self.old.pages first count }
+        ensures changed { self.new ≡ record self.old { pages = with_protection self.old.pages first result prot } }
+        ensures valid { IsValid self.new.pages }
+    {
+        let run = mapped_pages(&self.pages, first, count);
+        protect_pages(&mut self.pages, first, run, prot);
+        run
+    }
+
+    /// Writes the bytes from `addr` on, or none with the first byte that may not be stored to. The pages
+    /// have their memory since they were mapped.
+    fn write(&mut self, addr: u32, bytes: &[u8]) -> Result<(), Denied>
+        ensures answer { result ≡ unless_denied (first_denied Access.Store self.old.pages addr (length bytes.now)) tt }
+        ensures ok { OnOk result (self.new ≡ copied_out self.old addr bytes.now) }
+        ensures err { OnErr result (self.new ≡ self.old) }
+        ensures valid { IsValid self.new.pages }
+    {
+        if let Some(denied) = first_denied(&self.pages, Access::Store, addr, bytes.len()) {
+            return Err(denied);
+        }
+        write_bytes(&mut self.pages, addr, bytes);
+        Ok(())
+    }
+
+    /// The bytes before the first that may not be used so.
+    fn prefix(&self, access: Access, addr: u32, n: u32) -> u32
+        ensures value { result ≡ bytes_before addr n (first_denied access self.now.pages addr n) }
+        ensures within { 0 < result → addr + result ≤ user_end }
+    {
+        match first_denied(&self.pages, access, addr, n as usize) {
+            None => n,
+            Some(denied) => denied.addr - addr,
+        }
+    }
+}
