@@ -1,0 +1,4 @@
+pub mod Decoding
+pub mod Forms
+pub mod Rows
+pub mod WordFields
