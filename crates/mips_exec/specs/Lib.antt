@@ -1,0 +1,10 @@
+pub mod Accumulator
+pub mod Arithmetic
+pub mod Computing
+pub mod Effect
+pub mod Jumps
+pub mod Operands
+pub mod Processor
+pub mod Step
+pub mod Transfers
+pub mod Traps

@@ -1,0 +1,20 @@
+//! One instruction of a MIPS32 processor over guest memory.
+#![tactic(auto)]
+
+mod accumulator;
+mod arithmetic;
+mod computing;
+mod control;
+mod cpu;
+mod effect;
+mod execution;
+mod jumps;
+mod memory;
+mod transfers;
+mod traps;
+
+pub use cpu::{Cpu, Slot};
+pub use execution::{NoMemory, Stepped, step};
+
+#[cfg(test)]
+mod tests;

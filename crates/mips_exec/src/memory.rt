@@ -1,0 +1,297 @@
+//! Loads and stores over guest memory, and the signals of their refusals.
+ghost use Rattle.std.specs.Prelude.{◌≡◌, ◌%◌, ◌<◌, ◌≤◌, Some, IfOk, OnErr, IsTrue};
+ghost use Rattle.guest_space.specs.Access.{first_denied};
+ghost use Rattle.guest_space.specs.declared.access.Access.TheVariants as Access;
+ghost use Rattle.mips_exec.specs.Step.{carried_out, needs_page, stopped, load_address, load_width, loaded_value, merged_left, merged_right, store_address, store_width, stored_value, access_signal, access_code};
+
+use crate::arithmetic::{extend_byte, extend_half};
+use crate::control::{fault, go_on};
+use crate::cpu::Cpu;
+use crate::effect::{Effect, Span};
+use crate::execution::{NoMemory, Stepped};
+use guest_space::{Access, Denied, Space, StoreError, Why};
+use kernel_core::Sig;
+
+/// The signal for a byte that may not be used.
+#[inline]
+pub fn access_signal(why: Why) -> Sig
+    ensures { result ≡ access_signal why }
+{
+    match why {
+        Why::Absent | Why::Forbidden => Sig::Segv,
+        Why::Beyond => Sig::Bus,
+    }
+}
+
+/// The code of that signal.
+#[inline]
+pub fn access_code(why: Why) -> u32
+    ensures { result ≡ access_code why }
+{
+    match why {
+        Why::Absent | Why::Beyond => 1,
+        Why::Forbidden => 2,
+    }
+}
+
+/// Stops at a byte that may not be used.
+#[inline]
+fn deny(cpu: &mut Cpu, denied: Denied) -> Stepped
+    ensures processor { cpu.new ≡ stopped cpu.old }
+    ensures came { result ≡ Stepped.Fault (access_signal denied.why) (access_code denied.why) denied.addr }
+{
+    fault(
+        cpu,
+        access_signal(denied.why),
+        access_code(denied.why),
+        denied.addr,
+    )
+}
+
+/// Where the bytes of a load begin.
+#[inline]
+fn load_address(span: Span, address: u32) -> u32
+    ensures { result ≡ load_address span address }
+{
+    match span {
+        Span::Left | Span::Right => address - address % 4,
+        Span::Byte | Span::Half | Span::Word => address,
+    }
+}
+
+/// How many bytes a load takes.
+#[inline]
+fn load_width(span: Span) -> u32
+    ensures value { result ≡ load_width span }
+    ensures low { 1 ≤ result }
+    ensures high { result ≤ 4 }
+{
+    match span {
+        Span::Byte => 1,
+        Span::Half => 2,
+        Span::Word | Span::Left | Span::Right => 4,
+    }
+}
+
+/// A word's bytes from a place on, in the upper bytes of what the register held.
+#[inline]
+fn merge_left(place: u32, old: u32, word: u32) -> u32
+    requires { place < 4 }
+    ensures { result ≡ merged_left place old word }
+{
+    match place {
+        0 => word,
+        1 => word % 0x100_0000 * 0x100 + old % 0x100,
+        2 => word % 0x1_0000 * 0x1_0000 + old % 0x1_0000,
+        _ => word % 0x100 * 0x100_0000 + old % 0x100_0000,
+    }
+}
+
+/// A word's bytes up to a place, in the lower bytes of what the register held.
+#[inline]
+fn merge_right(place: u32, old: u32, word: u32) -> u32
+    requires { place < 4 }
+    ensures { result ≡ merged_right place old word }
+{
+    match place {
+        0 => old / 0x100 * 0x100 + word / 0x100_0000,
+        1 => old / 0x1_0000 * 0x1_0000 + word / 0x1_0000,
+        2 => old / 0x100_0000 * 0x100_0000 + word / 0x100,
+        _ => word,
+    }
+}
+
+/// What a register gets of the number that was read.
+#[inline]
+fn loaded_value(span: Span, signed: bool, address: u32, old: u32, number: u32) -> u32
+    ensures { result ≡ loaded_value span signed address old number }
+{
+    match span {
+        Span::Byte if signed => extend_byte(number),
+        Span::Half if signed => extend_half(number),
+        Span::Byte | Span::Half | Span::Word => number,
+        Span::Left => merge_left(address % 4, old, number),
+        Span::Right => merge_right(address % 4, old, number),
+    }
+}
+
+/// A load: LB, LBU, LH, LHU, LW, LWL or LWR. It takes no memory.
+#[inline]
+pub fn load(
+    cpu: &mut Cpu,
+    space: &Space,
+    span: Span,
+    signed: bool,
+    address: u32,
+    register: u8,
+) -> Stepped
+    ensures { carried_out cpu.old space.now (Effect.Load span signed address register)
+        ≡ record { processor = cpu.new; memory = space.now; came = result } }
+{
+    match space.load(load_address(span, address), load_width(span)) {
+        Ok(number) => {
+            let old = cpu.reg(register);
+            cpu.set_reg(register, loaded_value(span, signed, address, old, number));
+            go_on(cpu)
+        }
+        Err(denied) => deny(cpu, denied),
+    }
+}
+
+/// LL, which links its address. It takes no memory.
+#[inline]
+pub fn load_linked(cpu: &mut Cpu, space: &Space, address: u32, register: u8) -> Stepped
+    ensures { carried_out cpu.old space.now (Effect.LoadLinked address register)
+        ≡ record { processor = cpu.new; memory = space.now; came = result } }
+{
+    if address % 4 != 0 {
+        return fault(cpu, Sig::Bus, 1, address);
+    }
+    match space.load(address, 4) {
+        Ok(number) => {
+            cpu.link = Some(address);
+            cpu.set_reg(register, number);
+            go_on(cpu)
+        }
+        Err(denied) => deny(cpu, denied),
+    }
+}
+
+/// Where the bytes of a store begin.
+#[inline]
+fn store_address(span: Span, address: u32) -> u32
+    ensures { result ≡ store_address span address }
+{
+    match span {
+        Span::Right => address - address % 4,
+        Span::Byte | Span::Half | Span::Word | Span::Left => address,
+    }
+}
+
+/// How many bytes a store writes.
+#[inline]
+fn store_width(span: Span, address: u32) -> u32
+    ensures value { result ≡ store_width span address }
+    ensures low { 1 ≤ result }
+    ensures high { result ≤ 4 }
+{
+    match span {
+        Span::Byte => 1,
+        Span::Half => 2,
+        Span::Word => 4,
+        Span::Left => 4 - address % 4,
+        Span::Right => address % 4 + 1,
+    }
+}
+
+/// The number whose lowest bytes a store writes.
+#[inline]
+fn stored_value(span: Span, address: u32, value: u32) -> u32
+    ensures { result ≡ stored_value span address value }
+{
+    match span {
+        Span::Left => value >> (8 * (address % 4)),
+        Span::Byte | Span::Half | Span::Word | Span::Right => value,
+    }
+}
+
+/// A store: SB, SH, SW, SWL or SWR. It writes all its bytes or none.
+#[inline]
+pub fn store(
+    cpu: &mut Cpu,
+    space: &mut Space,
+    span: Span,
+    address: u32,
+    value: u32,
+) -> Result<Stepped, NoMemory>
+    ensures ok { IfOk result (λ came. carried_out cpu.old space.old (Effect.Store span address value)
+        ≡ record { processor = cpu.new; memory = space.new; came = came }) }
+    ensures unchanged_cpu { OnErr result (cpu.new ≡ cpu.old) }
+    ensures unchanged_space { OnErr result (space.new ≡ space.old) }
+    ensures cause { OnErr result (IsTrue (needs_page cpu.old space.old (Effect.Store span address value))) }
+{
+    let bytes = stored_value(span, address, value);
+    let width = store_width(span, address);
+    match space.store(store_address(span, address), width, bytes) {
+        Ok(()) => Ok(go_on(cpu)),
+        Err(StoreError::Denied(denied)) => Ok(deny(cpu, denied)),
+        Err(StoreError::NoMemory) => Err(NoMemory),
+    }
+}
+
+/// The byte of an aligned word that may not be stored to.
+#[inline]
+fn store_refusal(space: &Space, address: u32) -> Option<Denied>
+    requires { address % 4 ≡ 0 }
+    ensures { result ≡ first_denied Access.Store space.now.pages address 4 }
+{
+    if space.writable(address, 4) == 4 {
+        return None;
+    }
+    let why = match space.load(address, 1) {
+        Ok(_) => Why::Forbidden,
+        Err(denied) => denied.why,
+    };
+    Some(Denied { addr: address, why })
+}
+
+/// SC, which clears the link, also where it stores nothing.
+#[inline]
+pub fn store_conditional(
+    cpu: &mut Cpu,
+    space: &mut Space,
+    address: u32,
+    register: u8,
+) -> Result<Stepped, NoMemory>
+    ensures ok { IfOk result (λ came. carried_out cpu.old space.old (Effect.StoreConditional address register)
+        ≡ record { processor = cpu.new; memory = space.new; came = came }) }
+    ensures unchanged_cpu { OnErr result (cpu.new ≡ cpu.old) }
+    ensures unchanged_space { OnErr result (space.new ≡ space.old) }
+    ensures cause { OnErr result (IsTrue (needs_page cpu.old space.old (Effect.StoreConditional address register))) }
+{
+    if address % 4 != 0 {
+        cpu.link = None;
+        return Ok(fault(cpu, Sig::Bus, 1, address));
+    }
+    if cpu.link == Some(address) {
+        return store_linked(cpu, space, address, register);
+    }
+    cpu.link = None;
+    match store_refusal(space, address) {
+        Some(denied) => Ok(deny(cpu, denied)),
+        None => {
+            cpu.set_reg(register, 0);
+            Ok(go_on(cpu))
+        }
+    }
+}
+
+/// SC at the address that is linked.
+#[inline]
+fn store_linked(
+    cpu: &mut Cpu,
+    space: &mut Space,
+    address: u32,
+    register: u8,
+) -> Result<Stepped, NoMemory>
+    requires aligned { address % 4 ≡ 0 }
+    requires linked { cpu.old.link ≡ Some address }
+    ensures ok { IfOk result (λ came. carried_out cpu.old space.old (Effect.StoreConditional address register)
+        ≡ record { processor = cpu.new; memory = space.new; came = came }) }
+    ensures unchanged_cpu { OnErr result (cpu.new ≡ cpu.old) }
+    ensures unchanged_space { OnErr result (space.new ≡ space.old) }
+    ensures cause { OnErr result (IsTrue (needs_page cpu.old space.old (Effect.StoreConditional address register))) }
+{
+    match space.store(address, 4, cpu.reg(register)) {
+        Ok(()) => {
+            cpu.link = None;
+            cpu.set_reg(register, 1);
+            Ok(go_on(cpu))
+        }
+        Err(StoreError::Denied(denied)) => {
+            cpu.link = None;
+            Ok(deny(cpu, denied))
+        }
+        Err(StoreError::NoMemory) => Err(NoMemory),
+    }
+}
