@@ -1,0 +1,5 @@
+pub mod Counting
+pub mod Headers
+pub mod Judging
+pub mod Parts
+pub mod Whole
