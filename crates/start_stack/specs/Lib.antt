@@ -1,0 +1,3 @@
+pub mod FirstMemory
+pub mod Stack
+pub mod Start
