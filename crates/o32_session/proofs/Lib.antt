@@ -1,0 +1,6 @@
+pub mod Numbers
+pub mod Readable
+pub mod RunLemmas
+pub mod Preparing
+pub mod Sessions
+pub mod Reading

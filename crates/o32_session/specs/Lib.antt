@@ -1,0 +1,12 @@
+pub mod Answers
+pub mod Calls
+pub mod Lines
+pub mod Machine
+pub mod Prepared
+pub mod Reader
+pub mod Run
+pub mod Runs
+pub mod Session
+pub mod Steps
+pub mod Turns
+pub mod Words

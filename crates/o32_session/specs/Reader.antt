@@ -1,0 +1,53 @@
+-- How the values of the reader of words stand for the definitions of `Words`.
+use Rattle.std.specs.Prelude.{ℕ, ◌≡◌, ⊤, List, Option, Some, None}
+use Rattle.o32_session.specs.Words.{place_of, BudgetOption, EnvOption, ProgramName, NoOption, Line, Reading, Asks, WrongAt, texts}
+use Rattle.o32_session.specs.Steps.{Option_or_program, Budget_value, Env_value, Goes_on, Is_program, Is_wrong}
+use Rattle.o32_session.specs.Words as Words
+use Rattle.o32_session.specs.Steps as Steps
+use Rattle.o32_session.specs.declared.words.Place.{Place}
+use Rattle.o32_session.specs.declared.words.Place.TheVariants.{Budget, Environment, Program, Unknown}
+use Rattle.o32_session.specs.declared.words.Expected.{Expected}
+use Rattle.o32_session.specs.declared.words.Expected.TheVariants.{OptionOrProgram, BudgetValue, EnvironmentValue}
+use Rattle.o32_session.specs.declared.words.Step.{Step}
+use Rattle.o32_session.specs.declared.words.Step.TheVariants.{GoesOn, IsProgram, IsWrong}
+use Rattle.o32_session.specs.declared.words.Options.{Options}
+use Rattle.o32_session.specs.declared.words.RunLine.{RunLine}
+use Rattle.o32_session.specs.declared.words.WordsError.{WordsError}
+use Rattle.o32_session.specs.declared.words.WordsError.TheVariants.{Usage, NoMemory}
+
+abbrev pub place_seen : Place → Words.Place
+place_seen Budget = BudgetOption
+place_seen Environment = EnvOption
+place_seen Program = ProgramName
+place_seen Unknown = NoOption
+
+abbrev pub IsPlace : List ℕ → Place → Type 0
+IsPlace word place = place_seen place ≡ place_of word
+
+abbrev pub expected_seen : Expected → Steps.Expected
+expected_seen OptionOrProgram = Option_or_program
+expected_seen BudgetValue = Budget_value
+expected_seen EnvironmentValue = Env_value
+
+abbrev pub options_seen : Options → Words.Options
+options_seen options = record { budget = options.budget; environment = texts options.environment.items }
+
+-- the step that the reader takes, from the options before to those after, is the one that is defined
+abbrev pub StepIs : Steps.Step → Step → Options → Options → Type 0
+StepIs step (GoesOn next) before after = step ≡ Goes_on (expected_seen next) (options_seen after)
+StepIs step IsProgram before after = (step ≡ Is_program) × (options_seen after ≡ options_seen before)
+StepIs step IsWrong before after = step ≡ Is_wrong
+
+-- the guest's words, of which the first that is wrong is given
+abbrev pub guest_reading : Line → Option ℕ → Reading
+guest_reading line None = Asks line
+guest_reading line (Some wrong) = WrongAt wrong
+
+-- the line that the words ask for
+abbrev pub line_seen : RunLine → Line
+line_seen line = record { budget = line.budget; environment = texts line.environment.items; program = line.program }
+
+-- why no line was given: the reading is wrong at that word; want of memory is free
+abbrev pub IsReason : Reading → WordsError → Type 0
+IsReason reading (Usage word) = reading ≡ WrongAt word
+IsReason reading NoMemory = ⊤

@@ -1,0 +1,128 @@
+-- The words after the emulator's own name, as this project defines them:
+--
+--     run [--budget N] [--env K=V].. PROGRAM [WORD..]
+--
+-- Square brackets hold what may be absent, and `..` follows what may stand any number of times. Options stand before
+-- PROGRAM in any order, each at most once but `--env`; a value is the next word, whatever it is. A word is given by its
+-- bytes. What is wrong is named by the index, from 0, of the first word at which a reading from the left fails, or by
+-- the number of words where one is missing.
+use Rattle.std.specs.Prelude.{ℕ, ◌+◌, List, [], ◌∷◌, ◌++◌, map, Bool, false, ◌&&◌, not, if◌then◌else◌, nat_lt, nat_le, ◌==◌, slice_index, drop, is_some, Option, Some, None, codes}
+use Rattle.std.specs.List.{list_any, list_all}
+use Rattle.std.specs.Option.{unwrap_or}
+use Rattle.std.specs.Str.{bytes_eq}
+use Rattle.std.specs.Char.{is_ascii_digit}
+use Rattle.std.specs.Str.Parse.{digits_value}
+use Rattle.std.specs.Prelude.{String}
+use Rattle.std.specs.String.{string_bytes}
+
+-- the bytes of each word
+abbrev pub texts : {A : Type 0} → List (String A) → List (List ℕ)
+texts words = map string_bytes words
+
+-- no word holds a NUL
+abbrev pub has_nul : List ℕ → Bool
+has_nul word = list_any (λ byte. byte == 0) word
+
+-- decimal digits without a sign or a leading zero
+abbrev pub is_plain_number : List ℕ → Bool
+is_plain_number text = nat_lt 48 (slice_index text 0) && list_all is_ascii_digit text
+
+abbrev pub greatest_budget : ℕ
+greatest_budget = 1_000_000_000_000
+
+abbrev pub up_to_greatest : ℕ → Option ℕ
+up_to_greatest n = if nat_le n greatest_budget then Some n else None
+
+-- N of `--budget N`: from 1 to 10^12 in decimal, without a sign or a leading zero
+abbrev pub budget_of : List ℕ → Option ℕ
+budget_of text = if is_plain_number text then up_to_greatest (digits_value 10 text) else None
+
+-- K=V of `--env K=V`: a `=` stands after its first byte
+abbrev pub is_setting : List ℕ → Bool
+is_setting text = not (has_nul text) && list_any (λ byte. byte == 61) (drop 1 text)
+
+-- what a word is in the place of an option
+pub data Place : Type 0 where
+  BudgetOption : Place
+  EnvOption : Place
+  ProgramName : Place
+  NoOption : Place
+
+-- PROGRAM isn't empty and doesn't start with `-`
+abbrev pub is_program : List ℕ → Bool
+is_program [] = false
+is_program (first ∷ rest) = not (first == 45) && not (has_nul (first ∷ rest))
+
+abbrev pub place_of : List ℕ → Place
+place_of word =
+    if bytes_eq word (codes "--budget") then BudgetOption
+    else (if bytes_eq word (codes "--env") then EnvOption
+    else (if is_program word then ProgramName else NoOption))
+
+-- the options that were read: N of `--budget`, and each K=V in their order
+pub record Options : Type 0 where
+  pub budget : Option ℕ
+  pub environment : List (List ℕ)
+
+abbrev pub no_options : Options
+no_options = record { budget = None; environment = [] }
+
+-- what the words ask for: the budget, the environment, and the index of PROGRAM, the first of the guest's arguments
+pub record Line : Type 0 where
+  pub budget : ℕ
+  pub environment : List (List ℕ)
+  pub program : ℕ
+
+-- the budget of a run whose words give none
+abbrev pub default_budget : ℕ
+default_budget = 1_000_000_000
+
+pub data Reading : Type 0 where
+  Asks : Line → Reading
+  WrongAt : ℕ → Reading
+
+-- the words after PROGRAM, which is at `program`: each is the guest's
+abbrev pub read_guest : Line → ℕ → List (List ℕ) → Reading
+read_guest line at [] = Asks line
+read_guest line at (word ∷ rest) = if has_nul word then WrongAt at else read_guest line (at + 1) rest
+
+abbrev pub line_of : Options → ℕ → Line
+line_of options program =
+    record { budget = unwrap_or options.budget default_budget; environment = options.environment; program = program }
+
+-- the last word of all
+abbrev pub read_last : ℕ → Options → Place → Reading
+read_last at options BudgetOption = if is_some options.budget then WrongAt at else WrongAt (at + 1)
+read_last at options EnvOption = WrongAt (at + 1)
+read_last at options ProgramName = Asks (line_of options at)
+read_last at options NoOption = WrongAt at
+
+abbrev pub with_budget : ℕ → Options → Option ℕ → (Options → Reading) → Reading
+with_budget at options None go_on = WrongAt (at + 1)
+with_budget at options (Some n) go_on = go_on (record options { budget = Some n })
+
+-- A word with another after it, one case for each form of the line: `--budget` and its value, at most once; `--env` and
+-- its value; PROGRAM with the guest's words. Any other word is wrong, and so is a value that is none, at its own index.
+-- After a value the reading goes on.
+abbrev pub read_pair : ℕ → Options → Place → List ℕ → Reading → (Options → Reading) → Reading
+read_pair at options BudgetOption value guest go_on =
+    if is_some options.budget then WrongAt at else with_budget at options (budget_of value) go_on
+read_pair at options EnvOption value guest go_on =
+    if is_setting value
+    then go_on (record options { environment = options.environment ++ value ∷ [] })
+    else WrongAt (at + 1)
+read_pair at options ProgramName value guest go_on = guest
+read_pair at options NoOption value guest go_on = WrongAt at
+
+-- the words from index `at` on, where an option or PROGRAM stands
+abbrev pub read_options : ℕ → Options → List (List ℕ) → Reading
+read_options at options [] = WrongAt at
+read_options at options (word ∷ []) = read_last at options (place_of word)
+read_options at options (word ∷ value ∷ rest) =
+    read_pair at options (place_of word) value (read_guest (line_of options at) (at + 1) (value ∷ rest))
+    (λ next. read_options (at + 1 + 1) next rest)
+
+-- all words: `run`, and the rest of the line
+abbrev pub read_words : List (List ℕ) → Reading
+read_words [] = WrongAt 0
+read_words (word ∷ rest) = if bytes_eq word (codes "run") then read_options 1 no_options rest else WrongAt 0

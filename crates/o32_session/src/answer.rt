@@ -1,0 +1,132 @@
+//! What a session answers.
+ghost use Rattle.std.specs.Prelude.{◌≡◌, Some};
+ghost use Rattle.o32_session.specs.Lines.{text_of};
+ghost use Rattle.o32_session.specs.Answers.{status_of, end_of, finish_of};
+
+use elf_image::ElfRefusal;
+use std::fmt;
+
+/// How a process ends by itself.
+#[derive(Clone, Copy, PartialEq, Eq)]
+pub enum ProcessEnd {
+    /// It exited with this status, the low 8 bits of what it gave.
+    Exited(u8),
+    /// A signal killed it: its o32 number, 1 to 128.
+    Killed(u8),
+}
+
+/// How a run is over.
+#[derive(Clone, Copy, PartialEq, Eq)]
+pub enum Finish {
+    /// The guest exited with this status, the low 8 bits of what it gave.
+    Exited(u8),
+    /// A signal killed the guest: its o32 number, 1 to 128.
+    Killed(u8),
+    /// The budget's turns are done and the guest had not ended.
+    Budget,
+}
+
+/// Why nothing was run. The names and their numbers are this project's own.
+#[derive(Clone, Copy, PartialEq, Eq)]
+pub enum Refusal {
+    /// The words are not in the grammar: the index, from 0, of the first word at which a reading from the left fails,
+    /// or the number of words where one is missing.
+    Usage { word: usize },
+    /// There is no such file: 1 is the program.
+    Missing { file: u8 },
+    /// The file is longer than its limit: 1 is the program, which has at most 64 MiB.
+    TooLong { file: u8 },
+    /// The program breaks this rule on executables.
+    Elf(ElfRefusal),
+    /// The guest's arguments and environment, with the words of its first stack, pass 131,072 bytes.
+    Start,
+}
+
+/// How a session ends.
+#[derive(Clone, Copy, PartialEq, Eq)]
+pub enum End {
+    /// The guest exited with this status.
+    Exited(u8),
+    /// A signal of this o32 number killed the guest.
+    Killed(u8),
+    /// The budget's turns are done.
+    Budget,
+    /// Nothing was run.
+    Refused(Refusal),
+    /// The store's count of faulty loads rose.
+    ReadFault,
+    /// A count of faults of standard output or standard error rose.
+    WriteFault,
+    /// Memory ran out.
+    NoMemory,
+}
+
+/// What a session answers.
+#[derive(Clone, Copy, PartialEq, Eq)]
+pub struct Answer {
+    /// The exit status of the emulator.
+    pub status: u8,
+    /// How the session ended.
+    pub end: End,
+    /// The number of turns that were finished, 0 where nothing ran.
+    pub turns: u64,
+}
+
+impl fmt::Display for Refusal {
+    ghost output = { λ refusal. Some (text_of refusal) };
+
+    fn fmt<W: fmt::Write>(&self, f: &mut fmt::Formatter<W>) -> fmt::Result {
+        match self {
+            Refusal::Usage { word } => write!(f, "o32run: usage at word {word}"),
+            Refusal::Missing { file } => write!(f, "o32run: file {file} missing"),
+            Refusal::TooLong { file } => write!(f, "o32run: file {file} too long"),
+            Refusal::Elf(rule) => {
+                let number = rule.number();
+                write!(f, "o32run: elf rule {number}")
+            }
+            Refusal::Start => write!(f, "o32run: arguments too long"),
+        }
+    }
+}
+
+impl From<ProcessEnd> for Finish {
+    ghost from_gives = { λ end finish. finish ≡ finish_of end };
+
+    fn from(end: ProcessEnd) -> Finish {
+        match end {
+            ProcessEnd::Exited(status) => Finish::Exited(status),
+            ProcessEnd::Killed(signal) => Finish::Killed(signal),
+        }
+    }
+}
+
+impl From<Finish> for End {
+    ghost from_gives = { λ finish end. end ≡ end_of finish };
+
+    fn from(finish: Finish) -> End {
+        match finish {
+            Finish::Exited(status) => End::Exited(status),
+            Finish::Killed(signal) => End::Killed(signal),
+            Finish::Budget => End::Budget,
+        }
+    }
+}
+
+impl End {
+    /// The exit status of the emulator: that of the guest, the lesser of 128 and the signal's number or 255, 124 where
+    /// the budget is done, 125 where nothing was run, 122 and 119 for faults, and 121 for want of memory. The numbers are
+    /// this project's own, after those of a shell and of timeout(1).
+    pub fn status(self) -> u8
+        ensures { result ≡ status_of self }
+    {
+        match self {
+            End::Exited(status) => status,
+            End::Killed(signal) => signal.saturating_add(128),
+            End::Budget => 124,
+            End::Refused(_) => 125,
+            End::ReadFault => 122,
+            End::WriteFault => 119,
+            End::NoMemory => 121,
+        }
+    }
+}

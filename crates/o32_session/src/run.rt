@@ -1,0 +1,55 @@
+//! A whole run, turn by turn.
+ghost use Rattle.std.specs.Prelude.{◌≤◌};
+ghost use Rattle.o32_session.specs.Runs.{RanSo, EndsOnlyIfRose};
+
+use crate::answer::Finish;
+use crate::machine::{Machine, Stop, Turn};
+use outside::Sink;
+use std::alloc::Global;
+
+/// How a run ended.
+#[derive(Clone, Copy)]
+pub enum RunEnd {
+    /// The run is over so.
+    Finished(Finish),
+    /// The run stopped early, in the turn after those that are counted.
+    Stopped(Stop),
+}
+
+/// What a run came to.
+#[derive(Clone, Copy)]
+pub struct Ran {
+    /// How it ended.
+    pub end: RunEnd,
+    /// The turns that were finished.
+    pub turns: u64,
+}
+
+/// Runs the machine for at most `budget` turns.
+pub fn run<O: Sink>(alloc: Global, mut machine: Machine, budget: u64, out: &mut O) -> Ran
+    ensures run { RanSo machine budget result.turns result.end (O.written out.old) (O.written out.new) }
+    ensures cause { EndsOnlyIfRose result.end (O.faults out.old) (O.faults out.new) }
+    ensures later { O.faults out.old ≤ O.faults out.new }
+{
+    for turns in 0..budget {
+        match machine.turn(alloc, out) {
+            Ok(Turn::Went) => {}
+            Ok(Turn::Ended(end)) => {
+                return Ran {
+                    end: RunEnd::Finished(Finish::from(end)),
+                    turns: turns + 1,
+                };
+            }
+            Err(stop) => {
+                return Ran {
+                    end: RunEnd::Stopped(stop),
+                    turns,
+                };
+            }
+        }
+    }
+    Ran {
+        end: RunEnd::Finished(Finish::Budget),
+        turns: budget,
+    }
+}

@@ -1,0 +1,150 @@
+//! The top call: from words and devices to an answer.
+ghost use Rattle.std.specs.Prelude.{ℕ, ◌≡◌, ◌≤◌, ◌⊎◌, [], OnOk, OnErr};
+ghost use Rattle.outside.specs.Causes.{FailsOnlyIfRose};
+ghost use Rattle.outside.specs.Count.{Rose};
+ghost use Rattle.outside.specs.Output.{GainsText, GainsBetween};
+ghost use Rattle.outside.specs.Streams.{NoCountFell};
+ghost use Rattle.o32_session.specs.Answers.{status_of, end_of_run};
+ghost use Rattle.o32_session.specs.Lines.{line_of};
+ghost use Rattle.o32_session.specs.Machine.{Machine};
+ghost use Rattle.o32_session.specs.Prepared.{RefusesSo, EndsWithoutRun, KeepsFiles};
+ghost use Rattle.o32_session.specs.Runs.{RanIntoAnswer};
+ghost use Rattle.o32_session.specs.Session.{AnswersWords, AsksForRun, IsRunEnd, seen_of};
+ghost use Rattle.o32_session.specs.Words.{texts};
+
+use crate::answer::{Answer, End, Refusal};
+use crate::machine::Stop;
+use crate::prepare::{NotRun, Ready, prepare};
+use crate::run::{RunEnd, run};
+use outside::{DevError, Devices, Sink, Source, Store};
+use std::alloc::Global;
+
+impl From<RunEnd> for End {
+    ghost from_gives = { λ end result. result ≡ end_of_run end };
+
+    fn from(end: RunEnd) -> End {
+        match end {
+            RunEnd::Finished(finish) => End::from(finish),
+            RunEnd::Stopped(Stop::WriteFault) => End::WriteFault,
+            RunEnd::Stopped(Stop::NoMemory) => End::NoMemory,
+        }
+    }
+}
+
+impl Answer {
+    fn new(end: End, turns: u64) -> Answer
+        ensures { result ≡ record { status = status_of end; end = end; turns = turns } }
+    {
+        Answer {
+            status: end.status(),
+            end,
+            turns,
+        }
+    }
+}
+
+/// Writes the line of a refusal.
+fn put_line<E: Sink>(alloc: Global, refusal: Refusal, err: &mut E) -> Result<(), DevError>
+    ensures line { OnOk result (GainsText (E.written err.old) (E.written err.new) (line_of refusal)) }
+    ensures part { OnErr result (GainsBetween (E.written err.old) (E.written err.new) [] (line_of refusal)) }
+    ensures cause { FailsOnlyIfRose result (E.faults err.old) (E.faults err.new) }
+    ensures later { E.faults err.old ≤ E.faults err.new }
+{
+    let line = format!(in alloc; "{refusal}\n")?;
+    err.put(line.as_bytes())
+}
+
+/// Answers a refusal with its line.
+fn refuse<E: Sink>(alloc: Global, refusal: Refusal, err: &mut E) -> End
+    ensures line { RefusesSo refusal result (E.written err.old) (E.written err.new) }
+    ensures cause { result ≡ End.WriteFault → Rose (E.faults err.old) (E.faults err.new) }
+    ensures later { E.faults err.old ≤ E.faults err.new }
+{
+    match put_line(alloc, refusal, err) {
+        Ok(()) => End::Refused(refusal),
+        Err(DevError::Failed) => End::WriteFault,
+        Err(DevError::NoMemory) => End::NoMemory,
+    }
+}
+
+/// Answers where nothing is run.
+fn end_without_run<E: Sink>(alloc: Global, reason: NotRun, err: &mut E) -> End
+    ensures line { EndsWithoutRun reason result (E.written err.old) (E.written err.new) }
+    ensures cause { result ≡ End.WriteFault → Rose (E.faults err.old) (E.faults err.new) }
+    ensures later { E.faults err.old ≤ E.faults err.new }
+{
+    match reason {
+        NotRun::Refused(refusal) => refuse(alloc, refusal, err),
+        NotRun::ReadFault => End::ReadFault,
+        NotRun::NoMemory => End::NoMemory,
+    }
+}
+
+/// One run of the emulator: reads the words after its own name, loads the program that they name from `files`, and runs
+/// it over the devices. Every list of words, every file and every budget has an answer.
+///
+/// What the program writes to standard output goes to `dev.out`, and the line of a refusal to `dev.err`. The answers,
+/// their statuses and the lines are this project's own.
+pub fn session<F: Store, I: Source, O: Sink, E: Sink>(
+    alloc: Global,
+    words: &[String],
+    files: &mut F,
+    dev: &mut Devices<I, O, E>,
+) -> Answer
+    // What the words, the file and the machine say: each refusal and its line, the run's end, turns and output, and the
+    // moment of the run at an early stop.
+    ensures answer { AnswersWords (texts words.now) (F.files files.old)
+        (seen_of O.written E.written O.faults E.faults F.turned_away files.old dev.old)
+        (seen_of O.written E.written O.faults E.faults F.turned_away files.new dev.new) result.turns result.end }
+    ensures status { result.status ≡ status_of result.end }
+
+    // Where a run is asked for and no device failed, the answer is the run's end, unless memory ran out.
+    ensures complete { (machine : Machine) (budget : ℕ) → AsksForRun (texts words.now) (F.files files.old) machine budget
+        → (Rose (F.load_faults files.old) (F.load_faults files.new) → ⊥)
+        → (Rose (O.faults dev.old.out) (O.faults dev.new.out) → ⊥)
+        → (result.end ≡ End.NoMemory) ⊎ IsRunEnd machine budget result.turns result.end }
+
+    // A read fault has its cause in the count of faulty loads; a write fault's cause stands in the answer.
+    ensures read_fault { result.end ≡ End.ReadFault → Rose (F.load_faults files.old) (F.load_faults files.new) }
+
+    // What stays, and that no count falls.
+    ensures input { dev.new.input ≡ dev.old.input }
+    ensures kept { KeepsFiles F.files F.created F.write_faults files.old files.new }
+    ensures later { NoCountFell I.faults O.faults E.faults dev.old dev.new }
+    ensures files_later { F.load_faults files.old ≤ F.load_faults files.new }
+{
+    answer_words(alloc, words, files, dev)
+}
+
+/// The answer, by what the words, the file and the run say.
+fn answer_words<F: Store, I: Source, O: Sink, E: Sink>(
+    alloc: Global,
+    words: &[String],
+    files: &mut F,
+    dev: &mut Devices<I, O, E>,
+) -> Answer
+    ensures answer { AnswersWords (texts words.now) (F.files files.old)
+        (seen_of O.written E.written O.faults E.faults F.turned_away files.old dev.old)
+        (seen_of O.written E.written O.faults E.faults F.turned_away files.new dev.new) result.turns result.end }
+    ensures status { result.status ≡ status_of result.end }
+    ensures read_fault { result.end ≡ End.ReadFault → Rose (F.load_faults files.old) (F.load_faults files.new) }
+    ensures input { dev.new.input ≡ dev.old.input }
+    ensures kept { KeepsFiles F.files F.created F.write_faults files.old files.new }
+    ensures later { NoCountFell I.faults O.faults E.faults dev.old dev.new }
+    ensures files_later { F.load_faults files.old ≤ F.load_faults files.new }
+{
+    match prepare(alloc, words, files) {
+        Ok(ready) => run_ready(alloc, ready, &mut dev.out),
+        Err(reason) => Answer::new(end_without_run(alloc, reason, &mut dev.err), 0),
+    }
+}
+
+/// Runs a machine that is ready.
+fn run_ready<O: Sink>(alloc: Global, ready: Ready, out: &mut O) -> Answer
+    ensures run { RanIntoAnswer ready.machine ready.budget result (O.written out.old) (O.written out.new) }
+    ensures cause { result.end ≡ End.WriteFault → Rose (O.faults out.old) (O.faults out.new) }
+    ensures later { O.faults out.old ≤ O.faults out.new }
+{
+    let ran = run(alloc, ready.machine, ready.budget, out);
+    Answer::new(End::from(ran.end), ran.turns)
+}

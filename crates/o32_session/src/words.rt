@@ -1,0 +1,288 @@
+//! The words after the emulator's own name: `run [--budget N] [--env K=V].. PROGRAM [WORD..]`.
+
+ghost use Rattle.std.specs.Prelude.{ℕ, ◌≡◌, ◌+◌, ◌<◌, ◌^◌, ◌==◌, length, drop, IfOk, IfErr, Some, None};
+ghost use Rattle.std.specs.List.{list_any, list_all};
+ghost use Rattle.std.specs.Char.{is_ascii_digit};
+ghost use Rattle.o32_session.specs.Words.{texts, read_words, read_guest, budget_of, is_setting, is_program, is_plain_number, has_nul, no_options, Line, line_of, Asks};
+ghost use Rattle.o32_session.specs.Steps.{read_from, step_of, step_at_option, step_at_budget, Env_value, Option_or_program};
+ghost use Rattle.o32_session.specs.Reader.{IsPlace, place_seen, guest_reading, options_seen, line_seen, IsReason};
+
+use std::alloc::{AllocError, AllocFailed, Global};
+
+/// What the words of a run ask for.
+#[derive(Drop)]
+pub struct RunLine {
+    /// The most turns that the run may take: 1 to 10^12.
+    pub budget: u64,
+    /// The guest's environment, in the order of its `--env` options.
+    pub environment: Vec<String>,
+    /// The index of PROGRAM: it and all words after it are the guest's arguments.
+    pub program: usize,
+}
+
+/// Why the words give no run.
+#[derive(Clone, Copy)]
+pub enum WordsError {
+    /// The index of the first word at which a reading from the left fails, or the number of words where one is missing.
+    Usage { word: usize },
+    /// There was no memory for the environment.
+    NoMemory,
+}
+
+impl From<AllocError> for WordsError {
+    ghost use Rattle.o32_session.specs.declared.words.WordsError.TheVariants.{NoMemory};
+
+    ghost from_gives = { λ _ e. e ≡ NoMemory };
+
+    fn from(_error: AllocError) -> WordsError {
+        WordsError::NoMemory
+    }
+}
+
+impl<T: Drop> From<AllocFailed<T>> for WordsError {
+    ghost use Rattle.o32_session.specs.declared.words.WordsError.TheVariants.{NoMemory};
+
+    ghost from_gives = { λ _ e. e ≡ NoMemory };
+
+    fn from(_error: AllocFailed<T>) -> WordsError {
+        WordsError::NoMemory
+    }
+}
+
+/// The most turns of a run whose words give no budget.
+pub const DEFAULT_BUDGET: u64 = 1_000_000_000;
+
+/// The greatest budget.
+const GREATEST_BUDGET: u64 = 1_000_000_000_000;
+
+/// What a word is in the place of an option.
+enum Place {
+    Budget,
+    Environment,
+    Program,
+    Unknown,
+}
+
+/// What the reader looks for next.
+#[derive(Clone, Copy)]
+enum Expected {
+    OptionOrProgram,
+    BudgetValue,
+    EnvironmentValue,
+}
+
+fn holds_nul(word: &str) -> bool
+    ensures { result ≡ has_nul word.now }
+{
+    word.as_bytes().iter().any(|byte| *byte == 0)
+}
+
+fn has_later_equals(word: &str) -> bool
+    ensures { result ≡ list_any (λ byte. byte == 61) (drop 1 word.now) }
+{
+    word.as_bytes().iter().skip(1).any(|byte| *byte == b'=')
+}
+
+fn is_setting_word(word: &str) -> bool
+    ensures { result ≡ is_setting word.now }
+{
+    !holds_nul(word) && has_later_equals(word)
+}
+
+fn is_program_word(word: &str) -> bool
+    ensures { result ≡ is_program word.now }
+{
+    match word.as_bytes() {
+        [] => false,
+        [first, ..] => *first != b'-' && !holds_nul(word),
+    }
+}
+
+fn is_all_digits(word: &str) -> bool
+    ensures { result ≡ list_all is_ascii_digit word.now }
+{
+    word.as_bytes().iter().all(|byte| byte.is_ascii_digit())
+}
+
+fn is_plain(word: &str) -> bool
+    ensures { result ≡ is_plain_number word.now }
+{
+    let first = word.as_bytes().first().copied().unwrap_or(0);
+    first > b'0' && is_all_digits(word)
+}
+
+fn budget(word: &str) -> Option<u64>
+    ensures { result ≡ budget_of word.now }
+{
+    if !is_plain(word) {
+        return None;
+    }
+    let Ok(turns) = word.parse::<u64>() else {
+        return None;
+    };
+    if turns <= GREATEST_BUDGET {
+        Some(turns)
+    } else {
+        None
+    }
+}
+
+fn place_at(word: &str) -> Place
+    ensures { IsPlace word.now result }
+{
+    if word == "--budget" {
+        Place::Budget
+    } else if word == "--env" {
+        Place::Environment
+    } else if is_program_word(word) {
+        Place::Program
+    } else {
+        Place::Unknown
+    }
+}
+
+/// The options that were read.
+#[derive(Drop)]
+struct Options {
+    budget: Option<u64>,
+    environment: Vec<String>,
+}
+
+/// What one word does: the reading goes on, or the word is PROGRAM, or it is wrong.
+enum Step {
+    GoesOn(Expected),
+    IsProgram,
+    IsWrong,
+}
+
+impl Options {
+    ghost use Rattle.o32_session.specs.Reader.{expected_seen, StepIs};
+
+    fn new(alloc: Global) -> Self
+        ensures { options_seen result ≡ no_options }
+    {
+        Options {
+            budget: None,
+            environment: Vec::new(alloc),
+        }
+    }
+
+    fn step(&mut self, alloc: Global, expected: Expected, word: &str) -> Result<Step, AllocError>
+        ensures { IfOk result (λ step. StepIs (step_of (expected_seen expected) (options_seen self.old) word.now) step self.old self.new) }
+    {
+        match expected {
+            Expected::OptionOrProgram => Ok(self.step_at_option(place_at(word))),
+            Expected::BudgetValue => Ok(self.step_at_budget(budget(word))),
+            Expected::EnvironmentValue => self.step_at_setting(alloc, word),
+        }
+    }
+
+    fn step_at_option(&self, place: Place) -> Step
+        ensures { StepIs (step_at_option (options_seen self.now) (place_seen place)) result self.now self.now }
+    {
+        match place {
+            Place::Budget if self.budget.is_some() => Step::IsWrong,
+            Place::Budget => Step::GoesOn(Expected::BudgetValue),
+            Place::Environment => Step::GoesOn(Expected::EnvironmentValue),
+            Place::Program => Step::IsProgram,
+            Place::Unknown => Step::IsWrong,
+        }
+    }
+
+    fn step_at_budget(&mut self, turns: Option<u64>) -> Step
+        ensures { StepIs (step_at_budget (options_seen self.old) turns) result self.old self.new }
+    {
+        match turns {
+            Some(turns) => {
+                self.budget = Some(turns);
+                Step::GoesOn(Expected::OptionOrProgram)
+            }
+            None => Step::IsWrong,
+        }
+    }
+
+    fn step_at_setting(&mut self, alloc: Global, word: &str) -> Result<Step, AllocError>
+        ensures { IfOk result (λ step. StepIs (step_of Env_value (options_seen self.old) word.now) step self.old self.new) }
+    {
+        if is_setting_word(word) {
+            self.environment.push(String::from_str(alloc, word)?)?;
+            Ok(Step::GoesOn(Expected::OptionOrProgram))
+        } else {
+            Ok(Step::IsWrong)
+        }
+    }
+}
+
+/// The index of the first of the guest's words that holds a NUL, where `words` begin at index `from`.
+fn guest_error(words: &[String], from: usize) -> Option<usize>
+    requires { from + length words.now < 2 ^ 64 }
+    ensures { (line : Line) → read_guest line from (texts words.now) ≡ guest_reading line result }
+{
+    let mut rest = words;
+    let mut at = from;
+    while let [word, after @ ..] = rest {
+        if holds_nul(word.as_str()) {
+            return Some(at);
+        }
+        rest = after;
+        at += 1;
+    }
+    None
+}
+
+/// Reads the words of a run, the emulator's own name left out.
+///
+/// # Errors
+///
+/// `Usage` exactly where the words are not in the grammar; `NoMemory` where the environment found no memory.
+/// The grammar is this project's own.
+pub fn read(alloc: Global, words: &[String]) -> Result<RunLine, WordsError>
+    ensures line { IfOk result (λ line. read_words (texts words.now) ≡ Asks (line_seen line)) }
+    ensures wrong { IfErr result (λ error. IsReason (read_words (texts words.now)) error) }
+    ensures program { IfOk result (λ line. line.program < length words.now) }
+{
+    match words {
+        [first, ..] if first.as_str() == "run" => read_options(alloc, words),
+        _ => Err(WordsError::Usage { word: 0 }),
+    }
+}
+
+/// Reads the words from index 1 on.
+fn read_options(alloc: Global, words: &[String]) -> Result<RunLine, WordsError>
+    requires { 0 < length words.now }
+    ensures line { IfOk result (λ line. read_from 1 Option_or_program no_options (texts (drop 1 words.now)) ≡ Asks (line_seen line)) }
+    ensures wrong { IfErr result (λ error. IsReason (read_from 1 Option_or_program no_options (texts (drop 1 words.now))) error) }
+    ensures program { IfOk result (λ line. line.program < length words.now) }
+{
+    let mut options = Options::new(alloc);
+    let mut expected = Expected::OptionOrProgram;
+    let mut at = 1;
+    let mut rest = &words[1..];
+    while let [word, after @ ..] = rest {
+        match options.step(alloc, expected, word.as_str())? {
+            Step::GoesOn(next) => expected = next,
+            Step::IsProgram => return finish(options, at, after),
+            Step::IsWrong => return Err(WordsError::Usage { word: at }),
+        }
+        rest = after;
+        at += 1;
+    }
+    Err(WordsError::Usage { word: at })
+}
+
+/// The line of these options with PROGRAM at index `program` and the guest's words after it.
+fn finish(options: Options, program: usize, guest: &[String]) -> Result<RunLine, WordsError>
+    requires { program + 1 + length guest.now < 2 ^ 64 }
+    ensures line { IfOk result (λ line. read_guest (line_of (options_seen options) program) (program + 1) (texts guest.now) ≡ Asks (line_seen line)) }
+    ensures wrong { IfErr result (λ error. IsReason (read_guest (line_of (options_seen options) program) (program + 1) (texts guest.now)) error) }
+    ensures program { IfOk result (λ line. line.program ≡ program) }
+{
+    if let Some(word) = guest_error(guest, program + 1) {
+        return Err(WordsError::Usage { word });
+    }
+    Ok(RunLine {
+        budget: options.budget.unwrap_or(DEFAULT_BUDGET),
+        environment: options.environment,
+        program,
+    })
+}
