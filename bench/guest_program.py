@@ -1,0 +1,213 @@
+"""Guest programs from instruction words: big-endian MIPS ELF-32 executables of one loop.
+
+A program sets its registers up, goes round its loop a number of times, and exits with status 0. It has two segments:
+the words at TEXT, and one page at DATA that the loop may load from and store to. How many instructions it carries out
+follows from its words and its number of rounds.
+"""
+import struct
+
+TEXT = 0x00400000
+DATA = 0x00410000
+PAGE = 0x1000
+
+READ = 4
+WRITE = 2
+EXECUTE = 1
+
+# The registers that the loops use.
+ZERO, V0, A0 = 0, 2, 4
+T0, T1, T2, T3, T4, T5, T6, T7 = range(8, 16)
+RA = 31
+
+# The round's counter, which every loop counts down.
+COUNTER = T5
+
+EXIT_CALL = 4001
+
+
+def register_word(rs, rt, rd, function, opcode=0, shift=0):
+    return opcode << 26 | rs << 21 | rt << 16 | rd << 11 | shift << 6 | function
+
+
+def immediate_word(opcode, rs, rt, immediate):
+    return opcode << 26 | rs << 21 | rt << 16 | immediate & 0xFFFF
+
+
+def addu(rd, rs, rt):
+    return register_word(rs, rt, rd, 0x21)
+
+
+def xor(rd, rs, rt):
+    return register_word(rs, rt, rd, 0x26)
+
+
+def sll(rd, rt, shift):
+    return register_word(0, rt, rd, 0x00, shift=shift)
+
+
+def mul(rd, rs, rt):
+    return register_word(rs, rt, rd, 0x02, opcode=0x1C)
+
+
+def multu(rs, rt):
+    return register_word(rs, rt, 0, 0x19)
+
+
+def div(rs, rt):
+    return register_word(rs, rt, 0, 0x1A)
+
+
+def mfhi(rd):
+    return register_word(0, 0, rd, 0x10)
+
+
+def mflo(rd):
+    return register_word(0, 0, rd, 0x12)
+
+
+def jr(rs):
+    return register_word(rs, 0, 0, 0x08)
+
+
+def syscall():
+    return 0x0000000C
+
+
+def addiu(rt, rs, immediate):
+    return immediate_word(0x09, rs, rt, immediate)
+
+
+def ori(rt, rs, immediate):
+    return immediate_word(0x0D, rs, rt, immediate)
+
+
+def lui(rt, immediate):
+    return immediate_word(0x0F, 0, rt, immediate)
+
+
+def lw(rt, offset, base):
+    return immediate_word(0x23, base, rt, offset)
+
+
+def sw(rt, offset, base):
+    return immediate_word(0x2B, base, rt, offset)
+
+
+def bne(rs, rt, words):
+    """Goes `words` words on from the branch's delay slot."""
+    return immediate_word(0x05, rs, rt, words)
+
+
+def jal(address):
+    return 0x03 << 26 | address >> 2 & 0x03FFFFFF
+
+
+def load_constant(register, value):
+    return [lui(register, value >> 16), ori(register, register, value & 0xFFFF)]
+
+
+EXIT = [addiu(V0, ZERO, EXIT_CALL), addiu(A0, ZERO, 0), syscall()]
+
+
+class Program:
+    """A loop with what stands before it and the function that it calls, if it calls one.
+
+    `loop` makes the words of a round from the address of its first word and that of the function. A round carries out
+    all its words and all words of the function once, and goes on by a branch that is its last word but one.
+    """
+
+    def __init__(self, name, setup, loop, function=()):
+        self.name = name
+        self.setup = setup
+        self.loop = loop
+        self.function = list(function)
+
+    def fixed(self):
+        """How many instructions are carried out besides the rounds."""
+        return len(self.setup) + 2 + len(EXIT)
+
+    def per_round(self):
+        return len(self.loop(0, 0)) + len(self.function)
+
+    def rounds(self, instructions):
+        """The greatest number of rounds with which the program carries out at most so many instructions."""
+        return (instructions - self.fixed()) // self.per_round()
+
+    def instructions(self, rounds):
+        return self.fixed() + rounds * self.per_round()
+
+    def words(self, rounds):
+        before = self.setup + load_constant(COUNTER, rounds)
+        start = TEXT + 4 * len(before)
+        function = start + 4 * (len(self.loop(0, 0)) + len(EXIT))
+        return before + self.loop(start, function) + EXIT + self.function
+
+    def executable(self, rounds):
+        text = b"".join(struct.pack(">I", word) for word in self.words(rounds))
+        return executable(text)
+
+
+def load_header(offset, address, file_size, memory_size, flags):
+    return struct.pack(">IIIIIIII", 1, offset, address, address, file_size, memory_size, flags, PAGE)
+
+
+def executable(text):
+    """The file: its headers, and from its second page on the text; the page at DATA has no bytes in the file."""
+    # class 32, big-endian, version 1
+    ident = b"\x7fELF" + bytes([1, 2, 1]) + bytes(9)
+    # type EXEC, machine MIPS, version 1, entry, program headers at 52, no sections, MIPS32R2 and o32, the sizes of
+    # both kinds of header, and two program headers
+    header = struct.pack(">HHIIIIIHHHHHH", 2, 8, 1, TEXT, 52, 0, 0x70001000, 52, 32, 2, 0, 0, 0)
+    text_header = load_header(PAGE, TEXT, len(text), len(text), READ | EXECUTE)
+    data_header = load_header(0, DATA, 0, PAGE, READ | WRITE)
+    return (ident + header + text_header + data_header).ljust(PAGE, b"\0") + text
+
+
+def memory_round(_start, _function):
+    return [
+        lw(T1, 0, T0),
+        addu(T2, T2, T1),
+        xor(T3, T3, T2),
+        sll(T4, T3, 3),
+        sw(T4, 4, T0),
+        addiu(COUNTER, COUNTER, -1),
+        bne(COUNTER, ZERO, -7),
+        addiu(T6, T6, 1),
+    ]
+
+
+def call_round(_start, function):
+    return [
+        jal(function),
+        addiu(COUNTER, COUNTER, -1),
+        bne(COUNTER, ZERO, -3),
+        addiu(T6, T6, 1),
+    ]
+
+
+def arithmetic_round(_start, _function):
+    return [
+        multu(T0, T1),
+        mflo(T2),
+        div(T2, T4),
+        mflo(T3),
+        mfhi(T6),
+        addiu(COUNTER, COUNTER, -1),
+        bne(COUNTER, ZERO, -7),
+        mul(T0, T0, T1),
+    ]
+
+
+MEMORY_SETUP = load_constant(T0, DATA) + [addiu(T2, ZERO, 1), addiu(T3, ZERO, 5)]
+
+CALL_SETUP = [addiu(T7, ZERO, 0)]
+
+CALLED = [jr(RA), addiu(T7, T7, 1)]
+
+ARITHMETIC_SETUP = load_constant(T1, 0x00010DCD) + [addiu(T0, ZERO, 3), addiu(T4, ZERO, 10007)]
+
+PROGRAMS = [
+    Program("load and store", MEMORY_SETUP, memory_round),
+    Program("calls and returns", CALL_SETUP, call_round, CALLED),
+    Program("multiplies and divides", ARITHMETIC_SETUP, arithmetic_round),
+]
