@@ -4,3 +4,4 @@ pub mod RunLemmas
 pub mod Preparing
 pub mod Sessions
 pub mod Reading
+pub mod Writing

@@ -1,11 +1,16 @@
 -- How one more turn continues a run.
-use Rattle.std.proofs.Common.{◌≡◌, ℕ, zero, suc, ◌+◌, ◌≤◌, List, [], ◌++◌, Option, Some, None, inl, inr, arith, refl, sym, ap, ◌∙◌, subst, add-one}
+use Rattle.std.proofs.Common.{◌≡◌, ◌≢◌, Err, ℕ, zero, suc, ◌+◌, ◌≤◌, List, [], ◌++◌, Option, Some, None, inl, inr, arith, refl, sym, ap, ◌∙◌, subst, add-one}
 use Rattle.std.proofs.lemmas.Bool.{cases_eq}
 use Rattle.outside.specs.Output.{GainsText, GainsBetween}
 use Rattle.outside.proofs.OutputLemmas.{GainsText-then, GainsBetween-part}
 use Rattle.o32_session.specs.Machine.{Machine, turn_of}
 use Rattle.o32_session.specs.Answers.{finish_of}
 use Rattle.o32_session.specs.Run.{State, next_of, state_at, output_at, EndsIn, IsOverAt}
+use Rattle.o32_session.specs.Runs.{StopsWriting}
+use Rattle.o32_session.specs.Turns.{StopsOnlyWriting}
+use Rattle.o32_session.specs.declared.machine.Stop.{Stop}
+use Rattle.o32_session.specs.declared.machine.Stop.TheVariants.{WriteFault, NoMemory}
+use Rattle.o32_session.specs.declared.machine.Turn.{Turn}
 use Rattle.o32_session.specs.declared.answer.ProcessEnd.{ProcessEnd}
 use Rattle.o32_session.specs.declared.answer.ProcessEnd.TheVariants.{Exited, Killed}
 
@@ -77,3 +82,9 @@ pub gained_part : (m machine : Machine) (k : ℕ) (old middle new : Option (List
     GainsBetween old new (output_at m k) (output_at m (k + 1))
 gained_part m machine k old middle new same running before wrote =
     subst (λ text. GainsBetween old new (output_at m k) text) (output_next m machine k same running) (GainsBetween-part before wrote)
+
+-- the turn that stopped, told of the state that it began in
+pub stops_writing : (at machine : Machine) (stop : Stop) → at ≡ machine →
+    StopsOnlyWriting {T = Turn} (Err stop) (turn_of machine).output → StopsWriting at stop
+stops_writing at machine WriteFault same writes = subst (λ (m : Machine). (turn_of m).output ≢ []) (sym same) writes
+stops_writing at machine NoMemory same writes = tt

@@ -156,9 +156,9 @@ ran machine budget name old out faults turned turns (Finished (finishes.Killed s
 ran machine budget name old out faults turned turns (Finished finishes.Budget) so cause loads =
     record { over = so.0; wrote = record { to_out = so.1; to_err = GainsText-nothing old.err }; turned = loads }
 ran machine budget name old out faults turned turns (Stopped stops.WriteFault) so cause loads =
-    (record { goes_on = so.0; to_out = so.1; to_err = GainsText-nothing old.err; turned = loads }, cause refl)
+    (record { goes_on = so.0; to_out = so.1.0; to_err = GainsText-nothing old.err; turned = loads }, (cause refl, so.1.1))
 ran machine budget name old out faults turned turns (Stopped stops.NoMemory) so cause loads =
-    inl (record { goes_on = so.0; to_out = so.1; to_err = GainsText-nothing old.err; turned = loads })
+    inl (record { goes_on = so.0; to_out = so.1.0; to_err = GainsText-nothing old.err; turned = loads })
 
 -- There is a run, and the answer is what it came to.
 pub run_answers : (words : List (List ℕ)) (reading : Reading) (files : Option Files) (ready : Ready) (answer : Answer) (old : Seen)
@@ -187,7 +187,7 @@ run_end_of machine budget name old new turns (Killed signal) answer read write =
 run_end_of machine budget name old new turns Budget answer read write = inr answer.over
 run_end_of machine budget name old new turns (Refused given) answer read write = absurd answer
 run_end_of machine budget name old new turns ReadFault answer read write = absurd (read refl)
-run_end_of machine budget name old new turns WriteFault answer read write = absurd (write answer.1)
+run_end_of machine budget name old new turns WriteFault answer read write = absurd (write answer.1.0)
 run_end_of machine budget name old new turns NoMemory answer read write = inl refl
 
 -- Where a run is asked for and no count rose, the answer is the run's end, unless memory ran out.

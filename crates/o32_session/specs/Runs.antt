@@ -1,14 +1,20 @@
 -- How the answer of the loop over the turns stands for the run.
-use Rattle.std.specs.Prelude.{ℕ, ◌≡◌, ◌+◌, List, Option, ⊤}
+use Rattle.std.specs.Prelude.{ℕ, ◌≡◌, ◌≢◌, ◌+◌, List, [], Option, ⊤}
 use Rattle.outside.specs.Output.{GainsText, GainsBetween}
 use Rattle.outside.specs.Count.{Rose}
-use Rattle.o32_session.specs.Machine.{Machine}
-use Rattle.o32_session.specs.Run.{IsOverAt, GoesOnAt, output_at}
+use Rattle.o32_session.specs.Machine.{Machine, turn_of}
+use Rattle.o32_session.specs.Run.{IsOverAt, GoesOnAt, output_at, state_at}
+use Rattle.o32_session.specs.declared.machine.Stop.{Stop}
 use Rattle.o32_session.specs.declared.machine.Stop.TheVariants.{WriteFault, NoMemory}
 use Rattle.o32_session.specs.Answers.{end_of_run, status_of}
 use Rattle.o32_session.specs.declared.answer.Answer.{Answer}
 use Rattle.o32_session.specs.declared.run.RunEnd.{RunEnd}
 use Rattle.o32_session.specs.declared.run.RunEnd.TheVariants.{Finished, Stopped}
+
+-- a run stops so only in a turn that writes, where it stops for a write fault
+abbrev pub StopsWriting : Machine → Stop → Type 0
+StopsWriting machine WriteFault = (turn_of machine).output ≢ []
+StopsWriting machine NoMemory = ⊤
 
 -- A run that is over wrote its whole output; one that stopped early wrote that of the turns finished, and a part of
 -- the next turn's.
@@ -16,7 +22,9 @@ abbrev pub RanSo : Machine → ℕ → ℕ → RunEnd → Option (List ℕ) → 
 RanSo machine budget turns (Finished finish) old new =
     IsOverAt machine budget turns finish × GainsText old new (output_at machine turns)
 RanSo machine budget turns (Stopped stop) old new =
-    GoesOnAt machine budget turns × GainsBetween old new (output_at machine turns) (output_at machine (turns + 1))
+    GoesOnAt machine budget turns
+    × (GainsBetween old new (output_at machine turns) (output_at machine (turns + 1))
+    × StopsWriting (state_at machine turns).machine stop)
 
 -- a write fault comes only where the count rose
 abbrev pub EndsOnlyIfRose : RunEnd → ℕ → ℕ → Type 0

@@ -14,8 +14,8 @@ use Rattle.elf_image.specs.declared.load_plan.Plan.{Plan}
 use Rattle.start_stack.specs.Stack.{start_size}
 use Rattle.start_stack.specs.Start.{start_memory, start_processor}
 use Rattle.o32_session.specs.Words.{Line, Reading, Asks, WrongAt, read_words}
-use Rattle.o32_session.specs.Machine.{Machine}
-use Rattle.o32_session.specs.Run.{IsOverAt, GoesOnAt, output_at}
+use Rattle.o32_session.specs.Machine.{Machine, turn_of}
+use Rattle.o32_session.specs.Run.{IsOverAt, GoesOnAt, output_at, state_at}
 use Rattle.o32_session.specs.Lines.{line_of}
 use Rattle.o32_session.specs.declared.answer.Refusal.{Refusal}
 use Rattle.o32_session.specs.declared.answer.Refusal.TheVariants.{Usage, Missing, TooLong, Elf, Start}
@@ -158,7 +158,7 @@ pub record StopsInRun (machine : Machine) (budget : ℕ) (old new : Seen) (turns
   pub turned : new.turned ≡ old.turned
 
 -- What an end with its turns says where this was asked for, of the program of this name: each refusal writes its line
--- and nothing else, and each run is the machine's. A write fault has its cause in the stream that was written to. Want of
+-- and nothing else, and each run is the machine's. A write fault has its cause in the stream that was written to, and comes in a turn that writes. Want of
 -- memory may come before the load, before the line, or before the first turn.
 abbrev pub Answers : Asked → List ℕ → Seen → Seen → ℕ → End → Type 0
 Answers (Refuse refusal) name old new turns (Refused given) = Refuses refusal name old new turns given
@@ -180,7 +180,8 @@ Answers (Run machine budget) name old new turns Budget = Finishes machine budget
 Answers (Run machine budget) name old new turns (Refused given) = ⊥
 Answers (Run machine budget) name old new turns ReadFault = DoesNothing old new turns
 Answers (Run machine budget) name old new turns WriteFault =
-    StopsInRun machine budget old new turns × Rose old.out_faults new.out_faults
+    StopsInRun machine budget old new turns
+    × (Rose old.out_faults new.out_faults × ((turn_of (state_at machine turns).machine).output ≢ []))
 Answers (Run machine budget) name old new turns NoMemory =
     StopsInRun machine budget old new turns ⊎ DoesNothing old new turns
 

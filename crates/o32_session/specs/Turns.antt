@@ -1,5 +1,5 @@
 -- How the values of the code stand for a turn, and which stop may come.
-use Rattle.std.specs.Prelude.{ℕ, ◌≡◌, List, [], Option, Some, None, Result, Ok, Err, ⊤}
+use Rattle.std.specs.Prelude.{ℕ, ◌≡◌, ◌≢◌, List, [], Option, Some, None, Result, Ok, Err, ⊤}
 use Rattle.outside.specs.Output.{GainsText}
 use Rattle.outside.specs.Count.{Rose}
 use Rattle.outside.specs.declared.errors.DevError.{DevError}
@@ -37,6 +37,12 @@ abbrev pub StopsOnlyIfRose : {T : Type 0} → Result T Stop → ℕ → ℕ → 
 StopsOnlyIfRose (Ok value) before now = ⊤
 StopsOnlyIfRose (Err WriteFault) before now = Rose before now
 StopsOnlyIfRose (Err NoMemory) before now = ⊤
+
+-- a write fault comes only in a turn that writes
+abbrev pub StopsOnlyWriting : {T : Type 0} → Result T Stop → List ℕ → Type 0
+StopsOnlyWriting (Ok value) output = ⊤
+StopsOnlyWriting (Err WriteFault) output = output ≢ []
+StopsOnlyWriting (Err NoMemory) output = ⊤
 
 abbrev pub outcome_seen : Outcome → Calls.Outcome
 outcome_seen (Value value) = Calls.Value value

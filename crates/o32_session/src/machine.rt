@@ -7,7 +7,7 @@ ghost use Rattle.guest_space.specs.declared.access.Access.TheVariants.{Load};
 ghost use Rattle.kernel_core.specs.declared.error.Errno.TheVariants.{EFAULT};
 ghost use Rattle.o32_session.specs.Calls.{call_of, with_result, Value, Error};
 ghost use Rattle.o32_session.specs.Machine.{turn_of, after_outcome};
-ghost use Rattle.o32_session.specs.Turns.{TurnIs, OutcomeIs, WriteIs, StopsOnlyIfRose, outcome_seen, over_of, called, write_of_machine};
+ghost use Rattle.o32_session.specs.Turns.{TurnIs, OutcomeIs, WriteIs, StopsOnlyIfRose, StopsOnlyWriting, outcome_seen, over_of, called, write_of_machine};
 
 use crate::answer::ProcessEnd;
 use guest_space::Space;
@@ -140,6 +140,7 @@ impl Machine {
     pub fn turn<O: Sink>(&mut self, alloc: Global, out: &mut O) -> Result<Turn, Stop>
         ensures turn { IfOk result (λ turn. TurnIs (turn_of self.old) turn self.new (O.written out.old) (O.written out.new)) }
         ensures stop { OnErr result (GainsBetween (O.written out.old) (O.written out.new) [] (turn_of self.old).output) }
+        ensures writes { StopsOnlyWriting result (turn_of self.old).output }
         ensures cause { StopsOnlyIfRose result (O.faults out.old) (O.faults out.new) }
         ensures later { O.faults out.old ≤ O.faults out.new }
     {
@@ -162,6 +163,7 @@ impl Machine {
         requires { self.old.fault ≡ None }
         ensures turn { IfOk result (λ turn. TurnIs (called self.old) turn self.new (O.written out.old) (O.written out.new)) }
         ensures stop { OnErr result (GainsBetween (O.written out.old) (O.written out.new) [] (called self.old).output) }
+        ensures writes { StopsOnlyWriting result (called self.old).output }
         ensures cause { StopsOnlyIfRose result (O.faults out.old) (O.faults out.new) }
         ensures later { O.faults out.old ≤ O.faults out.new }
     {
@@ -216,6 +218,7 @@ impl Machine {
         ensures machine { self.new ≡ self.old }
         ensures outcome { IfOk result (λ outcome. WriteIs (write_of_machine self.old) outcome (O.written out.old) (O.written out.new)) }
         ensures stop { OnErr result (GainsBetween (O.written out.old) (O.written out.new) [] (write_of_machine self.old).output) }
+        ensures writes { StopsOnlyWriting result (write_of_machine self.old).output }
         ensures cause { StopsOnlyIfRose result (O.faults out.old) (O.faults out.new) }
         ensures later { O.faults out.old ≤ O.faults out.new }
     {

@@ -3,7 +3,7 @@ use Rattle.outside.proofs.OutputLemmas.{GainsText-nothing}
 use Rattle.o32_session.specs.Machine.{turn_of}
 use Rattle.o32_session.specs.Turns.{over_of}
 use Rattle.o32_session.specs.Run.{State, state_at, EndsIn, IsOverAt}
-use Rattle.o32_session.proofs.RunLemmas.{after_turn, ends_next, over_so, gained_next, gained_part}
+use Rattle.o32_session.proofs.RunLemmas.{after_turn, ends_next, over_so, gained_next, gained_part, stops_writing}
 use Rattle.o32_session.proofs.run.run.Goals as goal
 
 pub loop-turns-init : goal.loop-turns-init
@@ -28,8 +28,12 @@ returns-in-Err-clause-run g c =
     let before = c.loop-turns.invariant in
     let within : c.loop-turns.turns < c.args.budget = omega arith in (
       record { within = within; running = before.running },
-      gained_part c.args.machine c.loop-turns.machine c.loop-turns.turns _ _ _ before.same before.running before.gained
-          c.in-Err.ensures.stop,
+      (
+        gained_part c.args.machine c.loop-turns.machine c.loop-turns.turns _ _ _ before.same before.running before.gained
+            c.in-Err.ensures.stop,
+        stops_writing (state_at c.args.machine c.loop-turns.turns).machine c.loop-turns.machine c.in-Err.stop before.same
+            c.in-Err.ensures.writes,
+      ),
     )
 
 pub loop-turns-preserved : goal.loop-turns-preserved
