@@ -1,1 +1,10 @@
+pub mod FileContent
+pub mod FileSystem
+pub mod LoadedTree
+pub mod NameCalls
+pub mod NodeCalls
+pub mod Nodes
+pub mod PathWalk
 pub mod RealTime
+pub mod Totals
+pub mod ValidTree

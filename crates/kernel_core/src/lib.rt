@@ -5,20 +5,26 @@
 #![tactic(auto)]
 
 mod byte_list;
+mod core_error;
 mod error;
 mod flags;
+mod items;
 mod mask;
 mod request;
 mod resource;
 mod signal;
+mod tree;
 
 pub use byte_list::Bytes;
+pub use core_error::{CoreError, Stop};
 pub use error::Errno;
 pub use flags::{Access, MapFlags, MapKind, OpenFlags, PollBits, SaFlags};
+pub use items::Items;
 pub use mask::MaskChange;
 pub use request::Request;
 pub use resource::Resource;
 pub use signal::{RealTime, Sig};
+pub use tree::{Block, DirEntry, Kind, Node, Tree};
 
 #[cfg(test)]
 mod tests;

@@ -13,6 +13,14 @@ fn bytes_are_the_list(rt: HostRuntime) -> Result<(), Fail> {
 }
 
 #[test]
+fn items_are_the_list(rt: HostRuntime) -> Result<(), Fail> {
+    let items = Items::from([7, 0, 255].to_vec(rt.alloc())?);
+    assert!(rt; items.as_slice() == [7, 0, 255].as_slice());
+    assert!(rt; items.into_vec().as_slice() == [7, 0, 255].as_slice());
+    Ok(())
+}
+
+#[test]
 fn real_time_signals_are_32_to_128(rt: HostRuntime) {
     for number in 0..=255 {
         let within = 32 <= number && number <= 128;
