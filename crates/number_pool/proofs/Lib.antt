@@ -1,0 +1,4 @@
+pub mod Descent
+pub mod Mending
+pub mod Pigeonhole
+pub mod PlaceLemmas

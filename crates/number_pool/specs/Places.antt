@@ -1,0 +1,22 @@
+-- A pool of 65,536 places, seen as the list that says of each place whether it is taken, and the least
+-- free place of it. (This project's own rule; POSIX asks no more of a file's serial number, st_ino of
+-- sys/stat.h, than that no two live files of a file system have the same.)
+use Rattle.std.specs.Prelude.{◌≡◌, ℕ, ◌<◌, Bool, true, false, List, length, replicate, slice_index_or}
+
+-- no place is taken
+unfoldable pub none_taken : List Bool
+none_taken = replicate 65536 false
+
+-- whether the place is taken; a number past the last place is not
+abbrev pub is_taken_at : List Bool → ℕ → Bool
+is_taken_at taken place = slice_index_or taken place false
+
+-- every place is taken
+abbrev pub AreAllTaken : List Bool → Type 0
+AreAllTaken taken = (place : ℕ) → place < length taken → is_taken_at taken place ≡ true
+
+-- the place is free, and every place below it is taken
+pub record IsLeastFree (taken : List Bool) (place : ℕ) : Type 0 where
+  pub inside : place < length taken
+  pub free : is_taken_at taken place ≡ false
+  pub below : (lower : ℕ) → lower < place → is_taken_at taken lower ≡ true

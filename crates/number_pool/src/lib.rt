@@ -1,0 +1,10 @@
+//! Which of 65,536 places are taken, and the least free one in a logarithm of steps.
+#![tactic(auto)]
+
+mod pool;
+mod tree;
+
+pub use pool::{NoMemory, NumberPool, PLACES};
+
+#[cfg(test)]
+mod tests;

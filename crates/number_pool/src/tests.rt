@@ -1,0 +1,55 @@
+//! Each call once with ample memory: the least free place after places were taken and given back, and in
+//! a full pool.
+use super::{NumberPool, PLACES};
+use std::alloc::Global;
+use std::test::Fail;
+
+fn empty_pool(alloc: Global) -> Result<NumberPool, Fail> {
+    Ok(NumberPool::new(alloc).ok().ok_or("no memory")?)
+}
+
+#[test]
+fn an_empty_pool_has_place_0_free(rt: HostRuntime) -> Result<(), Fail> {
+    let pool = empty_pool(rt.alloc())?;
+    assert_eq!(rt; pool.least_free(), Some(0));
+    assert!(rt; !pool.is_taken(0));
+    Ok(())
+}
+
+#[test]
+fn a_place_given_back_is_the_least_free_one(rt: HostRuntime) -> Result<(), Fail> {
+    let mut pool = empty_pool(rt.alloc())?;
+    for place in 0..3 {
+        pool.take(place);
+    }
+    assert_eq!(rt; pool.least_free(), Some(3));
+    pool.give_back(1);
+    assert_eq!(rt; pool.least_free(), Some(1));
+    for (place, taken) in [
+        (0, true),
+        (1, false),
+        (2, true),
+        (3, false),
+        (65_535, false),
+        (65_536, false),
+    ] {
+        assert_eq!(rt; pool.is_taken(place), taken, "place {place}");
+    }
+    Ok(())
+}
+
+#[test]
+fn a_full_pool_has_no_free_place(rt: HostRuntime) -> Result<(), Fail> {
+    let mut pool = empty_pool(rt.alloc())?;
+    for place in 0..PLACES {
+        pool.take(place);
+    }
+    assert_eq!(rt; pool.least_free(), None);
+    pool.give_back(40_000);
+    assert_eq!(rt; pool.least_free(), Some(40_000));
+    pool.take(40_000);
+    pool.give_back(65_535);
+    assert_eq!(rt; pool.least_free(), Some(65_535));
+    assert!(rt; pool.is_taken(40_000));
+    Ok(())
+}
