@@ -1,0 +1,6 @@
+mod IndexLemmas
+mod Lists
+pub mod LoadLemmas
+pub mod NameLemmas
+pub mod PlainLemmas
+pub mod Validity
