@@ -1,0 +1,14 @@
+//! The content of a regular file: its size, and the blocks of 4096 bytes that it keeps.
+#![tactic(auto)]
+
+mod block;
+mod block_store;
+mod content;
+mod error;
+mod walk;
+
+pub use content::Content;
+pub use error::NoMemory;
+
+#[cfg(test)]
+mod tests;
