@@ -1,0 +1,57 @@
+use Rattle.std.proofs.Common.{refl, sym, ap, subst, ◌∙◌, ◌+◌, is_some}
+use Rattle.std.specs.Int.{w128}
+use Rattle.std.proofs.Math.Facts.{to_z-of_z}
+use Rattle.kernel_core.specs.NameCalls as names
+use Rattle.native_vfs.proofs.Reasons.{live-dir}
+use Rattle.native_vfs.proofs.Tables.{distinct-kept, content-leads, leads-kept}
+use Rattle.kernel_core.specs.ValidTree.{IsName}
+use Rattle.native_vfs.specs.Making.{IsMade}
+use Rattle.native_vfs.specs.Stored.{nodes_of, keyed_of, content_of}
+use Rattle.native_vfs.specs.Keyed.{place_at}
+use Rattle.native_vfs.proofs.MadeNodes.{not-all_taken, few-nodes, listing-dir, same-same, right-name, can-insert, new-number, on-err, made}
+use Rattle.native_vfs.proofs.making.make.Goals as goal
+
+pub free_place-place-requires : goal.free_place-place-requires
+free_place-place-requires c whole all =
+    not-all_taken _ c.args.numbers.now c.requires.pool whole (few-nodes c.args.table.now c.args.at.now c.requires.agrees c.requires.free) all
+
+pub reserve_name-requires-clause-live : goal.reserve_name-requires-clause-live
+reserve_name-requires-clause-live c = live-dir c.args.table.now c.args.at.now c.requires.agrees
+
+pub reserve_name-requires-clause-directory : goal.reserve_name-requires-clause-directory
+reserve_name-requires-clause-directory c = ap is_some (listing-dir c.args.table.now c.args.at.now c.requires.agrees)
+
+pub insert-requires-clause-distinct : goal.insert-requires-clause-distinct
+insert-requires-clause-distinct c = distinct-kept c.args.table.now c.reserve_name.new.table c.reserve_name.ensures.same.numbers c.requires.distinct
+
+pub insert-requires-clause-leads : goal.insert-requires-clause-leads
+insert-requires-clause-leads c =
+    content-leads c.args.table.now c.reserve_name.new.table (leads-kept c.args.table.now c.reserve_name.new.table c.reserve_name.ensures.same.numbers) c.args.node.content c.requires.leads
+
+pub returns-in_err-key-clause-same : goal.returns-in_err-key-clause-same
+returns-in_err-key-clause-same c =
+    on-err c.from_residual-in_err-key.result
+    (same-same c.args.table.now c.reserve_name.new.table c.insert.new.table c.reserve_name.ensures.same c.in_err-key.ensures.err)
+
+pub add_name-requires-clause-name : goal.add_name-requires-clause-name
+add_name-requires-clause-name c =
+    subst IsName (sym (c.in_ok-name.ensures ∙ c.as_slice.ensures)) (right-name c.args.table.now c.args.at.now c.requires.agrees _ c.requires.free)
+
+pub add_name-requires-clause-can : goal.add_name-requires-clause-can
+add_name-requires-clause-can c =
+    can-insert c.args.table.now c.reserve_name.new.table c.insert.new.table c.in_ok-key.key _ c.args.at.now c.in_ok-name.name _ c.requires.agrees c.requires.free c.reserve_name.ensures.same
+    c.in_ok-key.ensures.ok
+    (new-number (nodes_of c.args.table.now) c.args.numbers.now c.requires.pool c.free_place-place.ensures.whole c.free_place-place.result _ c.free_place-place.ensures.least
+    (ap (λ n. n + 2) c.from-number.ensures)).unused
+    (c.in_ok-name.ensures ∙ c.as_slice.ensures)
+
+pub returns-clause-made : goal.returns-clause-made
+returns-clause-made c =
+    subst
+    (λ taken. IsMade c.args.table.now c.add_name.new.table taken c.in_ok-key.key
+    (λ number. names.after_make (nodes_of c.args.table.now) (place_at (keyed_of c.args.table.now) c.args.at.now) number
+    (names.new_inode c.args.node.mode c.args.node.links (content_of c.args.node.content) c.args.now) c.args.now))
+    (sym c.take.ensures.taken)
+    (made c.args.table.now c.reserve_name.new.table c.insert.new.table c.in_ok-key.key _ c.args.at.now.dir (live-dir c.args.table.now c.args.at.now c.requires.agrees) c.reserve_name.ensures.same
+    (rw (to_z-of_z {w = w128} {z = c.args.now} c.ranges.now) at c.in_ok-key.ensures.ok) c.add_name.new.table c.args.now c.args.at.now refl c.in_ok-name.name (c.in_ok-name.ensures ∙ c.as_slice.ensures) (rw (to_z-of_z {w = w128} {z = c.args.now} c.ranges.now) at c.add_name.ensures.step) c.args.numbers.now
+    c.free_place-place.result c.requires.distinct c.requires.pool c.free_place-place.ensures.whole c.free_place-place.ensures.least (ap (λ n. n + 2) c.from-number.ensures))

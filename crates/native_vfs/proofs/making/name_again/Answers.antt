@@ -1,0 +1,44 @@
+use Rattle.std.proofs.Common.{sym, ap, subst, ◌∙◌, is_some}
+use Rattle.std.specs.Int.{w128}
+use Rattle.std.proofs.Math.Facts.{to_z-of_z}
+use Rattle.kernel_core.specs.ValidTree.{IsName}
+use Rattle.native_vfs.specs.Keyed.{place_at}
+use Rattle.native_vfs.specs.Stored.{nodes_of, keyed_of, number_of_key}
+use Rattle.native_vfs.proofs.MadeNodes.{listing-dir, right-name}
+use Rattle.native_vfs.proofs.NamedAgain.{link-free, few-links, can-again, named-again}
+use Rattle.native_vfs.proofs.Reasons.{live-dir}
+use Rattle.native_vfs.proofs.Tables.{distinct-kept}
+use Rattle.native_vfs.proofs.making.name_again.Goals as goal
+
+pub reserve_name-requires-clause-live : goal.reserve_name-requires-clause-live
+reserve_name-requires-clause-live c = live-dir c.args.table.now c.args.at.now c.requires.agrees
+
+pub reserve_name-requires-clause-directory : goal.reserve_name-requires-clause-directory
+reserve_name-requires-clause-directory c = ap is_some (listing-dir c.args.table.now c.args.at.now c.requires.agrees)
+
+pub link-requires-clause-distinct : goal.link-requires-clause-distinct
+link-requires-clause-distinct c = distinct-kept c.args.table.now c.reserve_name.new.table c.reserve_name.ensures.same.numbers c.requires.distinct
+
+pub link-requires-clause-few : goal.link-requires-clause-few
+link-requires-clause-few c = few-links c.args.table.now c.reserve_name.new.table c.args.node c.reserve_name.ensures.same c.requires.distinct c.requires.system c.requires.live
+
+pub add_name-requires-clause-distinct : goal.add_name-requires-clause-distinct
+add_name-requires-clause-distinct c =
+    distinct-kept c.reserve_name.new.table c.link.new.table c.link.ensures.step.numbers
+    (distinct-kept c.args.table.now c.reserve_name.new.table c.reserve_name.ensures.same.numbers c.requires.distinct)
+
+pub add_name-requires-clause-name : goal.add_name-requires-clause-name
+add_name-requires-clause-name c =
+    subst IsName (sym (c.in_ok-name.ensures ∙ c.as_slice.ensures)) (right-name c.args.table.now c.args.at.now c.requires.agrees _ (link-free (nodes_of c.args.table.now) (number_of_key c.args.table.now c.args.node) (place_at (keyed_of c.args.table.now) c.args.at.now) c.requires.free))
+
+pub add_name-requires-clause-can : goal.add_name-requires-clause-can
+add_name-requires-clause-can c =
+    can-again c.args.table.now c.reserve_name.new.table c.link.new.table c.args.node _ c.reserve_name.ensures.same c.link.ensures.step c.args.at.now c.in_ok-name.name
+    (c.in_ok-name.ensures ∙ c.as_slice.ensures) c.requires.agrees c.requires.free
+
+pub returns-clause-named : goal.returns-clause-named
+returns-clause-named c =
+    named-again c.args.table.now c.reserve_name.new.table c.link.new.table c.args.node c.args.now c.reserve_name.ensures.same
+    (rw (to_z-of_z {w = w128} {z = c.args.now} c.ranges.now) at c.link.ensures.step) c.args.at.now c.in_ok-name.name
+    (c.in_ok-name.ensures ∙ c.as_slice.ensures) c.add_name.new.table c.number-number.result c.number-number.ensures
+    (rw (to_z-of_z {w = w128} {z = c.args.now} c.ranges.now) at c.add_name.ensures.step)

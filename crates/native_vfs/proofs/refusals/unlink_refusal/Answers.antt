@@ -1,0 +1,12 @@
+use Rattle.std.proofs.Common.{◌∙◌, sym, ap}
+use Rattle.kernel_core.specs.NameCalls.{unlink_of}
+use Rattle.native_vfs.specs.Stored.{nodes_of}
+use Rattle.native_vfs.proofs.Reasons.{live-node}
+use Rattle.native_vfs.proofs.Stages.{named-node}
+use Rattle.native_vfs.proofs.refusals.unlink_refusal.Goals as goal
+
+pub file_refusal-requires-clause-live : goal.file_refusal-requires-clause-live
+file_refusal-requires-clause-live c = live-node c.args.table.now c.args.at.now c.in-Some.node c.requires.agrees c.in-Some.is
+
+pub returns-in-Some : goal.returns-in-Some
+returns-in-Some c = c.file_refusal.ensures ∙ sym (ap (unlink_of (nodes_of c.args.table.now)) (named-node c.args.table.now c.args.at.now c.requires.agrees c.in-Some.node c.in-Some.is))

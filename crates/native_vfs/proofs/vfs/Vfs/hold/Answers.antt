@@ -1,0 +1,46 @@
+use Rattle.std.proofs.Common.{ℕ, ◌≡◌, ◌+◌, ◌<◌, ◌^◌, Option, Some, None, IfSome, refl, ap, arith}
+use Rattle.kernel_core.specs.NodeCalls.{held}
+use Rattle.kernel_core.specs.Nodes.{Inode}
+use Rattle.file_system_laws.proofs.NodeLaws.{hold_keeps}
+use Rattle.native_vfs.specs.Steps.{holds_in, holds_at}
+use Rattle.native_vfs.specs.Keyed.{Keyed, inode_at}
+use Rattle.native_vfs.specs.Stored.{IsKept, number_of_key, nodes_of, keyed_of, Table}
+use Rattle.native_vfs.proofs.Kept.{live-seen, holds-seen, nodes-stepped, keys-stepped, kept-step, valid-view, are-keys-view}
+use Rattle.native_vfs.proofs.vfs.Vfs.hold.Goals as goal
+
+few_holds : (o : Option Inode) → IfSome o (λ i. i.holds + 1 < 2 ^ 32) → holds_in o + 1 < 2 ^ 32
+few_holds None few = omega arith
+few_holds (Some i) few = few
+
+few : (table : Table) (system : Keyed) (key : ℕ) → keyed_of table ≡ system → IfSome (inode_at system key) (λ i. i.holds + 1 < 2 ^ 32) → holds_at table key + 1 < 2 ^ 32
+few table system key view free =
+    let bound = few_holds (inode_at system key) free in
+    let is = holds-seen table system view key in
+    omega (arith, bound, is)
+
+pub hold-requires-clause-live : goal.hold-requires-clause-live
+hold-requires-clause-live c = live-seen c.self.inside.table c.args.self.now c.self.view_is c.args.node c.requires.live
+
+pub hold-requires-clause-few : goal.hold-requires-clause-few
+hold-requires-clause-few c = few c.self.inside.table c.args.self.now c.args.node c.self.view_is c.requires.few
+
+kept : (c : goal.After-hold) → IsKept c.hold.new.table c.self.inside.numbers c.self.inside.entries c.self.inside.blocks c.self.inside.root
+kept c =
+    kept-step c.self.inside.table c.hold.new.table c.args.node held c.hold.ensures.step c.self.inside.numbers c.self.inside.entries c.self.inside.blocks c.self.inside.root c.self.invariant
+    (hold_keeps (nodes_of c.self.inside.table) (number_of_key c.self.inside.table c.args.node) c.self.invariant.system (λ i found. let e = ap holds_in found in let h = few c.self.inside.table c.args.self.now c.args.node c.self.view_is c.requires.few in omega (arith, e, h)))
+    (λ i. refl)
+
+pub invariant_of-self : goal.invariant_of-self
+invariant_of-self c = kept c
+
+pub returns-clause-nodes : goal.returns-clause-nodes
+returns-clause-nodes c = nodes-stepped c.self.inside.table c.hold.new.table c.args.node held c.hold.ensures.step c.args.self.now c.self.view_is
+
+pub returns-clause-same : goal.returns-clause-same
+returns-clause-same c = keys-stepped c.self.inside.table c.hold.new.table c.args.node held c.hold.ensures.step c.args.self.now c.self.view_is
+
+pub returns-clause-valid : goal.returns-clause-valid
+returns-clause-valid c = valid-view _ _ _ _ _ (kept c)
+
+pub returns-clause-keys : goal.returns-clause-keys
+returns-clause-keys c = are-keys-view _ _ _ _ _ (kept c)

@@ -1,0 +1,83 @@
+use Rattle.std.proofs.Common.{◌≡◌, ◌+◌, None, refl, sym, ◌∙◌}
+use Rattle.std.specs.Int.{w128}
+use Rattle.std.proofs.Math.Facts.{to_z-of_z}
+use Rattle.kernel_core.specs.NameCalls as names
+use Rattle.native_vfs.specs.Making.{IsNamedAgain}
+use Rattle.native_vfs.specs.Keyed.{place_at}
+use Rattle.native_vfs.specs.Stored.{IsKept, nodes_of, keyed_of, number_of_key}
+use Rattle.native_vfs.proofs.Kept.{valid-view, are-keys-view, live-seen}
+use Rattle.native_vfs.proofs.MadeCalls.{agrees-kept, valid-seen, are-keys-seen, view-same, kept-same, none-left}
+use Rattle.native_vfs.proofs.NamedAgain.{link-refusal-seen, kept-named, nodes-named, keys-named}
+use Rattle.native_vfs.proofs.vfs.Vfs.link.Goals as goal
+
+pub link_refusal-requires-clause-live : goal.link_refusal-requires-clause-live
+link_refusal-requires-clause-live c = live-seen c.self.inside.table c.args.self.now c.self.view_is c.args.node c.requires.live
+
+pub name_again-requires-clause-live : goal.name_again-requires-clause-live
+name_again-requires-clause-live c = live-seen c.self.inside.table c.args.self.now c.self.view_is c.args.node c.requires.live
+
+pub returns-in-Some-clause-answer : goal.returns-in-Some-clause-answer
+returns-in-Some-clause-answer c = sym (c.in-Some.ensures ∙ link-refusal-seen c.self.inside.table c.args.self.now c.self.view_is c.args.node c.args.at.now)
+
+pub returns-in-Some-clause-valid : goal.returns-in-Some-clause-valid
+returns-in-Some-clause-valid c = valid-seen c.self.inside.table c.args.self.now c.self.view_is _ _ _ _ c.self.invariant
+
+pub returns-in-Some-clause-keys : goal.returns-in-Some-clause-keys
+returns-in-Some-clause-keys c = are-keys-seen c.self.inside.table c.args.self.now c.self.view_is _ _ _ _ c.self.invariant
+
+-- a name is made
+
+free : (c : goal.After-self-1)
+    → names.link_refusal (nodes_of c.self.inside.table) (number_of_key c.self.inside.table c.args.node) (place_at (keyed_of c.self.inside.table) c.args.at.now) ≡ None
+free c = sym c.link_refusal.ensures ∙ none-left c.link_refusal.result c.in_default.not-Some
+
+named : (c : goal.After-self-1)
+    → IsNamedAgain c.self.inside.table c.name_again.new.table
+    (names.after_link (nodes_of c.self.inside.table) (number_of_key c.self.inside.table c.args.node) (place_at (keyed_of c.self.inside.table) c.args.at.now) c.args.now)
+named c = rw (to_z-of_z {w = w128} {z = c.args.now} c.ranges.now) at c.in-Ok.ensures.named
+
+kept : (c : goal.After-self-1) → IsKept c.name_again.new.table c.self.inside.numbers (c.self.inside.entries + 1) c.self.inside.blocks c.self.inside.root
+kept c =
+    kept-named c.self.inside.table c.name_again.new.table c.args.node c.args.at.now c.args.now (named c) c.self.inside.numbers c.self.inside.entries c.self.inside.blocks c.self.inside.root
+    c.self.invariant (agrees-kept c.self.inside.table c.args.self.now c.self.view_is c.args.at.now c.requires.agrees) (free c)
+    (live-seen c.self.inside.table c.args.self.now c.self.view_is c.args.node c.requires.live) c.requires.time
+
+pub invariant_of-self : goal.invariant_of-self
+invariant_of-self c = kept c
+
+pub returns-in-Ok-clause-answer : goal.returns-in-Ok-clause-answer
+returns-in-Ok-clause-answer c = sym (link-refusal-seen c.self.inside.table c.args.self.now c.self.view_is c.args.node c.args.at.now) ∙ free c
+
+pub returns-in-Ok-clause-named : goal.returns-in-Ok-clause-named
+returns-in-Ok-clause-named c = nodes-named c.self.inside.table c.name_again.new.table c.args.node c.args.at.now c.args.now (named c) c.args.self.now c.self.view_is
+
+pub returns-in-Ok-clause-same : goal.returns-in-Ok-clause-same
+returns-in-Ok-clause-same c = keys-named c.self.inside.table c.name_again.new.table c.args.node c.args.at.now c.args.now (named c) c.args.self.now c.self.view_is
+
+pub returns-in-Ok-clause-valid : goal.returns-in-Ok-clause-valid
+returns-in-Ok-clause-valid c = valid-view _ _ _ _ _ (kept c)
+
+pub returns-in-Ok-clause-keys : goal.returns-in-Ok-clause-keys
+returns-in-Ok-clause-keys c = are-keys-view _ _ _ _ _ (kept c)
+
+-- memory runs out
+
+same_kept : (c : goal.In-Err) → IsKept c.name_again.new.table c.self.inside.numbers c.self.inside.entries c.self.inside.blocks c.self.inside.root
+same_kept c = kept-same c.self.inside.table c.name_again.new.table c.in-Err.ensures.same c.self.inside.numbers c.self.inside.numbers _ _ _ refl c.self.invariant
+
+pub invariant_of-self-in-Err : goal.invariant_of-self-in-Err
+invariant_of-self-in-Err c = same_kept c
+
+pub returns-in-Err-clause-answer : goal.returns-in-Err-clause-answer
+returns-in-Err-clause-answer c =
+    sym (link-refusal-seen c.self.inside.table c.args.self.now c.self.view_is c.args.node c.args.at.now) ∙ sym c.link_refusal.ensures
+    ∙ none-left c.link_refusal.result c.in_default.not-Some
+
+pub returns-in-Err-clause-err : goal.returns-in-Err-clause-err
+returns-in-Err-clause-err c = view-same c.self.inside.table c.name_again.new.table c.in-Err.ensures.same c.args.self.now c.self.view_is
+
+pub returns-in-Err-clause-valid : goal.returns-in-Err-clause-valid
+returns-in-Err-clause-valid c = valid-view _ _ _ _ _ (same_kept c)
+
+pub returns-in-Err-clause-keys : goal.returns-in-Err-clause-keys
+returns-in-Err-clause-keys c = are-keys-view _ _ _ _ _ (same_kept c)

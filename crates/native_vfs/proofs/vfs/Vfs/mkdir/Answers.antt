@@ -1,0 +1,105 @@
+use Rattle.std.proofs.Common.{◌≡◌, ◌+◌, None, sym, subst, ◌∙◌}
+use Rattle.std.specs.Int.{w128}
+use Rattle.std.proofs.Math.Facts.{to_z-of_z}
+use Rattle.kernel_core.specs.NameCalls as names
+use Rattle.kernel_core.specs.Nodes.{NodeContent}
+use Rattle.native_vfs.specs.Making.{IsMade}
+use Rattle.native_vfs.specs.Keyed.{place_at, number_at}
+use Rattle.native_vfs.specs.Stored.{IsKept, nodes_of, keyed_of}
+use Rattle.native_vfs.proofs.Kept.{valid-view, are-keys-view}
+use Rattle.native_vfs.proofs.MadeCalls.{refusal-seen, agrees-kept, valid-seen, are-keys-seen, view-same, kept-same, makes-seen, kept-mkdir, made-step, above-live, above-number, above-few, empty-directory, empty-leads, none-left}
+use Rattle.native_vfs.proofs.Reasons.{live-dir}
+use Rattle.native_vfs.proofs.Tables.{number_at-table}
+use Rattle.native_vfs.proofs.vfs.Vfs.mkdir.Goals as goal
+
+pub returns-in-Some-clause-answer : goal.returns-in-Some-clause-answer
+returns-in-Some-clause-answer c = sym (c.in-Some.ensures ∙ refusal-seen c.self.inside.table c.args.self.now c.self.view_is names.make_refusal c.args.at.now)
+
+pub returns-in-Some-clause-valid : goal.returns-in-Some-clause-valid
+returns-in-Some-clause-valid c = valid-seen c.self.inside.table c.args.self.now c.self.view_is _ _ _ _ c.self.invariant
+
+pub returns-in-Some-clause-keys : goal.returns-in-Some-clause-keys
+returns-in-Some-clause-keys c = are-keys-seen c.self.inside.table c.args.self.now c.self.view_is _ _ _ _ c.self.invariant
+
+-- a directory is made
+
+pub number-requires : goal.number-requires
+number-requires c = record { live = live-dir c.self.inside.table c.args.at.now (agrees-kept c.self.inside.table c.args.self.now c.self.view_is c.args.at.now c.requires.agrees) }
+
+pub make-requires-clause-leads : goal.make-requires-clause-leads
+make-requires-clause-leads c =
+    empty-leads c.self.inside.table c.number.result c.args.at.now.dir c.new.result
+    (live-dir c.self.inside.table c.args.at.now (agrees-kept c.self.inside.table c.args.self.now c.self.view_is c.args.at.now c.requires.agrees)) c.number.ensures c.new.ensures.entries
+
+pub add_link-requires-clause-live : goal.add_link-requires-clause-live
+add_link-requires-clause-live c =
+    above-live c.self.inside.table c.make.new.table c.make.new.numbers c.in-Ok.key c.args.at.now
+    (agrees-kept c.self.inside.table c.args.self.now c.self.view_is c.args.at.now c.requires.agrees) _ _ c.in-Ok.ensures.made
+
+pub add_link-requires-clause-few : goal.add_link-requires-clause-few
+add_link-requires-clause-few c =
+    above-few c.self.inside.table c.make.new.table c.make.new.numbers c.in-Ok.key c.args.at.now
+    (agrees-kept c.self.inside.table c.args.self.now c.self.view_is c.args.at.now c.requires.agrees) _ _ c.in-Ok.ensures.made c.self.invariant.system
+
+free : (c : goal.After-self-1) → names.make_refusal (nodes_of c.self.inside.table) (place_at (keyed_of c.self.inside.table) c.args.at.now) ≡ None
+free c = sym c.make_refusal.ensures ∙ none-left c.make_refusal.result c.in_default.not-Some
+
+made : (c : goal.After-self-1)
+    → IsMade c.self.inside.table c.add_link.new.table c.make.new.numbers c.in-Ok.key (λ number. names.after_mkdir (nodes_of c.self.inside.table) (place_at (keyed_of c.self.inside.table) c.args.at.now) number c.args.mode c.args.now)
+made c =
+    made-step c.self.inside.table c.make.new.table c.make.new.numbers c.in-Ok.key
+    (λ number. names.after_make (nodes_of c.self.inside.table) (place_at (keyed_of c.self.inside.table) c.args.at.now) number
+    (names.new_directory c.args.mode (number_at (keyed_of c.self.inside.table) c.args.at.now.dir) c.args.now) c.args.now)
+    (subst
+    (λ (content : NodeContent). IsMade c.self.inside.table c.make.new.table c.make.new.numbers c.in-Ok.key
+    (λ number. names.after_make (nodes_of c.self.inside.table) (place_at (keyed_of c.self.inside.table) c.args.at.now) number (names.new_inode c.args.mode 2 content c.args.now) c.args.now))
+    (empty-directory c.number.result (number_at (keyed_of c.self.inside.table) c.args.at.now.dir) c.args.at.now.dir c.new.result
+    (c.number.ensures ∙ sym (number_at-table c.self.inside.table c.args.at.now.dir)) c.new.ensures.entries c.new.ensures.greatest)
+    (rw (to_z-of_z {w = w128} {z = c.args.now} c.ranges.now) at c.in-Ok.ensures.made))
+    c.add_link.new.table c.args.at.now.dir (number_at (keyed_of c.self.inside.table) c.args.at.now.dir) names.one_link_more c.add_link.ensures.step
+    (above-number c.self.inside.table c.make.new.table c.make.new.numbers c.in-Ok.key c.args.at.now
+    (agrees-kept c.self.inside.table c.args.self.now c.self.view_is c.args.at.now c.requires.agrees) _ _ c.in-Ok.ensures.made)
+
+kept : (c : goal.After-self-1) → IsKept c.add_link.new.table c.make.new.numbers (c.self.inside.entries + 1) c.self.inside.blocks c.self.inside.root
+kept c =
+    kept-mkdir c.self.inside.table c.add_link.new.table c.self.inside.numbers c.make.new.numbers c.self.inside.entries c.self.inside.blocks c.self.inside.root c.in-Ok.key c.args.at.now c.args.now
+    c.self.invariant (agrees-kept c.self.inside.table c.args.self.now c.self.view_is c.args.at.now c.requires.agrees) c.requires.time (free c) c.args.mode c.requires.mode (made c)
+
+pub invariant_of-self : goal.invariant_of-self
+invariant_of-self c = kept c
+
+pub returns-in-Ok-clause-answer : goal.returns-in-Ok-clause-answer
+returns-in-Ok-clause-answer c = sym (refusal-seen c.self.inside.table c.args.self.now c.self.view_is names.make_refusal c.args.at.now) ∙ free c
+
+pub returns-in-Ok-clause-made : goal.returns-in-Ok-clause-made
+returns-in-Ok-clause-made c =
+    makes-seen c.self.inside.table c.add_link.new.table c.make.new.numbers c.in-Ok.key c.args.at.now (λ nodes place number. names.after_mkdir nodes place number c.args.mode c.args.now) c.args.self.now
+    c.self.view_is (made c)
+
+pub returns-in-Ok-clause-valid : goal.returns-in-Ok-clause-valid
+returns-in-Ok-clause-valid c = valid-view _ _ _ _ _ (kept c)
+
+pub returns-in-Ok-clause-keys : goal.returns-in-Ok-clause-keys
+returns-in-Ok-clause-keys c = are-keys-view _ _ _ _ _ (kept c)
+
+-- memory runs out
+
+same_kept : (c : goal.In-Err) → IsKept c.make.new.table c.make.new.numbers c.self.inside.entries c.self.inside.blocks c.self.inside.root
+same_kept c = kept-same c.self.inside.table c.make.new.table c.in-Err.ensures.same c.self.inside.numbers c.make.new.numbers _ _ _ c.in-Err.ensures.numbers c.self.invariant
+
+pub invariant_of-self-in-Err : goal.invariant_of-self-in-Err
+invariant_of-self-in-Err c = same_kept c
+
+pub returns-in-Err-clause-answer : goal.returns-in-Err-clause-answer
+returns-in-Err-clause-answer c =
+    sym (refusal-seen c.self.inside.table c.args.self.now c.self.view_is names.make_refusal c.args.at.now) ∙ sym c.make_refusal.ensures
+    ∙ none-left c.make_refusal.result c.in_default.not-Some
+
+pub returns-in-Err-clause-err : goal.returns-in-Err-clause-err
+returns-in-Err-clause-err c = view-same c.self.inside.table c.make.new.table c.in-Err.ensures.same c.args.self.now c.self.view_is
+
+pub returns-in-Err-clause-valid : goal.returns-in-Err-clause-valid
+returns-in-Err-clause-valid c = valid-view _ _ _ _ _ (same_kept c)
+
+pub returns-in-Err-clause-keys : goal.returns-in-Err-clause-keys
+returns-in-Err-clause-keys c = are-keys-view _ _ _ _ _ (same_kept c)

@@ -1,0 +1,64 @@
+use Rattle.std.proofs.Common.{◌-◌, sym, ap, subst, ◌∙◌}
+use Rattle.std.specs.Int.{w128}
+use Rattle.std.proofs.Math.Facts.{to_z-of_z}
+use Rattle.kernel_core.specs.NameCalls.{rmdir_refusal, after_rmdir}
+use Rattle.native_vfs.specs.Keyed.{AgreesAt, place_at}
+use Rattle.native_vfs.specs.Stored.{nodes_of, keyed_of, number_of_key, IsKept}
+use Rattle.native_vfs.proofs.Ends.{seen-at, valid-seen, are-keys-seen, after-seen, keeps-seen, kept-lost, rmdir-may}
+use Rattle.native_vfs.proofs.Kept.{valid-view, are-keys-view}
+use Rattle.native_vfs.proofs.Stages.{named-node}
+use Rattle.native_vfs.proofs.vfs.Vfs.rmdir.Goals as goal
+
+pub returns-in-Some-clause-answer : goal.returns-in-Some-clause-answer
+returns-in-Some-clause-answer c = sym (seen-at c.self.inside.table c.args.self.now c.self.view_is rmdir_refusal c.args.at.now) ∙ sym c.rmdir_refusal.ensures ∙ c.in-Some.is
+
+pub returns-in-Some-clause-valid : goal.returns-in-Some-clause-valid
+returns-in-Some-clause-valid c = valid-seen c.self.inside.table c.args.self.now c.self.view_is c.self.inside.numbers c.self.inside.entries c.self.inside.blocks c.self.inside.root c.self.invariant
+
+pub returns-in-Some-clause-keys : goal.returns-in-Some-clause-keys
+returns-in-Some-clause-keys c = are-keys-seen c.self.inside.table c.args.self.now c.self.view_is c.self.inside.numbers c.self.inside.entries c.self.inside.blocks c.self.inside.root c.self.invariant
+
+pub rmdir_at-requires-clause-entry : goal.rmdir_at-requires-clause-entry
+rmdir_at-requires-clause-entry c =
+    (rmdir-may (nodes_of c.self.inside.table) (place_at (keyed_of c.self.inside.table) c.args.at.now) (number_of_key c.self.inside.table c.in-Some-node.node)
+    (named-node c.self.inside.table c.args.at.now (subst (λ s. AgreesAt s c.args.at.now) (sym c.self.view_is) c.requires.agrees) c.in-Some-node.node c.in-Some-node.is)
+    (sym c.rmdir_refusal.ensures ∙ c.in_default.is)).plain
+
+pub rmdir_at-requires-clause-directory : goal.rmdir_at-requires-clause-directory
+rmdir_at-requires-clause-directory c =
+    (rmdir-may (nodes_of c.self.inside.table) (place_at (keyed_of c.self.inside.table) c.args.at.now) (number_of_key c.self.inside.table c.in-Some-node.node)
+    (named-node c.self.inside.table c.args.at.now (subst (λ s. AgreesAt s c.args.at.now) (sym c.self.view_is) c.requires.agrees) c.in-Some-node.node c.in-Some-node.is)
+    (sym c.rmdir_refusal.ensures ∙ c.in_default.is)).kind
+
+pub rmdir_at-requires-clause-empty : goal.rmdir_at-requires-clause-empty
+rmdir_at-requires-clause-empty c =
+    (rmdir-may (nodes_of c.self.inside.table) (place_at (keyed_of c.self.inside.table) c.args.at.now) (number_of_key c.self.inside.table c.in-Some-node.node)
+    (named-node c.self.inside.table c.args.at.now (subst (λ s. AgreesAt s c.args.at.now) (sym c.self.view_is) c.requires.agrees) c.in-Some-node.node c.in-Some-node.is)
+    (sym c.rmdir_refusal.ensures ∙ c.in_default.is)).empty
+
+kept : (c : goal.After-self-1) → IsKept c.rmdir_at.new.table c.rmdir_at.new.numbers (c.self.inside.entries - 1) c.rmdir_at.new.blocks c.self.inside.root
+kept c =
+    kept-lost c.self.inside.table c.rmdir_at.new.table c.in-Some-node.node c.self.inside.numbers c.rmdir_at.new.numbers c.self.inside.entries c.self.inside.blocks
+    c.rmdir_at.new.blocks c.self.inside.root c.self.invariant c.rmdir_at.ensures.sound c.rmdir_at.ensures.loss c.rmdir_at.ensures.entries
+
+pub invariant_of-self : goal.invariant_of-self
+invariant_of-self c = kept c
+
+pub returns-in-Some-node-clause-answer : goal.returns-in-Some-node-clause-answer
+returns-in-Some-node-clause-answer c = sym (seen-at c.self.inside.table c.args.self.now c.self.view_is rmdir_refusal c.args.at.now) ∙ sym c.rmdir_refusal.ensures ∙ c.in_default.is
+
+pub returns-in-Some-node-clause-ok : goal.returns-in-Some-node-clause-ok
+returns-in-Some-node-clause-ok c =
+    after-seen c.self.inside.table c.args.self.now c.self.view_is (λ nodes place node. after_rmdir nodes place node c.args.now) c.args.at.now
+    c.in-Some-node.node c.in-Some-node.is c.rmdir_at.new.table
+    (c.rmdir_at.ensures.nodes ∙ ap (after_rmdir (nodes_of c.self.inside.table) (place_at (keyed_of c.self.inside.table) c.args.at.now) (number_of_key c.self.inside.table c.in-Some-node.node))
+    (to_z-of_z {w = w128} {z = c.args.now} c.ranges.now))
+
+pub returns-in-Some-node-clause-kept : goal.returns-in-Some-node-clause-kept
+returns-in-Some-node-clause-kept c = keeps-seen c.self.inside.table c.args.self.now c.self.view_is c.rmdir_at.new.table c.rmdir_at.ensures.loss.keys
+
+pub returns-in-Some-node-clause-valid : goal.returns-in-Some-node-clause-valid
+returns-in-Some-node-clause-valid c = valid-view _ _ _ _ _ (kept c)
+
+pub returns-in-Some-node-clause-keys : goal.returns-in-Some-node-clause-keys
+returns-in-Some-node-clause-keys c = are-keys-view _ _ _ _ _ (kept c)

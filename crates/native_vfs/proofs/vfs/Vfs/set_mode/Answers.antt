@@ -1,0 +1,35 @@
+use Rattle.std.proofs.Common.{refl, subst}
+use Rattle.kernel_core.specs.NodeCalls.{with_mode}
+use Rattle.file_system_laws.proofs.NodeLaws.{mode_keeps}
+use Rattle.std.specs.Int.{w128}
+use Rattle.std.proofs.Math.Facts.{to_z-of_z}
+use Rattle.native_vfs.specs.Stored.{IsKept, IsStep, number_of_key, nodes_of}
+use Rattle.native_vfs.proofs.Kept.{live-seen, nodes-stepped, keys-stepped, kept-step, valid-view, are-keys-view}
+use Rattle.native_vfs.proofs.vfs.Vfs.set_mode.Goals as goal
+
+pub set_mode-requires-clause-live : goal.set_mode-requires-clause-live
+set_mode-requires-clause-live c = live-seen c.self.inside.table c.args.self.now c.self.view_is c.args.node c.requires.live
+
+step : (c : goal.After-set_mode) → IsStep c.self.inside.table c.set_mode.new.table c.args.node (with_mode c.args.mode c.args.now)
+step c = subst (λ t. IsStep c.self.inside.table c.set_mode.new.table c.args.node (with_mode c.args.mode t)) (to_z-of_z {w = w128} {z = c.args.now} c.ranges.now) c.set_mode.ensures.step
+
+kept : (c : goal.After-set_mode) → IsKept c.set_mode.new.table c.self.inside.numbers c.self.inside.entries c.self.inside.blocks c.self.inside.root
+kept c =
+    kept-step c.self.inside.table c.set_mode.new.table c.args.node (with_mode c.args.mode c.args.now) (step c) c.self.inside.numbers c.self.inside.entries c.self.inside.blocks c.self.inside.root c.self.invariant
+    (mode_keeps (nodes_of c.self.inside.table) (number_of_key c.self.inside.table c.args.node) c.self.invariant.system c.args.mode c.args.now c.requires.mode c.requires.time)
+    (λ i. refl)
+
+pub invariant_of-self : goal.invariant_of-self
+invariant_of-self c = kept c
+
+pub returns-clause-nodes : goal.returns-clause-nodes
+returns-clause-nodes c = nodes-stepped c.self.inside.table c.set_mode.new.table c.args.node (with_mode c.args.mode c.args.now) (step c) c.args.self.now c.self.view_is
+
+pub returns-clause-same : goal.returns-clause-same
+returns-clause-same c = keys-stepped c.self.inside.table c.set_mode.new.table c.args.node (with_mode c.args.mode c.args.now) (step c) c.args.self.now c.self.view_is
+
+pub returns-clause-valid : goal.returns-clause-valid
+returns-clause-valid c = valid-view _ _ _ _ _ (kept c)
+
+pub returns-clause-keys : goal.returns-clause-keys
+returns-clause-keys c = are-keys-view _ _ _ _ _ (kept c)

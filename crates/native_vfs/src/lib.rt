@@ -1,0 +1,23 @@
+//! A file system in memory: nodes, directories, and the walk of a path.
+#![tactic(auto)]
+
+mod file_calls;
+mod file_steps;
+mod loading;
+mod making;
+mod node_calls;
+mod node_facts;
+mod path;
+mod place;
+mod refusals;
+mod removing;
+mod renaming;
+mod saving;
+mod settle;
+mod steps;
+mod stored;
+mod vfs;
+mod walk;
+
+pub use place::{NoMemory, Place, Status};
+pub use vfs::Vfs;

@@ -1,0 +1,294 @@
+//! What makes a name: a file, a directory, a symbolic link, or a second name of a node.
+ghost use Rattle.std.specs.Prelude.{◌≡◌, ◌≤◌, ◌==◌, ℕ, false, length, None, OnOk, IfOk, OnErr, IsSome};
+ghost use Rattle.std.specs.List.{list_any};
+ghost use Rattle.slab.specs.Slab.{get as slab_get};
+ghost use Rattle.kernel_core.specs.FileSystem.{IsFileSystem, IsTime};
+ghost use Rattle.kernel_core.specs.NameCalls as names;
+ghost use Rattle.kernel_core.specs.ValidTree.{greatest_mode};
+ghost use Rattle.number_pool.specs.Places.{AreAllTaken, IsLeastFree};
+ghost use Rattle.native_vfs.specs.Answers.{IsAnswer, Makes};
+ghost use Rattle.native_vfs.specs.Keyed.{AreKeys, AgreesAt, IsLiveKey, place_at, number_at};
+ghost use Rattle.native_vfs.specs.Making.{IsMade, IsNamedAgain};
+ghost use Rattle.native_vfs.specs.Steps.{IsSame};
+ghost use Rattle.native_vfs.specs.Stored.{AgreesPool, ContentLeads, HasDistinctNumbers, content_of, keyed_of, nodes_of, number_of_key};
+
+use crate::place::{NoMemory, Place};
+use crate::refusals::{link_refusal, make_refusal, number, symlink_refusal};
+use crate::steps::{add_link, add_name, insert, link, reserve_name};
+use crate::stored::{Stored, StoredContent, StoredDirectory};
+use crate::vfs::Vfs;
+use directory_names::{Directory, NodeRef};
+use file_blocks::Content;
+use kernel_core::{Bytes, CoreError, Stop};
+use number_pool::NumberPool;
+use slab::Slab;
+use std::alloc::Global;
+
+impl Vfs {
+    /// Makes a regular file without content under the place's name (open(2) with O_CREAT), and gives its
+    /// key. `mode` is its twelve mode bits, and `now` is in nanoseconds since the Epoch, within whole
+    /// seconds of 64 bits. It is refused with EEXIST where the name is there, ENOENT where the directory
+    /// was removed, and ENOSPC where 65,536 nodes or 131,072 entries live or the directory's cookies end
+    /// (these limits are this project's own). After an error nothing has changed.
+    pub fn create(&mut self, at: &Place, mode: u16, now: i128) -> Result<usize, CoreError>
+        requires agrees { AgreesAt self.old at.now }
+        requires mode { mode ≤ greatest_mode }
+        requires time { IsTime now }
+        ensures answer { IsAnswer (names.make_refusal self.old.nodes (place_at self.old at.now)) result }
+        ensures made { IfOk result (λ key. Makes self.old self.new key (λ number. names.after_create self.old.nodes (place_at self.old at.now) number mode now)) }
+        ensures err { OnErr result (self.new ≡ self.old) }
+        ensures valid { IsFileSystem self.new.nodes }
+        ensures keys { AreKeys self.new }
+    {
+        if let Some(error) = make_refusal(&self.table, self.entries, at) {
+            return Err(CoreError::Refused(error));
+        }
+        let file = NewNode {
+            mode,
+            links: 1,
+            content: StoredContent::File(Content::new(self.alloc)),
+        };
+        match make(
+            &mut self.table,
+            &mut self.numbers,
+            at,
+            file,
+            now,
+            self.alloc,
+        ) {
+            Ok(key) => {
+                self.entries += 1;
+                Ok(key)
+            }
+            Err(NoMemory) => Err(CoreError::Stop(Stop::NoMemory)),
+        }
+    }
+
+    /// Makes an empty directory under the place's name (mkdir(2)), and gives its key. `mode` is its twelve
+    /// mode bits, and `now` is in nanoseconds since the Epoch, within whole seconds of 64 bits. It is
+    /// refused with EEXIST where the name is there, ENOENT where the directory above was removed, and
+    /// ENOSPC where 65,536 nodes or 131,072 entries live or the directory's cookies end (these limits are
+    /// this project's own). After an error nothing has changed.
+    pub fn mkdir(&mut self, at: &Place, mode: u16, now: i128) -> Result<usize, CoreError>
+        requires agrees { AgreesAt self.old at.now }
+        requires mode { mode ≤ greatest_mode }
+        requires time { IsTime now }
+        ensures answer { IsAnswer (names.make_refusal self.old.nodes (place_at self.old at.now)) result }
+        ensures made { IfOk result (λ key. Makes self.old self.new key (λ number. names.after_mkdir self.old.nodes (place_at self.old at.now) number mode now)) }
+        ensures err { OnErr result (self.new ≡ self.old) }
+        ensures valid { IsFileSystem self.new.nodes }
+        ensures keys { AreKeys self.new }
+    {
+        if let Some(error) = make_refusal(&self.table, self.entries, at) {
+            return Err(CoreError::Refused(error));
+        }
+        let above = NodeRef {
+            number: number(&self.table, at.dir),
+            key: at.dir,
+        };
+        let directory = NewNode {
+            mode,
+            links: 2,
+            content: StoredContent::Directory(StoredDirectory {
+                parent: Some(above),
+                names: Directory::new(self.alloc),
+            }),
+        };
+        match make(
+            &mut self.table,
+            &mut self.numbers,
+            at,
+            directory,
+            now,
+            self.alloc,
+        ) {
+            Ok(key) => {
+                add_link(&mut self.table, at.dir);
+                self.entries += 1;
+                Ok(key)
+            }
+            Err(NoMemory) => Err(CoreError::Stop(Stop::NoMemory)),
+        }
+    }
+
+    /// Makes a symbolic link to the target under the place's name (symlink(2)). The target has at most
+    /// 4,095 bytes and no NUL, and `now` is in nanoseconds since the Epoch, within whole seconds of 64
+    /// bits. It is refused with ENOENT where the target is empty or the directory was removed, EEXIST
+    /// where the name is there, and ENOSPC where 65,536 nodes or 131,072 entries live or the directory's
+    /// cookies end (these limits are this project's own). After an error nothing has changed.
+    pub fn symlink(&mut self, at: &Place, target: &[u8], now: i128) -> Result<(), CoreError>
+        requires agrees { AgreesAt self.old at.now }
+        requires short { length target.now ≤ 4095 }
+        requires plain { list_any (λ byte. byte == 0) target.now ≡ false }
+        requires time { IsTime now }
+        ensures answer { IsAnswer (names.symlink_refusal self.old.nodes (place_at self.old at.now) target.now) result }
+        ensures made { OnOk result ((key : ℕ) × Makes self.old self.new key (λ number. names.after_symlink self.old.nodes (place_at self.old at.now) number target.now now)) }
+        ensures err { OnErr result (self.new ≡ self.old) }
+        ensures valid { IsFileSystem self.new.nodes }
+        ensures keys { AreKeys self.new }
+    {
+        if let Some(error) = symlink_refusal(&self.table, self.entries, at, target) {
+            return Err(CoreError::Refused(error));
+        }
+        match make_link(
+            &mut self.table,
+            &mut self.numbers,
+            at,
+            target,
+            now,
+            self.alloc,
+        ) {
+            Ok(_key) => {
+                self.entries += 1;
+                Ok(())
+            }
+            Err(NoMemory) => Err(CoreError::Stop(Stop::NoMemory)),
+        }
+    }
+
+    /// Gives a file or a symbolic link the place's name as one more (link(2)). `node` is its key, and
+    /// `now` is in nanoseconds since the Epoch, within whole seconds of 64 bits. It is refused with EPERM
+    /// where the node is a directory, EEXIST where the name is there, ENOENT where the directory was
+    /// removed, and ENOSPC where 131,072 entries live or the directory's cookies end (these limits, and
+    /// that EPERM comes before EEXIST, are this project's own). After an error nothing has changed.
+    pub fn link(&mut self, node: usize, at: &Place, now: i128) -> Result<(), CoreError>
+        requires live { IsLiveKey self.old node }
+        requires agrees { AgreesAt self.old at.now }
+        requires time { IsTime now }
+        ensures answer { IsAnswer (names.link_refusal self.old.nodes (number_at self.old node) (place_at self.old at.now)) result }
+        ensures named { OnOk result (self.new.nodes ≡ names.after_link self.old.nodes (number_at self.old node) (place_at self.old at.now) now) }
+        ensures same { OnOk result (self.new.keys ≡ self.old.keys) }
+        ensures err { OnErr result (self.new ≡ self.old) }
+        ensures valid { IsFileSystem self.new.nodes }
+        ensures keys { AreKeys self.new }
+    {
+        if let Some(error) = link_refusal(&self.table, self.entries, node, at) {
+            return Err(CoreError::Refused(error));
+        }
+        match name_again(&mut self.table, node, at, now, self.alloc) {
+            Ok(()) => {
+                self.entries += 1;
+                Ok(())
+            }
+            Err(NoMemory) => Err(CoreError::Stop(Stop::NoMemory)),
+        }
+    }
+}
+
+/// A node that is to be made: all but its number and its times.
+#[derive(Drop)]
+struct NewNode {
+    mode: u16,
+    links: u32,
+    content: StoredContent,
+}
+
+/// Makes a node under a name that may be made, and gives its key. After an error nothing has changed.
+fn make(
+    table: &mut Slab<Stored>,
+    numbers: &mut NumberPool,
+    at: &Place,
+    node: NewNode,
+    now: i128,
+    alloc: Global,
+) -> Result<usize, NoMemory>
+    requires distinct { HasDistinctNumbers table.old }
+    requires pool { AgreesPool (nodes_of table.old) numbers.old }
+    requires agrees { AgreesAt (keyed_of table.old) at.now }
+    requires free { names.make_refusal (nodes_of table.old) (place_at (keyed_of table.old) at.now) ≡ None }
+    requires leads { ContentLeads table.old node.content }
+    ensures made { IfOk result (λ key. IsMade table.old table.new numbers.new key (λ number. names.after_make (nodes_of table.old) (place_at (keyed_of table.old) at.now) number (names.new_inode node.mode node.links (content_of node.content) now) now)) }
+    ensures same { OnErr result (IsSame table.old table.new) }
+    ensures numbers { OnErr result (numbers.new ≡ numbers.old) }
+{
+    let place = free_place(numbers);
+    let number = u64::from(place) + 2;
+    let name = copied(at.name.as_slice(), alloc)?;
+    reserve_name(table, at.dir)?;
+    let stored = Stored {
+        number,
+        mode: node.mode,
+        access: now,
+        modified: now,
+        changed: now,
+        links: node.links,
+        holds: 0,
+        content: node.content,
+    };
+    let key = insert(table, stored)?;
+    add_name(table, at.dir, name, NodeRef { number, key }, now);
+    numbers.take(place);
+    Ok(key)
+}
+
+/// Makes a symbolic link under a name that may be made. After an error nothing has changed.
+fn make_link(
+    table: &mut Slab<Stored>,
+    numbers: &mut NumberPool,
+    at: &Place,
+    target: &[u8],
+    now: i128,
+    alloc: Global,
+) -> Result<usize, NoMemory>
+    requires distinct { HasDistinctNumbers table.old }
+    requires pool { AgreesPool (nodes_of table.old) numbers.old }
+    requires agrees { AgreesAt (keyed_of table.old) at.now }
+    requires free { names.make_refusal (nodes_of table.old) (place_at (keyed_of table.old) at.now) ≡ None }
+    ensures made { IfOk result (λ key. IsMade table.old table.new numbers.new key (λ number. names.after_symlink (nodes_of table.old) (place_at (keyed_of table.old) at.now) number target.now now)) }
+    ensures same { OnErr result (IsSame table.old table.new) }
+    ensures numbers { OnErr result (numbers.new ≡ numbers.old) }
+{
+    let target = copied(target, alloc)?;
+    let link = NewNode {
+        mode: 0o777,
+        links: 1,
+        content: StoredContent::Link(target),
+    };
+    make(table, numbers, at, link, now, alloc)
+}
+
+/// Gives a node a name that may be made as one more. After an error nothing has changed.
+fn name_again(
+    table: &mut Slab<Stored>,
+    node: usize,
+    at: &Place,
+    now: i128,
+    alloc: Global,
+) -> Result<(), NoMemory>
+    requires live { IsSome (slab_get table.old node) }
+    requires distinct { HasDistinctNumbers table.old }
+    requires system { IsFileSystem (nodes_of table.old) }
+    requires agrees { AgreesAt (keyed_of table.old) at.now }
+    requires free { names.link_refusal (nodes_of table.old) (number_of_key table.old node) (place_at (keyed_of table.old) at.now) ≡ None }
+    ensures named { OnOk result (IsNamedAgain table.old table.new (names.after_link (nodes_of table.old) (number_of_key table.old node) (place_at (keyed_of table.old) at.now) now)) }
+    ensures same { OnErr result (IsSame table.old table.new) }
+{
+    let name = copied(at.name.as_slice(), alloc)?;
+    reserve_name(table, at.dir)?;
+    let number = number(table, node);
+    link(table, node, now);
+    add_name(table, at.dir, name, NodeRef { number, key: node }, now);
+    Ok(())
+}
+
+/// The least free place of a pool that has one.
+fn free_place(numbers: &NumberPool) -> u32
+    requires { length numbers.now ≡ 65536 → AreAllTaken numbers.now → ⊥ }
+    ensures least { IsLeastFree numbers.now result }
+    ensures whole { length numbers.now ≡ 65536 }
+{
+    match numbers.least_free() {
+        Some(place) => place,
+        None => unreachable!(),
+    }
+}
+
+/// The bytes, in memory of their own.
+pub(crate) fn copied(bytes: &[u8], alloc: Global) -> Result<Bytes, NoMemory>
+    ensures { IfOk result (λ copy. copy ≡ bytes.now) }
+{
+    match bytes.to_vec(alloc) {
+        Ok(copy) => Ok(Bytes::from(copy)),
+        Err(_) => Err(NoMemory),
+    }
+}

@@ -1,0 +1,136 @@
+//! The calls that take a name away.
+ghost use Rattle.std.specs.Prelude.{◌≡◌, ◌+◌, Some, OnOk, OnErr, true, false};
+ghost use Rattle.kernel_core.specs.FileSystem.{IsFileSystem, IsTime};
+ghost use Rattle.kernel_core.specs.NameCalls as names;
+ghost use Rattle.kernel_core.specs.Nodes.{is_directory};
+ghost use Rattle.kernel_core.specs.Totals.{live_entries};
+ghost use Rattle.native_vfs.specs.Answers.{IsSureAnswer, with_node};
+ghost use Rattle.native_vfs.specs.Keyed.{AreKeys, AgreesAt, KeepsKeys, place_at};
+ghost use Rattle.native_vfs.specs.Removals.{IsLoss, IsSound};
+ghost use Rattle.native_vfs.specs.Stored.{nodes_of, keyed_of, number_of_key};
+
+use crate::place::Place;
+use crate::refusals::{rmdir_refusal, unlink_refusal};
+use crate::settle::settle;
+use crate::steps::{drop_link, orphan, take_name, unlink};
+use crate::stored::Stored;
+use crate::vfs::Vfs;
+use kernel_core::CoreError;
+use number_pool::NumberPool;
+use slab::Slab;
+
+impl Vfs {
+    /// Takes a name away from a file or symbolic link (unlink(2)), which goes where that was its last name
+    /// and nothing holds it. It is refused with ENOENT where nothing has the name, and with EISDIR where a
+    /// directory has it. After an error nothing has changed, and it takes no memory. `now` is in
+    /// nanoseconds since the Epoch.
+    pub fn unlink(&mut self, at: &Place, now: i128) -> Result<(), CoreError>
+        requires agrees { AgreesAt self.old at.now }
+        requires time { IsTime now }
+        ensures answer { IsSureAnswer (names.unlink_refusal self.old.nodes (place_at self.old at.now)) result }
+        ensures ok { OnOk result (self.new.nodes ≡ with_node (place_at self.old at.now).node self.old.nodes (λ node. names.after_unlink self.old.nodes (place_at self.old at.now) node now)) }
+        ensures kept { OnOk result (KeepsKeys self.old self.new) }
+        ensures err { OnErr result (self.new ≡ self.old) }
+        ensures valid { IsFileSystem self.new.nodes }
+        ensures keys { AreKeys self.new }
+    {
+        if let Some(error) = unlink_refusal(&self.table, at) {
+            return Err(CoreError::Refused(error));
+        }
+        if let Some(node) = at.node {
+            unlink_at(
+                &mut self.table,
+                &mut self.numbers,
+                &mut self.blocks,
+                at,
+                node,
+                now,
+            );
+            self.entries -= 1;
+        }
+        Ok(())
+    }
+
+    /// Takes its name away from an empty directory (rmdir(2)), which goes where nothing holds it. It is
+    /// refused with ENOENT where nothing has the name, EINVAL for `.`, ENOTEMPTY for `..`, EBUSY for the
+    /// root, EINVAL for the empty name of another directory (this project's own), ENOTDIR where it is no
+    /// directory, and ENOTEMPTY where it has entries. After an error nothing has changed, and it takes no
+    /// memory. `now` is in nanoseconds since the Epoch.
+    pub fn rmdir(&mut self, at: &Place, now: i128) -> Result<(), CoreError>
+        requires agrees { AgreesAt self.old at.now }
+        requires time { IsTime now }
+        ensures answer { IsSureAnswer (names.rmdir_refusal self.old.nodes (place_at self.old at.now)) result }
+        ensures ok { OnOk result (self.new.nodes ≡ with_node (place_at self.old at.now).node self.old.nodes (λ node. names.after_rmdir self.old.nodes (place_at self.old at.now) node now)) }
+        ensures kept { OnOk result (KeepsKeys self.old self.new) }
+        ensures err { OnErr result (self.new ≡ self.old) }
+        ensures valid { IsFileSystem self.new.nodes }
+        ensures keys { AreKeys self.new }
+    {
+        if let Some(error) = rmdir_refusal(&self.table, at) {
+            return Err(CoreError::Refused(error));
+        }
+        if let Some(node) = at.node {
+            rmdir_at(
+                &mut self.table,
+                &mut self.numbers,
+                &mut self.blocks,
+                at,
+                node,
+                now,
+            );
+            self.entries -= 1;
+        }
+        Ok(())
+    }
+}
+
+/// Takes a name away from a file or symbolic link.
+pub(crate) fn unlink_at(
+    table: &mut Slab<Stored>,
+    numbers: &mut NumberPool,
+    blocks: &mut u32,
+    at: &Place,
+    node: usize,
+    now: i128,
+)
+    requires sound { IsSound table.old numbers.old blocks.old }
+    requires agrees { AgreesAt (keyed_of table.old) at.now }
+    requires node { at.now.node ≡ Some node }
+    requires file { is_directory (nodes_of table.old) (number_of_key table.old node) ≡ false }
+    requires time { IsTime now }
+    ensures nodes { nodes_of table.new ≡ names.after_unlink (nodes_of table.old) (place_at (keyed_of table.old) at.now) (number_of_key table.old node) now }
+    ensures sound { IsSound table.new numbers.new blocks.new }
+    ensures loss { IsLoss table.old table.new node }
+    ensures entries { live_entries (nodes_of table.new) + 1 ≡ live_entries (nodes_of table.old) }
+{
+    take_name(table, at.dir, at.name.as_slice(), now);
+    unlink(table, node, now);
+    settle(table, numbers, blocks, node);
+}
+
+/// Takes its name away from an empty directory.
+pub(crate) fn rmdir_at(
+    table: &mut Slab<Stored>,
+    numbers: &mut NumberPool,
+    blocks: &mut u32,
+    at: &Place,
+    node: usize,
+    now: i128,
+)
+    requires sound { IsSound table.old numbers.old blocks.old }
+    requires agrees { AgreesAt (keyed_of table.old) at.now }
+    requires node { at.now.node ≡ Some node }
+    requires entry { names.is_no_entry at.now.name ≡ false }
+    requires directory { is_directory (nodes_of table.old) (number_of_key table.old node) ≡ true }
+    requires empty { names.has_entries (nodes_of table.old) (number_of_key table.old node) ≡ false }
+    requires time { IsTime now }
+    ensures nodes { nodes_of table.new ≡ names.after_rmdir (nodes_of table.old) (place_at (keyed_of table.old) at.now) (number_of_key table.old node) now }
+    ensures sound { IsSound table.new numbers.new blocks.new }
+    ensures loss { IsLoss table.old table.new node }
+    ensures entries { live_entries (nodes_of table.new) + 1 ≡ live_entries (nodes_of table.old) }
+{
+    take_name(table, at.dir, at.name.as_slice(), now);
+    drop_link(table, at.dir);
+    orphan(table, node);
+    settle(table, numbers, blocks, node);
+}

@@ -1,0 +1,192 @@
+//! The call that moves a name.
+ghost use Rattle.std.specs.Prelude.{◌≡◌, ◌+◌, ◌<◌, ◌^◌, ℕ, Some, None, IsSome, IfOk, OnOk, OnErr, false};
+ghost use Rattle.slab.specs.Slab.{get as slab_get};
+ghost use Rattle.kernel_core.specs.FileSystem.{IsFileSystem, IsTime};
+ghost use Rattle.kernel_core.specs.NameCalls as names;
+ghost use Rattle.kernel_core.specs.Nodes.{listing_at, update};
+ghost use Rattle.kernel_core.specs.Totals.{live_entries};
+ghost use Rattle.kernel_core.specs.ValidTree.{IsName};
+ghost use Rattle.native_vfs.specs.Answers.{IsAnswer, with_node};
+ghost use Rattle.native_vfs.specs.Keyed.{AreKeys, AgreesAt, KeepsKeys, place_at, number_at};
+ghost use Rattle.native_vfs.specs.Removals.{IsSound};
+ghost use Rattle.native_vfs.specs.Renames.{entry_moved, MayGive, IsCleared, Becomes};
+ghost use Rattle.native_vfs.specs.Steps.{IsSame, links_at};
+ghost use Rattle.native_vfs.specs.Stored.{nodes_of, keyed_of, number_of_key, HasDistinctNumbers, HasRoom, CanAdd};
+
+use crate::making::copied;
+use crate::place::{NoMemory, Place};
+use crate::refusals::{is_directory, number, rename_refusal, stands_for};
+use crate::removing::{rmdir_at, unlink_at};
+use crate::steps::{
+    add_link, add_name, drop_link, mark_changed, reparent, reserve_name, take_name,
+};
+use crate::stored::Stored;
+use crate::vfs::Vfs;
+use directory_names::NodeRef;
+use kernel_core::{Bytes, CoreError, Stop};
+use number_pool::NumberPool;
+use slab::Slab;
+use std::alloc::Global;
+
+impl Vfs {
+    /// Moves a name (rename(2)). What stood under the new name loses it, as by unlink(2) or rmdir(2); two
+    /// names of one node are left as they are. It is refused with ENOENT where nothing has the old name;
+    /// EBUSY where either name is `.`, `..` or empty; EINVAL where a directory would go into its own
+    /// subtree; ENOTDIR, ENOTEMPTY or EISDIR by what is replaced; ENOENT where the new directory was
+    /// removed; and ENOSPC where it has no cookie left. After an error, also for want of memory, nothing has
+    /// changed. `now` is in nanoseconds since the Epoch.
+    pub fn rename(&mut self, from: &Place, to: &Place, now: i128) -> Result<(), CoreError>
+        requires from { AgreesAt self.old from.now }
+        requires to { AgreesAt self.old to.now }
+        requires time { IsTime now }
+        ensures answer { IsAnswer (names.rename_refusal self.old.nodes (place_at self.old from.now) (place_at self.old to.now)) result }
+        ensures ok { OnOk result (self.new.nodes ≡ with_node (place_at self.old from.now).node self.old.nodes (λ moved. names.after_rename self.old.nodes (place_at self.old from.now) (place_at self.old to.now) moved now)) }
+        ensures kept { OnOk result (KeepsKeys self.old self.new) }
+        ensures err { OnErr result (self.new ≡ self.old) }
+        ensures valid { IsFileSystem self.new.nodes }
+        ensures keys { AreKeys self.new }
+    {
+        if let Some(error) = rename_refusal(&self.table, from, to) {
+            return Err(CoreError::Refused(error));
+        }
+        let Some(moved) = from.node else {
+            return Ok(());
+        };
+        if stands_for(&self.table, to, moved) {
+            return Ok(());
+        }
+        match self.move_entry(from, to, moved, now) {
+            Ok(()) => Ok(()),
+            Err(NoMemory) => Err(CoreError::Stop(Stop::NoMemory)),
+        }
+    }
+
+    /// Moves a node's name to one that stands for another node or for none. After an error nothing has
+    /// changed.
+    fn move_entry(
+        &mut self,
+        from: &Place,
+        to: &Place,
+        moved: usize,
+        now: i128,
+    ) -> Result<(), NoMemory>
+        requires from { AgreesAt self.old from.now }
+        requires to { AgreesAt self.old to.now }
+        requires time { IsTime now }
+        requires node { from.now.node ≡ Some moved }
+        requires other { names.is_node (place_at self.old to.now).node (number_at self.old moved) ≡ false }
+        requires allowed { names.rename_refusal self.old.nodes (place_at self.old from.now) (place_at self.old to.now) ≡ None }
+        ensures ok { OnOk result (self.new.nodes ≡ names.after_move self.old.nodes (place_at self.old from.now) (place_at self.old to.now) (number_at self.old moved) now) }
+        ensures kept { OnOk result (KeepsKeys self.old self.new) }
+        ensures err { OnErr result (self.new ≡ self.old) }
+        ensures valid { IsFileSystem self.new.nodes }
+        ensures keys { AreKeys self.new }
+    {
+        let name = new_name(&mut self.table, to, self.alloc)?;
+        clear(
+            &mut self.table,
+            &mut self.numbers,
+            &mut self.blocks,
+            &mut self.entries,
+            to,
+            now,
+        );
+        move_name(&mut self.table, from, moved, to.dir, name, now);
+        Ok(())
+    }
+}
+
+/// A place's name in memory of its own, and room for it in the place's directory.
+fn new_name(table: &mut Slab<Stored>, at: &Place, alloc: Global) -> Result<Bytes, NoMemory>
+    requires distinct { HasDistinctNumbers table.old }
+    requires agrees { AgreesAt (keyed_of table.old) at.now }
+    ensures same { IsSame table.old table.new }
+    ensures name { IfOk result (λ name. name ≡ at.now.name) }
+    ensures room { OnOk result (HasRoom table.new at.now.dir) }
+{
+    let name = copied(at.name.as_slice(), alloc)?;
+    reserve_name(table, at.dir)?;
+    Ok(name)
+}
+
+/// Takes away a name that is to stand for another node, where it stands for one.
+fn clear(
+    table: &mut Slab<Stored>,
+    numbers: &mut NumberPool,
+    blocks: &mut u32,
+    entries: &mut u32,
+    at: &Place,
+    now: i128,
+)
+    requires sound { IsSound table.old numbers.old blocks.old }
+    requires counted { entries.old ≡ live_entries (nodes_of table.old) }
+    requires agrees { AgreesAt (keyed_of table.old) at.now }
+    requires entry { names.is_no_entry at.now.name ≡ false }
+    requires gives { MayGive (nodes_of table.old) (place_at (keyed_of table.old) at.now).node }
+    requires time { IsTime now }
+    ensures nodes { nodes_of table.new ≡ names.replace_name (nodes_of table.old) (place_at (keyed_of table.old) at.now) (place_at (keyed_of table.old) at.now).node now }
+    ensures sound { IsSound table.new numbers.new blocks.new }
+    ensures cleared { IsCleared table.old table.new at.now.dir }
+    ensures counted { entries.new ≡ live_entries (nodes_of table.new) }
+{
+    let Some(old) = at.node else {
+        return;
+    };
+    if is_directory(table, old) {
+        rmdir_at(table, numbers, blocks, at, old, now);
+    } else {
+        unlink_at(table, numbers, blocks, at, old, now);
+    }
+    *entries -= 1;
+}
+
+/// Moves a node's name to one that stands for nothing, in a directory that has room for it.
+fn move_name(
+    table: &mut Slab<Stored>,
+    from: &Place,
+    moved: usize,
+    dir: usize,
+    name: Bytes,
+    now: i128,
+)
+    requires distinct { HasDistinctNumbers table.old }
+    requires from { IsSome (slab_get table.old from.now.dir) }
+    requires moved { IsSome (slab_get table.old moved) }
+    requires dir { IsSome (slab_get table.old dir) }
+    requires room { HasRoom table.old dir }
+    requires name { IsName name }
+    requires can { CanAdd (listing_at (names.take_name (nodes_of table.old) (number_of_key table.old from.now.dir) from.now.name now) (number_of_key table.old dir)) name }
+    requires some { 0 < links_at table.old from.now.dir }
+    requires few { links_at table.old dir + 1 < 2 ^ 32 }
+    ensures becomes { Becomes table.old table.new (entry_moved (nodes_of table.old) (number_of_key table.old from.now.dir) from.now.name (number_of_key table.old moved) (number_of_key table.old dir) name now) }
+{
+    let node = NodeRef {
+        number: number(table, moved),
+        key: moved,
+    };
+    take_name(table, from.dir, from.name.as_slice(), now);
+    add_name(table, dir, name, node, now);
+    change_parent(table, moved, from.dir, dir);
+    mark_changed(table, moved, now);
+}
+
+/// Gives a directory that went from one directory to another its new parent; what is no directory has none.
+fn change_parent(table: &mut Slab<Stored>, moved: usize, from: usize, to: usize)
+    requires distinct { HasDistinctNumbers table.old }
+    requires moved { IsSome (slab_get table.old moved) }
+    requires from { IsSome (slab_get table.old from) }
+    requires to { IsSome (slab_get table.old to) }
+    requires some { 0 < links_at table.old from }
+    requires few { links_at table.old to + 1 < 2 ^ 32 }
+    ensures becomes { Becomes table.old table.new (names.move_parent (nodes_of table.old) (number_of_key table.old moved) (number_of_key table.old from) (number_of_key table.old to)) }
+{
+    if is_directory(table, moved) {
+        let parent = NodeRef {
+            number: number(table, to),
+            key: to,
+        };
+        drop_link(table, from);
+        add_link(table, to);
+        reparent(table, moved, parent);
+    }
+}

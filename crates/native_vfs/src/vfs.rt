@@ -1,0 +1,35 @@
+//! The file system.
+
+use crate::stored::Stored;
+use number_pool::NumberPool;
+use slab::Slab;
+use std::alloc::Global;
+use std::marker::Model;
+
+/// A file system: its nodes, and the names under which they hang together. Contracts see it as a `Keyed`
+/// of `specs/Keyed.antt`: the live nodes by their numbers, which are a file system of
+/// `kernel_core`, and the number of the node that each key stands for.
+#[derive(Drop)]
+pub struct Vfs {
+    pub(crate) table: Slab<Stored>,
+    pub(crate) numbers: NumberPool,
+    /// How many entries all directories have.
+    pub(crate) entries: u32,
+    /// How many blocks all files keep.
+    pub(crate) blocks: u32,
+    pub(crate) root: usize,
+    pub(crate) alloc: Global,
+}
+
+impl Model for Vfs {
+    ghost use Rattle.native_vfs.specs.Keyed.{Keyed, keyed_code};
+    ghost use Rattle.native_vfs.specs.Stored.{keyed_of, IsKept};
+
+    ghost Value = { Keyed };
+
+    ghost coded = { keyed_code };
+
+    ghost view = { λ v. keyed_of v.table };
+
+    ghost invariant = { λ v. IsKept v.table v.numbers v.entries v.blocks v.root };
+}
