@@ -1,0 +1,15 @@
+pub mod FieldLaws
+pub mod Gains
+pub mod KindLaws
+pub mod Lengths
+pub mod Loops
+pub mod ManyLaws
+pub mod MeaningLaws
+pub mod NamingLaws
+pub mod NodeLaws
+pub mod Pieces
+pub mod Reaching
+pub mod Rising
+pub mod Searching
+pub mod Spreading
+pub mod Walks

@@ -1,0 +1,9 @@
+pub mod Refusal
+pub mod Text
+pub mod Reading
+pub mod Naming
+pub mod Names
+pub mod Adding
+pub mod Valid
+pub mod Walk
+pub mod Meaning

@@ -1,0 +1,188 @@
+//! Reading nodes, and the whole file.
+ghost use Rattle.std.specs.Prelude.{◌≡◌, ◌≤◌, ◌<◌, ◌+◌, ◌^◌, [], length};
+ghost use Rattle.kernel_core.specs.ValidTree.{all_blocks, all_entries, blocks_of, entries_of};
+ghost use Rattle.fs_image.specs.Reading.{last_number, breaks_number, breaks_kind, kind_at, node_at, many, reading_of};
+ghost use Rattle.fs_image.specs.Meaning.{GivesBy, Gives};
+
+use crate::directories::{dir_at, link_at};
+use crate::fields::{bytes_at, place, refused, u8_at, u16_at, u32_at, u64_at};
+use crate::files::file_at;
+use crate::refusal::{ImageError, Rule};
+use kernel_core::{Items, Kind, Node, Tree};
+use std::alloc::Global;
+
+/// The first eight bytes of an image.
+pub const MAGIC: [u8; 8] = *b"O32IMG1\n";
+
+/// The number of the root.
+pub const ROOT: u64 = 1;
+
+/// The most nodes of a tree.
+const NODE_LIMIT: u32 = 65_536;
+
+/// The greatest number of a node, 2^63 - 1.
+const GREATEST_NUMBER: u64 = 0x7FFF_FFFF_FFFF_FFFF;
+
+/// The greatest mode, 07777.
+const GREATEST_MODE: u16 = 0o7777;
+
+fn last_number(nodes: &[Node]) -> Option<u64>
+    ensures { result ≡ last_number nodes.now }
+{
+    nodes.last().map(|node| node.number)
+}
+
+/// Whether a number is none, or does not follow the one before.
+fn breaks_number(before: Option<u64>, number: u64) -> bool
+    ensures { result ≡ breaks_number before number }
+{
+    let follows = match before {
+        Some(before) => before < number,
+        None => number == ROOT,
+    };
+    !follows || number > GREATEST_NUMBER
+}
+
+/// Whether a kind is none, or is not that of the root.
+fn breaks_kind(number: u64, kind: u8) -> bool
+    ensures { result ≡ breaks_kind number kind }
+{
+    kind < 1 || kind > 3 || (number == ROOT && kind != 2)
+}
+
+/// How many blocks and entries some nodes have.
+#[derive(Clone, Copy)]
+struct Totals {
+    blocks: u64,
+    entries: u64,
+}
+
+/// What stands behind a node's front, by its kind.
+fn kind_at<'a>(
+    alloc: Global,
+    kind: u8,
+    totals: Totals,
+    file: u64,
+    rest: &'a [u8],
+) -> Result<(Kind, &'a [u8]), ImageError>
+    requires blocks { totals.blocks ≤ 2 ^ 32 }
+    requires entries { totals.entries ≤ 2 ^ 32 }
+    ensures { GivesBy (λ x. (x.0, x.1.now)) result (kind_at kind totals.blocks totals.entries file rest.now) }
+{
+    if kind == 1 {
+        return file_at(alloc, totals.blocks, file, rest);
+    }
+    if kind == 2 {
+        return dir_at(alloc, totals.entries, file, rest);
+    }
+    link_at(alloc, file, rest)
+}
+
+/// A node behind those before, which have so many blocks and entries.
+#[tactic(auto, unfolding(crate::specs::Reading::node_at))]
+fn node_at<'a>(
+    alloc: Global,
+    before: &[Node],
+    totals: Totals,
+    file: u64,
+    rest: &'a [u8],
+) -> Result<(Node, &'a [u8]), ImageError>
+    requires blocks { totals.blocks ≡ all_blocks before.now }
+    requires entries { totals.entries ≡ all_entries before.now }
+    requires few_blocks { totals.blocks ≤ 2 ^ 32 }
+    requires few_entries { totals.entries ≤ 2 ^ 32 }
+    ensures { GivesBy (λ x. (x.0, x.1.now)) result (node_at before.now file rest.now) }
+{
+    let at = place(file, rest);
+    let (number, rest) = u64_at(file, rest)?;
+    if breaks_number(last_number(before), number) {
+        return Err(refused(Rule::Number, at));
+    }
+    let at = place(file, rest);
+    let (kind, rest) = u8_at(file, rest)?;
+    if breaks_kind(number, kind) {
+        return Err(refused(Rule::Kind, at));
+    }
+    let at = place(file, rest);
+    let (mode, rest) = u16_at(file, rest)?;
+    if mode > GREATEST_MODE {
+        return Err(refused(Rule::Mode, at));
+    }
+    let (mtime, rest) = u64_at(file, rest)?;
+    let (kind, rest) = kind_at(alloc, kind, totals, file, rest)?;
+    let mtime = mtime.cast_signed();
+    let node = Node {
+        number,
+        mode,
+        mtime,
+        kind,
+    };
+    Ok((node, rest))
+}
+
+/// How many blocks and entries some nodes have with one more.
+fn totals_with(before: Totals, node: &Node) -> Totals
+    requires blocks { before.blocks + length (blocks_of node.now.kind) < 2 ^ 64 }
+    requires entries { before.entries + length (entries_of node.now.kind) < 2 ^ 64 }
+    ensures blocks { result.blocks ≡ before.blocks + length (blocks_of node.now.kind) }
+    ensures entries { result.entries ≡ before.entries + length (entries_of node.now.kind) }
+{
+    match &node.kind {
+        Kind::File { blocks, .. } => Totals {
+            blocks: before.blocks + blocks.as_slice().len() as u64,
+            entries: before.entries,
+        },
+        Kind::Dir { entries } => Totals {
+            blocks: before.blocks,
+            entries: before.entries + entries.as_slice().len() as u64,
+        },
+        Kind::Link { .. } => before,
+    }
+}
+
+fn nodes_at<'a>(
+    alloc: Global,
+    count: u32,
+    file: u64,
+    rest: &'a [u8],
+) -> Result<(Vec<Node>, &'a [u8]), ImageError>
+    ensures { GivesBy (λ x. (x.0.items, x.1.now)) result (many node_at count [] file rest.now) }
+{
+    let mut nodes = Vec::new(alloc);
+    let mut totals = Totals {
+        blocks: 0,
+        entries: 0,
+    };
+    let mut left = rest;
+    for _ in 0..count {
+        let (node, after) = node_at(alloc, nodes.as_slice(), totals, file, left)?;
+        totals = totals_with(totals, &node);
+        nodes.push(node)?;
+        left = after;
+    }
+    Ok((nodes, left))
+}
+
+/// The tree that a file says, or the first rule that fails as it is read.
+#[tactic(auto, unfolding(crate::specs::Reading::reading_of))]
+pub fn read(alloc: Global, bytes: &[u8]) -> Result<Tree, ImageError>
+    ensures { Gives result (reading_of bytes.now) }
+{
+    let file = bytes.len() as u64;
+    let (magic, rest) = bytes_at(file, MAGIC.len(), bytes)?;
+    if magic != MAGIC.as_slice() {
+        return Err(refused(Rule::Magic, 0));
+    }
+    let at = place(file, rest);
+    let (count, rest) = u32_at(file, rest)?;
+    if count == 0 || count > NODE_LIMIT {
+        return Err(refused(Rule::Count, at));
+    }
+    let (nodes, rest) = nodes_at(alloc, count, file, rest)?;
+    if !rest.is_empty() {
+        return Err(refused(Rule::Rest, place(file, rest)));
+    }
+    Ok(Tree {
+        nodes: Items::from(nodes),
+    })
+}
