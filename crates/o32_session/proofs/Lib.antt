@@ -2,6 +2,8 @@ pub mod Numbers
 pub mod Readable
 pub mod RunLemmas
 pub mod Preparing
+pub mod Trees
 pub mod Sessions
+pub mod SavedFiles
 pub mod Reading
 pub mod Writing

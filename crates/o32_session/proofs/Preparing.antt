@@ -1,63 +1,104 @@
--- What a plan and a file ask for.
-use Rattle.std.proofs.Common.{◌≡◌, ℕ, ◌<◌, ◌≤◌, List, drop, Option, Result, Ok, Err, IfOk, IfErr, arith, ap, ◌∙◌, sym, cond, Bool, refl}
-use Rattle.std.proofs.lemmas.Bool.{lt-ltb, le-ltb}
+-- What the steps before a run come to.
+use Rattle.std.proofs.Common.{◌≡◌, ℕ, List, Option, None, Result, Ok, Err, IfOk, IfErr, ap, ◌∙◌, sym, subst, refl}
 use Rattle.outside.specs.Files.{Files}
+use Rattle.kernel_core.specs.declared.tree.Tree.{Tree}
 use Rattle.elf_image.specs.Rules.{first_failure}
+use Rattle.elf_image.specs.Loading.{plan_of, IsValid}
 use Rattle.elf_image.specs.declared.load_plan.Plan.{Plan}
-use Rattle.start_stack.specs.Stack.{start_size}
-use Rattle.start_stack.specs.declared.error.StartError.{StartError}
-use Rattle.start_stack.specs.declared.error.StartError.TheVariants as start
 use Rattle.o32_session.specs.Words.{Line}
-use Rattle.o32_session.specs.Prepared.{of_start, IsStartReason, IsMachineReason, IsPreparedLine}
-use Rattle.o32_session.specs.Session.{Asked, Refuse, Run, Bytes, IsFound, asked_of, asked_of_plan, asked_unless, program_of, first_machine}
-use Rattle.o32_session.specs.declared.answer.Refusal.TheVariants.{Usage, Missing, TooLong, Elf, Start}
-use Rattle.o32_session.specs.declared.prepare.NotRun.{NotRun}
-use Rattle.o32_session.specs.declared.prepare.NotRun.TheVariants.{Refused, ReadFault, NoMemory}
+use Rattle.o32_session.specs.Asked.{Asked, Refuse, Run, names_of, Absent, Long, Bytes, IsFound, IsOpened, asked_of_tree, asked_of_plan, AsksUnless, AsksFor, arguments_of, program_limit}
+use Rattle.o32_session.specs.Prepared.{IsLoaded, IsElfReason, IsRefusedFor, is_absent, is_long, is_broken, IsPlanOf, IsPlanned, IsTree, IsStartReason, IsPreparedLine}
+use Rattle.o32_session.specs.declared.answer.Refusal.{Refusal}
+use Rattle.o32_session.specs.declared.answer.Refusal.TheVariants.{Usage, Missing, TooLong, Elf, Image, Start}
+use Rattle.o32_session.specs.declared.load.SessionFile.TheVariants as which
+use Rattle.o32_session.specs.declared.not_run.NotRun.{NotRun}
+use Rattle.o32_session.specs.declared.not_run.NotRun.TheVariants.{Refused, ReadFault, NoMemory}
 use Rattle.o32_session.specs.declared.prepare.Ready.{Ready}
 
--- the arguments fit
-pub asked_run : (args : List (List ℕ)) (line : Line) (plan : Plan) → (131072 < start_size args line.environment → ⊥) →
-    asked_of_plan args line plan ≡ Run (first_machine plan args line.environment) line.budget
-asked_run args line plan fits =
-    let short : start_size args line.environment ≤ 131072 = omega arith in
-    ap (λ (b : Bool). cond b (Refuse Start) (Run (first_machine plan args line.environment) line.budget))
-    (le-ltb 131072 (start_size args line.environment) short)
+-- The program
 
--- why there is no machine
-pub start_reason : (args : List (List ℕ)) (line : Line) (plan : Plan) (error : StartError) →
-    (error ≡ start.TooLong → 131072 < start_size args line.environment) → IsStartReason (asked_of_plan args line plan) (of_start error)
-start_reason args line plan start.TooLong long =
-    ap (λ (b : Bool). cond b (Refuse Start) (Run (first_machine plan args line.environment) line.budget))
-    (lt-ltb 131072 (start_size args line.environment) (long refl))
-start_reason args line plan start.NoMemory long = tt
+-- what the bytes of a program come to
+pub planned : (told : Option Files) (name bytes : List ℕ) → IsFound told program_limit name (Bytes bytes) → (result : Result Plan NotRun) →
+    IfOk result (λ plan. (first_failure bytes ≡ None) × ((plan ≡ plan_of bytes) × IsValid plan)) →
+    IfErr result (IsElfReason (first_failure bytes)) → IsPlanned told name result
+planned told name bytes found (Ok plan) is reason =
+    record { bytes = bytes; found = found; formed = is.0; same = is.1.0; valid = is.1.1 }
+planned told name bytes found (Err (Refused (Elf rule))) is reason = is_broken bytes rule found reason
+planned told name bytes found (Err (Refused (Usage word))) is reason = absurd reason
+planned told name bytes found (Err (Refused (Missing file))) is reason = absurd reason
+planned told name bytes found (Err (Refused (TooLong file))) is reason = absurd reason
+planned told name bytes found (Err (Refused (Image broken))) is reason = absurd reason
+planned told name bytes found (Err (Refused Start)) is reason = absurd reason
+planned told name bytes found (Err ReadFault) is reason = tt
+planned told name bytes found (Err NoMemory) is reason = tt
 
-asked_same : (words : List (List ℕ)) (line : Line) (bytes : List ℕ) (args : List (List ℕ)) (request : Asked) →
-    args ≡ drop line.program words → asked_unless args line bytes (first_failure bytes) ≡ request →
-    asked_of (drop line.program words) line (Bytes bytes) ≡ request
-asked_same words line bytes args request same is =
-    ap (λ (a : List (List ℕ)). asked_unless a line bytes (first_failure bytes)) (sym same) ∙ is
+-- no program was loaded
+pub unplanned : (told : Option Files) (name : List ℕ) (reason : NotRun) → IsLoaded {A = ℕ} told which.Program name (Err reason) →
+    IsPlanned told name (Err reason)
+unplanned told name (Refused (Missing file)) is = subst (λ n. IsRefusedFor told name (Missing n)) (sym is.0) (is_absent is.1)
+unplanned told name (Refused (TooLong file)) is = subst (λ n. IsRefusedFor told name (TooLong n)) (sym is.0) (is_long is.1)
+unplanned told name (Refused (Usage word)) is = absurd is
+unplanned told name (Refused (Elf rule)) is = absurd is
+unplanned told name (Refused (Image broken)) is = absurd is
+unplanned told name (Refused Start) is = absurd is
+unplanned told name ReadFault is = tt
+unplanned told name NoMemory is = tt
 
-machine_reason : (words : List (List ℕ)) (line : Line) (files : Option Files) (bytes : List ℕ) (args : List (List ℕ)) →
-    IsFound files (program_of words line) (Bytes bytes) → args ≡ drop line.program words →
-    (reason : NotRun) → IsMachineReason (asked_unless args line bytes (first_failure bytes)) reason →
-    IsPreparedLine words line files (Err reason)
-machine_reason words line files bytes args found same (Refused (Elf rule)) is =
-    (Bytes bytes, (found, asked_same words line bytes args (Refuse (Elf rule)) same is))
-machine_reason words line files bytes args found same (Refused Start) is =
-    (Bytes bytes, (found, asked_same words line bytes args (Refuse Start) same is))
-machine_reason words line files bytes args found same (Refused (Usage word)) is = absurd is
-machine_reason words line files bytes args found same (Refused (Missing file)) is = absurd is
-machine_reason words line files bytes args found same (Refused (TooLong file)) is = absurd is
-machine_reason words line files bytes args found same ReadFault is = tt
-machine_reason words line files bytes args found same NoMemory is = tt
+-- A line
 
--- what a loaded file comes to
-pub prepared_file : (words : List (List ℕ)) (line : Line) (files : Option Files) (bytes : List ℕ) (args : List (List ℕ)) →
-    IsFound files (program_of words line) (Bytes bytes) → args ≡ drop line.program words → (result : Result Ready NotRun) →
-    IfOk result (λ ready. asked_unless args line bytes (first_failure bytes) ≡ Run ready.machine ready.budget) →
-    IfErr result (IsMachineReason (asked_unless args line bytes (first_failure bytes))) →
-    IsPreparedLine words line files result
-prepared_file words line files bytes args found same (Ok ready) runs reason =
-    (Bytes bytes, (found, asked_same words line bytes args (Run ready.machine ready.budget) same runs))
-prepared_file words line files bytes args found same (Err reason) runs is =
-    machine_reason words line files bytes args found same reason is
+-- what a plan asks for, with what came of the image
+asks_planned : (words : List (List ℕ)) (line : Line) (told : Option Files) (plan : Plan) (found : Result Tree Refusal) (asked : Asked) →
+    IsPlanOf told (names_of words line).program plan → IsOpened told (names_of words line).image found →
+    asked_of_plan (arguments_of words line) line plan found ≡ asked → AsksFor words line told asked
+asks_planned words line told plan found asked is image same = (
+  Bytes is.bytes,
+  is.found,
+  subst (λ f. AsksUnless (arguments_of words line) line (names_of words line) told is.bytes f asked) (sym is.formed)
+      (found, image, sym same ∙ ap (λ p. asked_of_plan (arguments_of words line) line p found) is.same),
+)
+
+start_prepared : (words : List (List ℕ)) (line : Line) (told : Option Files) (plan : Plan) (tree : Tree) (reason : NotRun) →
+    IsPlanOf told (names_of words line).program plan → IsOpened told (names_of words line).image (Ok tree) →
+    IsStartReason (asked_of_tree (arguments_of words line) line plan tree) reason → IsPreparedLine words line told (Err reason)
+start_prepared words line told plan tree (Refused Start) is image reason =
+    asks_planned words line told plan (Ok tree) (Refuse Start) is image reason
+start_prepared words line told plan tree (Refused (Usage word)) is image reason = absurd reason
+start_prepared words line told plan tree (Refused (Missing file)) is image reason = absurd reason
+start_prepared words line told plan tree (Refused (TooLong file)) is image reason = absurd reason
+start_prepared words line told plan tree (Refused (Elf rule)) is image reason = absurd reason
+start_prepared words line told plan tree (Refused (Image broken)) is image reason = absurd reason
+start_prepared words line told plan tree ReadFault is image reason = tt
+start_prepared words line told plan tree NoMemory is image reason = tt
+
+-- the machine of a plan beside its tree
+pub prepared : (words : List (List ℕ)) (line : Line) (told : Option Files) (plan : Plan) (tree : Tree) (args : List (List ℕ)) →
+    args ≡ arguments_of words line → IsPlanOf told (names_of words line).program plan →
+    IsTree told (names_of words line).image (Ok tree) → (result : Result Ready NotRun) →
+    IfOk result (λ ready. asked_of_tree args line plan tree ≡ Run ready.machine ready.budget ready.tree) →
+    IfOk result (λ ready. ready.save ≡ line.save) →
+    IfErr result (IsStartReason (asked_of_tree args line plan tree)) → IsPreparedLine words line told result
+prepared words line told plan tree args same is image (Ok ready) runs save reason = (
+  asks_planned words line told plan (Ok tree) (Run ready.machine ready.budget ready.tree) is image.0
+      (ap (λ a. asked_of_tree a line plan tree) (sym same) ∙ runs),
+  save,
+)
+prepared words line told plan tree args same is image (Err reason) runs save why =
+    start_prepared words line told plan tree reason is image.0
+    (subst (λ a. IsStartReason (asked_of_tree a line plan tree) reason) same why)
+
+-- there is no plan
+refused_prepared : (words : List (List ℕ)) (line : Line) (told : Option Files) (refusal : Refusal) →
+    IsRefusedFor told (names_of words line).program refusal → AsksFor words line told (Refuse refusal)
+refused_prepared words line told _ (is_absent found) = (Absent, found, refl)
+refused_prepared words line told _ (is_long found) = (Long, found, refl)
+refused_prepared words line told _ (is_broken bytes rule found broken) = (
+  Bytes bytes,
+  found,
+  subst (λ f. AsksUnless (arguments_of words line) line (names_of words line) told bytes f (Refuse (Elf rule))) (sym broken) refl,
+)
+
+pub unplanned_line : (words : List (List ℕ)) (line : Line) (told : Option Files) (reason : NotRun) →
+    IsPlanned told (names_of words line).program (Err reason) → IsPreparedLine words line told (Err reason)
+unplanned_line words line told (Refused refusal) is = refused_prepared words line told refusal is
+unplanned_line words line told ReadFault is = tt
+unplanned_line words line told NoMemory is = tt

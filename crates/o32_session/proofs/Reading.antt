@@ -1,19 +1,22 @@
 -- Going over the words one by one reads what the grammar says.
 use Rattle.std.proofs.Common.{◌≡◌, ℕ, ◌+◌, ◌<◌, List, [], ◌∷◌, ◌++◌, length, get_or, drop, Bool, true, false, cond, Option, Some, None, is_some, String, string_bytes, codes, arith, refl, sym, ap, ◌∙◌}
 use Rattle.std.specs.Str.{bytes_eq}
-use Rattle.o32_session.specs.Words.{Place, BudgetOption, EnvOption, ProgramName, NoOption, place_of, budget_of, is_setting, Options, line_of, Reading, WrongAt, read_guest, read_last, with_budget, read_pair, read_options, read_words, no_options, texts}
-use Rattle.o32_session.specs.Steps.{Option_or_program, Budget_value, Goes_on, Is_wrong, step_at_option, step_at_budget, after_step, read_from}
+use Rattle.o32_session.specs.Words.{Place, ImageOption, BudgetOption, SaveOption, EnvOption, ProgramName, NoOption, place_of, is_file_name, budget_of, is_setting, Options, line_of, Reading, WrongAt, read_guest, read_last, with_budget, read_pair, read_options, read_line, no_options, texts}
+use Rattle.o32_session.specs.Steps.{Expected, Option_or_program, Image_value, Budget_value, Save_value, Goes_on, Is_wrong, step_at_option, step_at_budget, after_step, read_from}
 
-budget_last : (at : ℕ) (options : Options) (guest : Reading) (twice : Bool) →
-    after_step at guest (λ next read. read_from (at + 1) next read []) (cond twice Is_wrong (Goes_on Budget_value options))
+-- an option whose value is missing
+value_last : (at : ℕ) (options : Options) (guest : Reading) (value : Expected) (twice : Bool) →
+    after_step at guest (λ next read. read_from (at + 1) next read []) (cond twice Is_wrong (Goes_on value options))
     ≡ cond twice (WrongAt at) (WrongAt (at + 1))
-budget_last at options guest true = refl
-budget_last at options guest false = refl
+value_last at options guest value true = refl
+value_last at options guest value false = refl
 
 last : (at : ℕ) (options : Options) (place : Place) →
     after_step at (read_guest (line_of options at) (at + 1) []) (λ next read. read_from (at + 1) next read []) (step_at_option options place)
     ≡ read_last at options place
-last at options BudgetOption = budget_last at options (read_guest (line_of options at) (at + 1) []) (is_some options.budget)
+last at options ImageOption = value_last at options (read_guest (line_of options at) (at + 1) []) Image_value (is_some options.image)
+last at options BudgetOption = value_last at options (read_guest (line_of options at) (at + 1) []) Budget_value (is_some options.budget)
+last at options SaveOption = value_last at options (read_guest (line_of options at) (at + 1) []) Save_value (is_some options.save)
 last at options EnvOption = refl
 last at options ProgramName = refl
 last at options NoOption = refl
@@ -35,21 +38,44 @@ budget_pair at options value rest guest true after = refl
 budget_pair at options value rest guest false after =
     budget_value at options rest (budget_of value) (read_guest (line_of options (at + 1)) (at + 1 + 1) rest) after
 
-env_value : (at : ℕ) (options : Options) (value : List ℕ) (rest : List (List ℕ)) (guest : Reading) (fits : Bool) → GoesOn at rest →
-    after_step (at + 1) guest (λ next read. read_from (at + 1 + 1) next read rest)
-    (cond fits (Goes_on Option_or_program (record options { environment = options.environment ++ value ∷ [] })) Is_wrong)
-    ≡ cond fits (read_options (at + 1 + 1) (record options { environment = options.environment ++ value ∷ [] }) rest) (WrongAt (at + 1))
-env_value at options value rest guest true after = after.same (record options { environment = options.environment ++ value ∷ [] })
-env_value at options value rest guest false after = refl
+-- a value that is kept where it fits, in these options
+kept_value : (at : ℕ) (kept : Options) (rest : List (List ℕ)) (guest : Reading) (fits : Bool) → GoesOn at rest →
+    after_step (at + 1) guest (λ next read. read_from (at + 1 + 1) next read rest) (cond fits (Goes_on Option_or_program kept) Is_wrong)
+    ≡ cond fits (read_options (at + 1 + 1) kept rest) (WrongAt (at + 1))
+kept_value at kept rest guest true after = after.same kept
+kept_value at kept rest guest false after = refl
+
+image_pair : (at : ℕ) (options : Options) (value : List ℕ) (rest : List (List ℕ)) (guest : Reading) (twice : Bool) → GoesOn at rest →
+    after_step at guest (λ next read. read_from (at + 1) next read (value ∷ rest)) (cond twice Is_wrong (Goes_on Image_value options))
+    ≡ cond twice (WrongAt at)
+    (cond (is_file_name value) (read_options (at + 1 + 1) (record options { image = Some (at + 1) }) rest) (WrongAt (at + 1)))
+image_pair at options value rest guest true after = refl
+image_pair at options value rest guest false after =
+    kept_value at (record options { image = Some (at + 1) }) rest (read_guest (line_of options (at + 1)) (at + 1 + 1) rest)
+    (is_file_name value) after
+
+save_pair : (at : ℕ) (options : Options) (value : List ℕ) (rest : List (List ℕ)) (guest : Reading) (twice : Bool) → GoesOn at rest →
+    after_step at guest (λ next read. read_from (at + 1) next read (value ∷ rest)) (cond twice Is_wrong (Goes_on Save_value options))
+    ≡ cond twice (WrongAt at)
+    (cond (is_file_name value) (read_options (at + 1 + 1) (record options { save = Some (at + 1) }) rest) (WrongAt (at + 1)))
+save_pair at options value rest guest true after = refl
+save_pair at options value rest guest false after =
+    kept_value at (record options { save = Some (at + 1) }) rest (read_guest (line_of options (at + 1)) (at + 1 + 1) rest)
+    (is_file_name value) after
 
 pair : (at : ℕ) (options : Options) (place : Place) (value : List ℕ) (rest : List (List ℕ)) → GoesOn at rest →
     after_step at (read_guest (line_of options at) (at + 1) (value ∷ rest)) (λ next read. read_from (at + 1) next read (value ∷ rest))
     (step_at_option options place)
     ≡ read_pair at options place value (read_guest (line_of options at) (at + 1) (value ∷ rest)) (λ next. read_options (at + 1 + 1) next rest)
+pair at options ImageOption value rest after =
+    image_pair at options value rest (read_guest (line_of options at) (at + 1) (value ∷ rest)) (is_some options.image) after
 pair at options BudgetOption value rest after =
     budget_pair at options value rest (read_guest (line_of options at) (at + 1) (value ∷ rest)) (is_some options.budget) after
+pair at options SaveOption value rest after =
+    save_pair at options value rest (read_guest (line_of options at) (at + 1) (value ∷ rest)) (is_some options.save) after
 pair at options EnvOption value rest after =
-    env_value at options value rest (read_guest (line_of options (at + 1)) (at + 1 + 1) rest) (is_setting value) after
+    kept_value at (record options { environment = options.environment ++ value ∷ [] }) rest
+    (read_guest (line_of options (at + 1)) (at + 1 + 1) rest) (is_setting value) after
 pair at options ProgramName value rest after = refl
 pair at options NoOption value rest after = refl
 
@@ -63,7 +89,7 @@ same_reading (word ∷ value ∷ rest) at options =
 -- a line that begins with `run` is read from its second word on
 pub run_words : {A : Type 0} (words : List (String A)) (first : String A) → 0 < length words → first ≡ get_or words 0 first →
     bytes_eq (string_bytes first) (codes "run") ≡ true →
-    read_words (texts words) ≡ read_from 1 Option_or_program no_options (texts (drop 1 words))
+    read_line (texts words) ≡ read_from 1 Option_or_program no_options (texts (drop 1 words))
 run_words [] first some is run = absurd (omega arith)
 run_words (word ∷ rest) first some is run =
     ap (λ (b : Bool). cond b (read_options 1 no_options (texts rest)) (WrongAt 0))

@@ -4,9 +4,8 @@ use Rattle.o32_session.specs.declared.answer.End.{End}
 use Rattle.o32_session.specs.declared.answer.End.TheVariants as ends
 use Rattle.o32_session.specs.declared.answer.ProcessEnd.{ProcessEnd}
 use Rattle.o32_session.specs.declared.answer.ProcessEnd.TheVariants as process
+use Rattle.o32_session.specs.declared.machine.Stop.{Stop}
 use Rattle.o32_session.specs.declared.machine.Stop.TheVariants as stops
-use Rattle.o32_session.specs.declared.run.RunEnd.{RunEnd}
-use Rattle.o32_session.specs.declared.run.RunEnd.TheVariants.{Finished, Stopped}
 use Rattle.o32_session.specs.declared.answer.Finish.{Finish}
 use Rattle.o32_session.specs.declared.answer.Finish.TheVariants.{Exited, Killed, Budget}
 
@@ -21,11 +20,10 @@ end_of (Exited status) = ends.Exited status
 end_of (Killed signal) = ends.Killed signal
 end_of Budget = ends.Budget
 
--- the end of a session whose run ended so
-abbrev pub end_of_run : RunEnd → End
-end_of_run (Finished finish) = end_of finish
-end_of_run (Stopped stops.WriteFault) = ends.WriteFault
-end_of_run (Stopped stops.NoMemory) = ends.NoMemory
+-- the end of a session whose run stopped early
+abbrev pub end_of_stop : Stop → End
+end_of_stop stops.WriteFault = ends.WriteFault
+end_of_stop stops.NoMemory = ends.NoMemory
 
 abbrev pub status_of : End → ℕ
 status_of (ends.Exited status) = status

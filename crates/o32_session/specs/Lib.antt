@@ -1,4 +1,5 @@
 pub mod Answers
+pub mod Asked
 pub mod Calls
 pub mod Lines
 pub mod Machine
@@ -6,6 +7,8 @@ pub mod Prepared
 pub mod Reader
 pub mod Run
 pub mod Runs
+pub mod Saved
+pub mod SavedFile
 pub mod Session
 pub mod Steps
 pub mod Turns

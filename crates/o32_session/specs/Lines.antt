@@ -3,7 +3,7 @@ use Rattle.std.specs.Prelude.{ℕ, List, [], ◌∷◌, ◌++◌, codes}
 use Rattle.std.specs.Fmt.{decimal}
 use Rattle.elf_image.specs.Refusal.{number_of}
 use Rattle.o32_session.specs.declared.answer.Refusal.{Refusal}
-use Rattle.o32_session.specs.declared.answer.Refusal.TheVariants.{Usage, Missing, TooLong, Elf, Start}
+use Rattle.o32_session.specs.declared.answer.Refusal.TheVariants.{Usage, Missing, TooLong, Elf, Image, Start}
 
 -- what is said of a refusal, without the newline
 abbrev pub text_of : Refusal → List ℕ
@@ -11,6 +11,7 @@ text_of (Usage word) = codes "o32run: usage at word " ++ decimal word
 text_of (Missing file) = codes "o32run: file " ++ decimal file ++ codes " missing"
 text_of (TooLong file) = codes "o32run: file " ++ decimal file ++ codes " too long"
 text_of (Elf rule) = codes "o32run: elf rule " ++ decimal (number_of rule)
+text_of (Image broken) = codes "o32run: image rule " ++ decimal broken.rule ++ codes " at " ++ decimal broken.at
 text_of Start = codes "o32run: arguments too long"
 
 abbrev pub line_of : Refusal → List ℕ

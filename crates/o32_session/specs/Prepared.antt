@@ -1,11 +1,18 @@
 -- How the steps before a run stand for what is asked for.
-use Rattle.std.specs.Prelude.{ℕ, ◌≡◌, ⊤, List, [], Option, Some, Result, Ok, Err, Vec}
+use Rattle.std.specs.Prelude.{ℕ, ◌≡◌, ⊤, List, [], ◌∷◌, Option, Some, None, Result, Ok, Err, Vec}
 use Rattle.outside.specs.Output.{GainsText, GainsBetween}
 use Rattle.outside.specs.Count.{Rose}
 use Rattle.outside.specs.Files.{Files}
 use Rattle.outside.specs.Turned.{TurnedLoad}
 use Rattle.outside.specs.declared.errors.LoadError.{LoadError}
 use Rattle.outside.specs.declared.errors.LoadError.TheVariants as loads
+use Rattle.kernel_core.specs.declared.tree.Tree.{Tree}
+use Rattle.kernel_core.specs.ValidTree.{IsValid}
+use Rattle.fs_image.specs.declared.refusal.ImageError.{ImageError}
+use Rattle.fs_image.specs.declared.refusal.ImageError.TheVariants as images
+use Rattle.elf_image.specs.Rules.{first_failure}
+use Rattle.elf_image.specs.Loading as elf_plans
+use Rattle.elf_image.specs.declared.load_plan.Plan.{Plan}
 use Rattle.elf_image.specs.declared.refusal.ElfRefusal.{ElfRefusal}
 use Rattle.elf_image.specs.declared.refusal.ElfError.{ElfError}
 use Rattle.elf_image.specs.declared.refusal.ElfError.TheVariants as elf
@@ -13,31 +20,38 @@ use Rattle.start_stack.specs.declared.error.StartError.{StartError}
 use Rattle.start_stack.specs.declared.error.StartError.TheVariants as start
 use Rattle.o32_session.specs.Lines.{line_of}
 use Rattle.o32_session.specs.Words.{Line, Reading, Asks, WrongAt}
-use Rattle.o32_session.specs.Session.{Asked, Refuse, Run, Found, Absent, Long, Bytes, IsFound, asked_of, arguments_of, program_of, turned_by}
+use Rattle.o32_session.specs.Asked.{Asked, Refuse, Run, Absent, Long, Bytes, IsFound, IsReadAs, IsOpened, AsksFor, names_of, program_file, image_file, program_limit, image_limit}
+use Rattle.o32_session.specs.Saved.{turned_by}
 use Rattle.o32_session.specs.declared.answer.Refusal.{Refusal}
 use Rattle.o32_session.specs.declared.answer.Refusal.TheVariants as refusals
 use Rattle.o32_session.specs.declared.answer.End.{End}
 use Rattle.o32_session.specs.declared.answer.End.TheVariants as ends
 use Rattle.o32_session.specs.declared.words.WordsError.{WordsError}
 use Rattle.o32_session.specs.declared.words.WordsError.TheVariants as words
-use Rattle.o32_session.specs.declared.prepare.NotRun.{NotRun}
-use Rattle.o32_session.specs.declared.prepare.NotRun.TheVariants.{Refused, ReadFault, NoMemory}
+use Rattle.o32_session.specs.declared.not_run.NotRun.{NotRun}
+use Rattle.o32_session.specs.declared.not_run.NotRun.TheVariants.{Refused, ReadFault, NoMemory}
 use Rattle.o32_session.specs.declared.prepare.Ready.{Ready}
+use Rattle.o32_session.specs.declared.load.SessionFile.{SessionFile}
+use Rattle.o32_session.specs.declared.load.SessionFile.TheVariants as files
 
 -- why nothing is run, by the cause of each step
 abbrev pub of_words : WordsError → NotRun
 of_words (words.Usage word) = Refused (refusals.Usage word)
 of_words words.NoMemory = NoMemory
 
-abbrev pub of_load : LoadError → NotRun
-of_load loads.Missing = Refused (refusals.Missing 1)
-of_load loads.TooLong = Refused (refusals.TooLong 1)
-of_load loads.Failed = ReadFault
-of_load loads.NoMemory = NoMemory
+abbrev pub of_load : ℕ → LoadError → NotRun
+of_load file loads.Missing = Refused (refusals.Missing file)
+of_load file loads.TooLong = Refused (refusals.TooLong file)
+of_load file loads.Failed = ReadFault
+of_load file loads.NoMemory = NoMemory
 
 abbrev pub of_elf : ElfError → NotRun
 of_elf (elf.Refused rule) = Refused (refusals.Elf rule)
 of_elf elf.NoMemory = NoMemory
+
+abbrev pub of_image : ImageError → NotRun
+of_image (images.Refused broken) = Refused (refusals.Image broken)
+of_image images.NoMemory = NoMemory
 
 abbrev pub of_start : StartError → NotRun
 of_start start.TooLong = Refused refusals.Start
@@ -50,12 +64,97 @@ ReasonOnlyIfRose (Err (Refused refusal)) before now = ⊤
 ReasonOnlyIfRose (Err ReadFault) before now = Rose before now
 ReasonOnlyIfRose (Err NoMemory) before now = ⊤
 
--- why there is no plan: the file's first broken rule, unless memory ran out
+-- Loads
+
+abbrev pub number_of : SessionFile → ℕ
+number_of files.Program = program_file
+number_of files.Image = image_file
+
+abbrev pub limit_of : SessionFile → ℕ
+limit_of files.Program = program_limit
+limit_of files.Image = image_limit
+
+-- what was loaded, or what was found in its place; a fault or want of memory says nothing of the file
+abbrev pub IsLoaded : {A : Type 0} → Option Files → SessionFile → List ℕ → Result (Vec ℕ A) NotRun → Type 0
+IsLoaded told file name (Ok bytes) = IsFound told (limit_of file) name (Bytes bytes.items)
+IsLoaded told file name (Err (Refused (refusals.Missing number))) =
+    (number ≡ number_of file) × IsFound told (limit_of file) name Absent
+IsLoaded told file name (Err (Refused (refusals.TooLong number))) =
+    (number ≡ number_of file) × IsFound told (limit_of file) name Long
+IsLoaded told file name (Err (Refused (refusals.Usage word))) = ⊥
+IsLoaded told file name (Err (Refused (refusals.Elf rule))) = ⊥
+IsLoaded told file name (Err (Refused (refusals.Image broken))) = ⊥
+IsLoaded told file name (Err (Refused refusals.Start)) = ⊥
+IsLoaded told file name (Err ReadFault) = ⊤
+IsLoaded told file name (Err NoMemory) = ⊤
+
+-- the load that was turned away where a refusal came of it
+abbrev pub turned_at : SessionFile → List ℕ → Refusal → List TurnedLoad
+turned_at file name (refusals.Missing number) = record { name = name; limit = limit_of file; answer = loads.Missing } ∷ []
+turned_at file name (refusals.TooLong number) = record { name = name; limit = limit_of file; answer = loads.TooLong } ∷ []
+turned_at file name (refusals.Usage word) = []
+turned_at file name (refusals.Elf rule) = []
+turned_at file name (refusals.Image broken) = []
+turned_at file name refusals.Start = []
+
+-- the loads that were turned away, by the loads that each refusal turns away
+abbrev pub turned_if : {T : Type 0} → (Refusal → List TurnedLoad) → Result T NotRun → List TurnedLoad
+turned_if turned (Ok value) = []
+turned_if turned (Err (Refused refusal)) = turned refusal
+turned_if turned (Err ReadFault) = []
+turned_if turned (Err NoMemory) = []
+
+-- The program
+
+-- why a file gives no plan: the first rule that it breaks, unless memory ran out
 abbrev pub IsElfReason : Option ElfRefusal → NotRun → Type 0
 IsElfReason failure (Refused (refusals.Elf rule)) = failure ≡ Some rule
 IsElfReason failure (Refused _) = ⊥
 IsElfReason failure ReadFault = ⊥
 IsElfReason failure NoMemory = ⊤
+
+-- the program was refused for this
+pub data IsRefusedFor (told : Option Files) (name : List ℕ) : Refusal → Type 0 where
+  is_absent : IsFound told program_limit name Absent → IsRefusedFor told name (refusals.Missing program_file)
+  is_long : IsFound told program_limit name Long → IsRefusedFor told name (refusals.TooLong program_file)
+  is_broken : (bytes : List ℕ) (rule : ElfRefusal) → IsFound told program_limit name (Bytes bytes) →
+      first_failure bytes ≡ Some rule → IsRefusedFor told name (refusals.Elf rule)
+
+-- the plan is that of the file's bytes
+pub record IsPlanOf (told : Option Files) (name : List ℕ) (plan : Plan) : Type 0 where
+  pub bytes : List ℕ
+  pub found : IsFound told program_limit name (Bytes bytes)
+  pub formed : first_failure bytes ≡ None
+  pub same : plan ≡ elf_plans.plan_of bytes
+  pub valid : elf_plans.IsValid plan
+
+abbrev pub IsPlanned : Option Files → List ℕ → Result Plan NotRun → Type 0
+IsPlanned told name (Ok plan) = IsPlanOf told name plan
+IsPlanned told name (Err (Refused refusal)) = IsRefusedFor told name refusal
+IsPlanned told name (Err ReadFault) = ⊤
+IsPlanned told name (Err NoMemory) = ⊤
+
+-- The image
+
+-- what an image's bytes were read as; want of memory says nothing
+abbrev pub IsRead : List ℕ → Result Tree NotRun → Type 0
+IsRead bytes (Ok tree) = IsReadAs bytes (Ok tree)
+IsRead bytes (Err (Refused refusal)) = IsReadAs bytes (Err refusal)
+IsRead bytes (Err ReadFault) = ⊥
+IsRead bytes (Err NoMemory) = ⊤
+
+-- the tree that was opened; a fault or want of memory says nothing
+abbrev pub IsTree : Option Files → Option (List ℕ) → Result Tree NotRun → Type 0
+IsTree told name (Ok tree) = IsOpened told name (Ok tree) × IsValid tree
+IsTree told name (Err (Refused refusal)) = IsOpened told name (Err refusal)
+IsTree told name (Err ReadFault) = ⊤
+IsTree told name (Err NoMemory) = ⊤
+
+abbrev pub turned_with : Option (List ℕ) → Refusal → List TurnedLoad
+turned_with None refusal = []
+turned_with (Some name) refusal = turned_at files.Image name refusal
+
+-- The first machine
 
 -- why there is no first machine of a plan: the arguments are too long, unless memory ran out
 abbrev pub IsStartReason : Asked → NotRun → Type 0
@@ -64,13 +163,27 @@ IsStartReason asked (Refused _) = ⊥
 IsStartReason asked ReadFault = ⊥
 IsStartReason asked NoMemory = ⊤
 
--- why there is no first machine of a file
-abbrev pub IsMachineReason : Asked → NotRun → Type 0
-IsMachineReason asked (Refused (refusals.Elf rule)) = asked ≡ Refuse (refusals.Elf rule)
-IsMachineReason asked (Refused refusals.Start) = asked ≡ Refuse refusals.Start
-IsMachineReason asked (Refused _) = ⊥
-IsMachineReason asked ReadFault = ⊥
-IsMachineReason asked NoMemory = ⊤
+-- what is asked for by a line is ready, with the index of the file that its tree is saved to
+abbrev pub IsPreparedLine : List (List ℕ) → Line → Option Files → Result Ready NotRun → Type 0
+IsPreparedLine words line told (Ok ready) =
+    AsksFor words line told (Run ready.machine ready.budget ready.tree) × (ready.save ≡ line.save)
+IsPreparedLine words line told (Err (Refused refusal)) = AsksFor words line told (Refuse refusal)
+IsPreparedLine words line told (Err ReadFault) = ⊤
+IsPreparedLine words line told (Err NoMemory) = ⊤
+
+-- the same by the reading of the words: wrong ones are refused before any load
+abbrev pub IsPrepared : List (List ℕ) → Reading → Option Files → Result Ready NotRun → Type 0
+IsPrepared words (WrongAt word) told (Ok ready) = ⊥
+IsPrepared words (WrongAt word) told (Err (Refused refusal)) = refusal ≡ refusals.Usage word
+IsPrepared words (WrongAt word) told (Err ReadFault) = ⊥
+IsPrepared words (WrongAt word) told (Err NoMemory) = ⊤
+IsPrepared words (Asks line) told result = IsPreparedLine words line told result
+
+abbrev pub turned_reading : {T : Type 0} → List (List ℕ) → Reading → Result T NotRun → List TurnedLoad
+turned_reading words (WrongAt word) result = []
+turned_reading words (Asks line) result = turned_if (turned_by (names_of words line)) result
+
+-- The line of a refusal
 
 -- a refusal wrote its line, or a part of it where the device or memory gave out
 abbrev pub RefusesSo : Refusal → End → Option (List ℕ) → Option (List ℕ) → Type 0
@@ -81,54 +194,6 @@ RefusesSo refusal ends.ReadFault old new = ⊥
 RefusesSo refusal (ends.Exited status) old new = ⊥
 RefusesSo refusal (ends.Killed signal) old new = ⊥
 RefusesSo refusal ends.Budget old new = ⊥
-
--- what was loaded, or what was found in its place; a fault or want of memory says nothing of the file
-abbrev pub IsLoaded : {A : Type 0} → Option Files → List ℕ → Result (Vec ℕ A) NotRun → Type 0
-IsLoaded files name (Ok bytes) = IsFound files name (Bytes bytes.items)
-IsLoaded files name (Err (Refused (refusals.Missing file))) = (file ≡ 1) × IsFound files name Absent
-IsLoaded files name (Err (Refused (refusals.TooLong file))) = (file ≡ 1) × IsFound files name Long
-IsLoaded files name (Err (Refused (refusals.Usage word))) = ⊥
-IsLoaded files name (Err (Refused (refusals.Elf rule))) = ⊥
-IsLoaded files name (Err (Refused refusals.Start)) = ⊥
-IsLoaded files name (Err ReadFault) = ⊤
-IsLoaded files name (Err NoMemory) = ⊤
-
--- a load changes no file, makes none, and counts no fault of a write
-pub record KeepsFiles {F : Type 0} (files : F → Option Files) (created : F → List (List ℕ)) (write_faults : F → ℕ) (old new : F) : Type 0 where
-  pub same_files : files new ≡ files old
-  pub same_created : created new ≡ created old
-  pub same_write_faults : write_faults new ≡ write_faults old
-
--- the loads that were turned away where the program of this name was asked for
-abbrev pub turned_by_load : {T : Type 0} → List ℕ → Result T NotRun → List TurnedLoad
-turned_by_load name (Ok value) = []
-turned_by_load name (Err (Refused refusal)) = turned_by name refusal
-turned_by_load name (Err ReadFault) = []
-turned_by_load name (Err NoMemory) = []
-
--- the same by the reading of the words
-abbrev pub turned_by_reading : {T : Type 0} → List (List ℕ) → Reading → Result T NotRun → List TurnedLoad
-turned_by_reading words (WrongAt word) result = []
-turned_by_reading words (Asks line) result = turned_by_load (program_of words line) result
-
--- what is asked for by a line and what was found of its program: the machine, or the refusal
-abbrev pub IsPreparedLine : List (List ℕ) → Line → Option Files → Result Ready NotRun → Type 0
-IsPreparedLine words line files (Ok ready) =
-    (found : Found) × (IsFound files (program_of words line) found
-    × (asked_of (arguments_of words line) line found ≡ Run ready.machine ready.budget))
-IsPreparedLine words line files (Err (Refused refusal)) =
-    (found : Found) × (IsFound files (program_of words line) found
-    × (asked_of (arguments_of words line) line found ≡ Refuse refusal))
-IsPreparedLine words line files (Err ReadFault) = ⊤
-IsPreparedLine words line files (Err NoMemory) = ⊤
-
--- the same by the reading of the words: wrong ones are refused before any load
-abbrev pub IsPrepared : List (List ℕ) → Reading → Option Files → Result Ready NotRun → Type 0
-IsPrepared words (WrongAt word) files (Ok ready) = ⊥
-IsPrepared words (WrongAt word) files (Err (Refused refusal)) = refusal ≡ refusals.Usage word
-IsPrepared words (WrongAt word) files (Err ReadFault) = ⊥
-IsPrepared words (WrongAt word) files (Err NoMemory) = ⊤
-IsPrepared words (Asks line) files result = IsPreparedLine words line files result
 
 -- where nothing is run, a refusal writes its line, and a fault or want of memory nothing
 abbrev pub EndsWithoutRun : NotRun → End → Option (List ℕ) → Option (List ℕ) → Type 0

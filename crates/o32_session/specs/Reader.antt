@@ -1,13 +1,13 @@
 -- How the values of the reader of words stand for the definitions of `Words`.
 use Rattle.std.specs.Prelude.{ℕ, ◌≡◌, ⊤, List, Option, Some, None}
-use Rattle.o32_session.specs.Words.{place_of, BudgetOption, EnvOption, ProgramName, NoOption, Line, Reading, Asks, WrongAt, texts}
-use Rattle.o32_session.specs.Steps.{Option_or_program, Budget_value, Env_value, Goes_on, Is_program, Is_wrong}
+use Rattle.o32_session.specs.Words.{place_of, ImageOption, BudgetOption, SaveOption, EnvOption, ProgramName, NoOption, Line, Reading, Asks, WrongAt, texts}
+use Rattle.o32_session.specs.Steps.{Option_or_program, Image_value, Budget_value, Save_value, Env_value, Goes_on, Is_program, Is_wrong}
 use Rattle.o32_session.specs.Words as Words
 use Rattle.o32_session.specs.Steps as Steps
 use Rattle.o32_session.specs.declared.words.Place.{Place}
-use Rattle.o32_session.specs.declared.words.Place.TheVariants.{Budget, Environment, Program, Unknown}
+use Rattle.o32_session.specs.declared.words.Place.TheVariants.{Image, Budget, Save, Environment, Program, Unknown}
 use Rattle.o32_session.specs.declared.words.Expected.{Expected}
-use Rattle.o32_session.specs.declared.words.Expected.TheVariants.{OptionOrProgram, BudgetValue, EnvironmentValue}
+use Rattle.o32_session.specs.declared.words.Expected.TheVariants.{OptionOrProgram, ImageValue, BudgetValue, SaveValue, EnvironmentValue}
 use Rattle.o32_session.specs.declared.words.Step.{Step}
 use Rattle.o32_session.specs.declared.words.Step.TheVariants.{GoesOn, IsProgram, IsWrong}
 use Rattle.o32_session.specs.declared.words.Options.{Options}
@@ -16,7 +16,9 @@ use Rattle.o32_session.specs.declared.words.WordsError.{WordsError}
 use Rattle.o32_session.specs.declared.words.WordsError.TheVariants.{Usage, NoMemory}
 
 abbrev pub place_seen : Place → Words.Place
+place_seen Image = ImageOption
 place_seen Budget = BudgetOption
+place_seen Save = SaveOption
 place_seen Environment = EnvOption
 place_seen Program = ProgramName
 place_seen Unknown = NoOption
@@ -26,11 +28,18 @@ IsPlace word place = place_seen place ≡ place_of word
 
 abbrev pub expected_seen : Expected → Steps.Expected
 expected_seen OptionOrProgram = Option_or_program
+expected_seen ImageValue = Image_value
 expected_seen BudgetValue = Budget_value
+expected_seen SaveValue = Save_value
 expected_seen EnvironmentValue = Env_value
 
 abbrev pub options_seen : Options → Words.Options
-options_seen options = record { budget = options.budget; environment = texts options.environment.items }
+options_seen options = record {
+  image = options.image;
+  budget = options.budget;
+  save = options.save;
+  environment = texts options.environment.items;
+}
 
 -- the step that the reader takes, from the options before to those after, is the one that is defined
 abbrev pub StepIs : Steps.Step → Step → Options → Options → Type 0
@@ -45,7 +54,13 @@ guest_reading line (Some wrong) = WrongAt wrong
 
 -- the line that the words ask for
 abbrev pub line_seen : RunLine → Line
-line_seen line = record { budget = line.budget; environment = texts line.environment.items; program = line.program }
+line_seen line = record {
+  budget = line.budget;
+  environment = texts line.environment.items;
+  program = line.program;
+  image = line.image;
+  save = line.save;
+}
 
 -- why no line was given: the reading is wrong at that word; want of memory is free
 abbrev pub IsReason : Reading → WordsError → Type 0

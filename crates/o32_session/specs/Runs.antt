@@ -1,13 +1,20 @@
 -- How the answer of the loop over the turns stands for the run.
-use Rattle.std.specs.Prelude.{ℕ, ◌≡◌, ◌≢◌, ◌+◌, List, [], Option, ⊤}
+use Rattle.std.specs.Prelude.{ℕ, ◌≡◌, ◌≢◌, ◌+◌, List, [], Option, Result, Ok, Err, ⊤}
 use Rattle.outside.specs.Output.{GainsText, GainsBetween}
 use Rattle.outside.specs.Count.{Rose}
+use Rattle.outside.specs.declared.errors.DevError.{DevError}
+use Rattle.outside.specs.declared.errors.DevError.TheVariants as device
+use Rattle.kernel_core.specs.declared.tree.Tree.{Tree}
 use Rattle.o32_session.specs.Machine.{Machine, turn_of}
 use Rattle.o32_session.specs.Run.{IsOverAt, GoesOnAt, output_at, state_at}
+use Rattle.o32_session.specs.Saved.{Stored, SavesTree, SavesTreeInPart}
 use Rattle.o32_session.specs.declared.machine.Stop.{Stop}
 use Rattle.o32_session.specs.declared.machine.Stop.TheVariants.{WriteFault, NoMemory}
-use Rattle.o32_session.specs.Answers.{end_of_run, status_of}
+use Rattle.o32_session.specs.Answers.{end_of, end_of_stop, status_of}
 use Rattle.o32_session.specs.declared.answer.Answer.{Answer}
+use Rattle.o32_session.specs.declared.answer.End.{End}
+use Rattle.o32_session.specs.declared.answer.End.TheVariants as ends
+use Rattle.o32_session.specs.declared.answer.Finish.{Finish}
 use Rattle.o32_session.specs.declared.run.RunEnd.{RunEnd}
 use Rattle.o32_session.specs.declared.run.RunEnd.TheVariants.{Finished, Stopped}
 
@@ -32,7 +39,29 @@ EndsOnlyIfRose (Finished finish) before now = ⊤
 EndsOnlyIfRose (Stopped WriteFault) before now = Rose before now
 EndsOnlyIfRose (Stopped NoMemory) before now = ⊤
 
--- the answer of a run
-abbrev pub RanIntoAnswer : Machine → ℕ → Answer → Option (List ℕ) → Option (List ℕ) → Type 0
-RanIntoAnswer machine budget answer old new =
-    (end : RunEnd) × ((answer.end ≡ end_of_run end) × ((answer.status ≡ status_of answer.end) × RanSo machine budget answer.turns end old new))
+-- the final tree was saved where a file is named for it, or at most a part of it, with the cause of a fault
+abbrev pub IsSavedSo : Option (List ℕ) → Tree → Result (Unit {0}) DevError → Stored → Stored → Type 0
+IsSavedSo name tree (Ok done) old new = SavesTree name tree old new
+IsSavedSo name tree (Err device.Failed) old new = SavesTreeInPart name tree old new × Rose old.write_faults new.write_faults
+IsSavedSo name tree (Err device.NoMemory) old new = SavesTreeInPart name tree old new
+
+-- the end of a run that is over so, by what came of the final tree
+abbrev pub end_of_save : Finish → Result (Unit {0}) DevError → End
+end_of_save finish (Ok done) = end_of finish
+end_of_save finish (Err device.Failed) = ends.WriteFault
+end_of_save finish (Err device.NoMemory) = ends.NoMemory
+
+-- what follows the end of a run: a save, or nothing
+abbrev pub EndsSo : Option (List ℕ) → Tree → RunEnd → End → Stored → Stored → Type 0
+EndsSo name tree (Finished finish) end old new =
+    (saved : Result (Unit {0}) DevError) × (end ≡ end_of_save finish saved) × IsSavedSo name tree saved old new
+EndsSo name tree (Stopped stop) end old new = (end ≡ end_of_stop stop) × (new ≡ old)
+
+-- the answer of a run, with its output before and after, and the count of faults of that
+pub record RanIntoAnswer (machine : Machine) (budget : ℕ) (tree : Tree) (name : Option (List ℕ)) (answer : Answer)
+    (old_out new_out : Option (List ℕ)) (old_faults new_faults : ℕ) (old new : Stored) : Type 0 where
+  pub end : RunEnd
+  pub ran : RanSo machine budget answer.turns end old_out new_out
+  pub cause : EndsOnlyIfRose end old_faults new_faults
+  pub ends : EndsSo name tree end answer.end old new
+  pub status : answer.status ≡ status_of answer.end

@@ -1,12 +1,12 @@
 -- The words after the emulator's own name, as this project defines them:
 --
---     run [--budget N] [--env K=V].. PROGRAM [WORD..]
+--     run [--image F] [--budget N] [--save F] [--env K=V].. PROGRAM [WORD..]
 --
 -- Square brackets hold what may be absent, and `..` follows what may stand any number of times. Options stand before
 -- PROGRAM in any order, each at most once but `--env`; a value is the next word, whatever it is. A word is given by its
 -- bytes. What is wrong is named by the index, from 0, of the first word at which a reading from the left fails, or by
--- the number of words where one is missing.
-use Rattle.std.specs.Prelude.{ℕ, ◌+◌, List, [], ◌∷◌, ◌++◌, map, Bool, false, ◌&&◌, not, if◌then◌else◌, nat_lt, nat_le, ◌==◌, slice_index, drop, is_some, Option, Some, None, codes}
+-- the number of words where one is missing. The names of files are compared last.
+use Rattle.std.specs.Prelude.{ℕ, ◌+◌, List, [], ◌∷◌, ◌++◌, map, Bool, false, ◌&&◌, not, if◌then◌else◌, nat_lt, nat_le, max, ◌==◌, slice_index, slice_index_or, drop, is_some, option_and_then, Option, Some, None, codes}
 use Rattle.std.specs.List.{list_any, list_all}
 use Rattle.std.specs.Option.{unwrap_or}
 use Rattle.std.specs.Str.{bytes_eq}
@@ -41,9 +41,16 @@ budget_of text = if is_plain_number text then up_to_greatest (digits_value 10 te
 abbrev pub is_setting : List ℕ → Bool
 is_setting text = not (has_nul text) && list_any (λ byte. byte == 61) (drop 1 text)
 
+-- the name of a file: F of `--image F` and of `--save F`
+abbrev pub is_file_name : List ℕ → Bool
+is_file_name [] = false
+is_file_name (first ∷ rest) = not (has_nul (first ∷ rest))
+
 -- what a word is in the place of an option
 pub data Place : Type 0 where
+  ImageOption : Place
   BudgetOption : Place
+  SaveOption : Place
   EnvOption : Place
   ProgramName : Place
   NoOption : Place
@@ -55,23 +62,31 @@ is_program (first ∷ rest) = not (first == 45) && not (has_nul (first ∷ rest)
 
 abbrev pub place_of : List ℕ → Place
 place_of word =
-    if bytes_eq word (codes "--budget") then BudgetOption
+    if bytes_eq word (codes "--image") then ImageOption
+    else (if bytes_eq word (codes "--budget") then BudgetOption
+    else (if bytes_eq word (codes "--save") then SaveOption
     else (if bytes_eq word (codes "--env") then EnvOption
-    else (if is_program word then ProgramName else NoOption))
+    else (if is_program word then ProgramName else NoOption))))
 
--- the options that were read: N of `--budget`, and each K=V in their order
+-- the options that were read: N of `--budget`, each K=V in their order, and the indices of the names of `--image` and
+-- `--save`
 pub record Options : Type 0 where
+  pub image : Option ℕ
   pub budget : Option ℕ
+  pub save : Option ℕ
   pub environment : List (List ℕ)
 
 abbrev pub no_options : Options
-no_options = record { budget = None; environment = [] }
+no_options = record { image = None; budget = None; save = None; environment = [] }
 
--- what the words ask for: the budget, the environment, and the index of PROGRAM, the first of the guest's arguments
+-- what the words ask for: the budget, the environment, the index of PROGRAM, the first of the guest's arguments, and the
+-- indices of the names of the image and of the file that is saved, where there are
 pub record Line : Type 0 where
   pub budget : ℕ
   pub environment : List (List ℕ)
   pub program : ℕ
+  pub image : Option ℕ
+  pub save : Option ℕ
 
 -- the budget of a run whose words give none
 abbrev pub default_budget : ℕ
@@ -87,12 +102,19 @@ read_guest line at [] = Asks line
 read_guest line at (word ∷ rest) = if has_nul word then WrongAt at else read_guest line (at + 1) rest
 
 abbrev pub line_of : Options → ℕ → Line
-line_of options program =
-    record { budget = unwrap_or options.budget default_budget; environment = options.environment; program = program }
+line_of options program = record {
+  budget = unwrap_or options.budget default_budget;
+  environment = options.environment;
+  program = program;
+  image = options.image;
+  save = options.save;
+}
 
 -- the last word of all
 abbrev pub read_last : ℕ → Options → Place → Reading
+read_last at options ImageOption = if is_some options.image then WrongAt at else WrongAt (at + 1)
 read_last at options BudgetOption = if is_some options.budget then WrongAt at else WrongAt (at + 1)
+read_last at options SaveOption = if is_some options.save then WrongAt at else WrongAt (at + 1)
 read_last at options EnvOption = WrongAt (at + 1)
 read_last at options ProgramName = Asks (line_of options at)
 read_last at options NoOption = WrongAt at
@@ -101,12 +123,18 @@ abbrev pub with_budget : ℕ → Options → Option ℕ → (Options → Reading
 with_budget at options None go_on = WrongAt (at + 1)
 with_budget at options (Some n) go_on = go_on (record options { budget = Some n })
 
--- A word with another after it, one case for each form of the line: `--budget` and its value, at most once; `--env` and
--- its value; PROGRAM with the guest's words. Any other word is wrong, and so is a value that is none, at its own index.
--- After a value the reading goes on.
+-- A word with another after it, one case for each form of the line: `--image`, `--budget` or `--save` and its value, each
+-- at most once; `--env` and its value; PROGRAM with the guest's words. Any other word is wrong, and so is a value that is
+-- none, at its own index. After a value the reading goes on.
 abbrev pub read_pair : ℕ → Options → Place → List ℕ → Reading → (Options → Reading) → Reading
+read_pair at options ImageOption value guest go_on =
+    if is_some options.image then WrongAt at
+    else (if is_file_name value then go_on (record options { image = Some (at + 1) }) else WrongAt (at + 1))
 read_pair at options BudgetOption value guest go_on =
     if is_some options.budget then WrongAt at else with_budget at options (budget_of value) go_on
+read_pair at options SaveOption value guest go_on =
+    if is_some options.save then WrongAt at
+    else (if is_file_name value then go_on (record options { save = Some (at + 1) }) else WrongAt (at + 1))
 read_pair at options EnvOption value guest go_on =
     if is_setting value
     then go_on (record options { environment = options.environment ++ value ∷ [] })
@@ -122,7 +150,43 @@ read_options at options (word ∷ value ∷ rest) =
     read_pair at options (place_of word) value (read_guest (line_of options at) (at + 1) (value ∷ rest))
     (λ next. read_options (at + 1 + 1) next rest)
 
--- all words: `run`, and the rest of the line
+-- `run`, and the rest of the line
+abbrev pub read_line : List (List ℕ) → Reading
+read_line [] = WrongAt 0
+read_line (word ∷ rest) = if bytes_eq word (codes "run") then read_options 1 no_options rest else WrongAt 0
+
+-- the word at an index
+abbrev pub word_at : List (List ℕ) → ℕ → List ℕ
+word_at words at = slice_index_or words at []
+
+-- the later of two words, where they are equal
+abbrev pub later_of_equal : List (List ℕ) → ℕ → ℕ → Option ℕ
+later_of_equal words one other =
+    if bytes_eq (word_at words one) (word_at words other) then Some (max one other) else None
+
+abbrev pub first_of : Option ℕ → Option ℕ → Option ℕ
+first_of (Some at) second = Some at
+first_of None second = second
+
+-- The first name of a file that equals an earlier one, where at least one of the two is written. The file of `--save`
+-- alone is written, at `saved`; the others are the image and PROGRAM, which stands behind every option.
+abbrev pub equal_to_saved : List (List ℕ) → Line → ℕ → Option ℕ
+equal_to_saved words line saved =
+    first_of (option_and_then (later_of_equal words saved) line.image) (later_of_equal words saved line.program)
+
+abbrev pub equal_name : List (List ℕ) → Line → Option ℕ
+equal_name words line = option_and_then (equal_to_saved words line) line.save
+
+-- a line without such a name
+abbrev pub with_names : Line → Option ℕ → Reading
+with_names line None = Asks line
+with_names line (Some at) = WrongAt at
+
+-- the names are compared where all else is in order
+abbrev pub compare_names : List (List ℕ) → Reading → Reading
+compare_names words (WrongAt at) = WrongAt at
+compare_names words (Asks line) = with_names line (equal_name words line)
+
+-- all words
 abbrev pub read_words : List (List ℕ) → Reading
-read_words [] = WrongAt 0
-read_words (word ∷ rest) = if bytes_eq word (codes "run") then read_options 1 no_options rest else WrongAt 0
+read_words words = compare_names words (read_line words)

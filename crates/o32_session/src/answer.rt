@@ -4,6 +4,7 @@ ghost use Rattle.o32_session.specs.Lines.{text_of};
 ghost use Rattle.o32_session.specs.Answers.{status_of, end_of, finish_of};
 
 use elf_image::ElfRefusal;
+use fs_image::ImageRefusal;
 use std::fmt;
 
 /// How a process ends by itself.
@@ -32,12 +33,15 @@ pub enum Refusal {
     /// The words are not in the grammar: the index, from 0, of the first word at which a reading from the left fails,
     /// or the number of words where one is missing.
     Usage { word: usize },
-    /// There is no such file: 1 is the program.
+    /// There is no such file: 1 is the program, 2 the image.
     Missing { file: u8 },
-    /// The file is longer than its limit: 1 is the program, which has at most 64 MiB.
+    /// The file is longer than its limit: 1 is the program, which has at most 64 MiB, and 2 the image, which has at most
+    /// 640 MiB.
     TooLong { file: u8 },
     /// The program breaks this rule on executables.
     Elf(ElfRefusal),
+    /// The image breaks this rule of its format, at this byte.
+    Image(ImageRefusal),
     /// The guest's arguments and environment, with the words of its first stack, pass 131,072 bytes.
     Start,
 }
@@ -55,7 +59,7 @@ pub enum End {
     Refused(Refusal),
     /// The store's count of faulty loads rose.
     ReadFault,
-    /// A count of faults of standard output or standard error rose.
+    /// A count of faults of standard output or standard error, or the store's count of faulty writes, rose.
     WriteFault,
     /// Memory ran out.
     NoMemory,
@@ -83,6 +87,11 @@ impl fmt::Display for Refusal {
             Refusal::Elf(rule) => {
                 let number = rule.number();
                 write!(f, "o32run: elf rule {number}")
+            }
+            Refusal::Image(broken) => {
+                let rule = broken.rule;
+                let at = broken.at;
+                write!(f, "o32run: image rule {rule} at {at}")
             }
             Refusal::Start => write!(f, "o32run: arguments too long"),
         }

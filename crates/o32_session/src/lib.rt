@@ -2,9 +2,13 @@
 #![tactic(auto)]
 
 mod answer;
+mod image;
+mod load;
 mod machine;
+mod not_run;
 mod prepare;
 mod run;
+mod save;
 #[cfg(test)]
 mod tests;
 mod top_call;

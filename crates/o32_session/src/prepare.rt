@@ -1,85 +1,29 @@
-//! The steps before a run: words, the program's file, its plan, and the first machine.
-ghost use Rattle.std.specs.Prelude.{◌≡◌, ◌≤◌, ◌<◌, ◌++◌, [], length, drop, slice_index_or, IfOk, IfErr, None};
+//! The steps before a run: words, the program's plan, the tree of files, and the first machine.
+ghost use Rattle.std.specs.Prelude.{◌≡◌, ◌≤◌, ◌<◌, length, drop, IfOk, IfErr, None};
 ghost use Rattle.elf_image.specs.Rules.{first_failure};
-ghost use Rattle.elf_image.specs.Loading.{plan_of, IsValid};
+ghost use Rattle.elf_image.specs.Loading.{plan_of};
+ghost use Rattle.elf_image.specs.Loading as plans;
+ghost use Rattle.kernel_core.specs.ValidTree as trees;
 ghost use Rattle.o32_session.specs.Words.{texts, read_words};
 ghost use Rattle.o32_session.specs.Reader.{line_seen};
-ghost use Rattle.o32_session.specs.Session.{asked_of_plan, asked_unless, program_of, Run};
-ghost use Rattle.o32_session.specs.Prepared.{of_words, of_load, of_elf, of_start, IsElfReason, IsStartReason, IsMachineReason, IsLoaded, IsPrepared, IsPreparedLine, KeepsFiles, ReasonOnlyIfRose, turned_by_load, turned_by_reading};
+ghost use Rattle.o32_session.specs.Asked.{asked_of_tree, names_of, Run};
+ghost use Rattle.o32_session.specs.Prepared.{IsElfReason, IsPlanned, IsStartReason, IsPrepared, IsPreparedLine, ReasonOnlyIfRose, turned_at, turned_if, turned_reading};
+ghost use Rattle.o32_session.specs.Saved.{stored_of, after_turned, turned_by};
+ghost use Rattle.o32_session.specs.declared.load.SessionFile.TheVariants as which;
 
-use crate::answer::Refusal;
+use crate::image::first_tree;
+use crate::load::{SessionFile, load_file};
 use crate::machine::Machine;
-use crate::words::{RunLine, WordsError, read};
-use elf_image::{ElfError, Plan, parse};
-use outside::{LoadError, Store};
-use start_stack::{StartError, build};
+use crate::not_run::NotRun;
+use crate::words::{RunLine, read, word_at};
+use elf_image::{Plan, parse};
+use kernel_core::Tree;
+use outside::Store;
+use start_stack::build;
 use std::alloc::Global;
-
-/// The greatest length of a program's file: 64 MiB.
-const PROGRAM_LIMIT: usize = 67_108_864;
-
-/// The number of the program among the files of a session.
-const PROGRAM_FILE: u8 = 1;
 
 /// The guest's sixteen random bytes.
 const RANDOM_BYTES: [u8; 16] = [0; 16];
-
-/// Why nothing is run.
-#[derive(Clone, Copy)]
-pub enum NotRun {
-    /// The words or the program are refused.
-    Refused(Refusal),
-    /// The store failed, and its count of faulty loads rose.
-    ReadFault,
-    /// Memory ran out.
-    NoMemory,
-}
-
-impl From<WordsError> for NotRun {
-    ghost from_gives = { λ error reason. reason ≡ of_words error };
-
-    fn from(error: WordsError) -> NotRun {
-        match error {
-            WordsError::Usage { word } => NotRun::Refused(Refusal::Usage { word }),
-            WordsError::NoMemory => NotRun::NoMemory,
-        }
-    }
-}
-
-impl From<LoadError> for NotRun {
-    ghost from_gives = { λ error reason. reason ≡ of_load error };
-
-    fn from(error: LoadError) -> NotRun {
-        match error {
-            LoadError::Missing => NotRun::Refused(Refusal::Missing { file: PROGRAM_FILE }),
-            LoadError::TooLong => NotRun::Refused(Refusal::TooLong { file: PROGRAM_FILE }),
-            LoadError::Failed => NotRun::ReadFault,
-            LoadError::NoMemory => NotRun::NoMemory,
-        }
-    }
-}
-
-impl From<ElfError> for NotRun {
-    ghost from_gives = { λ error reason. reason ≡ of_elf error };
-
-    fn from(error: ElfError) -> NotRun {
-        match error {
-            ElfError::Refused(rule) => NotRun::Refused(Refusal::Elf(rule)),
-            ElfError::NoMemory => NotRun::NoMemory,
-        }
-    }
-}
-
-impl From<StartError> for NotRun {
-    ghost from_gives = { λ error reason. reason ≡ of_start error };
-
-    fn from(error: StartError) -> NotRun {
-        match error {
-            StartError::TooLong => NotRun::Refused(Refusal::Start),
-            StartError::NoMemory => NotRun::NoMemory,
-        }
-    }
-}
 
 /// A machine that is ready to run.
 #[derive(Drop)]
@@ -88,11 +32,15 @@ pub struct Ready {
     pub machine: Machine,
     /// The most turns that it may take.
     pub budget: u64,
+    /// The tree of files that it begins with.
+    pub tree: Tree,
+    /// The index of the name of the file that the final tree is saved to, where it is saved.
+    pub save: Option<usize>,
 }
 
 /// The plan of the program whose file has these bytes.
 fn plan_of_file(alloc: Global, bytes: &[u8]) -> Result<Plan, NotRun>
-    ensures plan { IfOk result (λ plan. (first_failure bytes.now ≡ None) × ((plan ≡ plan_of bytes.now) × IsValid plan)) }
+    ensures plan { IfOk result (λ plan. (first_failure bytes.now ≡ None) × ((plan ≡ plan_of bytes.now) × plans.IsValid plan)) }
     ensures reason { IfErr result (IsElfReason (first_failure bytes.now)) }
 {
     match parse(alloc, bytes) {
@@ -101,67 +49,56 @@ fn plan_of_file(alloc: Global, bytes: &[u8]) -> Result<Plan, NotRun>
     }
 }
 
-/// The machine of a plan with these arguments.
+/// The plan of the program of this name.
+fn load_plan<F: Store>(alloc: Global, name: &str, files: &mut F) -> Result<Plan, NotRun>
+    ensures plan { IsPlanned (F.files files.old) name.now result }
+    ensures turned { stored_of F.files F.created F.turned_away F.write_faults files.new
+        ≡ after_turned (stored_of F.files F.created F.turned_away F.write_faults files.old)
+        (turned_if (turned_at which.Program name.now) result) }
+    ensures cause { ReasonOnlyIfRose result (F.load_faults files.old) (F.load_faults files.new) }
+    ensures later { F.load_faults files.old ≤ F.load_faults files.new }
+{
+    match load_file(alloc, SessionFile::Program, name, files) {
+        Ok(bytes) => plan_of_file(alloc, &bytes),
+        Err(reason) => Err(reason),
+    }
+}
+
+/// The machine of a plan with these arguments, beside this tree of files.
 fn machine_of_plan(
     alloc: Global,
     args: &[String],
     line: RunLine,
     plan: &Plan,
+    tree: Tree,
 ) -> Result<Ready, NotRun>
     requires named { 0 < length args.now }
-    requires valid { IsValid plan.now }
-    ensures ready { IfOk result (λ ready. asked_of_plan (texts args.now) (line_seen line) plan.now ≡ Run ready.machine ready.budget) }
-    ensures reason { IfErr result (IsStartReason (asked_of_plan (texts args.now) (line_seen line) plan.now)) }
+    requires plan { plans.IsValid plan.now }
+    requires tree { trees.IsValid tree }
+    ensures ready { IfOk result (λ ready. asked_of_tree (texts args.now) (line_seen line) plan.now tree ≡ Run ready.machine ready.budget ready.tree) }
+    ensures tree { IfOk result (λ ready. trees.IsValid ready.tree) }
+    ensures save { IfOk result (λ ready. ready.save ≡ line.save) }
+    ensures reason { IfErr result (IsStartReason (asked_of_tree (texts args.now) (line_seen line) plan.now tree)) }
 {
     match build(alloc, plan, args, line.environment.as_slice(), RANDOM_BYTES) {
         Ok(start) => Ok(Ready {
             machine: Machine::new(start.cpu, start.space),
             budget: line.budget,
+            tree,
+            save: line.save,
         }),
         Err(error) => Err(NotRun::from(error)),
     }
 }
 
-/// The machine of the program whose file has these bytes, with these arguments.
-fn first_machine(
-    alloc: Global,
-    args: &[String],
-    line: RunLine,
-    bytes: &[u8],
-) -> Result<Ready, NotRun>
-    requires { 0 < length args.now }
-    ensures ready { IfOk result (λ ready. asked_unless (texts args.now) (line_seen line) bytes.now (first_failure bytes.now) ≡ Run ready.machine ready.budget) }
-    ensures reason { IfErr result (IsMachineReason (asked_unless (texts args.now) (line_seen line) bytes.now (first_failure bytes.now))) }
-{
-    let plan = match plan_of_file(alloc, bytes) {
-        Ok(plan) => plan,
-        Err(reason) => return Err(reason),
-    };
-    machine_of_plan(alloc, args, line, &plan)
-}
-
-/// The bytes of the program's file.
-fn load_program<F: Store>(alloc: Global, name: &str, files: &mut F) -> Result<Vec<u8>, NotRun>
-    ensures bytes { IsLoaded (F.files files.old) name.now result }
-    ensures turned_away { F.turned_away files.new ≡ F.turned_away files.old ++ turned_by_load name.now result }
-    ensures cause { ReasonOnlyIfRose result (F.load_faults files.old) (F.load_faults files.new) }
-    ensures kept { KeepsFiles F.files F.created F.write_faults files.old files.new }
-    ensures later { F.load_faults files.old ≤ F.load_faults files.new }
-{
-    let mut bytes = Vec::new(alloc);
-    match files.load(name, PROGRAM_LIMIT, &mut bytes) {
-        Ok(()) => Ok(bytes),
-        Err(error) => Err(NotRun::from(error)),
-    }
-}
-
-/// What the words ask for, with the program's file loaded and its first machine made.
+/// What the words ask for, with the program and the image loaded and the first machine made.
 pub fn prepare<F: Store>(alloc: Global, words: &[String], files: &mut F) -> Result<Ready, NotRun>
     ensures prepared { IsPrepared (texts words.now) (read_words (texts words.now)) (F.files files.old) result }
-    ensures turned_away { F.turned_away files.new ≡ F.turned_away files.old
-        ++ turned_by_reading (texts words.now) (read_words (texts words.now)) result }
+    ensures tree { IfOk result (λ ready. trees.IsValid ready.tree) }
+    ensures turned { stored_of F.files F.created F.turned_away F.write_faults files.new
+        ≡ after_turned (stored_of F.files F.created F.turned_away F.write_faults files.old)
+        (turned_reading (texts words.now) (read_words (texts words.now)) result) }
     ensures cause { ReasonOnlyIfRose result (F.load_faults files.old) (F.load_faults files.new) }
-    ensures kept { KeepsFiles F.files F.created F.write_faults files.old files.new }
     ensures later { F.load_faults files.old ≤ F.load_faults files.new }
 {
     match read(alloc, words) {
@@ -179,16 +116,22 @@ fn prepare_line<F: Store>(
 ) -> Result<Ready, NotRun>
     requires { line.program < length words.now }
     ensures prepared { IsPreparedLine (texts words.now) (line_seen line) (F.files files.old) result }
-    ensures turned_away { F.turned_away files.new ≡ F.turned_away files.old
-        ++ turned_by_load (program_of (texts words.now) (line_seen line)) result }
+    ensures tree { IfOk result (λ ready. trees.IsValid ready.tree) }
+    ensures turned { stored_of F.files F.created F.turned_away F.write_faults files.new
+        ≡ after_turned (stored_of F.files F.created F.turned_away F.write_faults files.old)
+        (turned_if (turned_by (names_of (texts words.now) (line_seen line))) result) }
     ensures cause { ReasonOnlyIfRose result (F.load_faults files.old) (F.load_faults files.new) }
-    ensures kept { KeepsFiles F.files F.created F.write_faults files.old files.new }
     ensures later { F.load_faults files.old ≤ F.load_faults files.new }
 {
-    match load_program(alloc, program_name(words, line.program), files) {
-        Ok(bytes) => first_machine(alloc, arguments(words, line.program), line, &bytes),
-        Err(reason) => Err(reason),
-    }
+    let plan = match load_plan(alloc, word_at(words, line.program), files) {
+        Ok(plan) => plan,
+        Err(reason) => return Err(reason),
+    };
+    let tree = match first_tree(alloc, words, line.image, files) {
+        Ok(tree) => tree,
+        Err(reason) => return Err(reason),
+    };
+    machine_of_plan(alloc, arguments(words, line.program), line, &plan, tree)
 }
 
 /// The words from an index on.
@@ -198,12 +141,4 @@ fn arguments(words: &[String], from: usize) -> &[String]
     ensures named { 0 < length result.now }
 {
     &words[from..]
-}
-
-/// The word at an index.
-fn program_name(words: &[String], index: usize) -> &str
-    requires { index < length words.now }
-    ensures { result.now ≡ slice_index_or (texts words.now) index [] }
-{
-    words[index].as_str()
 }

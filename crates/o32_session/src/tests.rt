@@ -1,6 +1,6 @@
 //! Worked runs of the top call, with programs that are built here from instruction words.
 use crate::{Answer, End, Refusal, session};
-use outside::{Devices, MemSink, NamedFile, SureSink, SureSource, SureStore};
+use outside::{Devices, MemSink, MemStore, NamedFile, SureSink, SureSource};
 use std::alloc::Global;
 use std::test::Fail;
 
@@ -26,12 +26,23 @@ const HELLO: [u32; 9] = [
     0x0000_000C,
 ];
 
+/// The image of one empty root directory of mode 0755 and time 0.
+const EMPTY_ROOT: [u8; 35] =
+    *b"O32IMG1\n\0\0\0\x01\0\0\0\0\0\0\0\x01\x02\x01\xED\0\0\0\0\0\0\0\0\0\0\0\0";
+
+/// The image of a root directory of mode 0700 whose entry `f`, of cookie 3, is the empty file 2 of mode 0644; both have
+/// the time 1.
+const ONE_FILE: [u8; 80] = *b"O32IMG1\n\0\0\0\x02\
+\0\0\0\0\0\0\0\x01\x02\x01\xC0\0\0\0\0\0\0\0\x01\0\0\0\x01\0\0\0\x03\x01f\0\0\0\0\0\0\0\x02\
+\0\0\0\0\0\0\0\x02\x01\x01\xA4\0\0\0\0\0\0\0\x01\0\0\0\0\0\0\0\0\0\0\0\0";
+
 /// What a session did.
 #[derive(Drop)]
 struct Done {
     answer: Answer,
     out: Vec<u8>,
     err: Vec<u8>,
+    store: MemStore,
 }
 
 /// An executable of one segment of these words, with `text` at `text_at` of it.
@@ -58,9 +69,29 @@ fn executable(alloc: Global, code: &[u32], text_at: usize, text: &[u8]) -> Resul
     Ok(file)
 }
 
+/// A file of this name with these bytes.
+fn named(alloc: Global, name: &str, bytes: &[u8]) -> Result<NamedFile, Fail> {
+    Ok(NamedFile {
+        name: String::from_str(alloc, name)?,
+        bytes: bytes.to_vec(alloc)?,
+    })
+}
+
 /// A session of these words over a store whose file `p` has these bytes, with a standard output that fails at the puts
 /// whose numbers are given.
 fn session_of(alloc: Global, words: &[&str], file: Vec<u8>, failing: &[u64]) -> Result<Done, Fail> {
+    session_over(alloc, words, &[("p", file.as_slice())], failing, &[])
+}
+
+/// A session of these words over a store of these files, with a standard output and a store that fail at the calls whose
+/// numbers are given.
+fn session_over(
+    alloc: Global,
+    words: &[&str],
+    named_files: &[(&str, &[u8])],
+    failing: &[u64],
+    failing_files: &[u64],
+) -> Result<Done, Fail> {
     let mut texts = Vec::new(alloc);
     for word in words {
         texts
@@ -69,12 +100,13 @@ fn session_of(alloc: Global, words: &[&str], file: Vec<u8>, failing: &[u64]) -> 
             .ok_or("no memory")?;
     }
     let mut files = Vec::new(alloc);
-    let program = NamedFile {
-        name: String::from_str(alloc, "p")?,
-        bytes: file,
-    };
-    files.push(program).ok().ok_or("no memory")?;
-    let mut store = SureStore::new(alloc, files);
+    for (name, bytes) in named_files {
+        files
+            .push(named(alloc, name, bytes)?)
+            .ok()
+            .ok_or("no memory")?;
+    }
+    let mut store = MemStore::new(alloc, files, failing_files.to_vec(alloc)?);
     let mut dev = Devices {
         input: SureSource::new(Vec::new(alloc)),
         out: MemSink::new(alloc, failing.to_vec(alloc)?),
@@ -85,6 +117,7 @@ fn session_of(alloc: Global, words: &[&str], file: Vec<u8>, failing: &[u64]) -> 
         answer,
         out: dev.out.bytes().to_vec(alloc)?,
         err: dev.err.bytes().to_vec(alloc)?,
+        store,
     })
 }
 
@@ -325,6 +358,68 @@ fn refused_words(rt: HostRuntime) -> Result<(), Fail> {
 }
 
 #[test]
+fn refused_names(rt: HostRuntime) -> Result<(), Fail> {
+    let alloc = rt.alloc();
+    let rows: [(&[&str], &str); 16] = [
+        (&["run", "--image"], "o32run: usage at word 2\n"),
+        (&["run", "--save"], "o32run: usage at word 2\n"),
+        (&["run", "--image", "", "p"], "o32run: usage at word 2\n"),
+        (&["run", "--save", "", "p"], "o32run: usage at word 2\n"),
+        (&["run", "--image", "a\0", "p"], "o32run: usage at word 2\n"),
+        (&["run", "--save", "a\0", "p"], "o32run: usage at word 2\n"),
+        (
+            &["run", "--image", "i", "--image", "j", "p"],
+            "o32run: usage at word 3\n",
+        ),
+        (
+            &["run", "--save", "s", "--save", "t", "p"],
+            "o32run: usage at word 3\n",
+        ),
+        (
+            &["run", "--image", "x", "--save", "x", "p"],
+            "o32run: usage at word 4\n",
+        ),
+        (
+            &["run", "--save", "x", "--budget", "1", "--image", "x", "p"],
+            "o32run: usage at word 6\n",
+        ),
+        (&["run", "--save", "p", "p"], "o32run: usage at word 3\n"),
+        (
+            &["run", "--save", "p", "--image", "i", "p"],
+            "o32run: usage at word 5\n",
+        ),
+        (
+            &["run", "--image", "p", "--save", "p", "p"],
+            "o32run: usage at word 4\n",
+        ),
+        // The names are looked at last.
+        (
+            &["run", "--save", "p", "p", "a\0"],
+            "o32run: usage at word 4\n",
+        ),
+        // A value is the next word, whatever it is.
+        (
+            &["run", "--image", "--save", "p"],
+            "o32run: file 2 missing\n",
+        ),
+        (&["run", "--image", "i", "p"], "o32run: file 2 missing\n"),
+    ];
+    for (words, line) in rows {
+        let run = session_of(
+            alloc,
+            words,
+            executable(alloc, &HELLO, 0x100, b"Hi\n")?,
+            &[],
+        )?;
+        assert_eq!(rt; run.err.as_slice(), line.as_bytes());
+        assert_eq!(rt; run.answer.status, 125);
+        assert_eq!(rt; run.answer.turns, 0);
+        assert_eq!(rt; run.out.len(), 0);
+    }
+    Ok(())
+}
+
+#[test]
 fn refused_programs(rt: HostRuntime) -> Result<(), Fail> {
     let alloc = rt.alloc();
     // A place of the file, what is written there, and the rule that this breaks.
@@ -407,5 +502,130 @@ fn arguments_and_their_limit(rt: HostRuntime) -> Result<(), Fail> {
         passes.err.as_slice(),
         b"o32run: arguments too long\n".as_slice()
     );
+    Ok(())
+}
+
+#[test]
+fn refused_images(rt: HostRuntime) -> Result<(), Fail> {
+    let alloc = rt.alloc();
+    let program = executable(alloc, &HELLO, 0x100, b"Hi\n")?;
+    let mut longer = EMPTY_ROOT.to_vec(alloc)?;
+    longer.push(0)?;
+    let mut file_as_root = EMPTY_ROOT.to_vec(alloc)?;
+    write_at(&mut file_as_root, 20, &[1]);
+    // PROGRAM's file, the image, and the line.
+    let rows: [(&[u8], &[u8], &str); 5] = [
+        (program.as_slice(), b"", "o32run: image rule 1 at 0\n"),
+        (
+            program.as_slice(),
+            longer.as_slice(),
+            "o32run: image rule 14 at 35\n",
+        ),
+        (
+            program.as_slice(),
+            file_as_root.as_slice(),
+            "o32run: image rule 5 at 20\n",
+        ),
+        (
+            program.as_slice(),
+            program.as_slice(),
+            "o32run: image rule 2 at 0\n",
+        ),
+        (b"", b"", "o32run: elf rule 1\n"),
+    ];
+    for (file, image, line) in rows {
+        let run = session_over(
+            alloc,
+            &["run", "--save", "s", "--image", "i", "p"],
+            &[("p", file), ("i", image)],
+            &[],
+            &[],
+        )?;
+        assert_eq!(rt; run.err.as_slice(), line.as_bytes());
+        assert_eq!(rt; run.answer.status, 125);
+        assert!(rt; run.store.file("s").is_none());
+    }
+    // The image is looked at before the start.
+    let mut long = String::new(alloc);
+    for _ in 0..131_072 {
+        long.push_str("a")?;
+    }
+    let run = session_over(
+        alloc,
+        &["run", "--image", "i", "p", long.as_str()],
+        &[("p", program.as_slice()), ("i", b"")],
+        &[],
+        &[],
+    )?;
+    assert_eq!(rt;
+        run.err.as_slice(),
+        b"o32run: image rule 1 at 0\n".as_slice()
+    );
+    Ok(())
+}
+
+#[test]
+fn saved_trees(rt: HostRuntime) -> Result<(), Fail> {
+    let alloc = rt.alloc();
+    let program = executable(alloc, &HELLO, 0x100, b"Hi\n")?;
+    // The words, how the run ends, and the image that is saved to `s`, where there was a file before.
+    let rows: [(&[&str], End, &[u8]); 4] = [
+        (&["run", "--save", "s", "p"], End::Exited(7), &EMPTY_ROOT),
+        (
+            &["run", "--save", "s", "--image", "i", "p"],
+            End::Exited(7),
+            &ONE_FILE,
+        ),
+        (
+            &["run", "--save", "s", "--budget", "5", "p"],
+            End::Budget,
+            &EMPTY_ROOT,
+        ),
+        (&["run", "--image", "i", "p"], End::Exited(7), b"old"),
+    ];
+    for (words, end, image) in rows {
+        let run = session_over(
+            alloc,
+            words,
+            &[("p", program.as_slice()), ("i", &ONE_FILE), ("s", b"old")],
+            &[],
+            &[],
+        )?;
+        assert!(rt; run.answer.end == end);
+        assert_eq!(rt; run.err.len(), 0);
+        assert_eq!(rt; run.store.file("s").ok_or("no file")?, image);
+        assert_eq!(rt; run.store.file("i").ok_or("no file")?, ONE_FILE.as_slice());
+    }
+    Ok(())
+}
+
+#[test]
+fn stops_with_a_store_that_fails(rt: HostRuntime) -> Result<(), Fail> {
+    let alloc = rt.alloc();
+    let program = executable(alloc, &HELLO, 0x100, b"Hi\n")?;
+    // The puts of standard output and the calls on the store that fail, the end with its status and turns, standard output,
+    // and the file `s`. The loads of program and image are calls 1 and 2 on the store, `create` is call 3, `append` call 4.
+    let rows: [(&[u64], &[u64], End, u8, u64, &[u8], &[u8]); 5] = [
+        (&[], &[1], End::ReadFault, 122, 0, b"", b"old"),
+        (&[], &[2], End::ReadFault, 122, 0, b"", b"old"),
+        (&[], &[3], End::WriteFault, 119, 9, b"Hi\n", b"old"),
+        (&[], &[4], End::WriteFault, 119, 9, b"Hi\n", b""),
+        (&[1], &[], End::WriteFault, 119, 5, b"", b"old"),
+    ];
+    for (failing, failing_files, end, status, turns, out, saved) in rows {
+        let run = session_over(
+            alloc,
+            &["run", "--save", "s", "--image", "i", "p"],
+            &[("p", program.as_slice()), ("i", &ONE_FILE), ("s", b"old")],
+            failing,
+            failing_files,
+        )?;
+        assert!(rt; run.answer.end == end);
+        assert_eq!(rt; run.answer.status, status);
+        assert_eq!(rt; run.answer.turns, turns);
+        assert_eq!(rt; run.out.as_slice(), out);
+        assert_eq!(rt; run.err.len(), 0);
+        assert_eq!(rt; run.store.file("s").ok_or("no file")?, saved);
+    }
     Ok(())
 }

@@ -1,32 +1,36 @@
 //! The top call: from words and devices to an answer.
-ghost use Rattle.std.specs.Prelude.{ℕ, ◌≡◌, ◌≤◌, ◌⊎◌, [], OnOk, OnErr};
+ghost use Rattle.std.specs.Prelude.{ℕ, ◌≡◌, ◌≤◌, ◌⊎◌, [], OnOk, OnErr, option_map};
 ghost use Rattle.outside.specs.Causes.{FailsOnlyIfRose};
 ghost use Rattle.outside.specs.Count.{Rose};
 ghost use Rattle.outside.specs.Output.{GainsText, GainsBetween};
 ghost use Rattle.outside.specs.Streams.{NoCountFell};
-ghost use Rattle.o32_session.specs.Answers.{status_of, end_of_run};
+ghost use Rattle.o32_session.specs.Answers.{status_of, end_of_stop};
 ghost use Rattle.o32_session.specs.Lines.{line_of};
 ghost use Rattle.o32_session.specs.Machine.{Machine};
-ghost use Rattle.o32_session.specs.Prepared.{RefusesSo, EndsWithoutRun, KeepsFiles};
-ghost use Rattle.o32_session.specs.Runs.{RanIntoAnswer};
+ghost use Rattle.o32_session.specs.Prepared.{RefusesSo, EndsWithoutRun};
+ghost use Rattle.o32_session.specs.Runs.{RanIntoAnswer, end_of_save};
 ghost use Rattle.o32_session.specs.Session.{AnswersWords, AsksForRun, IsRunEnd, seen_of};
-ghost use Rattle.o32_session.specs.Words.{texts};
+ghost use Rattle.o32_session.specs.Saved.{stored_of};
+ghost use Rattle.o32_session.specs.SavedFile.{SavesWords};
+ghost use Rattle.o32_session.specs.Words.{texts, word_at};
+ghost use Rattle.kernel_core.specs.ValidTree.{IsValid};
 
-use crate::answer::{Answer, End, Refusal};
+use crate::answer::{Answer, End, Finish, Refusal};
 use crate::machine::Stop;
-use crate::prepare::{NotRun, Ready, prepare};
+use crate::not_run::NotRun;
+use crate::prepare::{Ready, prepare};
 use crate::run::{RunEnd, run};
+use crate::save::save_final;
 use outside::{DevError, Devices, Sink, Source, Store};
 use std::alloc::Global;
 
-impl From<RunEnd> for End {
-    ghost from_gives = { λ end result. result ≡ end_of_run end };
+impl From<Stop> for End {
+    ghost from_gives = { λ stop end. end ≡ end_of_stop stop };
 
-    fn from(end: RunEnd) -> End {
-        match end {
-            RunEnd::Finished(finish) => End::from(finish),
-            RunEnd::Stopped(Stop::WriteFault) => End::WriteFault,
-            RunEnd::Stopped(Stop::NoMemory) => End::NoMemory,
+    fn from(stop: Stop) -> End {
+        match stop {
+            Stop::WriteFault => End::WriteFault,
+            Stop::NoMemory => End::NoMemory,
         }
     }
 }
@@ -80,8 +84,9 @@ fn end_without_run<E: Sink>(alloc: Global, reason: NotRun, err: &mut E) -> End
     }
 }
 
-/// One run of the emulator: reads the words after its own name, loads the program that they name from `files`, and runs
-/// it over the devices. Every list of words, every file and every budget has an answer.
+/// One run of the emulator: reads the words after its own name, loads the program and the image that they name from
+/// `files`, runs the program over the devices, and saves the final tree of files where the words name a file for it.
+/// Every list of words, every file and every budget has an answer.
 ///
 /// What the program writes to standard output goes to `dev.out`, and the line of a refusal to `dev.err`. The answers,
 /// their statuses and the lines are this project's own.
@@ -91,16 +96,22 @@ pub fn session<F: Store, I: Source, O: Sink, E: Sink>(
     files: &mut F,
     dev: &mut Devices<I, O, E>,
 ) -> Answer
-    // What the words, the file and the machine say: each refusal and its line, the run's end, turns and output, and the
-    // moment of the run at an early stop.
-    ensures answer { AnswersWords (texts words.now) (F.files files.old)
-        (seen_of O.written E.written O.faults E.faults F.turned_away files.old dev.old)
-        (seen_of O.written E.written O.faults E.faults F.turned_away files.new dev.new) result.turns result.end }
+    // What the words, the files and the machine say: each refusal and its line, the run's end, turns and output, the file
+    // of the final tree, and the moment of the run at an early stop. Each says what became of the whole store.
+    ensures answer { AnswersWords (texts words.now)
+        (seen_of O.written E.written O.faults E.faults dev.old (stored_of F.files F.created F.turned_away F.write_faults files.old))
+        (seen_of O.written E.written O.faults E.faults dev.new (stored_of F.files F.created F.turned_away F.write_faults files.new))
+        result.turns result.end }
     ensures status { result.status ≡ status_of result.end }
+
+    // The same of the files alone: after each finish that of `--save` holds the image of the final tree, and no other
+    // changes.
+    ensures saved { SavesWords (texts words.now) result.end (F.files files.old) (F.files files.new) }
 
     // Where a run is asked for and no device failed, the answer is the run's end, unless memory ran out.
     ensures complete { (machine : Machine) (budget : ℕ) → AsksForRun (texts words.now) (F.files files.old) machine budget
         → (Rose (F.load_faults files.old) (F.load_faults files.new) → ⊥)
+        → (Rose (F.write_faults files.old) (F.write_faults files.new) → ⊥)
         → (Rose (O.faults dev.old.out) (O.faults dev.new.out) → ⊥)
         → (result.end ≡ End.NoMemory) ⊎ IsRunEnd machine budget result.turns result.end }
 
@@ -109,42 +120,71 @@ pub fn session<F: Store, I: Source, O: Sink, E: Sink>(
 
     // What stays, and that no count falls.
     ensures input { dev.new.input ≡ dev.old.input }
-    ensures kept { KeepsFiles F.files F.created F.write_faults files.old files.new }
     ensures later { NoCountFell I.faults O.faults E.faults dev.old dev.new }
-    ensures files_later { F.load_faults files.old ≤ F.load_faults files.new }
+    ensures loads_later { F.load_faults files.old ≤ F.load_faults files.new }
+    ensures writes_later { F.write_faults files.old ≤ F.write_faults files.new }
 {
     answer_words(alloc, words, files, dev)
 }
 
-/// The answer, by what the words, the file and the run say.
+/// The answer, by what the words, the files and the run say.
 fn answer_words<F: Store, I: Source, O: Sink, E: Sink>(
     alloc: Global,
     words: &[String],
     files: &mut F,
     dev: &mut Devices<I, O, E>,
 ) -> Answer
-    ensures answer { AnswersWords (texts words.now) (F.files files.old)
-        (seen_of O.written E.written O.faults E.faults F.turned_away files.old dev.old)
-        (seen_of O.written E.written O.faults E.faults F.turned_away files.new dev.new) result.turns result.end }
+    ensures answer { AnswersWords (texts words.now)
+        (seen_of O.written E.written O.faults E.faults dev.old (stored_of F.files F.created F.turned_away F.write_faults files.old))
+        (seen_of O.written E.written O.faults E.faults dev.new (stored_of F.files F.created F.turned_away F.write_faults files.new))
+        result.turns result.end }
     ensures status { result.status ≡ status_of result.end }
     ensures read_fault { result.end ≡ End.ReadFault → Rose (F.load_faults files.old) (F.load_faults files.new) }
     ensures input { dev.new.input ≡ dev.old.input }
-    ensures kept { KeepsFiles F.files F.created F.write_faults files.old files.new }
     ensures later { NoCountFell I.faults O.faults E.faults dev.old dev.new }
-    ensures files_later { F.load_faults files.old ≤ F.load_faults files.new }
+    ensures loads_later { F.load_faults files.old ≤ F.load_faults files.new }
+    ensures writes_later { F.write_faults files.old ≤ F.write_faults files.new }
 {
     match prepare(alloc, words, files) {
-        Ok(ready) => run_ready(alloc, ready, &mut dev.out),
+        Ok(ready) => run_ready(alloc, words, ready, files, &mut dev.out),
         Err(reason) => Answer::new(end_without_run(alloc, reason, &mut dev.err), 0),
     }
 }
 
-/// Runs a machine that is ready.
-fn run_ready<O: Sink>(alloc: Global, ready: Ready, out: &mut O) -> Answer
-    ensures run { RanIntoAnswer ready.machine ready.budget result (O.written out.old) (O.written out.new) }
-    ensures cause { result.end ≡ End.WriteFault → Rose (O.faults out.old) (O.faults out.new) }
+/// Runs a machine that is ready, and saves the final tree. The guest has no call on files yet, so that is the first one.
+fn run_ready<F: Store, O: Sink>(
+    alloc: Global,
+    words: &[String],
+    ready: Ready,
+    files: &mut F,
+    out: &mut O,
+) -> Answer
+    requires { IsValid ready.tree }
+    ensures run { RanIntoAnswer ready.machine ready.budget ready.tree (option_map (word_at (texts words.now)) ready.save) result
+        (O.written out.old) (O.written out.new) (O.faults out.old) (O.faults out.new)
+        (stored_of F.files F.created F.turned_away F.write_faults files.old)
+        (stored_of F.files F.created F.turned_away F.write_faults files.new) }
     ensures later { O.faults out.old ≤ O.faults out.new }
+    ensures loads { F.load_faults files.new ≡ F.load_faults files.old }
+    ensures writes_later { F.write_faults files.old ≤ F.write_faults files.new }
 {
     let ran = run(alloc, ready.machine, ready.budget, out);
-    Answer::new(End::from(ran.end), ran.turns)
+    match ran.end {
+        RunEnd::Finished(finish) => {
+            let saved = save_final(alloc, words, ready.save, &ready.tree, files);
+            Answer::new(end_after_save(finish, saved), ran.turns)
+        }
+        RunEnd::Stopped(stop) => Answer::new(End::from(stop), ran.turns),
+    }
+}
+
+/// The end of a run that is over so, by what came of the save.
+fn end_after_save(finish: Finish, saved: Result<(), DevError>) -> End
+    ensures { result ≡ end_of_save finish saved }
+{
+    match saved {
+        Ok(()) => End::from(finish),
+        Err(DevError::Failed) => End::WriteFault,
+        Err(DevError::NoMemory) => End::NoMemory,
+    }
 }

@@ -1,10 +1,11 @@
-//! The words after the emulator's own name: `run [--budget N] [--env K=V].. PROGRAM [WORD..]`.
+//! The words after the emulator's own name: `run [--image F] [--budget N] [--save F]
+//! [--env K=V].. PROGRAM [WORD..]`.
 
 ghost use Rattle.std.specs.Prelude.{ℕ, ◌≡◌, ◌+◌, ◌<◌, ◌^◌, ◌==◌, length, drop, IfOk, IfErr, Some, None};
 ghost use Rattle.std.specs.List.{list_any, list_all};
 ghost use Rattle.std.specs.Char.{is_ascii_digit};
-ghost use Rattle.o32_session.specs.Words.{texts, read_words, read_guest, budget_of, is_setting, is_program, is_plain_number, has_nul, no_options, Line, line_of, Asks};
-ghost use Rattle.o32_session.specs.Steps.{read_from, step_of, step_at_option, step_at_budget, Env_value, Option_or_program};
+ghost use Rattle.o32_session.specs.Words.{texts, read_words, read_line, read_guest, budget_of, is_setting, is_program, is_file_name, is_plain_number, has_nul, no_options, Line, line_of, Asks, word_at, later_of_equal, equal_to_saved, equal_name};
+ghost use Rattle.o32_session.specs.Steps.{read_from, step_of, step_at_option, step_at_image, step_at_budget, step_at_save, step_at_setting, Option_or_program};
 ghost use Rattle.o32_session.specs.Reader.{IsPlace, place_seen, guest_reading, options_seen, line_seen, IsReason};
 
 use std::alloc::{AllocError, AllocFailed, Global};
@@ -18,6 +19,10 @@ pub struct RunLine {
     pub environment: Vec<String>,
     /// The index of PROGRAM: it and all words after it are the guest's arguments.
     pub program: usize,
+    /// The index of the image's name, where there is an image.
+    pub image: Option<usize>,
+    /// The index of the name of the file that the final tree is saved to, where it is saved.
+    pub save: Option<usize>,
 }
 
 /// Why the words give no run.
@@ -57,7 +62,9 @@ const GREATEST_BUDGET: u64 = 1_000_000_000_000;
 
 /// What a word is in the place of an option.
 enum Place {
+    Image,
     Budget,
+    Save,
     Environment,
     Program,
     Unknown,
@@ -67,7 +74,9 @@ enum Place {
 #[derive(Clone, Copy)]
 enum Expected {
     OptionOrProgram,
+    ImageValue,
     BudgetValue,
+    SaveValue,
     EnvironmentValue,
 }
 
@@ -95,6 +104,15 @@ fn is_program_word(word: &str) -> bool
     match word.as_bytes() {
         [] => false,
         [first, ..] => *first != b'-' && !holds_nul(word),
+    }
+}
+
+fn is_name_of_file(word: &str) -> bool
+    ensures { result ≡ is_file_name word.now }
+{
+    match word.as_bytes() {
+        [] => false,
+        [_, ..] => !holds_nul(word),
     }
 }
 
@@ -130,8 +148,12 @@ fn budget(word: &str) -> Option<u64>
 fn place_at(word: &str) -> Place
     ensures { IsPlace word.now result }
 {
-    if word == "--budget" {
+    if word == "--image" {
+        Place::Image
+    } else if word == "--budget" {
         Place::Budget
+    } else if word == "--save" {
+        Place::Save
     } else if word == "--env" {
         Place::Environment
     } else if is_program_word(word) {
@@ -144,7 +166,9 @@ fn place_at(word: &str) -> Place
 /// The options that were read.
 #[derive(Drop)]
 struct Options {
+    image: Option<usize>,
     budget: Option<u64>,
+    save: Option<usize>,
     environment: Vec<String>,
 }
 
@@ -162,17 +186,28 @@ impl Options {
         ensures { options_seen result ≡ no_options }
     {
         Options {
+            image: None,
             budget: None,
+            save: None,
             environment: Vec::new(alloc),
         }
     }
 
-    fn step(&mut self, alloc: Global, expected: Expected, word: &str) -> Result<Step, AllocError>
-        ensures { IfOk result (λ step. StepIs (step_of (expected_seen expected) (options_seen self.old) word.now) step self.old self.new) }
+    /// What the word of index `at` does.
+    fn step(
+        &mut self,
+        alloc: Global,
+        expected: Expected,
+        at: usize,
+        word: &str,
+    ) -> Result<Step, AllocError>
+        ensures { IfOk result (λ step. StepIs (step_of at (expected_seen expected) (options_seen self.old) word.now) step self.old self.new) }
     {
         match expected {
             Expected::OptionOrProgram => Ok(self.step_at_option(place_at(word))),
+            Expected::ImageValue => Ok(self.step_at_image(at, word)),
             Expected::BudgetValue => Ok(self.step_at_budget(budget(word))),
+            Expected::SaveValue => Ok(self.step_at_save(at, word)),
             Expected::EnvironmentValue => self.step_at_setting(alloc, word),
         }
     }
@@ -181,11 +216,37 @@ impl Options {
         ensures { StepIs (step_at_option (options_seen self.now) (place_seen place)) result self.now self.now }
     {
         match place {
+            Place::Image if self.image.is_some() => Step::IsWrong,
+            Place::Image => Step::GoesOn(Expected::ImageValue),
             Place::Budget if self.budget.is_some() => Step::IsWrong,
             Place::Budget => Step::GoesOn(Expected::BudgetValue),
+            Place::Save if self.save.is_some() => Step::IsWrong,
+            Place::Save => Step::GoesOn(Expected::SaveValue),
             Place::Environment => Step::GoesOn(Expected::EnvironmentValue),
             Place::Program => Step::IsProgram,
             Place::Unknown => Step::IsWrong,
+        }
+    }
+
+    fn step_at_image(&mut self, at: usize, word: &str) -> Step
+        ensures { StepIs (step_at_image at (options_seen self.old) word.now) result self.old self.new }
+    {
+        if is_name_of_file(word) {
+            self.image = Some(at);
+            Step::GoesOn(Expected::OptionOrProgram)
+        } else {
+            Step::IsWrong
+        }
+    }
+
+    fn step_at_save(&mut self, at: usize, word: &str) -> Step
+        ensures { StepIs (step_at_save at (options_seen self.old) word.now) result self.old self.new }
+    {
+        if is_name_of_file(word) {
+            self.save = Some(at);
+            Step::GoesOn(Expected::OptionOrProgram)
+        } else {
+            Step::IsWrong
         }
     }
 
@@ -202,7 +263,7 @@ impl Options {
     }
 
     fn step_at_setting(&mut self, alloc: Global, word: &str) -> Result<Step, AllocError>
-        ensures { IfOk result (λ step. StepIs (step_of Env_value (options_seen self.old) word.now) step self.old self.new) }
+        ensures { IfOk result (λ step. StepIs (step_at_setting (options_seen self.old) word.now) step self.old self.new) }
     {
         if is_setting_word(word) {
             self.environment.push(String::from_str(alloc, word)?)?;
@@ -230,6 +291,49 @@ fn guest_error(words: &[String], from: usize) -> Option<usize>
     None
 }
 
+/// The word at an index, and the empty word where there is none.
+pub fn word_at(words: &[String], index: usize) -> &str
+    ensures { result.now ≡ word_at (texts words.now) index }
+{
+    match words.get(index) {
+        Some(word) => word.as_str(),
+        None => "",
+    }
+}
+
+/// The later of two words, where they are equal.
+fn later_of_equal(words: &[String], one: usize, other: usize) -> Option<usize>
+    ensures { result ≡ later_of_equal (texts words.now) one other }
+{
+    if word_at(words, one) == word_at(words, other) {
+        Some(one.max(other))
+    } else {
+        None
+    }
+}
+
+/// The first name that is equal to that of `--save`, which is at index `saved`, or else that one where it is the later.
+fn equal_to_saved(words: &[String], line: &RunLine, saved: usize) -> Option<usize>
+    ensures { result ≡ equal_to_saved (texts words.now) (line_seen line.now) saved }
+{
+    if let Some(image) = line.image {
+        if let Some(at) = later_of_equal(words, saved, image) {
+            return Some(at);
+        }
+    }
+    later_of_equal(words, saved, line.program)
+}
+
+/// The first name of a file that equals an earlier one, where at least one of the two is written.
+fn equal_name(words: &[String], line: &RunLine) -> Option<usize>
+    ensures { result ≡ equal_name (texts words.now) (line_seen line.now) }
+{
+    match line.save {
+        Some(saved) => equal_to_saved(words, line, saved),
+        None => None,
+    }
+}
+
 /// Reads the words of a run, the emulator's own name left out.
 ///
 /// # Errors
@@ -239,6 +343,21 @@ fn guest_error(words: &[String], from: usize) -> Option<usize>
 pub fn read(alloc: Global, words: &[String]) -> Result<RunLine, WordsError>
     ensures line { IfOk result (λ line. read_words (texts words.now) ≡ Asks (line_seen line)) }
     ensures wrong { IfErr result (λ error. IsReason (read_words (texts words.now)) error) }
+    ensures program { IfOk result (λ line. line.program < length words.now) }
+{
+    match read_line(alloc, words) {
+        Ok(line) => match equal_name(words, &line) {
+            Some(word) => Err(WordsError::Usage { word }),
+            None => Ok(line),
+        },
+        Err(error) => Err(error),
+    }
+}
+
+/// Reads the words, whatever the names of the files.
+fn read_line(alloc: Global, words: &[String]) -> Result<RunLine, WordsError>
+    ensures line { IfOk result (λ line. read_line (texts words.now) ≡ Asks (line_seen line)) }
+    ensures wrong { IfErr result (λ error. IsReason (read_line (texts words.now)) error) }
     ensures program { IfOk result (λ line. line.program < length words.now) }
 {
     match words {
@@ -259,7 +378,7 @@ fn read_options(alloc: Global, words: &[String]) -> Result<RunLine, WordsError>
     let mut at = 1;
     let mut rest = &words[1..];
     while let [word, after @ ..] = rest {
-        match options.step(alloc, expected, word.as_str())? {
+        match options.step(alloc, expected, at, word.as_str())? {
             Step::GoesOn(next) => expected = next,
             Step::IsProgram => return finish(options, at, after),
             Step::IsWrong => return Err(WordsError::Usage { word: at }),
@@ -284,5 +403,7 @@ fn finish(options: Options, program: usize, guest: &[String]) -> Result<RunLine,
         budget: options.budget.unwrap_or(DEFAULT_BUDGET),
         environment: options.environment,
         program,
+        image: options.image,
+        save: options.save,
     })
 }

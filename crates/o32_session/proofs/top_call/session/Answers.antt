@@ -1,13 +1,25 @@
-use Rattle.o32_session.specs.Words.{texts}
+use Rattle.o32_session.specs.Words.{texts, read_words}
+use Rattle.o32_session.specs.Saved.{stored_of}
 use Rattle.o32_session.specs.Session.{seen_of}
 use Rattle.o32_session.proofs.Sessions.{complete}
+use Rattle.o32_session.proofs.SavedFiles.{saves}
 use Rattle.o32_session.proofs.top_call.session.Goals as goal
 
 pub returns-clause-complete : goal.returns-clause-complete
-returns-clause-complete g c machine budget asks no_load no_write =
-    complete (texts c.args.words.now) (g.F.Store.files c.args.files.now)
-    (seen_of g.O.Sink.written g.E.Sink.written g.O.Sink.faults g.E.Sink.faults g.F.Store.turned_away c.args.files.now c.args.dev.now)
-    (seen_of g.O.Sink.written g.E.Sink.written g.O.Sink.faults g.E.Sink.faults g.F.Store.turned_away c.answer_words.new.files
-    c.answer_words.new.dev)
+returns-clause-complete g c machine budget asks no_load no_file no_write =
+    complete (texts c.args.words.now)
+    (seen_of g.O.Sink.written g.E.Sink.written g.O.Sink.faults g.E.Sink.faults c.args.dev.now
+    (stored_of g.F.Store.files g.F.Store.created g.F.Store.turned_away g.F.Store.write_faults c.args.files.now))
+    (seen_of g.O.Sink.written g.E.Sink.written g.O.Sink.faults g.E.Sink.faults c.answer_words.new.dev
+    (stored_of g.F.Store.files g.F.Store.created g.F.Store.turned_away g.F.Store.write_faults c.answer_words.new.files))
     c.answer_words.result.turns c.answer_words.result.end machine budget c.answer_words.ensures.answer asks
-    (λ fault. no_load (c.answer_words.ensures.read_fault fault)) no_write
+    (λ fault. no_load (c.answer_words.ensures.read_fault fault)) no_file no_write
+
+pub returns-clause-saved : goal.returns-clause-saved
+returns-clause-saved g c =
+    saves (texts c.args.words.now) (read_words (texts c.args.words.now))
+    (seen_of g.O.Sink.written g.E.Sink.written g.O.Sink.faults g.E.Sink.faults c.args.dev.now
+    (stored_of g.F.Store.files g.F.Store.created g.F.Store.turned_away g.F.Store.write_faults c.args.files.now))
+    (seen_of g.O.Sink.written g.E.Sink.written g.O.Sink.faults g.E.Sink.faults c.answer_words.new.dev
+    (stored_of g.F.Store.files g.F.Store.created g.F.Store.turned_away g.F.Store.write_faults c.answer_words.new.files))
+    c.answer_words.result.turns c.answer_words.result.end c.answer_words.ensures.answer

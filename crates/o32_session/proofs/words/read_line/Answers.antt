@@ -4,7 +4,7 @@ use Rattle.std.specs.String.{string_bytes}
 use Rattle.o32_session.specs.Words.{Asks, Reading}
 use Rattle.o32_session.specs.Reader.{line_seen, IsReason}
 use Rattle.o32_session.proofs.Reading.{run_words}
-use Rattle.o32_session.proofs.words.read.Goals as goal
+use Rattle.o32_session.proofs.words.read_line.Goals as goal
 
 pub returns-in-len1-up-clause-line : goal.returns-in-len1-up-clause-line
 returns-in-len1-up-clause-line c =

@@ -1,0 +1,155 @@
+-- What the words and the files that they name ask for: a refusal, or a run. This project's own.
+use Rattle.std.specs.Prelude.{ℕ, ◌≡◌, ⊤, List, [], ◌∷◌, length, drop, replicate, option_map, Option, Some, None, Result, Ok, Err, nat_lt, if◌then◌else◌, pos}
+use Rattle.outside.specs.Files.{Files}
+use Rattle.kernel_core.specs.declared.tree.Tree.{Tree}
+use Rattle.kernel_core.specs.declared.tree.Node.{Node}
+use Rattle.kernel_core.specs.declared.tree.Kind.TheVariants.{Dir}
+use Rattle.kernel_core.specs.ValidTree.{IsValid}
+use Rattle.fs_image.specs.Text.{text_of}
+use Rattle.fs_image.specs.Meaning as images
+use Rattle.fs_image.specs.declared.refusal.ImageRefusal.{ImageRefusal}
+use Rattle.elf_image.specs.Rules as elf
+use Rattle.elf_image.specs.Loading.{plan_of}
+use Rattle.elf_image.specs.declared.refusal.ElfRefusal.{ElfRefusal}
+use Rattle.elf_image.specs.declared.load_plan.Plan.{Plan}
+use Rattle.start_stack.specs.Stack.{start_size}
+use Rattle.start_stack.specs.Start.{start_memory, start_processor}
+use Rattle.o32_session.specs.Words.{Line, word_at}
+use Rattle.o32_session.specs.Machine.{Machine}
+use Rattle.o32_session.specs.declared.answer.Refusal.{Refusal}
+use Rattle.o32_session.specs.declared.answer.Refusal.TheVariants.{Missing, TooLong, Elf, Image, Start}
+
+-- Files
+
+-- the files that are loaded have numbers
+abbrev pub program_file : ℕ
+program_file = 1
+
+abbrev pub image_file : ℕ
+image_file = 2
+
+-- the greatest length of a program's file: 64 MiB
+abbrev pub program_limit : ℕ
+program_limit = 67108864
+
+-- the greatest length of an image: 640 MiB
+abbrev pub image_limit : ℕ
+image_limit = 671088640
+
+-- the names of the files of a line: of the program, of the image, and of the file that the final tree is saved to
+pub record Names : Type 0 where
+  pub program : List ℕ
+  pub image : Option (List ℕ)
+  pub save : Option (List ℕ)
+
+abbrev pub names_of : List (List ℕ) → Line → Names
+names_of words line = record {
+  program = word_at words line.program;
+  image = option_map (word_at words) line.image;
+  save = option_map (word_at words) line.save;
+}
+
+-- what a load of a file finds: no file, one that is too long, or its bytes
+pub data Found : Type 0 where
+  Absent : Found
+  Long : Found
+  Bytes : List ℕ → Found
+
+-- what is found where the store has this file
+abbrev pub found_at : ℕ → Option (List ℕ) → Found
+found_at limit None = Absent
+found_at limit (Some bytes) = if nat_lt limit (length bytes) then Long else Bytes bytes
+
+-- a load under this limit and name finds this: where the store tells its files, what it has
+abbrev pub IsFound : Option Files → ℕ → List ℕ → Found → Type 0
+IsFound None limit name found = ⊤
+IsFound (Some files) limit name found = found ≡ found_at limit (files name)
+
+-- The tree of files
+
+-- the root of a tree without an image: an empty directory of mode 0755 and time 0
+abbrev pub empty_root : Node
+empty_root = record { number = 1; mode = 493; mtime = pos 0; kind = Dir [] }
+
+abbrev pub empty_tree : Tree
+empty_tree = record { nodes = empty_root ∷ [] }
+
+-- the tree of an image: the valid one whose text the file is
+pub record IsTreeOf (bytes : List ℕ) (tree : Tree) : Type 0 where
+  pub valid : IsValid tree
+  pub text : bytes ≡ text_of tree
+
+-- an image's tree, or the first rule that it breaks
+abbrev pub IsReadAs : List ℕ → Result Tree Refusal → Type 0
+IsReadAs bytes (Ok tree) = IsTreeOf bytes tree
+IsReadAs bytes (Err refusal) =
+    (broken : ImageRefusal) × (refusal ≡ Image broken) × (images.first_failure bytes ≡ Some broken)
+
+-- what was found of an image comes to this
+abbrev pub IsOpenedBy : Found → Result Tree Refusal → Type 0
+IsOpenedBy Absent opened = opened ≡ Err (Missing image_file)
+IsOpenedBy Long opened = opened ≡ Err (TooLong image_file)
+IsOpenedBy (Bytes bytes) opened = IsReadAs bytes opened
+
+-- the tree that a run begins with, or why its image gives none
+abbrev pub IsOpened : Option Files → Option (List ℕ) → Result Tree Refusal → Type 0
+IsOpened files None opened = opened ≡ Ok empty_tree
+IsOpened files (Some name) opened = (found : Found) × IsFound files image_limit name found × IsOpenedBy found opened
+
+-- The run
+
+-- the most bytes that the strings and words of the first stack may take
+abbrev pub start_limit : ℕ
+start_limit = 131072
+
+-- sixteen random bytes for the guest, which are zeros so far
+abbrev pub random_bytes : List ℕ
+random_bytes = replicate 16 0
+
+-- the machine of a plan with these arguments and this environment
+abbrev pub first_machine : Plan → List (List ℕ) → List (List ℕ) → Machine
+first_machine plan args env = record {
+  processor = start_processor plan args env;
+  memory = start_memory plan args env random_bytes;
+  fault = None;
+}
+
+-- a refusal, or a run: its machine, its budget, and the tree of files that it begins with
+pub data Asked : Type 0 where
+  Refuse : Refusal → Asked
+  Run : Machine → ℕ → Tree → Asked
+
+-- what is asked for with this tree
+abbrev pub asked_of_tree : List (List ℕ) → Line → Plan → Tree → Asked
+asked_of_tree args line plan tree =
+    if nat_lt start_limit (start_size args line.environment)
+    then Refuse Start
+    else Run (first_machine plan args line.environment) line.budget tree
+
+-- the image is looked at where the program has a plan, and before the start
+abbrev pub asked_of_plan : List (List ℕ) → Line → Plan → Result Tree Refusal → Asked
+asked_of_plan args line plan (Err refusal) = Refuse refusal
+asked_of_plan args line plan (Ok tree) = asked_of_tree args line plan tree
+
+-- the program's first broken rule, or what its plan asks for
+abbrev pub AsksUnless : List (List ℕ) → Line → Names → Option Files → List ℕ → Option ElfRefusal → Asked → Type 0
+AsksUnless args line names files bytes (Some rule) asked = asked ≡ Refuse (Elf rule)
+AsksUnless args line names files bytes None asked =
+    (opened : Result Tree Refusal) × IsOpened files names.image opened × (asked ≡ asked_of_plan args line (plan_of bytes) opened)
+
+-- what is asked for where this was found of the program
+abbrev pub AsksOf : List (List ℕ) → Line → Names → Option Files → Found → Asked → Type 0
+AsksOf args line names files Absent asked = asked ≡ Refuse (Missing program_file)
+AsksOf args line names files Long asked = asked ≡ Refuse (TooLong program_file)
+AsksOf args line names files (Bytes bytes) asked = AsksUnless args line names files bytes (elf.first_failure bytes) asked
+
+-- the guest's arguments: PROGRAM and the words after it
+abbrev pub arguments_of : List (List ℕ) → Line → List (List ℕ)
+arguments_of words line = drop line.program words
+
+-- What a line asks for, which a store that tells its files determines.
+abbrev pub AsksFor : List (List ℕ) → Line → Option Files → Asked → Type 0
+AsksFor words line files asked =
+    (found : Found)
+    × IsFound files program_limit (names_of words line).program found
+    × AsksOf (arguments_of words line) line (names_of words line) files found asked

@@ -1,0 +1,78 @@
+-- The store of a session: the loads that it turned away, and the file that the final tree is saved to. This project's own.
+use Rattle.std.specs.Prelude.{ℕ, ◌≡◌, ◌⊎◌, List, [], ◌∷◌, ◌++◌, unwrap_or, Option, Some, None, ◌==◌, if◌then◌else◌}
+use Rattle.outside.specs.Files.{Files, ChangesFile}
+use Rattle.outside.specs.Output.{IsPrefix}
+use Rattle.outside.specs.Turned.{TurnedLoad}
+use Rattle.outside.specs.declared.errors.LoadError.{LoadError}
+use Rattle.outside.specs.declared.errors.LoadError.TheVariants as loads
+use Rattle.kernel_core.specs.declared.tree.Tree.{Tree}
+use Rattle.fs_image.specs.Text.{text_of}
+use Rattle.o32_session.specs.Asked.{Names, image_file, program_limit, image_limit}
+use Rattle.o32_session.specs.declared.answer.Refusal.{Refusal}
+use Rattle.o32_session.specs.declared.answer.Refusal.TheVariants.{Usage, Missing, TooLong, Elf, Image, Start}
+
+-- what is seen of a store: its files, the names of those that it made, the loads that it turned away, and its count of
+-- faulty writes
+pub record Stored : Type 0 where
+  pub files : Option Files
+  pub created : List (List ℕ)
+  pub turned : List TurnedLoad
+  pub write_faults : ℕ
+
+abbrev pub stored_of : {F : Type 0} → (F → Option Files) → (F → List (List ℕ)) → (F → List TurnedLoad) → (F → ℕ) → F → Stored
+stored_of files created turned write_faults store = record {
+  files = files store;
+  created = created store;
+  turned = turned store;
+  write_faults = write_faults store;
+}
+
+-- the store turned these loads away, and else stands as it was
+abbrev pub after_turned : Stored → List TurnedLoad → Stored
+after_turned store loads = record store { turned = store.turned ++ loads }
+
+-- the load of a file by its number
+abbrev pub load_of : Names → ℕ → LoadError → TurnedLoad
+load_of names file answer =
+    if file == image_file
+    then record { name = unwrap_or names.image []; limit = image_limit; answer = answer }
+    else record { name = names.program; limit = program_limit; answer = answer }
+
+-- the load that a refusal turned away
+abbrev pub turned_by : Names → Refusal → List TurnedLoad
+turned_by names (Missing file) = load_of names file loads.Missing ∷ []
+turned_by names (TooLong file) = load_of names file loads.TooLong ∷ []
+turned_by names (Usage word) = []
+turned_by names (Elf rule) = []
+turned_by names (Image broken) = []
+turned_by names Start = []
+
+-- the file has this text
+abbrev pub HasText : List ℕ → Option (List ℕ) → Option (List ℕ) → Type 0
+HasText text before after = after ≡ Some text
+
+-- the file stands as it was, or has a first part of this text
+abbrev pub StandsOrBegins : List ℕ → Option (List ℕ) → Option (List ℕ) → Type 0
+StandsOrBegins text before after = (after ≡ before) ⊎ ((part : List ℕ) × IsPrefix part text × (after ≡ Some part))
+
+-- the file of this name was made and has this text, and every other stands as it was
+pub record SavesText (name text : List ℕ) (old new : Stored) : Type 0 where
+  pub files : ChangesFile old.files new.files name (HasText text)
+  pub created : new.created ≡ old.created ++ name ∷ []
+  pub turned : new.turned ≡ old.turned
+
+-- the file of this name stands as it was or has a first part of this text, and every other stands as it was
+pub record SavesPart (name text : List ℕ) (old new : Stored) : Type 0 where
+  pub files : ChangesFile old.files new.files name (StandsOrBegins text)
+  pub created : (new.created ≡ old.created) ⊎ (new.created ≡ old.created ++ name ∷ [])
+  pub turned : new.turned ≡ old.turned
+
+-- the tree was saved where a file is named for it; else the store stands as it was
+abbrev pub SavesTree : Option (List ℕ) → Tree → Stored → Stored → Type 0
+SavesTree None tree old new = new ≡ old
+SavesTree (Some name) tree old new = SavesText name (text_of tree) old new
+
+-- at most a part of the tree was saved, to the file that is named for it
+abbrev pub SavesTreeInPart : Option (List ℕ) → Tree → Stored → Stored → Type 0
+SavesTreeInPart None tree old new = ⊥
+SavesTreeInPart (Some name) tree old new = SavesPart name (text_of tree) old new

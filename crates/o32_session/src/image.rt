@@ -1,0 +1,86 @@
+//! The tree of files that a run begins with.
+ghost use Rattle.std.specs.Prelude.{◌≡◌, ◌≤◌, IfOk, Some, option_map};
+ghost use Rattle.o32_session.specs.Asked.{empty_tree};
+ghost use Rattle.o32_session.specs.Prepared.{IsRead, IsTree, ReasonOnlyIfRose, turned_with, turned_if};
+ghost use Rattle.o32_session.specs.Saved.{stored_of, after_turned};
+ghost use Rattle.o32_session.specs.Words.{texts, word_at};
+
+use crate::load::{SessionFile, load_file};
+use crate::not_run::NotRun;
+use crate::words::word_at;
+use fs_image::decode;
+use kernel_core::{Items, Kind, Node, Tree};
+use outside::Store;
+use std::alloc::{AllocError, Global};
+
+/// The number of the root.
+const ROOT: u64 = 1;
+
+/// The mode of the root where there is no image.
+const ROOT_MODE: u16 = 0o755;
+
+/// The tree without an image: one empty root directory.
+fn empty_tree(alloc: Global) -> Result<Tree, AllocError>
+    ensures { IfOk result (λ tree. tree ≡ empty_tree) }
+{
+    let mut nodes = Vec::new(alloc);
+    let entries = Items::from(Vec::new(alloc));
+    nodes.push(Node {
+        number: ROOT,
+        mode: ROOT_MODE,
+        mtime: 0,
+        kind: Kind::Dir { entries },
+    })?;
+    Ok(Tree {
+        nodes: Items::from(nodes),
+    })
+}
+
+/// The tree of the image with these bytes.
+fn tree_of_image(alloc: Global, bytes: &[u8]) -> Result<Tree, NotRun>
+    ensures { IsRead bytes.now result }
+{
+    match decode(alloc, bytes) {
+        Ok(tree) => Ok(tree),
+        Err(error) => Err(NotRun::from(error)),
+    }
+}
+
+/// The tree of the image of this name.
+fn load_tree<F: Store>(alloc: Global, name: &str, files: &mut F) -> Result<Tree, NotRun>
+    ensures tree { IsTree (F.files files.old) (Some name.now) result }
+    ensures turned { stored_of F.files F.created F.turned_away F.write_faults files.new
+        ≡ after_turned (stored_of F.files F.created F.turned_away F.write_faults files.old)
+        (turned_if (turned_with (Some name.now)) result) }
+    ensures cause { ReasonOnlyIfRose result (F.load_faults files.old) (F.load_faults files.new) }
+    ensures later { F.load_faults files.old ≤ F.load_faults files.new }
+{
+    match load_file(alloc, SessionFile::Image, name, files) {
+        Ok(bytes) => tree_of_image(alloc, &bytes),
+        Err(reason) => Err(reason),
+    }
+}
+
+/// The tree that a run begins with: that of the image whose name is at index `image` of the words, or without one that
+/// of one empty root directory.
+pub fn first_tree<F: Store>(
+    alloc: Global,
+    words: &[String],
+    image: Option<usize>,
+    files: &mut F,
+) -> Result<Tree, NotRun>
+    ensures tree { IsTree (F.files files.old) (option_map (word_at (texts words.now)) image) result }
+    ensures turned { stored_of F.files F.created F.turned_away F.write_faults files.new
+        ≡ after_turned (stored_of F.files F.created F.turned_away F.write_faults files.old)
+        (turned_if (turned_with (option_map (word_at (texts words.now)) image)) result) }
+    ensures cause { ReasonOnlyIfRose result (F.load_faults files.old) (F.load_faults files.new) }
+    ensures later { F.load_faults files.old ≤ F.load_faults files.new }
+{
+    match image {
+        Some(at) => load_tree(alloc, word_at(words, at), files),
+        None => match empty_tree(alloc) {
+            Ok(tree) => Ok(tree),
+            Err(_) => Err(NotRun::NoMemory),
+        },
+    }
+}

@@ -1,0 +1,60 @@
+//! The files that a session loads whole.
+ghost use Rattle.std.specs.Prelude.{◌≡◌, ◌≤◌};
+ghost use Rattle.o32_session.specs.Prepared.{number_of, limit_of, IsLoaded, ReasonOnlyIfRose, turned_at, turned_if};
+ghost use Rattle.o32_session.specs.Saved.{stored_of, after_turned};
+
+use crate::not_run::NotRun;
+use outside::Store;
+use std::alloc::Global;
+
+/// A file that a session loads. (Numbers and limits are this project's own.)
+#[derive(Clone, Copy)]
+pub enum SessionFile {
+    /// The program.
+    Program,
+    /// The image.
+    Image,
+}
+
+impl SessionFile {
+    /// The number by which a refusal names it.
+    fn number(self) -> u8
+        ensures { result ≡ number_of self }
+    {
+        match self {
+            SessionFile::Program => 1,
+            SessionFile::Image => 2,
+        }
+    }
+
+    /// Its greatest length: 64 MiB for the program, 640 MiB for the image.
+    fn limit(self) -> usize
+        ensures { result ≡ limit_of self }
+    {
+        match self {
+            SessionFile::Program => 67_108_864,
+            SessionFile::Image => 671_088_640,
+        }
+    }
+}
+
+/// The bytes of the file of this name, which a session loads as `file`.
+pub fn load_file<F: Store>(
+    alloc: Global,
+    file: SessionFile,
+    name: &str,
+    files: &mut F,
+) -> Result<Vec<u8>, NotRun>
+    ensures bytes { IsLoaded (F.files files.old) file name.now result }
+    ensures turned { stored_of F.files F.created F.turned_away F.write_faults files.new
+        ≡ after_turned (stored_of F.files F.created F.turned_away F.write_faults files.old)
+        (turned_if (turned_at file name.now) result) }
+    ensures cause { ReasonOnlyIfRose result (F.load_faults files.old) (F.load_faults files.new) }
+    ensures later { F.load_faults files.old ≤ F.load_faults files.new }
+{
+    let mut bytes = Vec::new(alloc);
+    match files.load(name, file.limit(), &mut bytes) {
+        Ok(()) => Ok(bytes),
+        Err(error) => Err(NotRun::of_load(file.number(), error)),
+    }
+}

@@ -1,0 +1,79 @@
+//! Why nothing is run.
+ghost use Rattle.std.specs.Prelude.{◌≡◌};
+ghost use Rattle.o32_session.specs.Prepared.{of_words, of_load, of_elf, of_image, of_start};
+
+use crate::answer::Refusal;
+use crate::words::WordsError;
+use elf_image::ElfError;
+use fs_image::ImageError;
+use outside::LoadError;
+use start_stack::StartError;
+
+/// Why nothing is run.
+#[derive(Clone, Copy)]
+pub enum NotRun {
+    /// The words, the program or the image are refused.
+    Refused(Refusal),
+    /// The store failed, and its count of faulty loads rose.
+    ReadFault,
+    /// Memory ran out.
+    NoMemory,
+}
+
+impl NotRun {
+    /// Why nothing is run where the file of this number was not loaded.
+    pub fn of_load(file: u8, error: LoadError) -> NotRun
+        ensures { result ≡ of_load file error }
+    {
+        match error {
+            LoadError::Missing => NotRun::Refused(Refusal::Missing { file }),
+            LoadError::TooLong => NotRun::Refused(Refusal::TooLong { file }),
+            LoadError::Failed => NotRun::ReadFault,
+            LoadError::NoMemory => NotRun::NoMemory,
+        }
+    }
+}
+
+impl From<WordsError> for NotRun {
+    ghost from_gives = { λ error reason. reason ≡ of_words error };
+
+    fn from(error: WordsError) -> NotRun {
+        match error {
+            WordsError::Usage { word } => NotRun::Refused(Refusal::Usage { word }),
+            WordsError::NoMemory => NotRun::NoMemory,
+        }
+    }
+}
+
+impl From<ElfError> for NotRun {
+    ghost from_gives = { λ error reason. reason ≡ of_elf error };
+
+    fn from(error: ElfError) -> NotRun {
+        match error {
+            ElfError::Refused(rule) => NotRun::Refused(Refusal::Elf(rule)),
+            ElfError::NoMemory => NotRun::NoMemory,
+        }
+    }
+}
+
+impl From<ImageError> for NotRun {
+    ghost from_gives = { λ error reason. reason ≡ of_image error };
+
+    fn from(error: ImageError) -> NotRun {
+        match error {
+            ImageError::Refused(broken) => NotRun::Refused(Refusal::Image(broken)),
+            ImageError::NoMemory => NotRun::NoMemory,
+        }
+    }
+}
+
+impl From<StartError> for NotRun {
+    ghost from_gives = { λ error reason. reason ≡ of_start error };
+
+    fn from(error: StartError) -> NotRun {
+        match error {
+            StartError::TooLong => NotRun::Refused(Refusal::Start),
+            StartError::NoMemory => NotRun::NoMemory,
+        }
+    }
+}
