@@ -9,6 +9,7 @@ mod core_error;
 mod error;
 mod flags;
 mod items;
+pub mod limits;
 mod mask;
 mod request;
 mod resource;
@@ -16,7 +17,7 @@ mod signal;
 mod tree;
 
 pub use byte_list::Bytes;
-pub use core_error::{CoreError, Stop};
+pub use core_error::{CoreError, NoMemory, Stop};
 pub use error::Errno;
 pub use flags::{Access, MapFlags, MapKind, OpenFlags, PollBits, SaFlags};
 pub use items::Items;

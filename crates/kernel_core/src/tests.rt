@@ -27,3 +27,9 @@ fn real_time_signals_are_32_to_128(rt: HostRuntime) {
         assert!(rt; RealTime::new(number).is_some() == within);
     }
 }
+
+#[test]
+fn want_of_memory_stops_a_call(rt: HostRuntime) {
+    assert!(rt; Stop::from(NoMemory) == Stop::NoMemory);
+    assert!(rt; CoreError::from(NoMemory) == CoreError::Stop(Stop::NoMemory));
+}
