@@ -4,7 +4,8 @@
 mod pool;
 mod tree;
 
-pub use pool::{NoMemory, NumberPool, PLACES};
+pub use kernel_core::NoMemory;
+pub use pool::{NumberPool, PLACES};
 
 #[cfg(test)]
 mod tests;

@@ -3,24 +3,16 @@ ghost use Rattle.std.specs.Prelude.{◌≡◌, ◌<◌, true, false, length, IfO
 ghost use Rattle.number_pool.specs.Places.{AreAllTaken, IsLeastFree, is_taken_at, none_taken};
 
 use crate::tree::{least_free_leaf, new_tree, set_leaf};
-use std::alloc::{AllocError, Global};
+use kernel_core::NoMemory;
+use kernel_core::limits::NODE_LIMIT;
+use std::alloc::Global;
 use std::marker::Model;
 
-/// The number of places of a pool (this project's own limit).
-pub const PLACES: u32 = 65_536;
+/// The number of places of a pool: one for each node that there may be (this project's own limit).
+pub const PLACES: u32 = NODE_LIMIT;
 
 /// The number of levels below the root of a tree with a leaf for each place: 2^16 is 65,536.
 const LEVELS: u32 = 16;
-
-/// There was not enough memory.
-#[derive(Clone, Copy)]
-pub struct NoMemory;
-
-impl From<AllocError> for NoMemory {
-    fn from(_error: AllocError) -> NoMemory {
-        NoMemory
-    }
-}
 
 /// Which of the places 0 to 65,535 are taken. Contracts see a pool as the list that says of each place
 /// whether it is taken; the list has 65,536 elements. Only `new` takes memory, 128 KiB.
