@@ -3,11 +3,9 @@ ghost use Rattle.std.specs.Prelude.{◌≡◌, ◌+◌, ◌-◌, ◌≤◌, ◌+
 ghost use Rattle.kernel_core.specs.FileContent.{zero_block};
 ghost use Rattle.file_blocks.specs.Pieces.{put_at};
 
+use kernel_core::limits::BLOCK_SIZE;
 use std::alloc::{AllocError, Global};
 use std::marker::Model;
-
-/// The number of bytes of a block.
-pub(crate) const BLOCK_SIZE: usize = 4096;
 
 /// The 4096 bytes of a block.
 #[derive(Drop)]

@@ -6,8 +6,8 @@ ghost use Rattle.file_blocks.specs.Kept.{IsFirstFrom, NoneFrom};
 
 use crate::block::Block;
 use crate::block_store::BlockStore;
-use crate::error::NoMemory;
 use crate::walk::{cut, read_bytes, write_bytes};
+use kernel_core::NoMemory;
 use std::alloc::Global;
 use std::marker::Model;
 

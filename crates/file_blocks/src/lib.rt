@@ -4,11 +4,10 @@
 mod block;
 mod block_store;
 mod content;
-mod error;
 mod walk;
 
 pub use content::Content;
-pub use error::NoMemory;
+pub use kernel_core::NoMemory;
 
 #[cfg(test)]
 mod tests;

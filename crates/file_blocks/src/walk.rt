@@ -4,8 +4,9 @@ ghost use Rattle.std.specs.FinMap as map;
 ghost use Rattle.kernel_core.specs.FileContent.{bytes_at, with_bytes, longest_write, cut, block_size, greatest_size};
 ghost use Rattle.file_blocks.specs.Pieces.{WritesPiece};
 
-use crate::block::{BLOCK_SIZE, Block};
+use crate::block::Block;
 use crate::block_store::BlockStore;
+use kernel_core::limits::BLOCK_SIZE;
 use std::alloc::{AllocError, Global};
 
 /// A write that want of memory ended: so many bytes were written before.
