@@ -3,9 +3,9 @@ ghost use Rattle.std.specs.Prelude.{◌≡◌, ◌+◌, ◌<◌, ◌≤◌, ◌�
 ghost use Rattle.kernel_core.specs.ValidTree.{IsName, greatest_cookie};
 ghost use Rattle.directory_names.specs.Names.{AreNames, find_name, entry_after, shown, with_entry, added, without};
 
-use crate::entry::{EntryView, NoMemory, NodeRef, Place};
+use crate::entry::{EntryView, NodeRef, Place};
 use indexmap::IndexMap;
-use kernel_core::Bytes;
+use kernel_core::{Bytes, NoMemory};
 use std::alloc::Global;
 use std::marker::Model;
 
@@ -109,10 +109,8 @@ impl Directory {
         ensures enough { 0 < self.old.spare → IsOk result }
         ensures valid { AreNames self.new }
     {
-        match self.names.reserve(1) {
-            Ok(()) => Ok(()),
-            Err(_) => Err(NoMemory),
-        }
+        self.names.reserve(1)?;
+        Ok(())
     }
 
     /// Adds an entry with the next cookie. There has to be room for it, so that no memory is taken, a
@@ -146,10 +144,7 @@ impl Directory {
         ensures enough { 0 < self.old.spare → IsOk result }
         ensures valid { AreNames self.new }
     {
-        match self.names.insert(name.into_vec(), Place { cookie, node }) {
-            Ok(_) => {}
-            Err(_) => return Err(NoMemory),
-        }
+        let _ = self.names.insert(name.into_vec(), Place { cookie, node })?;
         self.greatest = cookie;
         Ok(())
     }

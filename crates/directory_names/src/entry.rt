@@ -20,10 +20,6 @@ pub struct EntryView<'a> {
     pub node: NodeRef,
 }
 
-/// There was not enough memory.
-#[derive(Clone, Copy)]
-pub struct NoMemory;
-
 /// What stands at a name.
 #[derive(Clone, Copy)]
 pub(crate) struct Place {

@@ -5,7 +5,8 @@ mod directory;
 mod entry;
 
 pub use directory::Directory;
-pub use entry::{EntryView, NoMemory, NodeRef};
+pub use entry::{EntryView, NodeRef};
+pub use kernel_core::NoMemory;
 
 #[cfg(test)]
 mod tests;

@@ -9,7 +9,7 @@ use Rattle.directory_names.proofs.directory.Directory.load.Goals as goal
 -- what the map holds after the insertion
 entries : (c : goal.After-self-1) → map named c.insert.new.self.entries ≡ (with_entry c.args.self.now c.args.cookie c.args.name c.args.node).entries
 entries c =
-    ap (map named) c.in-Ok.ensures.entries
+    ap (map named) c.in_ok-insert.ensures.entries
     ∙ inserted c.args.self.now c.self.inside.names.entries (ap (λ n. n.entries) c.self.view_is) c.self.inside.names c.into_vec.result
     (record { cookie = c.args.cookie; node = c.args.node }) c.args.name refl c.into_vec.ensures c.requires.absent
 
