@@ -27,10 +27,6 @@ pub struct Denied {
     pub why: Why,
 }
 
-/// There was not enough memory.
-#[derive(Clone, Copy)]
-pub struct NoMemory;
-
 /// Why a store was not carried out.
 #[derive(Clone, Copy)]
 pub enum StoreError {

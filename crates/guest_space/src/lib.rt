@@ -8,7 +8,8 @@ mod range;
 mod space;
 mod walk;
 
-pub use access::{Access, Denied, MapError, NoMemory, StoreError, Why};
+pub use access::{Access, Denied, MapError, StoreError, Why};
+pub use kernel_core::NoMemory;
 pub use space::Space;
 
 #[cfg(test)]

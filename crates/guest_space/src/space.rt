@@ -7,11 +7,12 @@ ghost use Rattle.guest_space.specs.Bytes.{bytes_at, read, written, copied_out, a
 ghost use Rattle.guest_space.specs.Memory.{IsValid};
 ghost use Rattle.guest_space.specs.Mapping.{with_zeros, with_protection, mapped_run, page_limit};
 
-use crate::access::{Access, Denied, MapError, NoMemory, StoreError};
+use crate::access::{Access, Denied, MapError, StoreError};
 use crate::page::PAGE_SIZE;
 use crate::page_store::PageStore;
 use crate::range::{absent_pages, map_zeros, mapped_pages, protect_pages};
 use crate::walk::{first_denied, load_in_page, number, read_bytes, write_bytes};
+use kernel_core::NoMemory;
 use std::alloc::Global;
 use std::marker::Model;
 
