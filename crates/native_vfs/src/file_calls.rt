@@ -13,14 +13,11 @@ ghost use Rattle.native_vfs.specs.Steps.{IsFileStep, LeavesPart, file_written};
 ghost use Rattle.native_vfs.specs.Stored.{nodes_of, number_of_key, HasDistinctNumbers};
 
 use crate::file_steps;
-use crate::place::NoMemory;
 use crate::stored::Stored;
 use crate::vfs::Vfs;
-use kernel_core::{CoreError, Errno, Stop};
+use kernel_core::limits::GREATEST_SIZE;
+use kernel_core::{CoreError, Errno};
 use slab::Slab;
-
-/// The greatest size of a file, 2^44 bytes (this project's own).
-const GREATEST_SIZE: u64 = 17_592_186_044_416;
 
 impl Vfs {
     /// Writes the bytes to a file from `at` on and answers how many (pwrite(2)): as many as there are
@@ -98,10 +95,8 @@ fn write_file(
     if file_steps::is_full(table, *blocks, key, at) {
         return Err(CoreError::Refused(Errno::ENOSPC));
     }
-    match file_steps::write(table, blocks, key, at, bytes, now) {
-        Ok(count) => Ok(count),
-        Err(NoMemory) => Err(CoreError::Stop(Stop::NoMemory)),
-    }
+    let count = file_steps::write(table, blocks, key, at, bytes, now)?;
+    Ok(count)
 }
 
 /// Whether so many bytes from `at` on end past the greatest size of a file.

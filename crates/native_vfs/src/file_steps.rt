@@ -10,16 +10,11 @@ ghost use Rattle.kernel_core.specs.ValidTree.{block_limit};
 ghost use Rattle.native_vfs.specs.Steps.{IsFileStep, IsFileChange, file_written, content_written};
 ghost use Rattle.native_vfs.specs.Stored.{nodes_of, content_of, number_of_key, HasDistinctNumbers};
 
-use crate::place::NoMemory;
 use crate::stored::{Stored, StoredContent};
 use file_blocks::Content;
+use kernel_core::NoMemory;
+use kernel_core::limits::{BLOCK_LIMIT, BLOCK_SIZE};
 use slab::Slab;
-
-/// How many blocks all files together may keep, which is 256 MiB (this project's own).
-const BLOCK_LIMIT: u32 = 65_536;
-
-/// How many bytes a block has.
-const BLOCK_SIZE: u64 = 4096;
 
 /// Whether a write to a file from `at` on has no block for its first byte, so that it can write none.
 pub(crate) fn is_full(table: &Slab<Stored>, blocks: u32, key: usize, at: u64) -> bool
@@ -43,7 +38,7 @@ pub(crate) fn is_full(table: &Slab<Stored>, blocks: u32, key: usize, at: u64) ->
 fn keeps_block(content: &Content, at: u64) -> bool
     ensures { result ≡ is_some (get content.now.blocks (at / block_size)) }
 {
-    let index = at / BLOCK_SIZE;
+    let index = at / (BLOCK_SIZE as u64);
     match content.first_from(index) {
         Some((first, _)) => u64::from(first) == index,
         None => false,
@@ -102,10 +97,7 @@ fn write_node(
     let StoredContent::File(content) = &mut node.content else {
         unreachable!()
     };
-    let count = match write_counted(content, blocks, at, bytes) {
-        Ok(count) => count,
-        Err(NoMemory) => return Err(NoMemory),
-    };
+    let count = write_counted(content, blocks, at, bytes)?;
     if count > 0 {
         node.modified = now;
         node.changed = now;
@@ -135,10 +127,7 @@ fn write_counted(
     let others = *blocks - content.blocks();
     let answer = content.write(at, bytes, BLOCK_LIMIT - *blocks);
     *blocks = others + content.blocks();
-    match answer {
-        Ok(count) => Ok(count),
-        Err(_) => Err(NoMemory),
-    }
+    answer
 }
 
 /// Gives a file another size, and sets the times of its last modification and change.

@@ -19,5 +19,6 @@ mod stored;
 mod vfs;
 mod walk;
 
-pub use place::{NoMemory, Place, Status};
+pub use kernel_core::NoMemory;
+pub use place::{Place, Status};
 pub use vfs::Vfs;

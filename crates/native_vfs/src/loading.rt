@@ -15,7 +15,6 @@ ghost use Rattle.native_vfs.specs.Loading as load;
 ghost use Rattle.native_vfs.specs.Steps.{IsAddition};
 ghost use Rattle.native_vfs.specs.Stored.{Table, nodes_of, inode_of, content_of, listing_of, HasDistinctNumbers, ContentLeads, DirectoryLeads, AgreesPool, Leads};
 
-use crate::place::NoMemory;
 use crate::refusals::is_directory;
 use crate::saving::copied;
 use crate::steps::insert;
@@ -23,7 +22,7 @@ use crate::stored::{Stored, StoredContent, StoredDirectory};
 use crate::vfs::Vfs;
 use directory_names::{Directory, NodeRef};
 use file_blocks::Content;
-use kernel_core::{Block, DirEntry, Kind, Node, Tree};
+use kernel_core::{Block, DirEntry, Kind, NoMemory, Node, Tree};
 use number_pool::{NumberPool, PLACES};
 use slab::Slab;
 use std::alloc::{AllocError, Global};
@@ -116,10 +115,7 @@ fn block_count(nodes: &[Node]) -> u32
 fn taken_numbers(alloc: Global, nodes: &[Node]) -> Result<NumberPool, NoMemory>
     ensures { IfOk result (λ p. AgreesPool (from_entries (map (load.loaded_entry nodes.now) nodes.now)) p) }
 {
-    let mut numbers = match NumberPool::new(alloc) {
-        Ok(numbers) => numbers,
-        Err(_) => return Err(NoMemory),
-    };
+    let mut numbers = NumberPool::new(alloc)?;
     for node in nodes {
         let number = node.number;
         if number >= FIRST_NUMBER && number - FIRST_NUMBER < u64::from(PLACES) {
@@ -230,10 +226,7 @@ fn place_nodes(
         let times = times(namings, node.number);
         let stored = bare_node(alloc, node, times)?;
         let key = insert(table, stored)?;
-        match places.insert(node.number, key) {
-            Ok(_) => {}
-            Err(_) => return Err(NoMemory),
-        }
+        let _ = places.insert(node.number, key)?;
     }
     Ok(places)
 }
@@ -306,10 +299,7 @@ fn loaded_file(alloc: Global, size: u64, blocks: &[Block]) -> Result<Content, No
     let mut content = Content::new(alloc);
     content.set_size(size);
     for block in blocks {
-        match content.load_block(block.index, block.bytes.as_slice()) {
-            Ok(()) => {}
-            Err(_) => return Err(NoMemory),
-        }
+        content.load_block(block.index, block.bytes.as_slice())?;
     }
     Ok(content)
 }
@@ -380,10 +370,7 @@ fn loaded_names(
     for entry in entries {
         let node = node_ref(places, entry.node);
         let name = copied(alloc, entry.name.as_slice())?;
-        match names.load(entry.cookie, name, node) {
-            Ok(()) => {}
-            Err(_) => return Err(NoMemory),
-        }
+        names.load(entry.cookie, name, node)?;
     }
     Ok(names)
 }

@@ -12,14 +12,14 @@ ghost use Rattle.native_vfs.specs.Making.{IsMade, IsNamedAgain};
 ghost use Rattle.native_vfs.specs.Steps.{IsSame};
 ghost use Rattle.native_vfs.specs.Stored.{AgreesPool, ContentLeads, HasDistinctNumbers, content_of, keyed_of, nodes_of, number_of_key};
 
-use crate::place::{NoMemory, Place};
+use crate::place::Place;
 use crate::refusals::{link_refusal, make_refusal, number, symlink_refusal};
 use crate::steps::{add_link, add_name, insert, link, reserve_name};
 use crate::stored::{Stored, StoredContent, StoredDirectory};
 use crate::vfs::Vfs;
 use directory_names::{Directory, NodeRef};
 use file_blocks::Content;
-use kernel_core::{Bytes, CoreError, Stop};
+use kernel_core::{Bytes, CoreError, NoMemory};
 use number_pool::NumberPool;
 use slab::Slab;
 use std::alloc::Global;
@@ -48,20 +48,16 @@ impl Vfs {
             links: 1,
             content: StoredContent::File(Content::new(self.alloc)),
         };
-        match make(
+        let key = make(
             &mut self.table,
             &mut self.numbers,
             at,
             file,
             now,
             self.alloc,
-        ) {
-            Ok(key) => {
-                self.entries += 1;
-                Ok(key)
-            }
-            Err(NoMemory) => Err(CoreError::Stop(Stop::NoMemory)),
-        }
+        )?;
+        self.entries += 1;
+        Ok(key)
     }
 
     /// Makes an empty directory under the place's name (mkdir(2)), and gives its key. `mode` is its twelve
@@ -94,21 +90,17 @@ impl Vfs {
                 names: Directory::new(self.alloc),
             }),
         };
-        match make(
+        let key = make(
             &mut self.table,
             &mut self.numbers,
             at,
             directory,
             now,
             self.alloc,
-        ) {
-            Ok(key) => {
-                add_link(&mut self.table, at.dir);
-                self.entries += 1;
-                Ok(key)
-            }
-            Err(NoMemory) => Err(CoreError::Stop(Stop::NoMemory)),
-        }
+        )?;
+        add_link(&mut self.table, at.dir);
+        self.entries += 1;
+        Ok(key)
     }
 
     /// Makes a symbolic link to the target under the place's name (symlink(2)). The target has at most
@@ -130,20 +122,16 @@ impl Vfs {
         if let Some(error) = symlink_refusal(&self.table, self.entries, at, target) {
             return Err(CoreError::Refused(error));
         }
-        match make_link(
+        make_link(
             &mut self.table,
             &mut self.numbers,
             at,
             target,
             now,
             self.alloc,
-        ) {
-            Ok(_key) => {
-                self.entries += 1;
-                Ok(())
-            }
-            Err(NoMemory) => Err(CoreError::Stop(Stop::NoMemory)),
-        }
+        )?;
+        self.entries += 1;
+        Ok(())
     }
 
     /// Gives a file or a symbolic link the place's name as one more (link(2)). `node` is its key, and
@@ -165,13 +153,9 @@ impl Vfs {
         if let Some(error) = link_refusal(&self.table, self.entries, node, at) {
             return Err(CoreError::Refused(error));
         }
-        match name_again(&mut self.table, node, at, now, self.alloc) {
-            Ok(()) => {
-                self.entries += 1;
-                Ok(())
-            }
-            Err(NoMemory) => Err(CoreError::Stop(Stop::NoMemory)),
-        }
+        name_again(&mut self.table, node, at, now, self.alloc)?;
+        self.entries += 1;
+        Ok(())
     }
 }
 
@@ -287,8 +271,6 @@ fn free_place(numbers: &NumberPool) -> u32
 pub(crate) fn copied(bytes: &[u8], alloc: Global) -> Result<Bytes, NoMemory>
     ensures { IfOk result (λ copy. copy ≡ bytes.now) }
 {
-    match bytes.to_vec(alloc) {
-        Ok(copy) => Ok(Bytes::from(copy)),
-        Err(_) => Err(NoMemory),
-    }
+    let copy = bytes.to_vec(alloc)?;
+    Ok(Bytes::from(copy))
 }

@@ -1,7 +1,6 @@
 //! What the calls are told, and what they tell.
 
 use kernel_core::Bytes;
-use std::alloc::AllocError;
 
 /// Where a path's last name stands (path_resolution(7)): the directory, the name, and the node that the
 /// name stands for there, or None where the directory has no such name. A node is given by the key that
@@ -33,14 +32,4 @@ pub struct Status {
     pub modified: i128,
     /// The time of the last change, in nanoseconds since the Epoch.
     pub changed: i128,
-}
-
-/// There was not enough memory.
-#[derive(Clone, Copy)]
-pub struct NoMemory;
-
-impl From<AllocError> for NoMemory {
-    fn from(_error: AllocError) -> NoMemory {
-        NoMemory
-    }
 }

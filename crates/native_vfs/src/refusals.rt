@@ -13,19 +13,11 @@ use crate::place::Place;
 use crate::steps::node;
 use crate::stored::{Stored, StoredContent, StoredDirectory};
 use kernel_core::Errno;
+use kernel_core::limits::{ENTRY_LIMIT, GREATEST_COOKIE, NODE_LIMIT};
 use slab::Slab;
-
-/// The greatest number of nodes that live at a time.
-const NODE_LIMIT: usize = 65_536;
-
-/// The greatest number of entries that all directories have together.
-const ENTRY_LIMIT: u32 = 131_072;
 
 /// The number of the root.
 const ROOT: u64 = 1;
-
-/// The greatest cookie of an entry.
-const GREATEST_COOKIE: u32 = 2_147_483_647;
 
 /// The directory at a key, where it is one.
 pub(crate) fn directory(table: &Slab<Stored>, key: usize) -> Option<&StoredDirectory>
@@ -107,7 +99,7 @@ pub(crate) fn make_refusal(table: &Slab<Stored>, entries: u32, at: &Place) -> Op
     requires entries { entries ≡ live_entries (nodes_of table.now) }
     ensures { result ≡ names.make_refusal (nodes_of table.now) (place_at (keyed_of table.now) at.now) }
 {
-    let full = table.len() >= NODE_LIMIT || entries >= ENTRY_LIMIT;
+    let full = table.len() >= NODE_LIMIT as usize || entries >= ENTRY_LIMIT;
     name_refusal(table, at, full)
 }
 

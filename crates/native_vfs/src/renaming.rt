@@ -14,7 +14,7 @@ ghost use Rattle.native_vfs.specs.Steps.{IsSame, links_at};
 ghost use Rattle.native_vfs.specs.Stored.{nodes_of, keyed_of, number_of_key, HasDistinctNumbers, HasRoom, CanAdd};
 
 use crate::making::copied;
-use crate::place::{NoMemory, Place};
+use crate::place::Place;
 use crate::refusals::{is_directory, number, rename_refusal, stands_for};
 use crate::removing::{rmdir_at, unlink_at};
 use crate::steps::{
@@ -23,7 +23,7 @@ use crate::steps::{
 use crate::stored::Stored;
 use crate::vfs::Vfs;
 use directory_names::NodeRef;
-use kernel_core::{Bytes, CoreError, Stop};
+use kernel_core::{Bytes, CoreError, NoMemory};
 use number_pool::NumberPool;
 use slab::Slab;
 use std::alloc::Global;
@@ -50,15 +50,13 @@ impl Vfs {
             return Err(CoreError::Refused(error));
         }
         let Some(moved) = from.node else {
-            return Ok(());
+            unreachable!()
         };
         if stands_for(&self.table, to, moved) {
             return Ok(());
         }
-        match self.move_entry(from, to, moved, now) {
-            Ok(()) => Ok(()),
-            Err(NoMemory) => Err(CoreError::Stop(Stop::NoMemory)),
-        }
+        self.move_entry(from, to, moved, now)?;
+        Ok(())
     }
 
     /// Moves a node's name to one that stands for another node or for none. After an error nothing has

@@ -8,12 +8,11 @@ ghost use Rattle.directory_names.specs.Names.{plain};
 ghost use Rattle.native_vfs.specs.Saving.{block_of, linked_in, numbered, saved_of, HasTime};
 ghost use Rattle.native_vfs.specs.Stored.{nodes_of, inode_of, content_of, HasDistinctNumbers};
 
-use crate::place::NoMemory;
 use crate::stored::{Stored, StoredContent};
 use crate::vfs::Vfs;
 use directory_names::Directory;
 use file_blocks::Content;
-use kernel_core::{Block, Bytes, DirEntry, Items, Kind, Node, Tree};
+use kernel_core::{Block, Bytes, DirEntry, Items, Kind, NoMemory, Node, Tree};
 use slab::Slab;
 use std::alloc::{AllocError, Global};
 use std::collections::BTreeMap;

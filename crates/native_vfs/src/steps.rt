@@ -10,10 +10,9 @@ ghost use Rattle.kernel_core.specs.ValidTree.{IsName};
 ghost use Rattle.native_vfs.specs.Steps.{IsSame, IsAddition, IsInsertion, IsRemoval, IsUnnamed, links_at, holds_at};
 ghost use Rattle.native_vfs.specs.Stored.{nodes_of, number_of_key, HasDistinctNumbers, HasRoom, Leads, ContentLeads, IsStep, CanAdd};
 
-use crate::place::NoMemory;
 use crate::stored::{Stored, StoredContent};
 use directory_names::NodeRef;
-use kernel_core::Bytes;
+use kernel_core::{Bytes, NoMemory};
 use slab::Slab;
 
 /// The node at a key.
@@ -174,11 +173,8 @@ pub(crate) fn reserve_name(table: &mut Slab<Stored>, dir: usize) -> Result<(), N
 {
     let node = &mut table[dir];
     match &mut node.content {
-        StoredContent::Directory(directory) => match directory.names.reserve() {
-            Ok(()) => Ok(()),
-            Err(_) => Err(NoMemory),
-        },
-        _ => Ok(()),
+        StoredContent::Directory(directory) => directory.names.reserve(),
+        _ => unreachable!(),
     }
 }
 
@@ -222,10 +218,8 @@ pub(crate) fn insert(table: &mut Slab<Stored>, node: Stored) -> Result<usize, No
     ensures ok { IfOk result (λ key. IsInsertion table.old table.new key node) }
     ensures err { OnErr result (IsSame table.old table.new) }
 {
-    match table.insert(node) {
-        Ok(key) => Ok(key),
-        Err(_) => Err(NoMemory),
-    }
+    let key = table.insert(node)?;
+    Ok(key)
 }
 
 /// Takes out a node that no name and no parent of a directory is.

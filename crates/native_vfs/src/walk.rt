@@ -15,10 +15,8 @@ use crate::place::Place;
 use crate::steps::node;
 use crate::stored::{Stored, StoredContent, StoredDirectory};
 use crate::vfs::Vfs;
-use kernel_core::{Bytes, CoreError, Errno, Stop};
-
-/// The greatest length of a component, in bytes (NAME_MAX).
-const NAME_LIMIT: usize = 255;
+use kernel_core::limits::LONGEST_NAME;
+use kernel_core::{Bytes, CoreError, Errno};
 
 /// The greatest number of symbolic links that a walk follows.
 const LINK_LIMIT: u32 = 40;
@@ -122,7 +120,7 @@ impl Vfs {
                 node: Some(walk.at),
             }));
         };
-        if name.len() > NAME_LIMIT {
+        if name.len() > LONGEST_NAME {
             return Err(CoreError::Refused(Errno::ENAMETOOLONG));
         }
         match &self.node_at(walk.at).content {
@@ -206,10 +204,7 @@ impl Vfs {
         if walk.links == LINK_LIMIT {
             return Err(CoreError::Refused(Errno::ELOOP));
         }
-        match walk.rest.put_before(target) {
-            Ok(()) => {}
-            Err(_) => return Err(CoreError::Stop(Stop::NoMemory)),
-        }
+        walk.rest.put_before(target)?;
         if begins_with_slash(target) {
             walk.at = self.root_key();
         }
@@ -221,14 +216,12 @@ impl Vfs {
     fn copied(&self, found: Found) -> Result<Place, CoreError>
         ensures { IsCopied found.entry result }
     {
-        match found.name.to_vec(self.alloc) {
-            Ok(name) => Ok(Place {
-                dir: found.dir,
-                name: Bytes::from(name),
-                node: found.node,
-            }),
-            Err(_) => Err(CoreError::Stop(Stop::NoMemory)),
-        }
+        let name = found.name.to_vec(self.alloc)?;
+        Ok(Place {
+            dir: found.dir,
+            name: Bytes::from(name),
+            node: found.node,
+        })
     }
 
     /// The node at a key.

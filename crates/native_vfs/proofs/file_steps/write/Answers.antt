@@ -12,7 +12,7 @@ use Rattle.native_vfs.specs.Stored.{Table, nodes_of, content_of, number_of_key, 
 use Rattle.native_vfs.specs.declared.stored.Stored.{Stored}
 use Rattle.native_vfs.proofs.Files.{file-there, blocks-there, blocks-counted, file-step}
 use Rattle.std.specs.Prelude.{Result, Ok, Err, IfOk, OnErr}
-use Rattle.native_vfs.specs.declared.place.NoMemory.{NoMemory}
+use Rattle.kernel_core.specs.declared.core_error.NoMemory.{NoMemory}
 use Rattle.native_vfs.proofs.file_steps.write.Goals as goal
 
 file : (table : Table) (key : ℕ) (node : Stored) → slab_get table key ≡ Some node → HasDistinctNumbers table → IsSome (file_at (nodes_of table) (number_of_key table key)) → IsSome (file_in (content_of node.content))

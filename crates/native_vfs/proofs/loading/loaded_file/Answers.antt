@@ -13,7 +13,7 @@ loop-block-init c = (
 
 pub loop-block-preserved : goal.loop-block-preserved
 loop-block-preserved c =
-    let adds = c.in-Ok.ensures.ok ∙ ap (λ bytes. record c.loop-block.content { blocks = insert c.loop-block.content.blocks c.block-item.result.index bytes }) c.as_slice.ensures in (
+    let adds = c.in_ok-load_block.ensures.ok ∙ ap (λ bytes. record c.loop-block.content { blocks = insert c.loop-block.content.blocks c.block-item.result.index bytes }) c.as_slice.ensures in (
       file-next c.args.size c.args.blocks.now c.loop-block.block-index c.block-item.result c.loop-block-test.true c.block-item.is c.requires.blocks
           c.loop-block.content c.load_block.new.self c.loop-block.invariant.0 adds,
       kept-next c.args.size c.args.blocks.now c.loop-block.block-index c.block-item.result c.loop-block-test.true c.block-item.is c.requires.blocks

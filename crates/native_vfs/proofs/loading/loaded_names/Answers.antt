@@ -25,6 +25,6 @@ loop-entry-preserved c = (
   names-next c.args.entries.now c.loop-entry.entry-index c.entry-item.result c.loop-entry-test.true c.entry-item.is c.requires.entries c.args.places.now c.loop-entry.names c.loop-entry.invariant.0
       c.load.new.self c.in_ok-name.name c.node_ref-node.result (c.in_ok-name.ensures ∙ c.as_slice.ensures) c.node_ref-node.ensures.number
       (ap (tree_get nat_cmp c.args.places.now) c.node_ref-node.ensures.number ∙ c.node_ref-node.ensures.key)
-      c.in-Ok.ensures.ok,
-  c.in-Ok.ensures.valid,
+      c.in_ok-load.ensures.ok,
+  c.in_ok-load.ensures.valid,
 )

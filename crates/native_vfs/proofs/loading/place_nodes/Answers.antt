@@ -18,4 +18,4 @@ loop-node-preserved c =
     placed-next c.args.nodes.now c.loop-node.node-index c.node-item.result c.loop-node-test.true c.node-item.is c.requires.valid.rising c.loop-node.table c.loop-node.places c.loop-node.invariant
     c.insert.new.table c.in_ok-key.key c.in_ok-stored.stored c.insert-in-loop-node.new.self c.in_ok-key.ensures.ok c.in_ok-stored.ensures.number
     (c.in_ok-stored.ensures.inode ∙ ap (λ t. bare_inode t c.node-item.result) (c.times-times.ensures ∙ c.requires.namings.times c.node-item.result.number))
-    c.in-Ok.ensures.updates.0
+    c.in_ok-insert.ensures.updates.0

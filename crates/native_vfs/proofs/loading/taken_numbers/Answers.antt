@@ -4,7 +4,7 @@ use Rattle.native_vfs.proofs.LoadedNumbers.{AreTaken, taken-none, taken-all}
 use Rattle.native_vfs.proofs.loading.taken_numbers.Goals as goal
 
 pub loop-node-init : goal.loop-node-init
-loop-node-init c = taken-none c.in-Ok.numbers c.in-Ok.ensures.free c.in-Ok.ensures.whole
+loop-node-init c = taken-none c.in_ok-numbers.numbers c.in_ok-numbers.ensures.free c.in_ok-numbers.ensures.whole
 
 pub returns : goal.returns
 returns c =

@@ -4,12 +4,12 @@ use Rattle.native_vfs.specs.Keyed.{place_at}
 use Rattle.native_vfs.specs.Stored.{keyed_of, nodes_of}
 use Rattle.native_vfs.proofs.Reasons.{full-nodes, full-entries}
 use Rattle.native_vfs.proofs.refusals.make_refusal.Goals as goal
-use Rattle.native_vfs.proofs.refusals.make_refusal.Goals.{then-len-ge-NODE_LIMIT, else-len-ge-NODE_LIMIT}
+use Rattle.native_vfs.proofs.refusals.make_refusal.Goals.{then-len, else-len}
 
 pub returns : goal.returns
 returns c =
     c.name_refusal.ensures
-    ∙ ap (name_refusal (nodes_of c.args.table.now) (place_at (keyed_of c.args.table.now) c.args.at.now)) (elim c.if-len-ge-NODE_LIMIT.branch [
-      | then-len-ge-NODE_LIMIT w ↦ full-nodes c.args.table.now c.len.result _ c.requires.distinct c.len.ensures w.full-is w.if-len-ge-NODE_LIMIT.true
-      | else-len-ge-NODE_LIMIT w ↦ full-entries c.args.table.now c.len.result c.args.entries _ c.requires.distinct c.len.ensures w.full-is c.requires.entries w.if-len-ge-NODE_LIMIT.false
+    ∙ ap (name_refusal (nodes_of c.args.table.now) (place_at (keyed_of c.args.table.now) c.args.at.now)) (elim c.if-len.branch [
+      | then-len w ↦ full-nodes c.args.table.now c.len.result _ c.requires.distinct c.len.ensures w.full-is w.if-len.true
+      | else-len w ↦ full-entries c.args.table.now c.len.result c.args.entries _ c.requires.distinct c.len.ensures w.full-is c.requires.entries w.if-len.false
     ])

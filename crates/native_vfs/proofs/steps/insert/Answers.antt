@@ -1,17 +1,11 @@
 use Rattle.std.proofs.Common.{sym, ap}
+use Rattle.native_vfs.proofs.MadeNodes.{on-err}
 use Rattle.native_vfs.proofs.Moves.{insertion, same-slots}
 use Rattle.native_vfs.proofs.steps.insert.Goals as goal
-use Rattle.native_vfs.proofs.steps.insert.Goals.{in-Ok, in-Err}
 
 pub returns-clause-ok : goal.returns-clause-ok
-returns-clause-ok c = elim c.match-insert.branch [
-  | in-Ok w ↦ rw w.result-is
-      (insertion c.args.table.now c.insert.new.self w.in-Ok.key c.args.node w.in-Ok.ensures.was_vacant w.in-Ok.ensures.updates c.requires.distinct c.requires.new c.requires.leads)
-  | in-Err w ↦ rw w.result-is tt
-]
+returns-clause-ok c =
+    insertion c.args.table.now c.insert.new.self c.in_ok-key.key c.args.node c.in_ok-key.ensures.was_vacant c.in_ok-key.ensures.updates c.requires.distinct c.requires.new c.requires.leads
 
-pub returns-clause-err : goal.returns-clause-err
-returns-clause-err c = elim c.match-insert.branch [
-  | in-Ok w ↦ rw w.result-is tt
-  | in-Err w ↦ rw w.result-is (same-slots c.args.table.now c.insert.new.self (ap (λ t. t.slots) (sym w.in-Err.ensures.err)))
-]
+pub returns-in_err-key-clause-err : goal.returns-in_err-key-clause-err
+returns-in_err-key-clause-err c = on-err c.from_residual.result (same-slots c.args.table.now c.insert.new.self (ap (λ t. t.slots) (sym c.in_err-key.ensures.err)))

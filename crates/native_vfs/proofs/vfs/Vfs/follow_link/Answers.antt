@@ -36,17 +36,17 @@ returns c =
           let key = w.root_key-walk.ensures.key in
           let number = ap (λ o. unwrap_or o 0) key ∙ ap chosen (sym w.if-begins_with_slash.true ∙ c.begins_with_slash.ensures) in
           subst Follows (sym w.walk-is) (
-            follow-goes system old w.root_key-walk.result rest target few c.in-Ok.ensures number,
-            follow-way system old w.root_key-walk.result rest target few way.links c.requires.target c.in-Ok.ensures (ap is_some key) number
+            follow-goes system old w.root_key-walk.result rest target few c.in_ok-put_before.ensures number,
+            follow-way system old w.root_key-walk.result rest target few way.links c.requires.target c.in_ok-put_before.ensures (ap is_some key) number
                 (λ begins. w.root_key-walk.ensures.directory),
-            follow-left old w.root_key-walk.result rest target few way.links c.requires.target.short c.in-Ok.ensures,
+            follow-left old w.root_key-walk.result rest target few way.links c.requires.target.short c.in_ok-put_before.ensures,
           )
       | else-begins_with_slash w ↦
           let number = ap chosen (sym w.if-begins_with_slash.false ∙ c.begins_with_slash.ensures) in
           subst Follows (sym w.walk-is) (
-            follow-goes system old old.at rest target few c.in-Ok.ensures number,
-            follow-way system old old.at rest target few way.links c.requires.target c.in-Ok.ensures way.live number
+            follow-goes system old old.at rest target few c.in_ok-put_before.ensures number,
+            follow-way system old old.at rest target few way.links c.requires.target c.in_ok-put_before.ensures way.live number
                 (λ begins. absurd (false≢true (sym w.if-begins_with_slash.false ∙ c.begins_with_slash.ensures ∙ begins))),
-            follow-left old old.at rest target few way.links c.requires.target.short c.in-Ok.ensures,
+            follow-left old old.at rest target few way.links c.requires.target.short c.in_ok-put_before.ensures,
           )
     ]

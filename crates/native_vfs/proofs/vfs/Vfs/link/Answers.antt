@@ -1,5 +1,6 @@
 use Rattle.std.proofs.Common.{◌≡◌, ◌+◌, None, refl, sym, ◌∙◌}
 use Rattle.std.specs.Int.{w128}
+use Rattle.std.proofs.lemmas.Result.{err_from_is_err_and}
 use Rattle.std.proofs.Math.Facts.{to_z-of_z}
 use Rattle.kernel_core.specs.NameCalls as names
 use Rattle.native_vfs.specs.Making.{IsNamedAgain}
@@ -34,7 +35,7 @@ free c = sym c.link_refusal.ensures ∙ none-left c.link_refusal.result c.in_def
 named : (c : goal.After-self-1)
     → IsNamedAgain c.self.inside.table c.name_again.new.table
     (names.after_link (nodes_of c.self.inside.table) (number_of_key c.self.inside.table c.args.node) (place_at (keyed_of c.self.inside.table) c.args.at.now) c.args.now)
-named c = rw (to_z-of_z {w = w128} {z = c.args.now} c.ranges.now) at c.in-Ok.ensures.named
+named c = rw (to_z-of_z {w = w128} {z = c.args.now} c.ranges.now) at c.in_ok-name_again.ensures.named
 
 kept : (c : goal.After-self-1) → IsKept c.name_again.new.table c.self.inside.numbers (c.self.inside.entries + 1) c.self.inside.blocks c.self.inside.root
 kept c =
@@ -42,42 +43,45 @@ kept c =
     c.self.invariant (agrees-kept c.self.inside.table c.args.self.now c.self.view_is c.args.at.now c.requires.agrees) (free c)
     (live-seen c.self.inside.table c.args.self.now c.self.view_is c.args.node c.requires.live) c.requires.time
 
-pub invariant_of-self : goal.invariant_of-self
-invariant_of-self c = kept c
+pub invariant_of-self-2 : goal.invariant_of-self-2
+invariant_of-self-2 c = kept c
 
-pub returns-in-Ok-clause-answer : goal.returns-in-Ok-clause-answer
-returns-in-Ok-clause-answer c = sym (link-refusal-seen c.self.inside.table c.args.self.now c.self.view_is c.args.node c.args.at.now) ∙ free c
+pub returns-clause-answer : goal.returns-clause-answer
+returns-clause-answer c = sym (link-refusal-seen c.self.inside.table c.args.self.now c.self.view_is c.args.node c.args.at.now) ∙ free c
 
-pub returns-in-Ok-clause-named : goal.returns-in-Ok-clause-named
-returns-in-Ok-clause-named c = nodes-named c.self.inside.table c.name_again.new.table c.args.node c.args.at.now c.args.now (named c) c.args.self.now c.self.view_is
+pub returns-clause-named : goal.returns-clause-named
+returns-clause-named c = nodes-named c.self.inside.table c.name_again.new.table c.args.node c.args.at.now c.args.now (named c) c.args.self.now c.self.view_is
 
-pub returns-in-Ok-clause-same : goal.returns-in-Ok-clause-same
-returns-in-Ok-clause-same c = keys-named c.self.inside.table c.name_again.new.table c.args.node c.args.at.now c.args.now (named c) c.args.self.now c.self.view_is
+pub returns-clause-same : goal.returns-clause-same
+returns-clause-same c = keys-named c.self.inside.table c.name_again.new.table c.args.node c.args.at.now c.args.now (named c) c.args.self.now c.self.view_is
 
-pub returns-in-Ok-clause-valid : goal.returns-in-Ok-clause-valid
-returns-in-Ok-clause-valid c = valid-view _ _ _ _ _ (kept c)
+pub returns-clause-valid : goal.returns-clause-valid
+returns-clause-valid c = valid-view _ _ _ _ _ (kept c)
 
-pub returns-in-Ok-clause-keys : goal.returns-in-Ok-clause-keys
-returns-in-Ok-clause-keys c = are-keys-view _ _ _ _ _ (kept c)
+pub returns-clause-keys : goal.returns-clause-keys
+returns-clause-keys c = are-keys-view _ _ _ _ _ (kept c)
 
 -- memory runs out
 
-same_kept : (c : goal.In-Err) → IsKept c.name_again.new.table c.self.inside.numbers c.self.inside.entries c.self.inside.blocks c.self.inside.root
-same_kept c = kept-same c.self.inside.table c.name_again.new.table c.in-Err.ensures.same c.self.inside.numbers c.self.inside.numbers _ _ _ refl c.self.invariant
+same_kept : (c : goal.After-from_residual) → IsKept c.name_again.new.table c.self.inside.numbers c.self.inside.entries c.self.inside.blocks c.self.inside.root
+same_kept c = kept-same c.self.inside.table c.name_again.new.table c.in_err-name_again.ensures.same c.self.inside.numbers c.self.inside.numbers _ _ _ refl c.self.invariant
 
-pub invariant_of-self-in-Err : goal.invariant_of-self-in-Err
-invariant_of-self-in-Err c = same_kept c
+pub invariant_of-self : goal.invariant_of-self
+invariant_of-self c = same_kept c
 
-pub returns-in-Err-clause-answer : goal.returns-in-Err-clause-answer
-returns-in-Err-clause-answer c =
-    sym (link-refusal-seen c.self.inside.table c.args.self.now c.self.view_is c.args.node c.args.at.now) ∙ sym c.link_refusal.ensures
-    ∙ none-left c.link_refusal.result c.in_default.not-Some
+pub returns-in_err-name_again-clause-answer : goal.returns-in_err-name_again-clause-answer
+returns-in_err-name_again-clause-answer c =
+    let p = err_from_is_err_and c.from_residual.result c.from_residual.ensures.1 in
+    rw (p.1, p.2) (sym (link-refusal-seen c.self.inside.table c.args.self.now c.self.view_is c.args.node c.args.at.now) ∙ sym c.link_refusal.ensures
+    ∙ none-left c.link_refusal.result c.in_default.not-Some)
 
-pub returns-in-Err-clause-err : goal.returns-in-Err-clause-err
-returns-in-Err-clause-err c = view-same c.self.inside.table c.name_again.new.table c.in-Err.ensures.same c.args.self.now c.self.view_is
+pub returns-in_err-name_again-clause-err : goal.returns-in_err-name_again-clause-err
+returns-in_err-name_again-clause-err c =
+    let p = err_from_is_err_and c.from_residual.result c.from_residual.ensures.1 in
+    rw p.1 (view-same c.self.inside.table c.name_again.new.table c.in_err-name_again.ensures.same c.args.self.now c.self.view_is)
 
-pub returns-in-Err-clause-valid : goal.returns-in-Err-clause-valid
-returns-in-Err-clause-valid c = valid-view _ _ _ _ _ (same_kept c)
+pub returns-in_err-name_again-clause-valid : goal.returns-in_err-name_again-clause-valid
+returns-in_err-name_again-clause-valid c = valid-view _ _ _ _ _ (same_kept c)
 
-pub returns-in-Err-clause-keys : goal.returns-in-Err-clause-keys
-returns-in-Err-clause-keys c = are-keys-view _ _ _ _ _ (same_kept c)
+pub returns-in_err-name_again-clause-keys : goal.returns-in_err-name_again-clause-keys
+returns-in_err-name_again-clause-keys c = are-keys-view _ _ _ _ _ (same_kept c)

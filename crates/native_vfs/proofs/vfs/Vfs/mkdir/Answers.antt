@@ -1,5 +1,6 @@
 use Rattle.std.proofs.Common.{◌≡◌, ◌+◌, None, sym, subst, ◌∙◌}
 use Rattle.std.specs.Int.{w128}
+use Rattle.std.proofs.lemmas.Result.{err_from_is_err_and}
 use Rattle.std.proofs.Math.Facts.{to_z-of_z}
 use Rattle.kernel_core.specs.NameCalls as names
 use Rattle.kernel_core.specs.Nodes.{NodeContent}
@@ -33,73 +34,76 @@ make-requires-clause-leads c =
 
 pub add_link-requires-clause-live : goal.add_link-requires-clause-live
 add_link-requires-clause-live c =
-    above-live c.self.inside.table c.make.new.table c.make.new.numbers c.in-Ok.key c.args.at.now
-    (agrees-kept c.self.inside.table c.args.self.now c.self.view_is c.args.at.now c.requires.agrees) _ _ c.in-Ok.ensures.made
+    above-live c.self.inside.table c.make.new.table c.make.new.numbers c.in_ok-key.key c.args.at.now
+    (agrees-kept c.self.inside.table c.args.self.now c.self.view_is c.args.at.now c.requires.agrees) _ _ c.in_ok-key.ensures.made
 
 pub add_link-requires-clause-few : goal.add_link-requires-clause-few
 add_link-requires-clause-few c =
-    above-few c.self.inside.table c.make.new.table c.make.new.numbers c.in-Ok.key c.args.at.now
-    (agrees-kept c.self.inside.table c.args.self.now c.self.view_is c.args.at.now c.requires.agrees) _ _ c.in-Ok.ensures.made c.self.invariant.system
+    above-few c.self.inside.table c.make.new.table c.make.new.numbers c.in_ok-key.key c.args.at.now
+    (agrees-kept c.self.inside.table c.args.self.now c.self.view_is c.args.at.now c.requires.agrees) _ _ c.in_ok-key.ensures.made c.self.invariant.system
 
 free : (c : goal.After-self-1) → names.make_refusal (nodes_of c.self.inside.table) (place_at (keyed_of c.self.inside.table) c.args.at.now) ≡ None
 free c = sym c.make_refusal.ensures ∙ none-left c.make_refusal.result c.in_default.not-Some
 
 made : (c : goal.After-self-1)
-    → IsMade c.self.inside.table c.add_link.new.table c.make.new.numbers c.in-Ok.key (λ number. names.after_mkdir (nodes_of c.self.inside.table) (place_at (keyed_of c.self.inside.table) c.args.at.now) number c.args.mode c.args.now)
+    → IsMade c.self.inside.table c.add_link.new.table c.make.new.numbers c.in_ok-key.key (λ number. names.after_mkdir (nodes_of c.self.inside.table) (place_at (keyed_of c.self.inside.table) c.args.at.now) number c.args.mode c.args.now)
 made c =
-    made-step c.self.inside.table c.make.new.table c.make.new.numbers c.in-Ok.key
+    made-step c.self.inside.table c.make.new.table c.make.new.numbers c.in_ok-key.key
     (λ number. names.after_make (nodes_of c.self.inside.table) (place_at (keyed_of c.self.inside.table) c.args.at.now) number
     (names.new_directory c.args.mode (number_at (keyed_of c.self.inside.table) c.args.at.now.dir) c.args.now) c.args.now)
     (subst
-    (λ (content : NodeContent). IsMade c.self.inside.table c.make.new.table c.make.new.numbers c.in-Ok.key
+    (λ (content : NodeContent). IsMade c.self.inside.table c.make.new.table c.make.new.numbers c.in_ok-key.key
     (λ number. names.after_make (nodes_of c.self.inside.table) (place_at (keyed_of c.self.inside.table) c.args.at.now) number (names.new_inode c.args.mode 2 content c.args.now) c.args.now))
     (empty-directory c.number.result (number_at (keyed_of c.self.inside.table) c.args.at.now.dir) c.args.at.now.dir c.new.result
     (c.number.ensures ∙ sym (number_at-table c.self.inside.table c.args.at.now.dir)) c.new.ensures.entries c.new.ensures.greatest)
-    (rw (to_z-of_z {w = w128} {z = c.args.now} c.ranges.now) at c.in-Ok.ensures.made))
+    (rw (to_z-of_z {w = w128} {z = c.args.now} c.ranges.now) at c.in_ok-key.ensures.made))
     c.add_link.new.table c.args.at.now.dir (number_at (keyed_of c.self.inside.table) c.args.at.now.dir) names.one_link_more c.add_link.ensures.step
-    (above-number c.self.inside.table c.make.new.table c.make.new.numbers c.in-Ok.key c.args.at.now
-    (agrees-kept c.self.inside.table c.args.self.now c.self.view_is c.args.at.now c.requires.agrees) _ _ c.in-Ok.ensures.made)
+    (above-number c.self.inside.table c.make.new.table c.make.new.numbers c.in_ok-key.key c.args.at.now
+    (agrees-kept c.self.inside.table c.args.self.now c.self.view_is c.args.at.now c.requires.agrees) _ _ c.in_ok-key.ensures.made)
 
 kept : (c : goal.After-self-1) → IsKept c.add_link.new.table c.make.new.numbers (c.self.inside.entries + 1) c.self.inside.blocks c.self.inside.root
 kept c =
-    kept-mkdir c.self.inside.table c.add_link.new.table c.self.inside.numbers c.make.new.numbers c.self.inside.entries c.self.inside.blocks c.self.inside.root c.in-Ok.key c.args.at.now c.args.now
+    kept-mkdir c.self.inside.table c.add_link.new.table c.self.inside.numbers c.make.new.numbers c.self.inside.entries c.self.inside.blocks c.self.inside.root c.in_ok-key.key c.args.at.now c.args.now
     c.self.invariant (agrees-kept c.self.inside.table c.args.self.now c.self.view_is c.args.at.now c.requires.agrees) c.requires.time (free c) c.args.mode c.requires.mode (made c)
 
-pub invariant_of-self : goal.invariant_of-self
-invariant_of-self c = kept c
+pub invariant_of-self-2 : goal.invariant_of-self-2
+invariant_of-self-2 c = kept c
 
-pub returns-in-Ok-clause-answer : goal.returns-in-Ok-clause-answer
-returns-in-Ok-clause-answer c = sym (refusal-seen c.self.inside.table c.args.self.now c.self.view_is names.make_refusal c.args.at.now) ∙ free c
+pub returns-clause-answer : goal.returns-clause-answer
+returns-clause-answer c = sym (refusal-seen c.self.inside.table c.args.self.now c.self.view_is names.make_refusal c.args.at.now) ∙ free c
 
-pub returns-in-Ok-clause-made : goal.returns-in-Ok-clause-made
-returns-in-Ok-clause-made c =
-    makes-seen c.self.inside.table c.add_link.new.table c.make.new.numbers c.in-Ok.key c.args.at.now (λ nodes place number. names.after_mkdir nodes place number c.args.mode c.args.now) c.args.self.now
+pub returns-clause-made : goal.returns-clause-made
+returns-clause-made c =
+    makes-seen c.self.inside.table c.add_link.new.table c.make.new.numbers c.in_ok-key.key c.args.at.now (λ nodes place number. names.after_mkdir nodes place number c.args.mode c.args.now) c.args.self.now
     c.self.view_is (made c)
 
-pub returns-in-Ok-clause-valid : goal.returns-in-Ok-clause-valid
-returns-in-Ok-clause-valid c = valid-view _ _ _ _ _ (kept c)
+pub returns-clause-valid : goal.returns-clause-valid
+returns-clause-valid c = valid-view _ _ _ _ _ (kept c)
 
-pub returns-in-Ok-clause-keys : goal.returns-in-Ok-clause-keys
-returns-in-Ok-clause-keys c = are-keys-view _ _ _ _ _ (kept c)
+pub returns-clause-keys : goal.returns-clause-keys
+returns-clause-keys c = are-keys-view _ _ _ _ _ (kept c)
 
 -- memory runs out
 
-same_kept : (c : goal.In-Err) → IsKept c.make.new.table c.make.new.numbers c.self.inside.entries c.self.inside.blocks c.self.inside.root
-same_kept c = kept-same c.self.inside.table c.make.new.table c.in-Err.ensures.same c.self.inside.numbers c.make.new.numbers _ _ _ c.in-Err.ensures.numbers c.self.invariant
+same_kept : (c : goal.After-from_residual) → IsKept c.make.new.table c.make.new.numbers c.self.inside.entries c.self.inside.blocks c.self.inside.root
+same_kept c = kept-same c.self.inside.table c.make.new.table c.in_err-key.ensures.same c.self.inside.numbers c.make.new.numbers _ _ _ c.in_err-key.ensures.numbers c.self.invariant
 
-pub invariant_of-self-in-Err : goal.invariant_of-self-in-Err
-invariant_of-self-in-Err c = same_kept c
+pub invariant_of-self : goal.invariant_of-self
+invariant_of-self c = same_kept c
 
-pub returns-in-Err-clause-answer : goal.returns-in-Err-clause-answer
-returns-in-Err-clause-answer c =
-    sym (refusal-seen c.self.inside.table c.args.self.now c.self.view_is names.make_refusal c.args.at.now) ∙ sym c.make_refusal.ensures
-    ∙ none-left c.make_refusal.result c.in_default.not-Some
+pub returns-in_err-key-clause-answer : goal.returns-in_err-key-clause-answer
+returns-in_err-key-clause-answer c =
+    let p = err_from_is_err_and c.from_residual.result c.from_residual.ensures.1 in
+    rw (p.1, p.2) (sym (refusal-seen c.self.inside.table c.args.self.now c.self.view_is names.make_refusal c.args.at.now) ∙ sym c.make_refusal.ensures
+    ∙ none-left c.make_refusal.result c.in_default.not-Some)
 
-pub returns-in-Err-clause-err : goal.returns-in-Err-clause-err
-returns-in-Err-clause-err c = view-same c.self.inside.table c.make.new.table c.in-Err.ensures.same c.args.self.now c.self.view_is
+pub returns-in_err-key-clause-err : goal.returns-in_err-key-clause-err
+returns-in_err-key-clause-err c =
+    let p = err_from_is_err_and c.from_residual.result c.from_residual.ensures.1 in
+    rw p.1 (view-same c.self.inside.table c.make.new.table c.in_err-key.ensures.same c.args.self.now c.self.view_is)
 
-pub returns-in-Err-clause-valid : goal.returns-in-Err-clause-valid
-returns-in-Err-clause-valid c = valid-view _ _ _ _ _ (same_kept c)
+pub returns-in_err-key-clause-valid : goal.returns-in_err-key-clause-valid
+returns-in_err-key-clause-valid c = valid-view _ _ _ _ _ (same_kept c)
 
-pub returns-in-Err-clause-keys : goal.returns-in-Err-clause-keys
-returns-in-Err-clause-keys c = are-keys-view _ _ _ _ _ (same_kept c)
+pub returns-in_err-key-clause-keys : goal.returns-in_err-key-clause-keys
+returns-in_err-key-clause-keys c = are-keys-view _ _ _ _ _ (same_kept c)

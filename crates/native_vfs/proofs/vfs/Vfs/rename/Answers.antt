@@ -1,5 +1,6 @@
 use Rattle.std.proofs.Common.{◌∙◌, sym, ap, subst}
 use Rattle.std.specs.Int.{w128}
+use Rattle.std.proofs.lemmas.Result.{err_from_is_err_and}
 use Rattle.std.proofs.Math.Facts.{to_z-of_z}
 use Rattle.kernel_core.specs.NameCalls.{rename_refusal, after_move}
 use Rattle.native_vfs.specs.Keyed.{Keyed, AgreesAt, place_at, number_at}
@@ -44,16 +45,18 @@ move_entry-requires-clause-other c = sym (seen-node c.self.inside.table c.args.s
 pub move_entry-requires-clause-allowed : goal.move_entry-requires-clause-allowed
 move_entry-requires-clause-allowed c = sym (seen-both c.self.inside.table c.args.self.now c.self.view_is rename_refusal c.args.from.now c.args.to.now) ∙ sym c.rename_refusal.ensures ∙ c.in_default.is
 
-pub returns-in-Ok-clause-answer : goal.returns-in-Ok-clause-answer
-returns-in-Ok-clause-answer c = sym (seen-both c.self.inside.table c.args.self.now c.self.view_is rename_refusal c.args.from.now c.args.to.now) ∙ sym c.rename_refusal.ensures ∙ c.in_default.is
+pub returns-clause-answer : goal.returns-clause-answer
+returns-clause-answer c = sym (seen-both c.self.inside.table c.args.self.now c.self.view_is rename_refusal c.args.from.now c.args.to.now) ∙ sym c.rename_refusal.ensures ∙ c.in_default.is
 
-pub returns-in-Ok-clause-ok : goal.returns-in-Ok-clause-ok
-returns-in-Ok-clause-ok c =
-    c.in-Ok.ensures.ok
+pub returns-clause-ok : goal.returns-clause-ok
+returns-clause-ok c =
+    c.in_ok-move_entry.ensures.ok
     ∙ ap (after_move c.args.self.now.nodes (place_at c.args.self.now c.args.from.now) (place_at c.args.self.now c.args.to.now) (number_at c.args.self.now c.in-Some-node.moved))
     (to_z-of_z {w = w128} {z = c.args.now} c.ranges.now)
     ∙ renamed-moved c.args.self.now c.args.from.now c.args.to.now c.in-Some-node.moved c.in-Some-node.is c.args.now
     (sym (seen-node c.self.inside.table c.args.self.now c.self.view_is c.args.to.now c.in-Some-node.moved) ∙ sym c.stands_for.ensures ∙ c.if-stands_for.false)
 
-pub returns-in-Err-clause-answer : goal.returns-in-Err-clause-answer
-returns-in-Err-clause-answer c = sym (seen-both c.self.inside.table c.args.self.now c.self.view_is rename_refusal c.args.from.now c.args.to.now) ∙ sym c.rename_refusal.ensures ∙ c.in_default.is
+pub returns-in_err-move_entry-clause-answer : goal.returns-in_err-move_entry-clause-answer
+returns-in_err-move_entry-clause-answer c =
+    let p = err_from_is_err_and c.from_residual.result c.from_residual.ensures.1 in
+    rw (p.1, p.2) (sym (seen-both c.self.inside.table c.args.self.now c.self.view_is rename_refusal c.args.from.now c.args.to.now) ∙ sym c.rename_refusal.ensures ∙ c.in_default.is)

@@ -1,5 +1,6 @@
 use Rattle.std.proofs.Common.{◌≡◌, ◌+◌, None, sym, ◌∙◌}
 use Rattle.std.specs.Int.{w128}
+use Rattle.std.proofs.lemmas.Result.{err_from_is_err_and}
 use Rattle.std.proofs.Math.Facts.{to_z-of_z}
 use Rattle.kernel_core.specs.NameCalls as names
 use Rattle.native_vfs.specs.Making.{IsMade}
@@ -24,53 +25,56 @@ free : (c : goal.After-self-1) → names.symlink_refusal (nodes_of c.self.inside
 free c = sym c.symlink_refusal.ensures ∙ none-left c.symlink_refusal.result c.in_default.not-Some
 
 made : (c : goal.After-self-1)
-    → IsMade c.self.inside.table c.make_link.new.table c.make_link.new.numbers c.in-Ok._key
+    → IsMade c.self.inside.table c.make_link.new.table c.make_link.new.numbers c.in_ok-make_link.field-0
     (λ number. names.after_symlink (nodes_of c.self.inside.table) (place_at (keyed_of c.self.inside.table) c.args.at.now) number c.args.target.now c.args.now)
-made c = rw (to_z-of_z {w = w128} {z = c.args.now} c.ranges.now) at c.in-Ok.ensures.made
+made c = rw (to_z-of_z {w = w128} {z = c.args.now} c.ranges.now) at c.in_ok-make_link.ensures.made
 
 kept : (c : goal.After-self-1) → IsKept c.make_link.new.table c.make_link.new.numbers (c.self.inside.entries + 1) c.self.inside.blocks c.self.inside.root
 kept c =
-    kept-symlink c.self.inside.table c.make_link.new.table c.self.inside.numbers c.make_link.new.numbers c.self.inside.entries c.self.inside.blocks c.self.inside.root c.in-Ok._key c.args.at.now
+    kept-symlink c.self.inside.table c.make_link.new.table c.self.inside.numbers c.make_link.new.numbers c.self.inside.entries c.self.inside.blocks c.self.inside.root c.in_ok-make_link.field-0 c.args.at.now
     c.args.now c.self.invariant (agrees-kept c.self.inside.table c.args.self.now c.self.view_is c.args.at.now c.requires.agrees) c.requires.time c.args.target.now (free c)
     (λ place. (c.type_inv.target place).fits) c.requires.short c.requires.plain (made c)
 
-pub invariant_of-self : goal.invariant_of-self
-invariant_of-self c = kept c
+pub invariant_of-self-2 : goal.invariant_of-self-2
+invariant_of-self-2 c = kept c
 
-pub returns-in-Ok-clause-answer : goal.returns-in-Ok-clause-answer
-returns-in-Ok-clause-answer c = sym (refusal-seen c.self.inside.table c.args.self.now c.self.view_is (λ nodes place. names.symlink_refusal nodes place c.args.target.now) c.args.at.now) ∙ free c
+pub returns-clause-answer : goal.returns-clause-answer
+returns-clause-answer c = sym (refusal-seen c.self.inside.table c.args.self.now c.self.view_is (λ nodes place. names.symlink_refusal nodes place c.args.target.now) c.args.at.now) ∙ free c
 
-pub returns-in-Ok-clause-made : goal.returns-in-Ok-clause-made
-returns-in-Ok-clause-made c = (
-  c.in-Ok._key,
-  makes-seen c.self.inside.table c.make_link.new.table c.make_link.new.numbers c.in-Ok._key c.args.at.now
+pub returns-clause-made : goal.returns-clause-made
+returns-clause-made c = (
+  c.in_ok-make_link.field-0,
+  makes-seen c.self.inside.table c.make_link.new.table c.make_link.new.numbers c.in_ok-make_link.field-0 c.args.at.now
       (λ nodes place number. names.after_symlink nodes place number c.args.target.now c.args.now) c.args.self.now c.self.view_is (made c),
 )
 
-pub returns-in-Ok-clause-valid : goal.returns-in-Ok-clause-valid
-returns-in-Ok-clause-valid c = valid-view _ _ _ _ _ (kept c)
+pub returns-clause-valid : goal.returns-clause-valid
+returns-clause-valid c = valid-view _ _ _ _ _ (kept c)
 
-pub returns-in-Ok-clause-keys : goal.returns-in-Ok-clause-keys
-returns-in-Ok-clause-keys c = are-keys-view _ _ _ _ _ (kept c)
+pub returns-clause-keys : goal.returns-clause-keys
+returns-clause-keys c = are-keys-view _ _ _ _ _ (kept c)
 
 -- memory runs out
 
-same_kept : (c : goal.In-Err) → IsKept c.make_link.new.table c.make_link.new.numbers c.self.inside.entries c.self.inside.blocks c.self.inside.root
-same_kept c = kept-same c.self.inside.table c.make_link.new.table c.in-Err.ensures.same c.self.inside.numbers c.make_link.new.numbers _ _ _ c.in-Err.ensures.numbers c.self.invariant
+same_kept : (c : goal.After-from_residual) → IsKept c.make_link.new.table c.make_link.new.numbers c.self.inside.entries c.self.inside.blocks c.self.inside.root
+same_kept c = kept-same c.self.inside.table c.make_link.new.table c.in_err-make_link.ensures.same c.self.inside.numbers c.make_link.new.numbers _ _ _ c.in_err-make_link.ensures.numbers c.self.invariant
 
-pub invariant_of-self-in-Err : goal.invariant_of-self-in-Err
-invariant_of-self-in-Err c = same_kept c
+pub invariant_of-self : goal.invariant_of-self
+invariant_of-self c = same_kept c
 
-pub returns-in-Err-clause-answer : goal.returns-in-Err-clause-answer
-returns-in-Err-clause-answer c =
-    sym (refusal-seen c.self.inside.table c.args.self.now c.self.view_is (λ nodes place. names.symlink_refusal nodes place c.args.target.now) c.args.at.now) ∙ sym c.symlink_refusal.ensures
-    ∙ none-left c.symlink_refusal.result c.in_default.not-Some
+pub returns-in_err-make_link-clause-answer : goal.returns-in_err-make_link-clause-answer
+returns-in_err-make_link-clause-answer c =
+    let p = err_from_is_err_and c.from_residual.result c.from_residual.ensures.1 in
+    rw (p.1, p.2) (sym (refusal-seen c.self.inside.table c.args.self.now c.self.view_is (λ nodes place. names.symlink_refusal nodes place c.args.target.now) c.args.at.now) ∙ sym c.symlink_refusal.ensures
+    ∙ none-left c.symlink_refusal.result c.in_default.not-Some)
 
-pub returns-in-Err-clause-err : goal.returns-in-Err-clause-err
-returns-in-Err-clause-err c = view-same c.self.inside.table c.make_link.new.table c.in-Err.ensures.same c.args.self.now c.self.view_is
+pub returns-in_err-make_link-clause-err : goal.returns-in_err-make_link-clause-err
+returns-in_err-make_link-clause-err c =
+    let p = err_from_is_err_and c.from_residual.result c.from_residual.ensures.1 in
+    rw p.1 (view-same c.self.inside.table c.make_link.new.table c.in_err-make_link.ensures.same c.args.self.now c.self.view_is)
 
-pub returns-in-Err-clause-valid : goal.returns-in-Err-clause-valid
-returns-in-Err-clause-valid c = valid-view _ _ _ _ _ (same_kept c)
+pub returns-in_err-make_link-clause-valid : goal.returns-in_err-make_link-clause-valid
+returns-in_err-make_link-clause-valid c = valid-view _ _ _ _ _ (same_kept c)
 
-pub returns-in-Err-clause-keys : goal.returns-in-Err-clause-keys
-returns-in-Err-clause-keys c = are-keys-view _ _ _ _ _ (same_kept c)
+pub returns-in_err-make_link-clause-keys : goal.returns-in_err-make_link-clause-keys
+returns-in_err-make_link-clause-keys c = are-keys-view _ _ _ _ _ (same_kept c)
