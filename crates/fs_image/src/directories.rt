@@ -10,18 +10,10 @@ use crate::fields::{bytes_at, place, refused, u8_at, u16_at, u32_at, u64_at};
 use crate::files::rises;
 use crate::names::take_name;
 use crate::refusal::{ImageError, Rule};
+use kernel_core::limits::{ENTRY_LIMIT, GREATEST_COOKIE, LONGEST_TARGET};
 use kernel_core::{Bytes, DirEntry, Items, Kind};
 use std::alloc::{AllocError, Global};
 use std::collections::HashSet;
-
-/// The most entries that all directories together have.
-const ENTRY_LIMIT: u64 = 131_072;
-
-/// The greatest cookie, 2^31 - 1.
-const GREATEST_COOKIE: u32 = 0x7FFF_FFFF;
-
-/// The longest target of a link, in bytes.
-const LONGEST_TARGET: u16 = 4095;
 
 fn last_cookie(entries: &[DirEntry]) -> Option<u32>
     ensures { result ≡ last_cookie entries.now }
@@ -141,7 +133,7 @@ pub fn dir_at<'a>(
 {
     let at = place(file, rest);
     let (count, rest) = u32_at(file, rest)?;
-    if entries + u64::from(count) > ENTRY_LIMIT {
+    if entries + u64::from(count) > u64::from(ENTRY_LIMIT) {
         return Err(refused(Rule::Limit, at));
     }
     let (held, rest) = entries_at(alloc, count, file, rest)?;
@@ -156,7 +148,7 @@ pub fn link_at(alloc: Global, file: u64, rest: &[u8]) -> Result<(Kind, &[u8]), I
 {
     let at = place(file, rest);
     let (count, rest) = u16_at(file, rest)?;
-    if count == 0 || count > LONGEST_TARGET {
+    if count == 0 || usize::from(count) > LONGEST_TARGET {
         return Err(refused(Rule::Name, at));
     }
     let at = place(file, rest);

@@ -6,17 +6,9 @@ ghost use Rattle.fs_image.specs.Meaning.{GivesBy};
 
 use crate::fields::{bytes_at, place, refused, u32_at, u64_at};
 use crate::refusal::{ImageError, Rule};
+use kernel_core::limits::{BLOCK_LIMIT, BLOCK_SIZE, GREATEST_SIZE};
 use kernel_core::{Block, Bytes, Items, Kind};
 use std::alloc::Global;
-
-/// The bytes of a block.
-const BLOCK_SIZE: usize = 4096;
-
-/// The greatest size of a file, in bytes.
-const GREATEST_SIZE: u64 = 1 << 44;
-
-/// The most blocks that all files together keep.
-const BLOCK_LIMIT: u64 = 65_536;
 
 /// Whether a number rises above the one before.
 pub fn rises(before: Option<u32>, number: u32) -> bool
@@ -38,7 +30,7 @@ fn last_index(blocks: &[Block]) -> Option<u32>
 fn breaks_index(size: u64, before: Option<u32>, index: u32) -> bool
     ensures { result ≡ breaks_index size before index }
 {
-    !rises(before, index) || u64::from(index) * 4096 >= size
+    !rises(before, index) || u64::from(index) * (BLOCK_SIZE as u64) >= size
 }
 
 /// Whether a byte is not 0.
@@ -52,7 +44,7 @@ fn is_set(bytes: &[u8]) -> bool
 fn breaks_tail(size: u64, index: u32, bytes: &[u8]) -> bool
     ensures { result ≡ breaks_tail size index bytes.now }
 {
-    let kept = size.saturating_sub(u64::from(index) * 4096);
+    let kept = size.saturating_sub(u64::from(index) * (BLOCK_SIZE as u64));
     let kept = kept.min(bytes.len() as u64) as usize;
     is_set(&bytes[kept..])
 }
@@ -119,7 +111,7 @@ pub fn file_at<'a>(
     }
     let at = place(file, rest);
     let (count, rest) = u32_at(file, rest)?;
-    if blocks + u64::from(count) > BLOCK_LIMIT {
+    if blocks + u64::from(count) > u64::from(BLOCK_LIMIT) {
         return Err(refused(Rule::Limit, at));
     }
     let (kept, rest) = blocks_at(alloc, count, size, file, rest)?;

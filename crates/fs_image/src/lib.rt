@@ -16,7 +16,8 @@ mod walk;
 mod writing;
 
 pub use decoding::{decode, text_is_accepted, text_is_of_one_tree};
-pub use refusal::{ImageError, ImageRefusal, NoMemory, Rule};
+pub use kernel_core::NoMemory;
+pub use refusal::{ImageError, ImageRefusal, Rule};
 pub use writing::encode;
 
 #[cfg(test)]

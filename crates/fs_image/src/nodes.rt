@@ -8,6 +8,7 @@ use crate::directories::{dir_at, link_at};
 use crate::fields::{bytes_at, place, refused, u8_at, u16_at, u32_at, u64_at};
 use crate::files::file_at;
 use crate::refusal::{ImageError, Rule};
+use kernel_core::limits::NODE_LIMIT;
 use kernel_core::{Items, Kind, Node, Tree};
 use std::alloc::Global;
 
@@ -16,9 +17,6 @@ pub const MAGIC: [u8; 8] = *b"O32IMG1\n";
 
 /// The number of the root.
 pub const ROOT: u64 = 1;
-
-/// The most nodes of a tree.
-const NODE_LIMIT: u32 = 65_536;
 
 /// The greatest number of a node, 2^63 - 1.
 const GREATEST_NUMBER: u64 = 0x7FFF_FFFF_FFFF_FFFF;

@@ -89,13 +89,3 @@ impl<T: Drop> From<AllocFailed<T>> for ImageError {
         ImageError::NoMemory
     }
 }
-
-/// There was not enough memory.
-#[derive(Clone, Copy, Debug)]
-pub struct NoMemory;
-
-impl From<AllocError> for NoMemory {
-    fn from(_error: AllocError) -> NoMemory {
-        NoMemory
-    }
-}

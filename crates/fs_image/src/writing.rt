@@ -8,9 +8,8 @@ ghost use Rattle.fs_image.specs.Text.{block_text, entry_text, kind_number, kind_
 ghost use Rattle.fs_image.specs.Adding.{Adds, AddsPrefix, CanBeWritten};
 
 use crate::nodes::MAGIC;
-use crate::refusal::NoMemory;
 use byteorder::{BigEndian, ByteOrder};
-use kernel_core::{Block, DirEntry, Kind, Node, Tree};
+use kernel_core::{Block, DirEntry, Kind, NoMemory, Node, Tree};
 
 /// Adds the bytes of some pieces, one after the other.
 fn put(out: &mut Vec<u8>, pieces: &[&[u8]]) -> Result<(), NoMemory>
