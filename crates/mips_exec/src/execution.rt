@@ -7,7 +7,7 @@ use crate::cpu::Cpu;
 use crate::effect::{Effect, effect_of};
 use crate::memory::{access_code, access_signal, load, load_linked, store, store_conditional};
 use guest_space::Space;
-use kernel_core::Sig;
+use kernel_core::{NoMemory, Sig};
 use mips_code::decode;
 
 /// What came of a step.
@@ -30,10 +30,6 @@ pub enum Stepped {
     /// and SIGILL, and what a trap's number means are this project's own.
     Fault { sig: Sig, code: u32, addr: u32 },
 }
-
-/// There was not enough memory for the page of a store.
-#[derive(Clone, Copy)]
-pub struct NoMemory;
 
 /// Carries out the instruction at the program counter (MIPS32 Architecture for Programmers, Volume
 /// II). One call is one instruction: a branch and the instruction in its slot are two.

@@ -14,7 +14,8 @@ mod transfers;
 mod traps;
 
 pub use cpu::{Cpu, Slot};
-pub use execution::{NoMemory, Stepped, step};
+pub use execution::{Stepped, step};
+pub use kernel_core::NoMemory;
 
 #[cfg(test)]
 mod tests;

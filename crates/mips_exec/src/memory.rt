@@ -8,9 +8,9 @@ use crate::arithmetic::{extend_byte, extend_half};
 use crate::control::{fault, go_on};
 use crate::cpu::Cpu;
 use crate::effect::{Effect, Span};
-use crate::execution::{NoMemory, Stepped};
+use crate::execution::Stepped;
 use guest_space::{Access, Denied, Space, StoreError, Why};
-use kernel_core::Sig;
+use kernel_core::{NoMemory, Sig};
 
 /// The signal for a byte that may not be used.
 #[inline]
