@@ -6,10 +6,12 @@ use Rattle.std.specs.List.{AllByRecursion}
 use Rattle.std.specs.List.Sorted.{IsStrictlySortedBy}
 use Rattle.std.specs.Ordering.{nat_cmp, eq_by_cmp, is_eq}
 use Rattle.std.specs.Cmp.{nat_cmp_total}
-use Rattle.std.specs.FinMap.{FinMap, get, len, from_entries, get-from_entries, len-empty}
+use Rattle.std.specs.FinMap.{FinMap, put, entries, get, len, from_entries, get-from_entries, entries-insert, len-empty, len-entries}
+use Rattle.std.specs.FinMap.Entries.{by_order}
 use Rattle.std.specs.FinMap as maps
 use Rattle.std.proofs.lemmas.Bool.{cases_lt, eq-eqb, eqb-true, lt-ltb, le-ltb}
 use Rattle.std.proofs.lemmas.Bool.Decides.{nat_tests}
+use Rattle.std.proofs.lemmas.List.{nil_from_length}
 use Rattle.std.proofs.lemmas.List.Sums.{sum_by-cons, get_or-le-sum_by}
 use Rattle.std.proofs.lemmas.List.Elements.{recursion_from_All}
 use Rattle.kernel_core.specs.Nodes.{Inode}
@@ -126,6 +128,23 @@ module _ {X V : Type 0} (key : X → ℕ) (value : X → V) where
   element-here (y ∷ ys) x rising (suc k, short, same) =
       let c : Contains ys x = (k, omega (arith, short), same) in
       ap (λ b. cond b (Some y) (element ys (key x))) (above (key y) ys rising.0 x c) ∙ element-here ys x rising.1 c
+
+  -- an entry whose key is below all others is put first
+  put_first : (n : ℕ) (v : V) (xs : List X) → AllByRecursion (λ y. nat_cmp n y ≡ Less) (map key xs)
+      → put nat_cmp n v (map (λ x. (key x, value x)) xs) ≡ (n, v) ∷ map (λ x. (key x, value x)) xs
+  put_first n v [] h = refl
+  put_first n v (y ∷ ys) h =
+      let es = map (λ x. (key x, value x)) ys in
+      ap (λ o. by_order o ((n, v) ∷ (key y, value y) ∷ es) ((key y, v) ∷ es) ((key y, value y) ∷ put nat_cmp n v es)) h.0
+
+  -- the map has the list's elements, in their order
+  pub entries-keyed : (xs : List X) → IsStrictlySortedBy nat_cmp (map key xs) → entries (keyed xs) ≡ map (λ x. (key x, value x)) xs
+  unfolding IsStrictlySortedBy
+  entries-keyed [] rising = nil_from_length (entries (keyed [])) (sym (len-entries (keyed [])) ∙ len-empty nat_cmp V)
+  entries-keyed (x ∷ xs) rising =
+      entries-insert nat_cmp_total (keyed xs) (key x) (value x)
+      ∙ ap (put nat_cmp (key x) (value x)) (entries-keyed xs rising.1)
+      ∙ put_first (key x) (value x) xs rising.0
 
   pub len-keyed : (xs : List X) → IsStrictlySortedBy nat_cmp (map key xs) → len (keyed xs) ≡ length xs
   unfolding IsStrictlySortedBy

@@ -13,6 +13,7 @@ pub mod Places
 pub mod Reach
 pub mod Removing
 pub mod Renaming
+pub mod RoundTrip
 pub mod Saving
 pub mod Tallies
 pub mod Totals

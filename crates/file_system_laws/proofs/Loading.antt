@@ -282,7 +282,8 @@ module _ (tree : Tree) (valid : IsValid tree) where
     }
     live_content (kinds.Link target) same is = (is, sym (names n.number))
 
-    linked : (kind : Kind) → n.kind ≡ kind → 1 ≤ links_of tree.nodes n.number kind
+    -- a node of the tree has a link
+    pub linked : (kind : Kind) → n.kind ≡ kind → 1 ≤ links_of tree.nodes n.number kind
     linked (kinds.File size blocks) same = (right n cn).2 (ap is_dir same)
     linked (kinds.Dir entries) same = omega arith
     linked (kinds.Link target) same = (right n cn).2 (ap is_dir same)

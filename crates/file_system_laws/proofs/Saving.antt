@@ -165,10 +165,10 @@ module _ {X : Type 0} where
 
 -- What is saved
 
-abbrev is_linked : ℕ × Inode → Bool
+abbrev pub is_linked : ℕ × Inode → Bool
 is_linked e = nat_lt 0 e.1.links
 
-abbrev node_of : ℕ × Inode → Node
+abbrev pub node_of : ℕ × Inode → Node
 node_of e = saved_node e.0 e.1
 
 module _ (nodes : Nodes) where
@@ -279,7 +279,7 @@ entries-kind_of (File content) = refl
 entries-kind_of (Directory l) = refl
 entries-kind_of (Link target) = refl
 
-abbrev block_of : ℕ × List ℕ → Block
+abbrev pub block_of : ℕ × List ℕ → Block
 block_of b = record { index = b.0; bytes = b.1 }
 
 blocks-kind_of : (c : NodeContent) → length (blocks_of (kind_of c)) ≡ content_blocks c

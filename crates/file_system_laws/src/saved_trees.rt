@@ -3,9 +3,10 @@
 ghost use Rattle.std.specs.Prelude.{◌≡◌, ◌<◌, ◌↔◌, ℕ, Some, Contains};
 ghost use Rattle.std.specs.FinMap.{get};
 ghost use Rattle.kernel_core.specs.FileSystem.{IsFileSystem};
-ghost use Rattle.kernel_core.specs.LoadedTree.{saved};
+ghost use Rattle.kernel_core.specs.LoadedTree.{loaded, saved};
 ghost use Rattle.kernel_core.specs.Nodes.{Nodes, Inode};
 ghost use Rattle.kernel_core.specs.ValidTree.{IsValid, IsReached, numbers};
+ghost use Rattle.kernel_core.specs.declared.tree.Tree.{Tree};
 
 /// A file system is saved as a valid file tree.
 pub fn a_file_system_is_saved_as_a_valid_tree()
@@ -22,4 +23,11 @@ pub fn a_node_with_a_link_is_reached_by_names()
 pub fn the_nodes_that_are_reached_are_saved()
     ensures { (nodes : Nodes) → IsFileSystem nodes → (number : ℕ)
         → Contains (numbers (saved nodes).nodes) number ↔ IsReached (saved nodes).nodes number }
+{}
+
+/// A valid file tree that is loaded and saved at once is the same tree, with the numbers, cookies,
+/// times and blocks that it had, so that a run that changes no file gives back the image that it
+/// was given.
+pub fn a_loaded_tree_is_saved_as_it_was()
+    ensures { (tree : Tree) → IsValid tree → saved (loaded tree) ≡ tree }
 {}
