@@ -13,6 +13,7 @@ mod refusals;
 mod removing;
 mod renaming;
 mod saving;
+mod seconds;
 mod settle;
 mod steps;
 mod stored;

@@ -16,9 +16,9 @@ ghost use Rattle.native_vfs.specs.Steps.{IsAddition};
 ghost use Rattle.native_vfs.specs.Stored.{Table, nodes_of, inode_of, content_of, listing_of, HasDistinctNumbers, ContentLeads, DirectoryLeads, AgreesPool, Leads};
 
 use crate::refusals::is_directory;
-use crate::saving::copied;
+use crate::seconds::nanoseconds;
 use crate::steps::insert;
-use crate::stored::{Stored, StoredContent, StoredDirectory};
+use crate::stored::{ROOT, Stored, StoredContent, StoredDirectory, copied};
 use crate::vfs::Vfs;
 use directory_names::{Directory, NodeRef};
 use file_blocks::Content;
@@ -28,13 +28,8 @@ use slab::Slab;
 use std::alloc::{AllocError, Global};
 use std::collections::BTreeMap;
 
-/// The number of the root.
-const ROOT: u64 = 1;
-
 /// The least number that the pool gives out.
 const FIRST_NUMBER: u64 = 2;
-
-const NANOSECONDS: i128 = 1_000_000_000;
 
 /// How often a number is named, and the number of the node that names it first.
 #[derive(Clone, Copy)]
@@ -251,12 +246,6 @@ fn bare_node(alloc: Global, node: &Node, times: u32) -> Result<Stored, NoMemory>
         holds: 0,
         content,
     })
-}
-
-fn nanoseconds(seconds: i64) -> i128
-    ensures { result ≡ nanoseconds seconds }
-{
-    i128::from(seconds) * NANOSECONDS
 }
 
 fn bare_links(kind: &Kind, times: u32) -> u32

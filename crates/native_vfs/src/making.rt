@@ -15,7 +15,7 @@ ghost use Rattle.native_vfs.specs.Stored.{AgreesPool, ContentLeads, HasDistinctN
 use crate::place::Place;
 use crate::refusals::{link_refusal, make_refusal, number, symlink_refusal};
 use crate::steps::{add_link, add_name, insert, link, reserve_name};
-use crate::stored::{Stored, StoredContent, StoredDirectory};
+use crate::stored::{Stored, StoredContent, StoredDirectory, copied};
 use crate::vfs::Vfs;
 use directory_names::{Directory, NodeRef};
 use file_blocks::Content;
@@ -187,7 +187,7 @@ fn make(
 {
     let place = free_place(numbers);
     let number = u64::from(place) + 2;
-    let name = copied(at.name.as_slice(), alloc)?;
+    let name = copied(alloc, at.name.as_slice())?;
     reserve_name(table, at.dir)?;
     let stored = Stored {
         number,
@@ -222,7 +222,7 @@ fn make_link(
     ensures same { OnErr result (IsSame table.old table.new) }
     ensures numbers { OnErr result (numbers.new ≡ numbers.old) }
 {
-    let target = copied(target, alloc)?;
+    let target = copied(alloc, target)?;
     let link = NewNode {
         mode: 0o777,
         links: 1,
@@ -247,7 +247,7 @@ fn name_again(
     ensures named { OnOk result (IsNamedAgain table.old table.new (names.after_link (nodes_of table.old) (number_of_key table.old node) (place_at (keyed_of table.old) at.now) now)) }
     ensures same { OnErr result (IsSame table.old table.new) }
 {
-    let name = copied(at.name.as_slice(), alloc)?;
+    let name = copied(alloc, at.name.as_slice())?;
     reserve_name(table, at.dir)?;
     let number = number(table, node);
     link(table, node, now);
@@ -265,12 +265,4 @@ fn free_place(numbers: &NumberPool) -> u32
         Some(place) => place,
         None => unreachable!(),
     }
-}
-
-/// The bytes, in memory of their own.
-pub(crate) fn copied(bytes: &[u8], alloc: Global) -> Result<Bytes, NoMemory>
-    ensures { IfOk result (λ copy. copy ≡ bytes.now) }
-{
-    let copy = bytes.to_vec(alloc)?;
-    Ok(Bytes::from(copy))
 }

@@ -11,13 +11,10 @@ ghost use Rattle.native_vfs.specs.Stored.{keyed_of, nodes_of, number_of_key, lis
 
 use crate::place::Place;
 use crate::steps::node;
-use crate::stored::{Stored, StoredContent, StoredDirectory};
+use crate::stored::{ROOT, Stored, StoredContent, StoredDirectory};
 use kernel_core::Errno;
 use kernel_core::limits::{ENTRY_LIMIT, GREATEST_COOKIE, NODE_LIMIT};
 use slab::Slab;
-
-/// The number of the root.
-const ROOT: u64 = 1;
 
 /// The directory at a key, where it is one.
 pub(crate) fn directory(table: &Slab<Stored>, key: usize) -> Option<&StoredDirectory>

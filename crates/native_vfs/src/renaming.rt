@@ -13,14 +13,13 @@ ghost use Rattle.native_vfs.specs.Renames.{entry_moved, MayGive, IsCleared, Beco
 ghost use Rattle.native_vfs.specs.Steps.{IsSame, links_at};
 ghost use Rattle.native_vfs.specs.Stored.{nodes_of, keyed_of, number_of_key, HasDistinctNumbers, HasRoom, CanAdd};
 
-use crate::making::copied;
 use crate::place::Place;
 use crate::refusals::{is_directory, number, rename_refusal, stands_for};
 use crate::removing::{rmdir_at, unlink_at};
 use crate::steps::{
     add_link, add_name, drop_link, mark_changed, reparent, reserve_name, take_name,
 };
-use crate::stored::Stored;
+use crate::stored::{Stored, copied};
 use crate::vfs::Vfs;
 use directory_names::NodeRef;
 use kernel_core::{Bytes, CoreError, NoMemory};
@@ -102,7 +101,7 @@ fn new_name(table: &mut Slab<Stored>, at: &Place, alloc: Global) -> Result<Bytes
     ensures name { IfOk result (λ name. name ≡ at.now.name) }
     ensures room { OnOk result (HasRoom table.new at.now.dir) }
 {
-    let name = copied(at.name.as_slice(), alloc)?;
+    let name = copied(alloc, at.name.as_slice())?;
     reserve_name(table, at.dir)?;
     Ok(name)
 }

@@ -8,7 +8,8 @@ ghost use Rattle.directory_names.specs.Names.{plain};
 ghost use Rattle.native_vfs.specs.Saving.{block_of, linked_in, numbered, saved_of, HasTime};
 ghost use Rattle.native_vfs.specs.Stored.{nodes_of, inode_of, content_of, HasDistinctNumbers};
 
-use crate::stored::{Stored, StoredContent};
+use crate::seconds::whole_seconds;
+use crate::stored::{Stored, StoredContent, copied};
 use crate::vfs::Vfs;
 use directory_names::Directory;
 use file_blocks::Content;
@@ -16,8 +17,6 @@ use kernel_core::{Block, Bytes, DirEntry, Items, Kind, NoMemory, Node, Tree};
 use slab::Slab;
 use std::alloc::{AllocError, Global};
 use std::collections::BTreeMap;
-
-const NANOSECONDS: i128 = 1_000_000_000;
 
 impl Vfs {
     /// The nodes as a file tree: those that names lead to from the root, by rising number, each with the
@@ -74,14 +73,6 @@ fn saved_node(alloc: Global, number: u64, node: &Stored) -> Result<Node, AllocEr
     })
 }
 
-/// The time in seconds, rounded down.
-fn whole_seconds(time: i128) -> i64
-    requires { IsTime time }
-    ensures { result ≡ tree.whole_seconds time }
-{
-    time.div_euclid(NANOSECONDS) as i64
-}
-
 fn saved_kind(alloc: Global, content: &StoredContent) -> Result<Kind, AllocError>
     ensures { IfOk result (λ k. k ≡ tree.kind_of (content_of content.now)) }
 {
@@ -136,10 +127,4 @@ fn saved_entries(alloc: Global, names: &Directory) -> Result<Vec<DirEntry>, Allo
         cookie = entry.cookie;
     }
     Ok(entries)
-}
-
-pub(crate) fn copied(alloc: Global, bytes: &[u8]) -> Result<Bytes, AllocError>
-    ensures { IfOk result (λ b. b ≡ bytes.now) }
-{
-    Ok(Bytes::from(bytes.to_vec(alloc)?))
 }

@@ -1,8 +1,13 @@
 //! How a node is kept.
+ghost use Rattle.std.specs.Prelude.{◌≡◌, IfOk};
 
 use directory_names::{Directory, NodeRef};
 use file_blocks::Content;
 use kernel_core::Bytes;
+use std::alloc::{AllocError, Global};
+
+/// The number of the root.
+pub(crate) const ROOT: u64 = 1;
 
 /// A node (inode(7)): times are in nanoseconds since the Epoch.
 #[derive(Drop)]
@@ -31,4 +36,11 @@ pub(crate) enum StoredContent {
 pub(crate) struct StoredDirectory {
     pub(crate) parent: Option<NodeRef>,
     pub(crate) names: Directory,
+}
+
+/// The bytes, in memory of their own.
+pub(crate) fn copied(alloc: Global, bytes: &[u8]) -> Result<Bytes, AllocError>
+    ensures { IfOk result (λ copy. copy ≡ bytes.now) }
+{
+    Ok(Bytes::from(bytes.to_vec(alloc)?))
 }
