@@ -11,6 +11,7 @@ pub mod LoadedLists
 pub mod LoadedNodes
 pub mod LoadedNumbers
 pub mod LoadedSystem
+pub mod Looked
 pub mod Lookups
 pub mod Losses
 pub mod LostNames
@@ -32,6 +33,7 @@ pub mod Room
 pub mod SavedLists
 pub mod SavedNodes
 pub mod Settling
+pub mod SmallTrees
 pub mod Stages
 pub mod StepLemmas
 pub mod Swaps

@@ -23,3 +23,6 @@ mod walk;
 pub use kernel_core::NoMemory;
 pub use place::{Place, Status};
 pub use vfs::Vfs;
+
+#[cfg(test)]
+mod tests;

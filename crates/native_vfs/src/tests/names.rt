@@ -1,0 +1,216 @@
+//! The calls that make a name and that take one away: what each leaves, and each of its errors.
+
+use super::files::Call::{
+    self, Create, Hold, Link, Mkdir, Release, Rename, Rmdir, Symlink, Unlink,
+};
+use super::files::Files;
+use super::files::Which::{At, Named};
+use super::steps::Look::{Facts, Next, Parent, Read, Target, Times, Tree};
+use super::steps::Step::{Clock, Do, Name, Refuse, See, Start, Write};
+use super::steps::first_wrong;
+use std::test::Fail;
+
+#[test]
+fn makes_nodes(rt: HostRuntime) -> Result<(), Fail> {
+    let mut files = Files::new(rt.alloc())?;
+    let steps = [
+        Clock(5),
+        Do(Mkdir("/d", 0o700)),
+        See(Facts(At("/d"), 2, 0o040_700, 2, 4096, 8)),
+        See(Times(At("/d"), 5, 5, 5)),
+        See(Facts(At("/"), 1, 0o040_755, 3, 4096, 8)),
+        See(Times(At("/"), 0, 5, 5)),
+        See(Parent(At("/d"), Ok(1))),
+        See(Parent(At("/"), Ok(1))),
+        Clock(6),
+        Do(Create("/d/f", 0o4644)),
+        See(Facts(At("/d/f"), 3, 0o104_644, 1, 0, 0)),
+        See(Times(At("/d/f"), 6, 6, 6)),
+        See(Facts(At("/d"), 2, 0o040_700, 2, 4096, 8)),
+        See(Times(At("/d"), 5, 6, 6)),
+        Clock(7),
+        Do(Symlink("d/f", "/s")),
+        See(Facts(At("/s"), 4, 0o120_777, 1, 3, 0)),
+        See(Times(At("/s"), 7, 7, 7)),
+        See(Target(At("/s"), "d/f")),
+        Clock(8),
+        Do(Link("/d/f", "/g")),
+        See(Facts(At("/g"), 3, 0o104_644, 2, 0, 0)),
+        See(Times(At("/d/f"), 6, 6, 8)),
+        See(Times(At("/"), 0, 8, 8)),
+        See(Next(At("/"), 0, Some((3, "d", 2)))),
+        See(Next(At("/"), 3, Some((4, "s", 4)))),
+        See(Next(At("/"), 4, Some((5, "g", 3)))),
+        See(Next(At("/"), 5, None)),
+    ];
+    assert_eq!(rt; first_wrong(&mut files, &steps), None);
+    Ok(())
+}
+
+#[test]
+fn takes_names_away(rt: HostRuntime) -> Result<(), Fail> {
+    let mut files = Files::new(rt.alloc())?;
+    let steps = [
+        Do(Mkdir("/d", 0o755)),
+        Do(Create("/d/f", 0o644)),
+        Do(Link("/d/f", "/g")),
+        Do(Create("/h", 0o644)),
+        Clock(5),
+        Do(Unlink("/d/f")),
+        See(Facts(At("/g"), 3, 0o100_644, 1, 0, 0)),
+        See(Times(At("/g"), 1, 1, 5)),
+        See(Times(At("/d"), 1, 5, 5)),
+        See(Next(At("/d"), 0, None)),
+        See(Times(At("/"), 0, 1, 1)),
+        Clock(6),
+        Do(Rmdir("/d")),
+        See(Facts(At("/"), 1, 0o040_755, 2, 4096, 8)),
+        See(Times(At("/"), 0, 6, 6)),
+        See(Next(At("/"), 0, Some((4, "g", 3)))),
+        Clock(7),
+        Do(Unlink("/h")),
+        See(Next(At("/"), 4, None)),
+        See(Next(At("/"), 4, None)),
+    ];
+    assert_eq!(rt; first_wrong(&mut files, &steps), None);
+    Ok(())
+}
+
+#[test]
+fn numbers_come_again_and_cookies_do_not(rt: HostRuntime) -> Result<(), Fail> {
+    let mut files = Files::new(rt.alloc())?;
+    let steps = [
+        Do(Create("/a", 0o644)),
+        Do(Create("/b", 0o644)),
+        Do(Create("/c", 0o644)),
+        Do(Create("/d", 0o644)),
+        Do(Unlink("/d")),
+        Do(Unlink("/b")),
+        Do(Create("/e", 0o644)),
+        Do(Create("/f", 0o644)),
+        Do(Create("/g", 0o644)),
+        See(Next(At("/"), 5, Some((7, "e", 3)))),
+        See(Next(At("/"), 7, Some((8, "f", 5)))),
+        See(Next(At("/"), 8, Some((9, "g", 6)))),
+    ];
+    assert_eq!(rt; first_wrong(&mut files, &steps), None);
+    Ok(())
+}
+
+/// Files, directories and a link, among which every call of two of the tests is refused.
+const PLANTED: [Call; 5] = [
+    Create("/f", 0o644),
+    Create("/g", 0o644),
+    Mkdir("/d", 0o755),
+    Mkdir("/d/e", 0o755),
+    Symlink("d", "/s"),
+];
+
+/// What they are as text.
+const PLANTED_TREE: &str = "1 755 0 dir: 3=f=2 4=g=3 5=d=4 6=s=6\n2 644 0 0:\n3 644 0 0:\n\
+4 755 0 dir: 3=e=5\n5 755 0 dir:\n6 777 0 to d\n";
+
+#[test]
+fn refuses_to_make_names(rt: HostRuntime) -> Result<(), Fail> {
+    let mut files = Files::with(rt.alloc(), &PLANTED)?;
+    let steps = [
+        Refuse(Create("/f", 0o644), "EEXIST"),
+        Refuse(Create("/d", 0o644), "EEXIST"),
+        Refuse(Create("/s", 0o644), "EEXIST"),
+        Refuse(Create("/", 0o644), "EEXIST"),
+        Refuse(Create("/d/..", 0o644), "EEXIST"),
+        Refuse(Create("/f/x", 0o644), "ENOTDIR"),
+        Refuse(Mkdir("/f", 0o755), "EEXIST"),
+        Refuse(Mkdir("/d/.", 0o755), "EEXIST"),
+        Refuse(Mkdir("/none/x", 0o755), "ENOENT"),
+        Refuse(Symlink("f", "/g"), "EEXIST"),
+        Refuse(Symlink("", "/x"), "ENOENT"),
+        Refuse(Symlink("", "/g"), "ENOENT"),
+        Refuse(Link("/f", "/g"), "EEXIST"),
+        Refuse(Link("/f", "/f"), "EEXIST"),
+        Refuse(Link("/d", "/x"), "EPERM"),
+        Refuse(Link("/d", "/f"), "EPERM"),
+        See(Tree(PLANTED_TREE)),
+    ];
+    assert_eq!(rt; first_wrong(&mut files, &steps), None);
+    Ok(())
+}
+
+#[test]
+fn refuses_to_take_names_away(rt: HostRuntime) -> Result<(), Fail> {
+    let mut files = Files::with(rt.alloc(), &PLANTED)?;
+    let steps = [
+        Refuse(Unlink("/none"), "ENOENT"),
+        Refuse(Unlink("/d"), "EISDIR"),
+        Refuse(Unlink("/d/e/."), "EISDIR"),
+        Refuse(Unlink("/"), "EISDIR"),
+        Refuse(Rmdir("/none"), "ENOENT"),
+        Refuse(Rmdir("/d/e/."), "EINVAL"),
+        Refuse(Rmdir("/d/e/.."), "ENOTEMPTY"),
+        Refuse(Rmdir("/"), "EBUSY"),
+        Refuse(Rmdir("/f"), "ENOTDIR"),
+        Refuse(Rmdir("/s"), "ENOTDIR"),
+        Refuse(Rmdir("/d"), "ENOTEMPTY"),
+        See(Tree(PLANTED_TREE)),
+    ];
+    assert_eq!(rt; first_wrong(&mut files, &steps), None);
+    Ok(())
+}
+
+#[test]
+fn makes_nothing_in_a_removed_directory(rt: HostRuntime) -> Result<(), Fail> {
+    let mut files = Files::new(rt.alloc())?;
+    let steps = [
+        Do(Mkdir("/d", 0o755)),
+        Do(Mkdir("/d/e", 0o755)),
+        Do(Create("/f", 0o644)),
+        Name("/d/e"),
+        Do(Hold(Named)),
+        Clock(2),
+        Do(Rmdir("/d/e")),
+        See(Facts(Named, 3, 0o040_755, 0, 4096, 8)),
+        See(Times(Named, 1, 1, 1)),
+        Start(Named),
+        Refuse(Create("x", 0o644), "ENOENT"),
+        Refuse(Mkdir("x", 0o755), "ENOENT"),
+        Refuse(Symlink("f", "x"), "ENOENT"),
+        Refuse(Link("/f", "x"), "ENOENT"),
+        Refuse(Rename("/f", "x"), "ENOENT"),
+        Refuse(Rename("/d", "x"), "ENOENT"),
+        Refuse(Unlink("x"), "ENOENT"),
+        Refuse(Rmdir(".."), "ENOENT"),
+        Refuse(Rmdir("."), "EINVAL"),
+        Refuse(Create(".", 0o644), "EEXIST"),
+        Do(Create("/x", 0o644)),
+        See(Facts(At("/x"), 5, 0o100_644, 1, 0, 0)),
+        Do(Release(Named)),
+        Do(Create("/y", 0o644)),
+        See(Facts(At("/y"), 3, 0o100_644, 1, 0, 0)),
+    ];
+    assert_eq!(rt; first_wrong(&mut files, &steps), None);
+    Ok(())
+}
+
+#[test]
+fn an_unlinked_file_stays_as_long_as_it_is_held(rt: HostRuntime) -> Result<(), Fail> {
+    let mut files = Files::new(rt.alloc())?;
+    let steps = [
+        Do(Create("/f", 0o644)),
+        Name("/f"),
+        Do(Hold(Named)),
+        Do(Hold(Named)),
+        Do(Unlink("/f")),
+        Do(Release(Named)),
+        See(Facts(Named, 2, 0o100_644, 0, 0, 0)),
+        Write(Named, 0, "text", Ok(4)),
+        See(Read(Named, 0, 4, *b"text")),
+        Do(Create("/f", 0o600)),
+        See(Facts(At("/f"), 3, 0o100_600, 1, 0, 0)),
+        Do(Release(Named)),
+        Do(Create("/g", 0o600)),
+        See(Facts(At("/g"), 2, 0o100_600, 1, 0, 0)),
+        See(Read(At("/g"), 0, 0, [1; 4])),
+    ];
+    assert_eq!(rt; first_wrong(&mut files, &steps), None);
+    Ok(())
+}
