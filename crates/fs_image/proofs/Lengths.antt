@@ -1,11 +1,13 @@
 -- How long texts are.
 use Rattle.std.proofs.Common.{◌≡◌, ℕ, ◌+◌, ◌*◌, ◌<◌, ◌≤◌, List, [], ◌∷◌, ◌++◌, length, get_or, take, drop, All, ap, ◌∙◌, arith, sym}
-use Rattle.std.specs.List.{flat_map}
+use Rattle.std.specs.List.{flat_map, sum_by}
 use Rattle.std.proofs.lemmas.List.{length-append, drop_more}
 use Rattle.std.proofs.lemmas.List.Concat.{flat_map-cons}
 use Rattle.std.proofs.lemmas.List.Elements.{All-head, All-tail}
+use Rattle.std.proofs.lemmas.List.Sums.{sum_by-cons}
 use Rattle.byteorder.specs.Endian.{big_bytes}
 use Rattle.kernel_core.specs.declared.tree.Block.{Block}
+use Rattle.kernel_core.specs.declared.tree.DirEntry.{DirEntry}
 use Rattle.kernel_core.specs.declared.tree.Node.{Node}
 use Rattle.kernel_core.specs.declared.tree.Kind.{Kind}
 use Rattle.kernel_core.specs.declared.tree.Kind.TheVariants.{File, Dir, Link}
@@ -21,6 +23,16 @@ blocks_length (b ∷ blocks) whole =
     let both : length (flat_map block_text (b ∷ blocks)) ≡ length (block_text b) + length (flat_map block_text blocks) = ap length (flat_map-cons block_text b blocks) ∙ length-append (block_text b) (flat_map block_text blocks) in
     let one : length (block_text b) ≡ 4 + length b.bytes = length-append (big_bytes 4 b.index) b.bytes in
     omega (arith, here, more, both, one)
+
+-- the fixed parts of the texts, and the names
+pub entries_length : (entries : List DirEntry) → length (flat_map entry_text entries) ≡ 13 * length entries + sum_by (λ (e : DirEntry). length e.name) entries
+entries_length [] = omega arith
+entries_length (e ∷ entries) =
+    let more = entries_length entries in
+    let both : length (flat_map entry_text (e ∷ entries)) ≡ length (entry_text e) + length (flat_map entry_text entries) = ap length (flat_map-cons entry_text e entries) ∙ length-append (entry_text e) (flat_map entry_text entries) in
+    let one : length (entry_text e) ≡ 13 + length e.name = omega (arith, length-append e.name (big_bytes 8 e.node)) in
+    let sum = sum_by-cons (λ (o : DirEntry). length o.name) e entries in
+    omega (arith, more, both, one, sum)
 
 -- the texts so far and the next one are within all of them
 pub within : {A : Type 0} (text : A → List ℕ) (xs : List A) (i : ℕ) (x : A) → i < length xs → x ≡ get_or xs i x → length (flat_map text (take i xs)) + length (text x) ≤ length (flat_map text xs)

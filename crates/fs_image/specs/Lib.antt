@@ -1,5 +1,6 @@
 pub mod Refusal
 pub mod Text
+pub mod Kinds
 pub mod Reading
 pub mod Naming
 pub mod Names

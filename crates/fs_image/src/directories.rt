@@ -6,8 +6,7 @@ ghost use Rattle.fs_image.specs.Reading.{last_cookie, breaks_cookie, breaks_name
 ghost use Rattle.fs_image.specs.Names.{AreNames};
 ghost use Rattle.fs_image.specs.Meaning.{GivesBy};
 
-use crate::fields::{bytes_at, place, refused, u8_at, u16_at, u32_at, u64_at};
-use crate::files::rises;
+use crate::fields::{bytes_at, place, refused, rises, u8_at, u16_at, u32_at, u64_at};
 use crate::names::take_name;
 use crate::refusal::{ImageError, Rule};
 use kernel_core::limits::{ENTRY_LIMIT, GREATEST_COOKIE, LONGEST_TARGET};
@@ -122,7 +121,7 @@ fn entries_at<'a>(
 /// What stands behind the front of a directory. `entries` is the number of entries of the
 /// directories before.
 #[tactic(auto, unfolding(crate::specs::Reading::dir_at))]
-pub fn dir_at<'a>(
+pub(crate) fn dir_at<'a>(
     alloc: Global,
     entries: u64,
     file: u64,
@@ -143,7 +142,7 @@ pub fn dir_at<'a>(
 
 /// What stands behind the front of a link.
 #[tactic(auto, unfolding(crate::specs::Reading::link_at))]
-pub fn link_at(alloc: Global, file: u64, rest: &[u8]) -> Result<(Kind, &[u8]), ImageError>
+pub(crate) fn link_at(alloc: Global, file: u64, rest: &[u8]) -> Result<(Kind, &[u8]), ImageError>
     ensures { GivesBy (λ x. (x.0, x.1.now)) result (link_at file rest.now) }
 {
     let at = place(file, rest);

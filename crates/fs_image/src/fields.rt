@@ -4,31 +4,38 @@
 //! the field and what stands behind it, and refuses where the file ends inside the field.
 ghost use Rattle.std.specs.Prelude.{◌≡◌};
 ghost use Rattle.fs_image.specs.Refusal.{refused};
-ghost use Rattle.fs_image.specs.Reading.{place, bytes_at, number_at};
+ghost use Rattle.fs_image.specs.Reading.{place, rises, bytes_at, number_at};
 ghost use Rattle.fs_image.specs.Meaning.{GivesBy};
 
 use crate::refusal::{ImageError, ImageRefusal, Rule};
 use byteorder::{BigEndian, ByteOrder};
 
 /// The offset of what is left.
-pub fn place(file: u64, rest: &[u8]) -> u64
+pub(crate) fn place(file: u64, rest: &[u8]) -> u64
     ensures { result ≡ place file rest.now }
 {
     file.saturating_sub(rest.len() as u64)
 }
 
-/// The refusal by a rule that fails at an offset.
-pub fn refused(rule: Rule, at: u64) -> ImageError
+/// The error for a rule that fails at an offset.
+pub(crate) fn refused(rule: Rule, at: u64) -> ImageError
     ensures { result ≡ ImageError.Refused (refused rule at) }
 {
-    ImageError::Refused(ImageRefusal {
-        rule: rule.number(),
-        at,
-    })
+    ImageError::Refused(ImageRefusal::new(rule, at))
+}
+
+/// Whether a number rises above the one before.
+pub(crate) fn rises(before: Option<u32>, number: u32) -> bool
+    ensures { result ≡ rises before number }
+{
+    match before {
+        Some(before) => before < number,
+        None => true,
+    }
 }
 
 /// So many bytes.
-pub fn bytes_at(file: u64, count: usize, rest: &[u8]) -> Result<(&[u8], &[u8]), ImageError>
+pub(crate) fn bytes_at(file: u64, count: usize, rest: &[u8]) -> Result<(&[u8], &[u8]), ImageError>
     ensures { GivesBy (λ x. (x.0.now, x.1.now)) result (bytes_at count file rest.now) }
 {
     if rest.len() < count {
@@ -39,41 +46,33 @@ pub fn bytes_at(file: u64, count: usize, rest: &[u8]) -> Result<(&[u8], &[u8]), 
 }
 
 /// A number of one byte.
-pub fn u8_at(file: u64, rest: &[u8]) -> Result<(u8, &[u8]), ImageError>
+pub(crate) fn u8_at(file: u64, rest: &[u8]) -> Result<(u8, &[u8]), ImageError>
     ensures { GivesBy (λ x. (x.0, x.1.now)) result (number_at 1 file rest.now) }
 {
-    if rest.is_empty() {
-        return Err(refused(Rule::Short, file));
-    }
-    Ok((rest[0], &rest[1..]))
+    let (bytes, rest) = bytes_at(file, 1, rest)?;
+    Ok((bytes[0], rest))
 }
 
 /// A number of two bytes.
-pub fn u16_at(file: u64, rest: &[u8]) -> Result<(u16, &[u8]), ImageError>
+pub(crate) fn u16_at(file: u64, rest: &[u8]) -> Result<(u16, &[u8]), ImageError>
     ensures { GivesBy (λ x. (x.0, x.1.now)) result (number_at 2 file rest.now) }
 {
-    if rest.len() < 2 {
-        return Err(refused(Rule::Short, file));
-    }
-    Ok((BigEndian::read_u16(rest), &rest[2..]))
+    let (bytes, rest) = bytes_at(file, 2, rest)?;
+    Ok((BigEndian::read_u16(bytes), rest))
 }
 
 /// A number of four bytes.
-pub fn u32_at(file: u64, rest: &[u8]) -> Result<(u32, &[u8]), ImageError>
+pub(crate) fn u32_at(file: u64, rest: &[u8]) -> Result<(u32, &[u8]), ImageError>
     ensures { GivesBy (λ x. (x.0, x.1.now)) result (number_at 4 file rest.now) }
 {
-    if rest.len() < 4 {
-        return Err(refused(Rule::Short, file));
-    }
-    Ok((BigEndian::read_u32(rest), &rest[4..]))
+    let (bytes, rest) = bytes_at(file, 4, rest)?;
+    Ok((BigEndian::read_u32(bytes), rest))
 }
 
 /// A number of eight bytes.
-pub fn u64_at(file: u64, rest: &[u8]) -> Result<(u64, &[u8]), ImageError>
+pub(crate) fn u64_at(file: u64, rest: &[u8]) -> Result<(u64, &[u8]), ImageError>
     ensures { GivesBy (λ x. (x.0, x.1.now)) result (number_at 8 file rest.now) }
 {
-    if rest.len() < 8 {
-        return Err(refused(Rule::Short, file));
-    }
-    Ok((BigEndian::read_u64(rest), &rest[8..]))
+    let (bytes, rest) = bytes_at(file, 8, rest)?;
+    Ok((BigEndian::read_u64(bytes), rest))
 }

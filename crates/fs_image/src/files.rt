@@ -1,24 +1,14 @@
 //! Reading a file: its size, and the blocks that it keeps.
 ghost use Rattle.std.specs.Prelude.{◌≡◌, ◌≤◌, ◌+◌, ◌^◌, ◌<◌, ◌==◌, not, []};
 ghost use Rattle.std.specs.List.{list_any};
-ghost use Rattle.fs_image.specs.Reading.{rises, last_index, breaks_index, breaks_tail, block_at, many, file_at};
+ghost use Rattle.fs_image.specs.Reading.{last_index, breaks_index, breaks_tail, block_at, many, file_at};
 ghost use Rattle.fs_image.specs.Meaning.{GivesBy};
 
-use crate::fields::{bytes_at, place, refused, u32_at, u64_at};
+use crate::fields::{bytes_at, place, refused, rises, u32_at, u64_at};
 use crate::refusal::{ImageError, Rule};
 use kernel_core::limits::{BLOCK_LIMIT, BLOCK_SIZE, GREATEST_SIZE};
 use kernel_core::{Block, Bytes, Items, Kind};
 use std::alloc::Global;
-
-/// Whether a number rises above the one before.
-pub fn rises(before: Option<u32>, number: u32) -> bool
-    ensures { result ≡ rises before number }
-{
-    match before {
-        Some(before) => before < number,
-        None => true,
-    }
-}
 
 fn last_index(blocks: &[Block]) -> Option<u32>
     ensures { result ≡ last_index blocks.now }
@@ -34,7 +24,7 @@ fn breaks_index(size: u64, before: Option<u32>, index: u32) -> bool
 }
 
 /// Whether a byte is not 0.
-fn is_set(bytes: &[u8]) -> bool
+fn has_set_byte(bytes: &[u8]) -> bool
     ensures { result ≡ list_any (λ byte. not (byte == 0)) bytes.now }
 {
     bytes.iter().any(|byte| *byte != 0)
@@ -46,7 +36,7 @@ fn breaks_tail(size: u64, index: u32, bytes: &[u8]) -> bool
 {
     let kept = size.saturating_sub(u64::from(index) * (BLOCK_SIZE as u64));
     let kept = kept.min(bytes.len() as u64) as usize;
-    is_set(&bytes[kept..])
+    has_set_byte(&bytes[kept..])
 }
 
 /// A block behind those before.
@@ -95,7 +85,7 @@ fn blocks_at<'a>(
 
 /// What stands behind the front of a file. `blocks` is the number of blocks of the files before.
 #[tactic(auto, unfolding(crate::specs::Reading::file_at))]
-pub fn file_at<'a>(
+pub(crate) fn file_at<'a>(
     alloc: Global,
     blocks: u64,
     file: u64,

@@ -7,6 +7,7 @@ mod decoding;
 mod directories;
 mod fields;
 mod files;
+mod kinds;
 mod names;
 mod naming;
 mod nodes;

@@ -5,34 +5,21 @@ ghost use Rattle.std.specs.List.Sorted.{IsStrictlySortedBy};
 ghost use Rattle.std.specs.Ordering.{nat_cmp};
 ghost use Rattle.kernel_core.specs.declared.tree.Node.{Node};
 ghost use Rattle.kernel_core.specs.ValidTree.{numbers, IsKind, times_named, names_in, root};
-ghost use Rattle.fs_image.specs.Refusal.{refused};
 ghost use Rattle.fs_image.specs.Text.{entry_text, node_text};
 ghost use Rattle.fs_image.specs.Naming.{lost_entry, lost_target, is_named_rightly, stray_node, naming_failure};
 ghost use Rattle.fs_image.specs.Walk.{count_of, is_in, AreUnreached};
 ghost use Rattle.fs_image.specs.Valid.{IsRead};
 
-use crate::nodes::ROOT;
-use crate::numbers::{entries_of, entry_len, node_len, place_of};
+use crate::nodes::{MAGIC, ROOT};
+use crate::numbers::{COUNT_LEN, DIR_FRONT_LEN, entries_of, entry_len, node_len, place_of};
 use crate::refusal::{ImageRefusal, Rule};
 use crate::walk::{count_names, unreached};
 use kernel_core::{DirEntry, Kind, Node, Tree};
 use std::alloc::{AllocError, Global};
 use std::collections::{HashMap, HashSet};
 
-/// The offset of the first node.
-const FIRST_NODE: u64 = 12;
-
-/// The bytes of a directory's text before its entries.
-const FRONT_LEN: u64 = 23;
-
-fn refusal(rule: Rule, at: u64) -> ImageRefusal
-    ensures { result ≡ refused rule at }
-{
-    ImageRefusal {
-        rule: rule.number(),
-        at,
-    }
-}
+/// The offset of the first node, in bytes: behind the first bytes and the count of nodes.
+const FIRST_NODE: u64 = MAGIC.len() as u64 + COUNT_LEN;
 
 /// The first of some entries, which stand from a place on, whose node is not there.
 fn lost_entry(nodes: &[Node], start: u64, entries: &[DirEntry]) -> Option<ImageRefusal>
@@ -44,7 +31,7 @@ fn lost_entry(nodes: &[Node], start: u64, entries: &[DirEntry]) -> Option<ImageR
     let mut place = start;
     for entry in entries {
         if place_of(nodes, entry.node).is_none() {
-            return Some(refusal(Rule::Target, place));
+            return Some(ImageRefusal::new(Rule::Target, place));
         }
         place += entry_len(entry);
     }
@@ -52,7 +39,7 @@ fn lost_entry(nodes: &[Node], start: u64, entries: &[DirEntry]) -> Option<ImageR
 }
 
 /// The first entry of a tree whose node is not there.
-pub fn lost_target(nodes: &[Node]) -> Option<ImageRefusal>
+fn lost_target(nodes: &[Node]) -> Option<ImageRefusal>
     requires sorted { IsStrictlySortedBy nat_cmp (numbers nodes.now) }
     requires valid { All (λ n. IsKind n.kind) nodes.now }
     requires short { 12 + length (flat_map node_text nodes.now) < 2 ^ 63 }
@@ -61,7 +48,7 @@ pub fn lost_target(nodes: &[Node]) -> Option<ImageRefusal>
     let mut place = FIRST_NODE;
     for node in nodes {
         let entries = entries_of(&node.kind);
-        if let Some(refusal) = lost_entry(nodes, place + FRONT_LEN, entries) {
+        if let Some(refusal) = lost_entry(nodes, place + DIR_FRONT_LEN, entries) {
             return Some(refusal);
         }
         place += node_len(node);
@@ -92,8 +79,8 @@ fn is_in_tree(node: &Node, counts: &HashMap<u64, u64>, unreached: &HashSet<u64>)
     is_named_rightly(times, node) && !unreached.contains(&node.number)
 }
 
-/// The first node that breaks rule 12, by how often each number is named and which numbers are not
-/// reached.
+/// The first node that breaks [`Rule::Tree`], by how often each number is named and which numbers
+/// are not reached.
 fn stray_node(
     nodes: &[Node],
     counts: &HashMap<u64, u64>,
@@ -108,16 +95,16 @@ fn stray_node(
     let mut place = FIRST_NODE;
     for node in nodes {
         if !is_in_tree(node, counts, unreached) {
-            return Some(refusal(Rule::Tree, place));
+            return Some(ImageRefusal::new(Rule::Tree, place));
         }
         place += node_len(node);
     }
     None
 }
 
-/// The first failure of the rules 11 and 12 in a tree, with its offset in the tree's text. Costs by
-/// the nodes and entries, and takes memory by the nodes and gives it back.
-pub fn naming_failure(alloc: Global, tree: &Tree) -> Result<Option<ImageRefusal>, AllocError>
+/// The first failure of [`Rule::Target`] in a tree, and then of [`Rule::Tree`], with its offset in
+/// the tree's text. Costs by the nodes and entries, and takes memory by the nodes and gives it back.
+pub(crate) fn naming_failure(alloc: Global, tree: &Tree) -> Result<Option<ImageRefusal>, AllocError>
     requires read { IsRead tree.now }
     requires short { 12 + length (flat_map node_text tree.now.nodes) < 2 ^ 63 }
     ensures { IfOk result (λ failure. failure ≡ naming_failure tree.now) }

@@ -1,22 +1,24 @@
 //! Reading nodes, and the whole file.
-ghost use Rattle.std.specs.Prelude.{◌≡◌, ◌≤◌, ◌<◌, ◌+◌, ◌^◌, [], length};
+ghost use Rattle.std.specs.Prelude.{◌≡◌, ◌≤◌, ◌<◌, ◌+◌, ◌^◌, [], length, IfSome, is_none};
 ghost use Rattle.kernel_core.specs.ValidTree.{all_blocks, all_entries, blocks_of, entries_of};
 ghost use Rattle.fs_image.specs.Reading.{last_number, breaks_number, breaks_kind, kind_at, node_at, many, reading_of};
+ghost use Rattle.fs_image.specs.Kinds.{code_number};
 ghost use Rattle.fs_image.specs.Meaning.{GivesBy, Gives};
 
 use crate::directories::{dir_at, link_at};
 use crate::fields::{bytes_at, place, refused, u8_at, u16_at, u32_at, u64_at};
 use crate::files::file_at;
+use crate::kinds::KindCode;
 use crate::refusal::{ImageError, Rule};
 use kernel_core::limits::NODE_LIMIT;
 use kernel_core::{Items, Kind, Node, Tree};
 use std::alloc::Global;
 
 /// The first eight bytes of an image.
-pub const MAGIC: [u8; 8] = *b"O32IMG1\n";
+pub(crate) const MAGIC: [u8; 8] = *b"O32IMG1\n";
 
 /// The number of the root.
-pub const ROOT: u64 = 1;
+pub(crate) const ROOT: u64 = 1;
 
 /// The greatest number of a node, 2^63 - 1.
 const GREATEST_NUMBER: u64 = 0x7FFF_FFFF_FFFF_FFFF;
@@ -41,11 +43,15 @@ fn breaks_number(before: Option<u64>, number: u64) -> bool
     !follows || number > GREATEST_NUMBER
 }
 
-/// Whether a kind is none, or is not that of the root.
-fn breaks_kind(number: u64, kind: u8) -> bool
-    ensures { result ≡ breaks_kind number kind }
+/// The kind that a node's front says; none where it is unknown, or is not that of the root.
+fn kind_of_front(number: u64, code: u8) -> Option<KindCode>
+    ensures known { is_none result ≡ breaks_kind number code }
+    ensures kind { IfSome result (λ kind. code_number kind ≡ code) }
 {
-    kind < 1 || kind > 3 || (number == ROOT && kind != 2)
+    match KindCode::of_number(code) {
+        Some(kind) if number != ROOT || matches!(kind, KindCode::Dir) => Some(kind),
+        _ => None,
+    }
 }
 
 /// How many blocks and entries some nodes have.
@@ -58,22 +64,20 @@ struct Totals {
 /// What stands behind a node's front, by its kind.
 fn kind_at<'a>(
     alloc: Global,
-    kind: u8,
+    kind: KindCode,
     totals: Totals,
     file: u64,
     rest: &'a [u8],
 ) -> Result<(Kind, &'a [u8]), ImageError>
     requires blocks { totals.blocks ≤ 2 ^ 32 }
     requires entries { totals.entries ≤ 2 ^ 32 }
-    ensures { GivesBy (λ x. (x.0, x.1.now)) result (kind_at kind totals.blocks totals.entries file rest.now) }
+    ensures { GivesBy (λ x. (x.0, x.1.now)) result (kind_at (code_number kind) totals.blocks totals.entries file rest.now) }
 {
-    if kind == 1 {
-        return file_at(alloc, totals.blocks, file, rest);
+    match kind {
+        KindCode::File => file_at(alloc, totals.blocks, file, rest),
+        KindCode::Dir => dir_at(alloc, totals.entries, file, rest),
+        KindCode::Link => link_at(alloc, file, rest),
     }
-    if kind == 2 {
-        return dir_at(alloc, totals.entries, file, rest);
-    }
-    link_at(alloc, file, rest)
 }
 
 /// A node behind those before, which have so many blocks and entries.
@@ -97,10 +101,10 @@ fn node_at<'a>(
         return Err(refused(Rule::Number, at));
     }
     let at = place(file, rest);
-    let (kind, rest) = u8_at(file, rest)?;
-    if breaks_kind(number, kind) {
+    let (code, rest) = u8_at(file, rest)?;
+    let Some(kind) = kind_of_front(number, code) else {
         return Err(refused(Rule::Kind, at));
-    }
+    };
     let at = place(file, rest);
     let (mode, rest) = u16_at(file, rest)?;
     if mode > GREATEST_MODE {
@@ -163,7 +167,7 @@ fn nodes_at<'a>(
 
 /// The tree that a file says, or the first rule that fails as it is read.
 #[tactic(auto, unfolding(crate::specs::Reading::reading_of))]
-pub fn read(alloc: Global, bytes: &[u8]) -> Result<Tree, ImageError>
+pub(crate) fn read(alloc: Global, bytes: &[u8]) -> Result<Tree, ImageError>
     ensures { Gives result (reading_of bytes.now) }
 {
     let file = bytes.len() as u64;

@@ -63,6 +63,20 @@ pub struct ImageRefusal {
     pub at: u64,
 }
 
+impl ImageRefusal {
+    ghost use Rattle.fs_image.specs.Refusal.{refused};
+
+    /// The refusal by a rule that fails at an offset.
+    pub(crate) fn new(rule: Rule, at: u64) -> ImageRefusal
+        ensures { result ≡ refused rule at }
+    {
+        ImageRefusal {
+            rule: rule.number(),
+            at,
+        }
+    }
+}
+
 /// Why bytes give no tree.
 #[derive(Debug, Drop, Error)]
 pub enum ImageError {

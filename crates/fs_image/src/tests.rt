@@ -1,8 +1,17 @@
 //! Small images: what each rule refuses and where, and what is read and written.
-use crate::{ImageError, decode, encode};
-use kernel_core::{Kind, Node, Tree};
+use crate::{ImageError, ImageRefusal, Rule, decode, encode};
+use kernel_core::{Kind, Node};
 use std::alloc::{AllocError, Global};
 use std::test::Fail;
+
+/// The kind of a file in the front of a node.
+const FILE: u8 = 1;
+
+/// The kind of a directory in the front of a node.
+const DIR: u8 = 2;
+
+/// The kind of a link in the front of a node.
+const LINK: u8 = 3;
 
 /// The front of a node: its number, kind, mode and time.
 fn front(
@@ -19,6 +28,12 @@ fn front(
     Ok(())
 }
 
+/// A count of nodes, blocks or entries.
+fn count(out: &mut Vec<u8>, count: u32) -> Result<(), AllocError> {
+    out.extend_from_slice(&count.to_be_bytes())?;
+    Ok(())
+}
+
 /// An entry with a name of one byte.
 fn entry(out: &mut Vec<u8>, cookie: u32, name: u8, node: u64) -> Result<(), AllocError> {
     out.extend_from_slice(&cookie.to_be_bytes())?;
@@ -27,12 +42,25 @@ fn entry(out: &mut Vec<u8>, cookie: u32, name: u8, node: u64) -> Result<(), Allo
     Ok(())
 }
 
+/// The file 2, of two blocks and three bytes, which keeps its third block alone.
+fn file(out: &mut Vec<u8>) -> Result<(), AllocError> {
+    front(out, 2, FILE, 0o644, 5)?;
+    out.extend_from_slice(&8195_u64.to_be_bytes())?;
+    count(out, 1)?;
+    out.extend_from_slice(&2_u32.to_be_bytes())?;
+    out.extend_from_slice(&[6, 7, 8])?;
+    for _ in 3..4096 {
+        out.push(0)?;
+    }
+    Ok(())
+}
+
 /// The image of an empty root.
 fn empty_root(alloc: Global) -> Result<Vec<u8>, AllocError> {
     let mut out = Vec::from_slice(alloc, b"O32IMG1\n".as_slice())?;
-    out.extend_from_slice(&[0, 0, 0, 1])?;
-    front(&mut out, 1, 2, 0o755, 0)?;
-    out.extend_from_slice(&[0, 0, 0, 0])?;
+    count(&mut out, 1)?;
+    front(&mut out, 1, DIR, 0o755, 0)?;
+    count(&mut out, 0)?;
     Ok(out)
 }
 
@@ -41,125 +69,209 @@ fn empty_root(alloc: Global) -> Result<Vec<u8>, AllocError> {
 /// at 4208 with `l` at 4231, the link 4; and the link at 4245, to `x`. 4267 bytes.
 fn image(alloc: Global) -> Result<Vec<u8>, AllocError> {
     let mut out = Vec::from_slice(alloc, b"O32IMG1\n".as_slice())?;
-    out.extend_from_slice(&[0, 0, 0, 4])?;
-    front(&mut out, 1, 2, 0o755, -1)?;
-    out.extend_from_slice(&[0, 0, 0, 3])?;
+    count(&mut out, 4)?;
+    front(&mut out, 1, DIR, 0o755, -1)?;
+    count(&mut out, 3)?;
     entry(&mut out, 3, b'a', 2)?;
     entry(&mut out, 4, b'b', 2)?;
     entry(&mut out, 9, b'd', 3)?;
     file(&mut out)?;
-    front(&mut out, 3, 2, 0o700, 7)?;
-    out.extend_from_slice(&[0, 0, 0, 1])?;
+    front(&mut out, 3, DIR, 0o700, 7)?;
+    count(&mut out, 1)?;
     entry(&mut out, 3, b'l', 4)?;
-    front(&mut out, 4, 3, 0o777, 8)?;
+    front(&mut out, 4, LINK, 0o777, 8)?;
     out.extend_from_slice(&[0, 1, b'x'])?;
     Ok(out)
 }
 
-fn file(out: &mut Vec<u8>) -> Result<(), AllocError> {
-    front(out, 2, 1, 0o644, 5)?;
-    out.extend_from_slice(&8195_u64.to_be_bytes())?;
-    out.extend_from_slice(&[0, 0, 0, 1, 0, 0, 0, 2, 6, 7, 8])?;
-    for _ in 0..4093 {
-        out.push(0)?;
+/// The refusal of some bytes, and None where they are accepted.
+fn refusal_of(alloc: Global, bytes: &[u8]) -> Result<Option<ImageRefusal>, Fail> {
+    match decode(alloc, bytes) {
+        Ok(_) => Ok(None),
+        Err(ImageError::Refused(refusal)) => Ok(Some(refusal)),
+        Err(ImageError::NoMemory) => Err(Fail::from("out of memory")),
+    }
+}
+
+/// The refusal by a rule at an offset.
+fn refused(rule: Rule, at: u64) -> Option<ImageRefusal> {
+    Some(ImageRefusal::new(rule, at))
+}
+
+/// Bytes of [`image`] that are changed, by their places; the rule that fails then, and its offset.
+type Row<'a> = (&'a [(usize, u8)], Rule, u64);
+
+/// The image with some bytes changed.
+fn changed(alloc: Global, changes: &[(usize, u8)]) -> Result<Vec<u8>, AllocError> {
+    let mut bytes = image(alloc)?;
+    for (place, value) in changes {
+        if let Some(byte) = bytes.as_mut_slice().get_mut(*place) {
+            *byte = *value;
+        }
+    }
+    Ok(bytes)
+}
+
+/// The first row that does not come out as it says, counted from 0.
+fn first_wrong(alloc: Global, rows: &[Row<'_>]) -> Result<Option<usize>, Fail> {
+    for (row, (changes, rule, at)) in rows.iter().enumerate() {
+        let bytes = changed(alloc, changes)?;
+        if refusal_of(alloc, bytes.as_slice())? != refused(*rule, *at) {
+            return Ok(Some(row));
+        }
+    }
+    Ok(None)
+}
+
+#[test]
+fn rules_have_the_numbers_1_to_14(rt: HostRuntime) -> Result<(), Fail> {
+    let rules = [
+        Rule::Short,
+        Rule::Magic,
+        Rule::Count,
+        Rule::Number,
+        Rule::Kind,
+        Rule::Mode,
+        Rule::Size,
+        Rule::Tail,
+        Rule::Cookie,
+        Rule::Name,
+        Rule::Target,
+        Rule::Tree,
+        Rule::Limit,
+        Rule::Rest,
+    ];
+    for (rule, number) in rules.into_iter().zip(1..=14) {
+        assert_eq!(rt; rule.number(), number);
     }
     Ok(())
 }
 
-/// The rule that fails and its offset; rule 0 where the bytes are accepted, and 255 for want of
-/// memory.
-fn verdict(answer: &Result<Tree, ImageError>) -> (u8, u64) {
-    match answer {
-        Ok(_) => (0, 0),
-        Err(ImageError::Refused(refusal)) => (refusal.rule, refusal.at),
-        Err(ImageError::NoMemory) => (255, 0),
-    }
-}
-
-fn change(bytes: &mut [u8], place: usize, value: u8) {
-    if place < bytes.len() {
-        bytes[place] = value;
-    }
+#[test]
+fn refuses_fronts(rt: HostRuntime) -> Result<(), Fail> {
+    let rows: [Row; 10] = [
+        (&[(0, b'o')], Rule::Magic, 0),
+        // No node, and 131,076 nodes.
+        (&[(11, 0)], Rule::Count, 8),
+        (&[(9, 2)], Rule::Count, 8),
+        // Not 1 at first, equal to the one before, above 2^63 - 1.
+        (&[(19, 2)], Rule::Number, 12),
+        (&[(84, 1)], Rule::Number, 77),
+        (&[(77, 0x80)], Rule::Number, 77),
+        // The root a file, and kinds that are unknown.
+        (&[(20, 1)], Rule::Kind, 20),
+        (&[(85, 0)], Rule::Kind, 85),
+        (&[(85, 4)], Rule::Kind, 85),
+        // A bit above the twelve.
+        (&[(21, 0x10)], Rule::Mode, 21),
+    ];
+    assert_eq!(rt; first_wrong(rt.alloc(), &rows)?, None);
+    Ok(())
 }
 
 #[test]
-fn each_rule_refuses(rt: HostRuntime) -> Result<(), Fail> {
-    let alloc = rt.alloc();
-    // Two bytes that are changed, the rule and its offset.
-    let rows = [
-        ((0, b'o'), (7, b'\n'), 2, 0),
-        ((11, 0), (7, b'\n'), 3, 8),
-        ((9, 2), (7, b'\n'), 3, 8),
-        // Not 1 at first, equal to the one before, above 2^63 - 1.
-        ((19, 2), (7, b'\n'), 4, 12),
-        ((84, 1), (7, b'\n'), 4, 77),
-        ((77, 0x80), (7, b'\n'), 4, 77),
-        ((20, 1), (7, b'\n'), 5, 20),
-        ((85, 0), (7, b'\n'), 5, 85),
-        ((85, 4), (7, b'\n'), 5, 85),
-        ((21, 0x10), (7, b'\n'), 6, 21),
+fn refuses_files(rt: HostRuntime) -> Result<(), Fail> {
+    let rows: [Row; 6] = [
         // The size, an index past it, and a size at which the index is.
-        ((98, 0x20), (7, b'\n'), 7, 96),
-        ((111, 3), (7, b'\n'), 7, 108),
-        ((103, 0), (7, b'\n'), 7, 108),
-        ((115, 1), (7, b'\n'), 8, 112),
-        ((114, 1), (103, 2), 8, 112),
-        ((38, 2), (7, b'\n'), 9, 35),
-        ((52, 3), (7, b'\n'), 9, 49),
-        ((35, 0x80), (7, b'\n'), 9, 35),
-        ((39, 0), (7, b'\n'), 10, 39),
-        ((40, b'/'), (7, b'\n'), 10, 40),
-        ((40, 0), (7, b'\n'), 10, 40),
-        ((40, b'.'), (7, b'\n'), 10, 40),
+        (&[(98, 0x20)], Rule::Size, 96),
+        (&[(111, 3)], Rule::Size, 108),
+        (&[(103, 0)], Rule::Size, 108),
+        // The first byte past the size, also where that is one less.
+        (&[(115, 1)], Rule::Tail, 112),
+        (&[(114, 1), (103, 2)], Rule::Tail, 112),
+        // 131,073 blocks.
+        (&[(105, 2)], Rule::Limit, 104),
+    ];
+    assert_eq!(rt; first_wrong(rt.alloc(), &rows)?, None);
+    Ok(())
+}
+
+#[test]
+fn refuses_directories_and_links(rt: HostRuntime) -> Result<(), Fail> {
+    let rows: [Row; 13] = [
+        // Below 3, equal to the one before, above 2^31 - 1.
+        (&[(38, 2)], Rule::Cookie, 35),
+        (&[(52, 3)], Rule::Cookie, 49),
+        (&[(35, 0x80)], Rule::Cookie, 35),
+        (&[(39, 0)], Rule::Name, 39),
+        (&[(40, b'/')], Rule::Name, 40),
+        (&[(40, 0)], Rule::Name, 40),
+        (&[(40, b'.')], Rule::Name, 40),
         // A name twice stands at the second.
-        ((54, b'a'), (7, b'\n'), 10, 54),
-        ((4265, 0), (7, b'\n'), 10, 4264),
-        ((4264, 0x10), (7, b'\n'), 10, 4264),
-        ((4266, 0), (7, b'\n'), 10, 4266),
-        ((48, 9), (7, b'\n'), 11, 35),
-        ((4244, 9), (7, b'\n'), 11, 4231),
+        (&[(54, b'a')], Rule::Name, 54),
+        // A target of no byte, of 4097 bytes, and with NUL.
+        (&[(4265, 0)], Rule::Name, 4264),
+        (&[(4264, 0x10)], Rule::Name, 4264),
+        (&[(4266, 0)], Rule::Name, 4266),
+        // 196,611 entries in the root, and 131,073 in the other directory.
+        (&[(32, 3)], Rule::Limit, 31),
+        (&[(4228, 2)], Rule::Limit, 4227),
+    ];
+    assert_eq!(rt; first_wrong(rt.alloc(), &rows)?, None);
+    Ok(())
+}
+
+#[test]
+fn refuses_trees(rt: HostRuntime) -> Result<(), Fail> {
+    let rows: [Row; 7] = [
+        // There is no node 9.
+        (&[(48, 9)], Rule::Target, 35),
+        (&[(4244, 9)], Rule::Target, 4231),
         // The root named, a directory named twice and not at all, a link not named, and a directory
         // that names itself alone.
-        ((48, 1), (7, b'\n'), 12, 12),
-        ((48, 3), (7, b'\n'), 12, 4208),
-        ((76, 2), (7, b'\n'), 12, 4208),
-        ((4244, 2), (7, b'\n'), 12, 4245),
-        ((76, 2), (4244, 3), 12, 4208),
-        ((105, 2), (7, b'\n'), 13, 104),
-        ((32, 3), (7, b'\n'), 13, 31),
-        ((4228, 2), (7, b'\n'), 13, 4227),
-        // Rule 13 is met in reading, before rule 11; and rule 11 comes before rule 12.
-        ((4228, 2), (48, 9), 13, 4227),
-        ((48, 1), (4244, 9), 11, 4231),
-        ((7, b'\n'), (7, b'\n'), 0, 0),
+        (&[(48, 1)], Rule::Tree, 12),
+        (&[(48, 3)], Rule::Tree, 4208),
+        (&[(76, 2)], Rule::Tree, 4208),
+        (&[(4244, 2)], Rule::Tree, 4245),
+        (&[(76, 2), (4244, 3)], Rule::Tree, 4208),
     ];
-    for (first, second, rule, at) in rows {
-        let mut bytes = image(alloc)?;
-        change(bytes.as_mut_slice(), first.0, first.1);
-        change(bytes.as_mut_slice(), second.0, second.1);
-        let answer = decode(alloc, bytes.as_slice());
-        assert_eq!(rt;
-            verdict(&answer),
-            (rule, at),
-            "{} and {}",
-            first.0,
-            second.0
-        );
-    }
+    assert_eq!(rt; first_wrong(rt.alloc(), &rows)?, None);
     Ok(())
 }
 
 #[test]
-fn empty_roots(rt: HostRuntime) -> Result<(), Fail> {
+fn looks_at_the_rules_in_order(rt: HostRuntime) -> Result<(), Fail> {
+    let rows: [Row; 2] = [
+        // A limit is met in reading, before the nodes of entries.
+        (&[(4228, 2), (48, 9)], Rule::Limit, 4227),
+        // The nodes of entries come before the names of nodes.
+        (&[(48, 1), (4244, 9)], Rule::Target, 4231),
+    ];
+    assert_eq!(rt; first_wrong(rt.alloc(), &rows)?, None);
+    Ok(())
+}
+
+#[test]
+fn accepts_what_breaks_no_rule(rt: HostRuntime) -> Result<(), Fail> {
+    let alloc = rt.alloc();
+    let bytes = image(alloc)?;
+    assert_eq!(rt; bytes.len(), 4267);
+    assert_eq!(rt; refusal_of(alloc, bytes.as_slice())?, None);
+    let bytes = empty_root(alloc)?;
+    assert_eq!(rt; bytes.len(), 35);
+    assert_eq!(rt; refusal_of(alloc, bytes.as_slice())?, None);
+    Ok(())
+}
+
+#[test]
+fn refuses_bytes_that_follow(rt: HostRuntime) -> Result<(), Fail> {
     let alloc = rt.alloc();
     let mut bytes = empty_root(alloc)?;
-    assert_eq!(rt; bytes.len(), 35);
-    assert_eq!(rt; verdict(&decode(alloc, bytes.as_slice())), (0, 0));
     bytes.push(0)?;
-    assert_eq!(rt; verdict(&decode(alloc, bytes.as_slice())), (14, 35));
-    // A short file is Short also where its bytes are not those of the format.
-    assert_eq!(rt; verdict(&decode(alloc, b"O32IMG2".as_slice())), (1, 7));
-    assert_eq!(rt; verdict(&decode(alloc, b"O32IMG2\n".as_slice())), (2, 0));
+    assert_eq!(rt;
+        refusal_of(alloc, bytes.as_slice())?,
+        refused(Rule::Rest, 35)
+    );
+    Ok(())
+}
+
+#[test]
+fn a_short_file_is_short_before_it_is_of_another_format(rt: HostRuntime) -> Result<(), Fail> {
+    let alloc = rt.alloc();
+    let short = refusal_of(alloc, b"O32IMG2".as_slice())?;
+    assert_eq!(rt; short, refused(Rule::Short, 7));
+    let other = refusal_of(alloc, b"O32IMG2\n".as_slice())?;
+    assert_eq!(rt; other, refused(Rule::Magic, 0));
     Ok(())
 }
 
@@ -167,38 +279,81 @@ fn empty_roots(rt: HostRuntime) -> Result<(), Fail> {
 fn cut_anywhere_it_is_short(rt: HostRuntime) -> Result<(), Fail> {
     let alloc = rt.alloc();
     let bytes = image(alloc)?;
-    assert_eq!(rt; bytes.len(), 4267);
     for length in 0..bytes.len() {
-        let answer = decode(alloc, bytes.get(..length).ok_or("length")?);
-        assert_eq!(rt; verdict(&answer), (1, length as u64));
+        let cut = bytes.get(..length).ok_or("length")?;
+        assert_eq!(rt;
+            refusal_of(alloc, cut)?,
+            refused(Rule::Short, length as u64)
+        );
     }
     Ok(())
 }
 
-/// A node's number, mode and time, and what it holds: for a file its size, count of blocks and the
-/// first one's index; for a directory the count of entries and the last one's cookie and node; for
-/// a link the length of its target.
-fn told(node: &Node) -> (u64, u16, i64, (u64, u64, u64)) {
-    let held = match &node.kind {
-        Kind::File { size, blocks } => (
-            *size,
-            blocks.as_slice().len() as u64,
-            blocks
-                .as_slice()
-                .first()
-                .map_or(0, |block| u64::from(block.index)),
-        ),
-        Kind::Dir { entries } => (
-            entries.as_slice().len() as u64,
-            entries
-                .as_slice()
-                .last()
-                .map_or(0, |entry| u64::from(entry.cookie)),
-            entries.as_slice().last().map_or(0, |entry| entry.node),
-        ),
-        Kind::Link { target } => (target.len() as u64, 0, 0),
+/// What a node holds, in numbers; 0 for a block or an entry that is not there.
+#[derive(Clone, Copy, Debug, PartialEq, Eq)]
+enum Content {
+    File {
+        size: u64,
+        blocks: usize,
+        first_index: u32,
+    },
+    Dir {
+        entries: usize,
+        last_cookie: u32,
+        last_node: u64,
+    },
+    Link {
+        target_len: usize,
+    },
+}
+
+fn content_of(kind: &Kind) -> Content {
+    match kind {
+        Kind::File { size, blocks } => Content::File {
+            size: *size,
+            blocks: blocks.as_slice().len(),
+            first_index: blocks.as_slice().first().map_or(0, |block| block.index),
+        },
+        Kind::Dir { entries } => Content::Dir {
+            entries: entries.as_slice().len(),
+            last_cookie: entries.as_slice().last().map_or(0, |entry| entry.cookie),
+            last_node: entries.as_slice().last().map_or(0, |entry| entry.node),
+        },
+        Kind::Link { target } => Content::Link {
+            target_len: target.len(),
+        },
+    }
+}
+
+/// A node's number, mode and time, and what it holds.
+fn told(node: &Node) -> (u64, u16, i64, Content) {
+    (node.number, node.mode, node.mtime, content_of(&node.kind))
+}
+
+/// What the nodes of [`image`] are.
+fn nodes_of_image() -> [(u64, u16, i64, Content); 4] {
+    let root = Content::Dir {
+        entries: 3,
+        last_cookie: 9,
+        last_node: 3,
     };
-    (node.number, node.mode, node.mtime, held)
+    let file = Content::File {
+        size: 8195,
+        blocks: 1,
+        first_index: 2,
+    };
+    let dir = Content::Dir {
+        entries: 1,
+        last_cookie: 3,
+        last_node: 4,
+    };
+    let link = Content::Link { target_len: 1 };
+    [
+        (1, 0o755, -1, root),
+        (2, 0o644, 5, file),
+        (3, 0o700, 7, dir),
+        (4, 0o777, 8, link),
+    ]
 }
 
 #[test]
@@ -211,14 +366,8 @@ fn a_tree_and_its_text(rt: HostRuntime) -> Result<(), Fail> {
     assert!(rt; text.as_slice() == bytes.as_slice());
 
     let again = decode(alloc, text.as_slice()).map_err(|_| "refused")?;
-    let wanted = [
-        (1, 0o755, -1, (3, 9, 3)),
-        (2, 0o644, 5, (8195, 1, 2)),
-        (3, 0o700, 7, (1, 3, 4)),
-        (4, 0o777, 8, (1, 0, 0)),
-    ];
     assert_eq!(rt; again.nodes.as_slice().len(), 4);
-    for (node, wanted) in again.nodes.as_slice().iter().zip(wanted) {
+    for (node, wanted) in again.nodes.as_slice().iter().zip(nodes_of_image()) {
         assert_eq!(rt; told(node), wanted);
     }
     Ok(())

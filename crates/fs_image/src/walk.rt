@@ -26,7 +26,7 @@ fn count_entries(counts: &mut HashMap<u64, u64>, entries: &[DirEntry]) -> Result
 }
 
 /// How often each number is named by an entry of some nodes.
-pub fn count_names(alloc: Global, nodes: &[Node]) -> Result<HashMap<u64, u64>, AllocError>
+pub(crate) fn count_names(alloc: Global, nodes: &[Node]) -> Result<HashMap<u64, u64>, AllocError>
     requires { all_entries nodes.now ≤ entry_limit }
     ensures { IfOk result (λ counts. (q : ℕ) → count_of counts q ≡ times_named nodes.now q) }
 {
@@ -65,7 +65,7 @@ fn spread(
 }
 
 /// The numbers of the nodes that are not reached from the root. Costs by the nodes and entries.
-pub fn unreached(alloc: Global, nodes: &[Node]) -> Result<HashSet<u64>, AllocError>
+pub(crate) fn unreached(alloc: Global, nodes: &[Node]) -> Result<HashSet<u64>, AllocError>
     requires sorted { IsStrictlySortedBy nat_cmp (numbers nodes.now) }
     requires begins { (first : Node) × (slice_get nodes.now 0 ≡ Some first) × (first.number ≡ root) }
     ensures { IfOk result (AreUnreached nodes.now) }

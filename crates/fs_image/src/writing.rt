@@ -7,6 +7,7 @@ ghost use Rattle.kernel_core.specs.ValidTree.{IsValid, IsKind, IsEntry, IsTarget
 ghost use Rattle.fs_image.specs.Text.{block_text, entry_text, kind_number, kind_text, head_text, node_text, text_of, tree_text, magic};
 ghost use Rattle.fs_image.specs.Adding.{Adds, AddsPrefix, CanBeWritten};
 
+use crate::kinds::KindCode;
 use crate::nodes::MAGIC;
 use byteorder::{BigEndian, ByteOrder};
 use kernel_core::{Block, DirEntry, Kind, NoMemory, Node, Tree};
@@ -65,11 +66,7 @@ fn put_entries(out: &mut Vec<u8>, entries: &[DirEntry]) -> Result<(), NoMemory>
 fn kind_number(kind: &Kind) -> u8
     ensures { result ≡ kind_number kind.now }
 {
-    match kind {
-        Kind::File { .. } => 1,
-        Kind::Dir { .. } => 2,
-        Kind::Link { .. } => 3,
-    }
+    KindCode::of(kind).number()
 }
 
 /// A time as two's complement, high byte first.

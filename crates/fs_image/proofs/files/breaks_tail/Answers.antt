@@ -12,4 +12,4 @@ returns c =
     let kept-is : kept ≡ min size (length bytes) = omega arith in
     let rest : drop kept bytes ≡ drop size bytes = ap (λ k. drop k bytes) kept-is ∙ drop_min size bytes in
     let part : take (length bytes - kept) (drop kept bytes) ≡ drop kept bytes = take_rest bytes kept in
-    c.is_set.ensures ∙ ap (list_any (λ byte. not (byte == 0))) (part ∙ rest)
+    c.has_set_byte.ensures ∙ ap (list_any (λ byte. not (byte == 0))) (part ∙ rest)

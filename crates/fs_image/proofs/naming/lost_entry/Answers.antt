@@ -9,7 +9,7 @@ use Rattle.fs_image.proofs.naming.lost_entry.Goals as goal
 pub returns-then-is_none : goal.returns-then-is_none
 returns-then-is_none c =
     let lost : is_there c.args.nodes.now c.entry-item.result.node ≡ false = sym c.place_of.ensures.there ∙ c.if-is_none.ensures in
-    rw c.refusal.ensures (lost_entry-found c.args.nodes.now c.loop-entry.place c.loop-entry.entry-index c.args.entries.now c.entry-item.result _ c.loop-entry-test.true c.entry-item.is lost c.loop-entry.invariant.same)
+    rw c.new.ensures (lost_entry-found c.args.nodes.now c.loop-entry.place c.loop-entry.entry-index c.args.entries.now c.entry-item.result _ c.loop-entry-test.true c.entry-item.is lost c.loop-entry.invariant.same)
 
 pub entry_len-place-requires : goal.entry_len-place-requires
 entry_len-place-requires c =

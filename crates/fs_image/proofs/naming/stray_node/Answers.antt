@@ -11,7 +11,7 @@ returns-then-not-is_in_tree c =
     let node = c.node-item.result in
     let there : Contains nodes node = (c.loop-node.node-index, c.loop-node-test.true, sym c.node-item.is) in
     let stray : in_tree nodes node ≡ false = sym (c.is_in_tree.ensures ∙ in_tree-is nodes node c.args.counts.now c.args.unreached.now c.requires.counts c.requires.unreached there) ∙ c.if-not-is_in_tree.true in
-    rw c.refusal.ensures (stray_node-found nodes c.loop-node.place c.loop-node.node-index node _ c.loop-node-test.true c.node-item.is stray c.loop-node.invariant.same)
+    rw c.new.ensures (stray_node-found nodes c.loop-node.place c.loop-node.node-index node _ c.loop-node-test.true c.node-item.is stray c.loop-node.invariant.same)
 
 pub loop-node-preserved : goal.loop-node-preserved
 loop-node-preserved c =
