@@ -1,3 +1,4 @@
+pub mod Guest
 pub mod Numbers
 pub mod Readable
 pub mod RunLemmas

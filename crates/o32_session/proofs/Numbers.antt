@@ -1,11 +1,12 @@
 -- A plain decimal number that `parse` refuses is above every budget.
-use Rattle.std.proofs.Common.{◌≡◌, ℕ, ◌<◌, ◌^◌, List, [], ◌∷◌, true, Bool, length, None, nat_lt, get_or, arith, rules, sym, subst, ap, ◌∙◌, cond}
+use Rattle.std.proofs.Common.{◌≡◌, ℕ, ◌<◌, ◌^◌, List, [], ◌∷◌, true, Bool, length, None, Result, Ok, Err, nat_lt, get_or, arith, rules, sym, subst, ap, ◌∙◌, cond}
 use Rattle.std.proofs.lemmas.Bool.{and_parts, ltb-true}
 use Rattle.std.proofs.lemmas.Grind.{common_steps}
 use Rattle.std.proofs.lemmas.Str.Parse.{without_leading_plus_none}
 use Rattle.std.specs.List.{list_all}
 use Rattle.std.specs.Char.{is_ascii_digit, digit_value}
-use Rattle.std.specs.Str.Parse.{digits_value, AllDigits, IsNumeral, without_leading_plus}
+use Rattle.std.specs.Result.{result_ok}
+use Rattle.std.specs.Str.Parse.{digits_value, AllDigits, IsNumeral, ParsesUnsigned, without_leading_plus}
 use Rattle.o32_session.specs.Words.{budget_of, is_plain_number, up_to_greatest}
 
 digit_below : (c : ℕ) → is_ascii_digit c ≡ true → digit_value c < 10
@@ -24,7 +25,7 @@ nonempty : (text : List ℕ) → 48 < get_or text 0 0 → 0 < length text
 nonempty [] first = absurd (omega arith)
 nonempty (c ∷ cs) first = omega arith
 
-pub unparsed : (text : List ℕ) → true ≡ is_plain_number text →
+unparsed : (text : List ℕ) → true ≡ is_plain_number text →
     ((IsNumeral 10 (without_leading_plus text) × (digits_value 10 (without_leading_plus text) < 2 ^ 64)) → ⊥) →
     None ≡ budget_of text
 unparsed text plain refused =
@@ -36,3 +37,8 @@ unparsed text plain refused =
     λ small. refused (subst (λ t. IsNumeral 10 t × (digits_value 10 t < 2 ^ 64)) (sym same)
     ((some_digit, all_digits text parts.1), small)) in
     sym (ap (λ (b : Bool). cond b (up_to_greatest (digits_value 10 text)) None) (sym plain) ∙ above _ large)
+
+pub no_value : {E : Type 0} (text : List ℕ) (parsed : Result ℕ E) → true ≡ is_plain_number text → ParsesUnsigned 64 10 text parsed →
+    result_ok parsed ≡ None → None ≡ budget_of text
+no_value text (Ok n) plain parses none = absurd cc
+no_value text (Err error) plain parses none = unparsed text plain parses

@@ -7,16 +7,16 @@ use elf_image::ElfRefusal;
 use fs_image::ImageRefusal;
 use std::fmt;
 
-/// How a process ends by itself.
+/// How a process ends by itself, as a wait for it tells (wait(2)).
 #[derive(Clone, Copy, PartialEq, Eq)]
-pub enum ProcessEnd {
+pub(crate) enum ProcessEnd {
     /// It exited with this status, the low 8 bits of what it gave.
     Exited(u8),
     /// A signal killed it: its o32 number, 1 to 128.
     Killed(u8),
 }
 
-/// How a run is over.
+/// How a run is over: as its process (wait(2)), or by the budget, which is this project's own.
 #[derive(Clone, Copy, PartialEq, Eq)]
 pub enum Finish {
     /// The guest exited with this status, the low 8 bits of what it gave.
@@ -46,12 +46,12 @@ pub enum Refusal {
     Start,
 }
 
-/// How a session ends.
+/// How a session ends. (The kinds of ends are this project's own; exit and signal are those of wait(2).)
 #[derive(Clone, Copy, PartialEq, Eq)]
 pub enum End {
-    /// The guest exited with this status.
+    /// The guest exited with this status, the low 8 bits of what it gave.
     Exited(u8),
-    /// A signal of this o32 number killed the guest.
+    /// A signal killed the guest: its o32 number, 1 to 128.
     Killed(u8),
     /// The budget's turns are done.
     Budget,
@@ -65,14 +65,14 @@ pub enum End {
     NoMemory,
 }
 
-/// What a session answers.
+/// What a session answers. (Its parts are this project's own.)
 #[derive(Clone, Copy, PartialEq, Eq)]
 pub struct Answer {
-    /// The exit status of the emulator.
+    /// The exit status of the emulator, that of [`End::status`].
     pub status: u8,
     /// How the session ended.
     pub end: End,
-    /// The number of turns that were finished, 0 where nothing ran.
+    /// The number of turns that were finished, at most the budget, and 0 where nothing ran.
     pub turns: u64,
 }
 

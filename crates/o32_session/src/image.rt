@@ -40,10 +40,7 @@ fn empty_tree(alloc: Global) -> Result<Tree, AllocError>
 fn tree_of_image(alloc: Global, bytes: &[u8]) -> Result<Tree, NotRun>
     ensures { IsRead bytes.now result }
 {
-    match decode(alloc, bytes) {
-        Ok(tree) => Ok(tree),
-        Err(error) => Err(NotRun::from(error)),
-    }
+    Ok(decode(alloc, bytes)?)
 }
 
 /// The tree of the image of this name.
@@ -55,15 +52,13 @@ fn load_tree<F: Store>(alloc: Global, name: &str, files: &mut F) -> Result<Tree,
     ensures cause { ReasonOnlyIfRose result (F.load_faults files.old) (F.load_faults files.new) }
     ensures later { F.load_faults files.old ≤ F.load_faults files.new }
 {
-    match load_file(alloc, SessionFile::Image, name, files) {
-        Ok(bytes) => tree_of_image(alloc, &bytes),
-        Err(reason) => Err(reason),
-    }
+    let bytes = load_file(alloc, SessionFile::Image, name, files)?;
+    tree_of_image(alloc, &bytes)
 }
 
 /// The tree that a run begins with: that of the image whose name is at index `image` of the words, or without one that
 /// of one empty root directory.
-pub fn first_tree<F: Store>(
+pub(crate) fn first_tree<F: Store>(
     alloc: Global,
     words: &[String],
     image: Option<usize>,
@@ -78,9 +73,6 @@ pub fn first_tree<F: Store>(
 {
     match image {
         Some(at) => load_tree(alloc, word_at(words, at), files),
-        None => match empty_tree(alloc) {
-            Ok(tree) => Ok(tree),
-            Err(_) => Err(NotRun::NoMemory),
-        },
+        None => Ok(empty_tree(alloc)?),
     }
 }

@@ -9,7 +9,7 @@ use std::alloc::Global;
 
 /// A file that a session loads. (Numbers and limits are this project's own.)
 #[derive(Clone, Copy)]
-pub enum SessionFile {
+pub(crate) enum SessionFile {
     /// The program.
     Program,
     /// The image.
@@ -39,7 +39,7 @@ impl SessionFile {
 }
 
 /// The bytes of the file of this name, which a session loads as `file`.
-pub fn load_file<F: Store>(
+pub(crate) fn load_file<F: Store>(
     alloc: Global,
     file: SessionFile,
     name: &str,
@@ -53,8 +53,8 @@ pub fn load_file<F: Store>(
     ensures later { F.load_faults files.old ≤ F.load_faults files.new }
 {
     let mut bytes = Vec::new(alloc);
-    match files.load(name, file.limit(), &mut bytes) {
-        Ok(()) => Ok(bytes),
-        Err(error) => Err(NotRun::of_load(file.number(), error)),
-    }
+    files
+        .load(name, file.limit(), &mut bytes)
+        .map_err(|error| NotRun::of_load(file.number(), error))?;
+    Ok(bytes)
 }

@@ -11,36 +11,48 @@ ghost use Rattle.o32_session.specs.Turns.{TurnIs, OutcomeIs, WriteIs, StopsOnlyI
 
 use crate::answer::ProcessEnd;
 use guest_space::Space;
-use kernel_core::{Errno, Sig};
+use kernel_core::{Errno, NoMemory, Sig};
 use mips_exec::{Cpu, Stepped, step};
 use number_tables::O32Number;
 use outside::{DevError, Sink};
 use std::alloc::{AllocError, Global};
 use std::marker::Model;
 
-/// The numbers of the registers that a system call uses (System V ABI, MIPS supplement).
+// The registers that a system call uses (System V ABI, MIPS supplement; syscall(2)).
+
+/// The register of a call's number, and of its result or error.
 const V0: u8 = 2;
 
+/// The register of a call's first argument.
 const A0: u8 = 4;
 
+/// The register of a call's second argument.
 const A1: u8 = 5;
 
+/// The register of a call's third argument.
 const A2: u8 = 6;
 
+/// The register that says whether a call failed: 0, or 1 where it did.
 const A3: u8 = 7;
 
-/// The numbers of the system calls (asm/unistd.h of MIPS Linux, o32).
+// The numbers of the system calls (asm/unistd.h of MIPS Linux, o32).
+
+/// exit(2).
 const EXIT: u32 = 4001;
 
+/// write(2).
 const WRITE: u32 = 4004;
 
+/// set_tid_address(2).
 const SET_TID_ADDRESS: u32 = 4252;
 
+/// set_thread_area(2).
 const SET_THREAD_AREA: u32 = 4283;
 
+/// set_robust_list(2).
 const SET_ROBUST_LIST: u32 = 4309;
 
-/// The process's own number, which is its thread's.
+/// The process's own number, which is its thread's. (The number is this project's own.)
 const PROCESS: u32 = 100;
 
 /// The size of the head of a robust list (linux/futex.h).
@@ -51,7 +63,7 @@ const GREATEST_TRANSFER: u32 = 0x7FFF_F000;
 
 /// What a turn came to.
 #[derive(Clone, Copy)]
-pub enum Turn {
+pub(crate) enum Turn {
     /// The run goes on.
     Went,
     /// The process ended so.
@@ -60,7 +72,7 @@ pub enum Turn {
 
 /// Why a turn was not finished.
 #[derive(Clone, Copy)]
-pub enum Stop {
+pub(crate) enum Stop {
     /// Standard output failed, and its count of faults rose.
     WriteFault,
     /// Memory ran out.
@@ -77,7 +89,7 @@ enum Outcome {
 
 /// A processor with its memory, and the signal of the fault that the last turn met.
 #[derive(Drop)]
-pub struct Machine {
+pub(crate) struct Machine {
     cpu: Cpu,
     space: Space,
     fault: Option<Sig>,
@@ -105,6 +117,16 @@ impl From<AllocError> for Stop {
     }
 }
 
+impl From<NoMemory> for Stop {
+    ghost use Rattle.o32_session.specs.declared.machine.Stop.TheVariants as stops;
+
+    ghost from_gives = { λ _ stop. stop ≡ stops.NoMemory };
+
+    fn from(_error: NoMemory) -> Stop {
+        Stop::NoMemory
+    }
+}
+
 impl From<DevError> for Stop {
     ghost use Rattle.o32_session.specs.Turns.{stop_of};
 
@@ -120,7 +142,7 @@ impl From<DevError> for Stop {
 
 impl Machine {
     /// A machine at its first instruction.
-    pub fn new(cpu: Cpu, space: Space) -> Machine
+    pub(crate) fn new(cpu: Cpu, space: Space) -> Machine
         ensures { result ≡ record { processor = cpu; memory = space; fault = None } }
     {
         Machine {
@@ -137,7 +159,7 @@ impl Machine {
     /// `WriteFault` only where the count of faults of `out` rose; `NoMemory`. The turn isn't finished then, the machine
     /// isn't used again, and `out` gained a prefix of what the turn writes.
     #[tactic(auto, unfolding(crate::specs::Machine::turn_of))]
-    pub fn turn<O: Sink>(&mut self, alloc: Global, out: &mut O) -> Result<Turn, Stop>
+    pub(crate) fn turn<O: Sink>(&mut self, alloc: Global, out: &mut O) -> Result<Turn, Stop>
         ensures turn { IfOk result (λ turn. TurnIs (turn_of self.old) turn self.new (O.written out.old) (O.written out.new)) }
         ensures stop { OnErr result (GainsBetween (O.written out.old) (O.written out.new) [] (turn_of self.old).output) }
         ensures writes { StopsOnlyWriting result (turn_of self.old).output }
@@ -147,11 +169,10 @@ impl Machine {
         if let Some(signal) = self.fault {
             return Ok(Turn::Ended(ProcessEnd::Killed(signal.to_o32() as u8)));
         }
-        match step(&mut self.cpu, &mut self.space) {
-            Err(_) => Err(Stop::NoMemory),
-            Ok(Stepped::Next) => Ok(Turn::Went),
-            Ok(Stepped::Syscall) => self.call(alloc, out),
-            Ok(Stepped::Fault { sig, .. }) => {
+        match step(&mut self.cpu, &mut self.space)? {
+            Stepped::Next => Ok(Turn::Went),
+            Stepped::Syscall => self.call(alloc, out),
+            Stepped::Fault { sig, .. } => {
                 self.fault = Some(sig);
                 Ok(Turn::Went)
             }
@@ -199,18 +220,19 @@ impl Machine {
         ensures over { (after_outcome self.old.processor self.old.memory [] (outcome_seen outcome)).over ≡ over_of result }
     {
         match outcome {
-            Outcome::Value(value) => self.set_result(value, 0),
-            Outcome::Error(error) => self.set_result(error.to_o32(), 1),
+            Outcome::Value(value) => self.set_result(value, false),
+            Outcome::Error(error) => self.set_result(error.to_o32(), true),
             Outcome::Exit(status) => return Turn::Ended(ProcessEnd::Exited(status)),
         }
         Turn::Went
     }
 
-    fn set_result(&mut self, value: u32, failed: u32)
-        ensures { self.new ≡ record self.old { processor = with_result self.old.processor value failed } }
+    /// Puts what a call gives, its result or its error's number, into the registers.
+    fn set_result(&mut self, value: u32, failed: bool)
+        ensures { self.new ≡ record self.old { processor = with_result self.old.processor value (if failed then 1 else 0) } }
     {
         self.cpu.set_register(V0, value);
-        self.cpu.set_register(A3, failed);
+        self.cpu.set_register(A3, u32::from(failed));
     }
 
     /// The call write: the longest readable prefix of its bytes goes to `out`.

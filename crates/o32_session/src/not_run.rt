@@ -8,10 +8,11 @@ use elf_image::ElfError;
 use fs_image::ImageError;
 use outside::LoadError;
 use start_stack::StartError;
+use std::alloc::AllocError;
 
 /// Why nothing is run.
 #[derive(Clone, Copy)]
-pub enum NotRun {
+pub(crate) enum NotRun {
     /// The words, the program or the image are refused.
     Refused(Refusal),
     /// The store failed, and its count of faulty loads rose.
@@ -22,7 +23,7 @@ pub enum NotRun {
 
 impl NotRun {
     /// Why nothing is run where the file of this number was not loaded.
-    pub fn of_load(file: u8, error: LoadError) -> NotRun
+    pub(crate) fn of_load(file: u8, error: LoadError) -> NotRun
         ensures { result ≡ of_load file error }
     {
         match error {
@@ -31,6 +32,16 @@ impl NotRun {
             LoadError::Failed => NotRun::ReadFault,
             LoadError::NoMemory => NotRun::NoMemory,
         }
+    }
+}
+
+impl From<AllocError> for NotRun {
+    ghost use Rattle.o32_session.specs.declared.not_run.NotRun.TheVariants.{NoMemory};
+
+    ghost from_gives = { λ _ reason. reason ≡ NoMemory };
+
+    fn from(_error: AllocError) -> NotRun {
+        NotRun::NoMemory
     }
 }
 

@@ -27,7 +27,7 @@ const RANDOM_BYTES: [u8; 16] = [0; 16];
 
 /// A machine that is ready to run.
 #[derive(Drop)]
-pub struct Ready {
+pub(crate) struct Ready {
     /// The machine at its first instruction.
     pub machine: Machine,
     /// The most turns that it may take.
@@ -43,10 +43,7 @@ fn plan_of_file(alloc: Global, bytes: &[u8]) -> Result<Plan, NotRun>
     ensures plan { IfOk result (λ plan. (first_failure bytes.now ≡ None) × ((plan ≡ plan_of bytes.now) × plans.IsValid plan)) }
     ensures reason { IfErr result (IsElfReason (first_failure bytes.now)) }
 {
-    match parse(alloc, bytes) {
-        Ok(plan) => Ok(plan),
-        Err(error) => Err(NotRun::from(error)),
-    }
+    Ok(parse(alloc, bytes)?)
 }
 
 /// The plan of the program of this name.
@@ -58,10 +55,8 @@ fn load_plan<F: Store>(alloc: Global, name: &str, files: &mut F) -> Result<Plan,
     ensures cause { ReasonOnlyIfRose result (F.load_faults files.old) (F.load_faults files.new) }
     ensures later { F.load_faults files.old ≤ F.load_faults files.new }
 {
-    match load_file(alloc, SessionFile::Program, name, files) {
-        Ok(bytes) => plan_of_file(alloc, &bytes),
-        Err(reason) => Err(reason),
-    }
+    let bytes = load_file(alloc, SessionFile::Program, name, files)?;
+    plan_of_file(alloc, &bytes)
 }
 
 /// The machine of a plan with these arguments, beside this tree of files.
@@ -80,19 +75,21 @@ fn machine_of_plan(
     ensures save { IfOk result (λ ready. ready.save ≡ line.save) }
     ensures reason { IfErr result (IsStartReason (asked_of_tree (texts args.now) (line_seen line) plan.now tree)) }
 {
-    match build(alloc, plan, args, line.environment.as_slice(), RANDOM_BYTES) {
-        Ok(start) => Ok(Ready {
-            machine: Machine::new(start.cpu, start.space),
-            budget: line.budget,
-            tree,
-            save: line.save,
-        }),
-        Err(error) => Err(NotRun::from(error)),
-    }
+    let start = build(alloc, plan, args, line.environment.as_slice(), RANDOM_BYTES)?;
+    Ok(Ready {
+        machine: Machine::new(start.cpu, start.space),
+        budget: line.budget,
+        tree,
+        save: line.save,
+    })
 }
 
 /// What the words ask for, with the program and the image loaded and the first machine made.
-pub fn prepare<F: Store>(alloc: Global, words: &[String], files: &mut F) -> Result<Ready, NotRun>
+pub(crate) fn prepare<F: Store>(
+    alloc: Global,
+    words: &[String],
+    files: &mut F,
+) -> Result<Ready, NotRun>
     ensures prepared { IsPrepared (texts words.now) (read_words (texts words.now)) (F.files files.old) result }
     ensures tree { IfOk result (λ ready. trees.IsValid ready.tree) }
     ensures turned { stored_of F.files F.created F.turned_away F.write_faults files.new
@@ -101,10 +98,8 @@ pub fn prepare<F: Store>(alloc: Global, words: &[String], files: &mut F) -> Resu
     ensures cause { ReasonOnlyIfRose result (F.load_faults files.old) (F.load_faults files.new) }
     ensures later { F.load_faults files.old ≤ F.load_faults files.new }
 {
-    match read(alloc, words) {
-        Ok(line) => prepare_line(alloc, words, line, files),
-        Err(error) => Err(NotRun::from(error)),
-    }
+    let line = read(alloc, words)?;
+    prepare_line(alloc, words, line, files)
 }
 
 /// The same, where the words are in order.
@@ -123,14 +118,8 @@ fn prepare_line<F: Store>(
     ensures cause { ReasonOnlyIfRose result (F.load_faults files.old) (F.load_faults files.new) }
     ensures later { F.load_faults files.old ≤ F.load_faults files.new }
 {
-    let plan = match load_plan(alloc, word_at(words, line.program), files) {
-        Ok(plan) => plan,
-        Err(reason) => return Err(reason),
-    };
-    let tree = match first_tree(alloc, words, line.image, files) {
-        Ok(tree) => tree,
-        Err(reason) => return Err(reason),
-    };
+    let plan = load_plan(alloc, word_at(words, line.program), files)?;
+    let tree = first_tree(alloc, words, line.image, files)?;
     machine_of_plan(alloc, arguments(words, line.program), line, &plan, tree)
 }
 

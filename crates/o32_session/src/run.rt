@@ -9,7 +9,7 @@ use std::alloc::Global;
 
 /// How a run ended.
 #[derive(Clone, Copy)]
-pub enum RunEnd {
+pub(crate) enum RunEnd {
     /// The run is over so.
     Finished(Finish),
     /// The run stopped early, in the turn after those that are counted.
@@ -18,7 +18,7 @@ pub enum RunEnd {
 
 /// What a run came to.
 #[derive(Clone, Copy)]
-pub struct Ran {
+pub(crate) struct Ran {
     /// How it ended.
     pub end: RunEnd,
     /// The turns that were finished.
@@ -26,7 +26,7 @@ pub struct Ran {
 }
 
 /// Runs the machine for at most `budget` turns.
-pub fn run<O: Sink>(alloc: Global, mut machine: Machine, budget: u64, out: &mut O) -> Ran
+pub(crate) fn run<O: Sink>(alloc: Global, mut machine: Machine, budget: u64, out: &mut O) -> Ran
     ensures run { RanSo machine budget result.turns result.end (O.written out.old) (O.written out.new) }
     ensures cause { EndsOnlyIfRose result.end (O.faults out.old) (O.faults out.new) }
     ensures later { O.faults out.old ≤ O.faults out.new }

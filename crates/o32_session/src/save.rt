@@ -33,10 +33,8 @@ fn save_tree<F: Store>(
     ensures loads { F.load_faults files.new ≡ F.load_faults files.old }
 {
     let mut image = Vec::new(alloc);
-    match encode(tree, &mut image) {
-        Ok(()) => write_image(name, &image, files),
-        Err(_) => Err(DevError::NoMemory),
-    }
+    encode(tree, &mut image).map_err(|_| DevError::NoMemory)?;
+    write_image(name, &image, files)
 }
 
 /// Makes the file of this name and writes these bytes to it.
@@ -51,14 +49,12 @@ fn write_image<F: Store>(name: &str, image: &[u8], files: &mut F) -> Result<(), 
     ensures later { F.write_faults files.old ≤ F.write_faults files.new }
     ensures loads { F.load_faults files.new ≡ F.load_faults files.old }
 {
-    match files.create(name) {
-        Ok(()) => files.append(name, image),
-        Err(error) => Err(error),
-    }
+    files.create(name)?;
+    files.append(name, image)
 }
 
 /// Saves the final tree to the file whose name is at index `save` of the words, where it is saved.
-pub fn save_final<F: Store>(
+pub(crate) fn save_final<F: Store>(
     alloc: Global,
     words: &[String],
     save: Option<usize>,

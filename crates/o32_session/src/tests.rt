@@ -2,28 +2,117 @@
 use crate::{Answer, End, Refusal, session};
 use outside::{Devices, MemSink, MemStore, NamedFile, SureSink, SureSource};
 use std::alloc::Global;
+use std::process::Abort;
 use std::test::Fail;
 
 /// The address of a program's one segment.
 const BASE: u32 = 0x0040_0000;
 
-/// `addiu $a0, $v0, 0`, `addiu $v0, $zero, 4001` and `syscall`: exit with the result of the call before.
-const EXIT_WITH_V0: [u32; 3] = [0x2444_0000, 0x2402_0FA1, 0x0000_000C];
+// Instruction words (MIPS32 Architecture for Programmers, Volume II). Where an instruction takes a number, `|` puts it in.
 
-/// The same with $a3.
-const EXIT_WITH_A3: [u32; 3] = [0x24E4_0000, 0x2402_0FA1, 0x0000_000C];
+/// `addiu $v0, $zero, 0`.
+const SET_V0: u32 = 0x2402_0000;
+
+/// `addiu $v0, $t0, 0`.
+const SET_V0_TO_T0: u32 = 0x2502_0000;
+
+/// `lw $v0, 0($sp)`.
+const LOAD_V0_FROM_SP: u32 = 0x8FA2_0000;
+
+/// `addiu $a0, $zero, 0`.
+const SET_A0: u32 = 0x2404_0000;
+
+/// `addiu $a0, $v0, 0`.
+const SET_A0_TO_V0: u32 = 0x2444_0000;
+
+/// `addiu $a0, $a3, 0`.
+const SET_A0_TO_A3: u32 = 0x24E4_0000;
+
+/// `addiu $a1, $zero, 0`.
+const SET_A1: u32 = 0x2405_0000;
+
+/// `lui $a1, 0`.
+const SET_A1_HIGH: u32 = 0x3C05_0000;
+
+/// `ori $a1, $a1, 0`.
+const OR_A1: u32 = 0x34A5_0000;
+
+/// `addiu $a2, $zero, 0`.
+const SET_A2: u32 = 0x2406_0000;
+
+/// `lw $t0, 0($zero)`.
+const LOAD_T0_FROM_ZERO: u32 = 0x8C08_0000;
+
+/// `ll $t0, 0($sp)`.
+const LOAD_LINKED_T0: u32 = 0xC3A8_0000;
+
+/// `sc $t0, 0($sp)`.
+const STORE_CONDITIONAL_T0: u32 = 0xE3A8_0000;
+
+/// `syscall`.
+const SYSCALL: u32 = 0x0000_000C;
+
+/// `nop`.
+const NOP: u32 = 0x0000_0000;
+
+/// `break 0`.
+const BREAK: u32 = 0x0000_000D;
+
+/// `break 7`, which a compiler writes for a division by zero.
+const BREAK_7: u32 = 0x0007_000D;
+
+/// `teq $zero, $zero, 7`, for the same.
+const TRAP_7: u32 = 0x0000_01F4;
+
+/// `rdhwr $v0, $29`.
+const READ_THREAD_POINTER: u32 = 0x7C02_E83B;
+
+/// `movf $zero, $zero, $fcc0`, an instruction of the floating point unit.
+const MOVE_ON_FLOAT: u32 = 0x0000_0001;
+
+// The numbers of calls (asm/unistd.h of MIPS Linux, o32).
+
+/// exit(2).
+const EXIT: u32 = 4001;
+
+/// write(2).
+const WRITE: u32 = 4004;
+
+/// set_tid_address(2).
+const SET_TID_ADDRESS: u32 = 4252;
+
+/// set_thread_area(2).
+const SET_THREAD_AREA: u32 = 4283;
+
+/// set_robust_list(2).
+const SET_ROBUST_LIST: u32 = 4309;
+
+/// Exit with the result or error of the call before.
+const EXIT_WITH_V0: [u32; 3] = [SET_A0_TO_V0, SET_V0 | EXIT, SYSCALL];
+
+/// Exit with whether the call before failed.
+const EXIT_WITH_A3: [u32; 3] = [SET_A0_TO_A3, SET_V0 | EXIT, SYSCALL];
+
+/// A write of eight bytes from 0x00500000 on, where nothing is mapped.
+const WRITE_UNMAPPED: [u32; 5] = [
+    SET_V0 | WRITE,
+    SET_A0 | 1,
+    SET_A1_HIGH | 0x50,
+    SET_A2 | 8,
+    SYSCALL,
+];
 
 /// `Hi` and a newline from 0x00400100, then exit with 7.
 const HELLO: [u32; 9] = [
-    0x2402_0FA4,
-    0x2404_0001,
-    0x3C05_0040,
-    0x34A5_0100,
-    0x2406_0003,
-    0x0000_000C,
-    0x2402_0FA1,
-    0x2404_0007,
-    0x0000_000C,
+    SET_V0 | WRITE,
+    SET_A0 | 1,
+    SET_A1_HIGH | 0x40,
+    OR_A1 | 0x100,
+    SET_A2 | 3,
+    SYSCALL,
+    SET_V0 | EXIT,
+    SET_A0 | 7,
+    SYSCALL,
 ];
 
 /// The image of one empty root directory of mode 0755 and time 0.
@@ -67,6 +156,11 @@ fn executable(alloc: Global, code: &[u32], text_at: usize, text: &[u8]) -> Resul
     file.resize(0x1000, 0)?;
     file.extend_from_slice(&segment)?;
     Ok(file)
+}
+
+/// The program that writes `Hi`.
+fn hello(alloc: Global) -> Result<Vec<u8>, Fail> {
+    executable(alloc, &HELLO, 0x100, b"Hi\n")
 }
 
 /// A file of this name with these bytes.
@@ -147,12 +241,7 @@ fn hello_and_its_budgets(rt: HostRuntime) -> Result<(), Fail> {
         ),
     ];
     for (words, out, end, status, turns) in rows {
-        let run = session_of(
-            alloc,
-            words,
-            executable(alloc, &HELLO, 0x100, b"Hi\n")?,
-            &[],
-        )?;
+        let run = session_of(alloc, words, hello(alloc)?, &[])?;
         assert!(rt; run.answer.end == end, "{turns}");
         assert_eq!(rt; run.answer.status, status);
         assert_eq!(rt; run.answer.turns, turns);
@@ -162,82 +251,82 @@ fn hello_and_its_budgets(rt: HostRuntime) -> Result<(), Fail> {
     Ok(())
 }
 
-#[test]
-fn calls(rt: HostRuntime) -> Result<(), Fail> {
-    let alloc = rt.alloc();
-    // The words before the exit, whether $a3 or $v0 is the status, and the status.
-    let rows: [(&[u32], bool, u8); 12] = [
-        (&[0x2402_1387, 0x0000_000C], false, 89),
-        (&[0x2402_1387, 0x0000_000C], true, 1),
-        (&[0x2402_0005, 0x0000_000C], false, 89),
-        (
-            &[0x2402_0FA4, 0x2404_0002, 0x2406_0001, 0x0000_000C],
-            false,
-            9,
-        ),
-        (
-            &[
-                0x2402_0FA4,
-                0x2404_0001,
-                0x3C05_0050,
-                0x2406_0008,
-                0x0000_000C,
-            ],
-            false,
-            14,
-        ),
-        (
-            &[
-                0x2402_0FA4,
-                0x2404_0001,
-                0x3C05_0050,
-                0x2406_0008,
-                0x0000_000C,
-            ],
-            true,
-            1,
-        ),
-        (
-            &[
-                0x2402_0FA4,
-                0x2404_0001,
-                0x3C05_0050,
-                0x2406_0000,
-                0x0000_000C,
-            ],
-            false,
-            0,
-        ),
-        (&[0x2402_109C, 0x0000_000C], false, 100),
-        (&[0x2402_10D5, 0x2405_000C, 0x0000_000C], false, 0),
-        (&[0x2402_10D5, 0x2405_000D, 0x0000_000C], false, 22),
-        (
-            &[0x2402_10BB, 0x2404_0055, 0x0000_000C, 0x7C02_E83B],
-            false,
-            0x55,
-        ),
-        (&[0x2402_01FF], false, 255),
-    ];
-    for (code, failed, status) in rows {
+/// What runs before the exit, the exit, and its status.
+type Exit<'a> = (&'a [u32], &'a [u32; 3], u8);
+
+/// Each program exits with its status and writes nothing.
+fn programs_exit(rt: &impl Abort, alloc: Global, rows: &[Exit]) -> Result<(), Fail> {
+    for (code, exit, status) in rows {
         let mut words = code.to_vec(alloc)?;
-        words.extend_from_slice(if failed { &EXIT_WITH_A3 } else { &EXIT_WITH_V0 })?;
+        words.extend_from_slice(*exit)?;
         let run = run_of(alloc, &words, 0x100, b"")?;
-        assert!(rt; run.answer.end == End::Exited(status), "{status}");
+        assert!(rt; run.answer.end == End::Exited(*status), "{status}");
         assert_eq!(rt; run.out.len(), 0);
     }
     Ok(())
 }
 
 #[test]
+fn numbers_that_are_no_call(rt: HostRuntime) -> Result<(), Fail> {
+    // ENOSYS is 89.
+    let rows: [Exit; 3] = [
+        (&[SET_V0 | 4999, SYSCALL], &EXIT_WITH_V0, 89),
+        (&[SET_V0 | 4999, SYSCALL], &EXIT_WITH_A3, 1),
+        (&[SET_V0 | 5, SYSCALL], &EXIT_WITH_V0, 89),
+    ];
+    programs_exit(&rt, rt.alloc(), &rows)
+}
+
+#[test]
+fn writes_that_move_nothing(rt: HostRuntime) -> Result<(), Fail> {
+    let to_2 = [SET_V0 | WRITE, SET_A0 | 2, SET_A2 | 1, SYSCALL];
+    let mut no_bytes = WRITE_UNMAPPED;
+    no_bytes[3] = SET_A2;
+    // EBADF is 9, EFAULT 14. Of no bytes none has to be readable.
+    let rows: [Exit; 4] = [
+        (&to_2, &EXIT_WITH_V0, 9),
+        (&WRITE_UNMAPPED, &EXIT_WITH_V0, 14),
+        (&WRITE_UNMAPPED, &EXIT_WITH_A3, 1),
+        (&no_bytes, &EXIT_WITH_V0, 0),
+    ];
+    programs_exit(&rt, rt.alloc(), &rows)
+}
+
+#[test]
+fn calls_of_a_starting_thread(rt: HostRuntime) -> Result<(), Fail> {
+    let head_of_12 = [SET_V0 | SET_ROBUST_LIST, SET_A1 | 12, SYSCALL];
+    let head_of_13 = [SET_V0 | SET_ROBUST_LIST, SET_A1 | 13, SYSCALL];
+    let thread_area = [
+        SET_V0 | SET_THREAD_AREA,
+        SET_A0 | 0x55,
+        SYSCALL,
+        READ_THREAD_POINTER,
+    ];
+    // EINVAL is 22.
+    let rows: [Exit; 4] = [
+        (&[SET_V0 | SET_TID_ADDRESS, SYSCALL], &EXIT_WITH_V0, 100),
+        (&head_of_12, &EXIT_WITH_V0, 0),
+        (&head_of_13, &EXIT_WITH_V0, 22),
+        (&thread_area, &EXIT_WITH_V0, 0x55),
+    ];
+    programs_exit(&rt, rt.alloc(), &rows)
+}
+
+#[test]
+fn exit_keeps_the_low_8_bits(rt: HostRuntime) -> Result<(), Fail> {
+    programs_exit(&rt, rt.alloc(), &[(&[SET_V0 | 0x1FF], &EXIT_WITH_V0, 255)])
+}
+
+#[test]
 fn writes_the_longest_readable_prefix(rt: HostRuntime) -> Result<(), Fail> {
     let alloc = rt.alloc();
     let write = [
-        0x2402_0FA4,
-        0x2404_0001,
-        0x3C05_0040,
-        0x34A5_0FFD,
-        0x2406_0008,
-        0x0000_000C,
+        SET_V0 | WRITE,
+        SET_A0 | 1,
+        SET_A1_HIGH | 0x40,
+        OR_A1 | 0xFFD,
+        SET_A2 | 8,
+        SYSCALL,
     ];
     let mut words = write.to_vec(alloc)?;
     words.extend_from_slice(&EXIT_WITH_V0)?;
@@ -251,11 +340,11 @@ fn writes_the_longest_readable_prefix(rt: HostRuntime) -> Result<(), Fail> {
 fn faults_kill_in_the_next_turn(rt: HostRuntime) -> Result<(), Fail> {
     let alloc = rt.alloc();
     let rows = [
-        (0x0007_000D, End::Killed(8), 136),
-        (0x0000_000D, End::Killed(5), 133),
-        (0x0000_01F4, End::Killed(8), 136),
-        (0x8C08_0000, End::Killed(11), 139),
-        (0x0000_0001, End::Killed(4), 132),
+        (BREAK_7, End::Killed(8), 136),
+        (BREAK, End::Killed(5), 133),
+        (TRAP_7, End::Killed(8), 136),
+        (LOAD_T0_FROM_ZERO, End::Killed(11), 139),
+        (MOVE_ON_FLOAT, End::Killed(4), 132),
     ];
     for (word, end, status) in rows {
         let run = run_of(alloc, &[word], 0x100, b"")?;
@@ -263,43 +352,38 @@ fn faults_kill_in_the_next_turn(rt: HostRuntime) -> Result<(), Fail> {
         assert_eq!(rt; run.answer.status, status);
         assert_eq!(rt; run.answer.turns, 2);
     }
-    // LL, a system call or none, SC: the status is what SC gives.
-    let linked = [
-        0xC3A8_0000,
-        0x2402_0005,
-        0x0000_000C,
-        0xE3A8_0000,
-        0x2502_0000,
-    ];
-    let kept = [
-        0xC3A8_0000,
-        0x2402_0005,
-        0x0000_0000,
-        0xE3A8_0000,
-        0x2502_0000,
-    ];
-    for (code, status) in [(linked, 0), (kept, 1)] {
-        let mut words = code.to_vec(alloc)?;
-        words.extend_from_slice(&EXIT_WITH_V0)?;
-        let run = run_of(alloc, &words, 0x100, b"")?;
-        assert!(rt; run.answer.end == End::Exited(status), "{status}");
-    }
     Ok(())
+}
+
+#[test]
+fn call_breaks_a_link(rt: HostRuntime) -> Result<(), Fail> {
+    // LL, a system call or none, SC: the status is what SC gives.
+    let call = [
+        LOAD_LINKED_T0,
+        SET_V0 | 5,
+        SYSCALL,
+        STORE_CONDITIONAL_T0,
+        SET_V0_TO_T0,
+    ];
+    let none = [
+        LOAD_LINKED_T0,
+        SET_V0 | 5,
+        NOP,
+        STORE_CONDITIONAL_T0,
+        SET_V0_TO_T0,
+    ];
+    let rows: [Exit; 2] = [(&call, &EXIT_WITH_V0, 0), (&none, &EXIT_WITH_V0, 1)];
+    programs_exit(&rt, rt.alloc(), &rows)
 }
 
 #[test]
 fn early_stop(rt: HostRuntime) -> Result<(), Fail> {
     let alloc = rt.alloc();
+    // Three writes of one byte, each ten instructions long.
     let mut words = Vec::new(alloc);
-    for address in [0x34A5_0100, 0x34A5_0101, 0x34A5_0102] {
-        words.extend_from_slice(&[0x3C04_0000, 0x3484_0001, 0x3C05_0040, address, 0x3C06_0000])?;
-        words.extend_from_slice(&[
-            0x34C6_0001,
-            0x3C07_0000,
-            0x34E7_0000,
-            0x2402_0FA4,
-            0x0000_000C,
-        ])?;
+    for place in [0x100, 0x101, 0x102] {
+        words.extend_from_slice(&[SET_A0 | 1, SET_A1_HIGH | 0x40, OR_A1 | place, SET_A2 | 1])?;
+        words.extend_from_slice(&[NOP, NOP, NOP, NOP, SET_V0 | WRITE, SYSCALL])?;
     }
     let program = executable(alloc, &words, 0x100, b"abc")?;
     let run = session_of(alloc, &["run", "p"], program, &[3])?;
@@ -310,112 +394,96 @@ fn early_stop(rt: HostRuntime) -> Result<(), Fail> {
     Ok(())
 }
 
-#[test]
-fn refused_words(rt: HostRuntime) -> Result<(), Fail> {
-    let alloc = rt.alloc();
-    let rows: [(&[&str], &str); 14] = [
-        (&[], "o32run: usage at word 0\n"),
-        (&["walk"], "o32run: usage at word 0\n"),
-        (&["run"], "o32run: usage at word 1\n"),
-        (&["run", "--budget", "0", "p"], "o32run: usage at word 2\n"),
-        (&["run", "--budget", "01", "p"], "o32run: usage at word 2\n"),
-        (&["run", "--budget", "+1", "p"], "o32run: usage at word 2\n"),
-        (
-            &["run", "--budget", "1000000000001", "p"],
-            "o32run: usage at word 2\n",
-        ),
-        (&["run", "--budget"], "o32run: usage at word 2\n"),
-        (
-            &["run", "--budget", "1", "--budget", "1", "p"],
-            "o32run: usage at word 3\n",
-        ),
-        (&["run", "--env", "=b", "p"], "o32run: usage at word 2\n"),
-        (&["run", "--trace", "t", "p"], "o32run: usage at word 1\n"),
-        (&["run", ""], "o32run: usage at word 1\n"),
-        (&["run", "p", "a\0"], "o32run: usage at word 2\n"),
-        (&["run", "q"], "o32run: file 1 missing\n"),
-    ];
-    for (words, line) in rows {
-        let run = session_of(
-            alloc,
-            words,
-            executable(alloc, &HELLO, 0x100, b"Hi\n")?,
-            &[],
-        )?;
+/// Each list of words is refused at the word of this index, over a store that has `p` alone.
+fn words_are_refused(
+    rt: &impl Abort,
+    alloc: Global,
+    rows: &[(&[&str], usize)],
+) -> Result<(), Fail> {
+    for (words, at) in rows {
+        let run = session_of(alloc, words, hello(alloc)?, &[])?;
+        let line = format!(in alloc; "o32run: usage at word {at}\n")?;
+        assert_eq!(rt; run.err.as_slice(), line.as_bytes());
         assert_eq!(rt; run.answer.status, 125);
         assert_eq!(rt; run.answer.turns, 0);
-        assert_eq!(rt; run.err.as_slice(), line.as_bytes());
         assert_eq!(rt; run.out.len(), 0);
     }
-    let run = session_of(
-        alloc,
-        &["run", "--budget", "1000000000000", "p"],
-        executable(alloc, &HELLO, 0x100, b"Hi\n")?,
-        &[],
-    )?;
-    assert!(rt; run.answer.end == End::Exited(7));
     Ok(())
 }
 
 #[test]
+fn refused_words(rt: HostRuntime) -> Result<(), Fail> {
+    let rows: [(&[&str], usize); 13] = [
+        (&[], 0),
+        (&["walk"], 0),
+        (&["run"], 1),
+        (&["run", "--budget", "0", "p"], 2),
+        (&["run", "--budget", "01", "p"], 2),
+        (&["run", "--budget", "+1", "p"], 2),
+        (&["run", "--budget", "1000000000001", "p"], 2),
+        (&["run", "--budget"], 2),
+        (&["run", "--budget", "1", "--budget", "1", "p"], 3),
+        (&["run", "--env", "=b", "p"], 2),
+        (&["run", "--trace", "t", "p"], 1),
+        (&["run", ""], 1),
+        (&["run", "p", "a\0"], 2),
+    ];
+    words_are_refused(&rt, rt.alloc(), &rows)
+}
+
+#[test]
 fn refused_names(rt: HostRuntime) -> Result<(), Fail> {
-    let alloc = rt.alloc();
-    let rows: [(&[&str], &str); 16] = [
-        (&["run", "--image"], "o32run: usage at word 2\n"),
-        (&["run", "--save"], "o32run: usage at word 2\n"),
-        (&["run", "--image", "", "p"], "o32run: usage at word 2\n"),
-        (&["run", "--save", "", "p"], "o32run: usage at word 2\n"),
-        (&["run", "--image", "a\0", "p"], "o32run: usage at word 2\n"),
-        (&["run", "--save", "a\0", "p"], "o32run: usage at word 2\n"),
-        (
-            &["run", "--image", "i", "--image", "j", "p"],
-            "o32run: usage at word 3\n",
-        ),
-        (
-            &["run", "--save", "s", "--save", "t", "p"],
-            "o32run: usage at word 3\n",
-        ),
-        (
-            &["run", "--image", "x", "--save", "x", "p"],
-            "o32run: usage at word 4\n",
-        ),
+    let rows: [(&[&str], usize); 14] = [
+        (&["run", "--image"], 2),
+        (&["run", "--save"], 2),
+        (&["run", "--image", "", "p"], 2),
+        (&["run", "--save", "", "p"], 2),
+        (&["run", "--image", "a\0", "p"], 2),
+        (&["run", "--save", "a\0", "p"], 2),
+        (&["run", "--image", "i", "--image", "j", "p"], 3),
+        (&["run", "--save", "s", "--save", "t", "p"], 3),
+        (&["run", "--image", "x", "--save", "x", "p"], 4),
         (
             &["run", "--save", "x", "--budget", "1", "--image", "x", "p"],
-            "o32run: usage at word 6\n",
+            6,
         ),
-        (&["run", "--save", "p", "p"], "o32run: usage at word 3\n"),
-        (
-            &["run", "--save", "p", "--image", "i", "p"],
-            "o32run: usage at word 5\n",
-        ),
-        (
-            &["run", "--image", "p", "--save", "p", "p"],
-            "o32run: usage at word 4\n",
-        ),
+        (&["run", "--save", "p", "p"], 3),
+        (&["run", "--save", "p", "--image", "i", "p"], 5),
+        (&["run", "--image", "p", "--save", "p", "p"], 4),
         // The names are looked at last.
-        (
-            &["run", "--save", "p", "p", "a\0"],
-            "o32run: usage at word 4\n",
-        ),
+        (&["run", "--save", "p", "p", "a\0"], 4),
+    ];
+    words_are_refused(&rt, rt.alloc(), &rows)
+}
+
+#[test]
+fn missing_files(rt: HostRuntime) -> Result<(), Fail> {
+    let alloc = rt.alloc();
+    let rows: [(&[&str], &str); 3] = [
+        (&["run", "q"], "o32run: file 1 missing\n"),
+        (&["run", "--image", "i", "p"], "o32run: file 2 missing\n"),
         // A value is the next word, whatever it is.
         (
             &["run", "--image", "--save", "p"],
             "o32run: file 2 missing\n",
         ),
-        (&["run", "--image", "i", "p"], "o32run: file 2 missing\n"),
     ];
     for (words, line) in rows {
-        let run = session_of(
-            alloc,
-            words,
-            executable(alloc, &HELLO, 0x100, b"Hi\n")?,
-            &[],
-        )?;
+        let run = session_of(alloc, words, hello(alloc)?, &[])?;
         assert_eq!(rt; run.err.as_slice(), line.as_bytes());
         assert_eq!(rt; run.answer.status, 125);
         assert_eq!(rt; run.answer.turns, 0);
         assert_eq!(rt; run.out.len(), 0);
     }
+    Ok(())
+}
+
+#[test]
+fn runs_with_the_greatest_budget(rt: HostRuntime) -> Result<(), Fail> {
+    let alloc = rt.alloc();
+    let words = ["run", "--budget", "1000000000000", "p"];
+    let run = session_of(alloc, &words, hello(alloc)?, &[])?;
+    assert!(rt; run.answer.end == End::Exited(7));
     Ok(())
 }
 
@@ -442,7 +510,7 @@ fn refused_programs(rt: HostRuntime) -> Result<(), Fail> {
         (72, &[0x1D, 0x4C, 0x10, 0], "17"),
     ];
     for (place, bytes, rule) in rows {
-        let mut file = executable(alloc, &HELLO, 0x100, b"Hi\n")?;
+        let mut file = hello(alloc)?;
         // A second header that asks for the same segment, for rule 15.
         let header = file.get(52..84).ok_or("short")?.to_vec(alloc)?;
         write_at(&mut file, 84, &header);
@@ -452,7 +520,7 @@ fn refused_programs(rt: HostRuntime) -> Result<(), Fail> {
         assert_eq!(rt; run.err.as_slice(), line.as_bytes());
         assert_eq!(rt; run.answer.status, 125);
     }
-    let mut short = executable(alloc, &HELLO, 0x100, b"Hi\n")?;
+    let mut short = hello(alloc)?;
     short.truncate(51);
     let run = session_of(alloc, &["run", "p"], short, &[])?;
     assert_eq!(rt; run.err.as_slice(), b"o32run: elf rule 1\n".as_slice());
@@ -469,8 +537,8 @@ fn write_at(file: &mut [u8], place: usize, bytes: &[u8]) {
 #[test]
 fn arguments_and_their_limit(rt: HostRuntime) -> Result<(), Fail> {
     let alloc = rt.alloc();
-    // `lw $v0, 0($sp)`: the count of arguments.
-    let mut words = [0x8FA2_0000].to_vec(alloc)?;
+    // The count of arguments is at $sp.
+    let mut words = [LOAD_V0_FROM_SP].to_vec(alloc)?;
     words.extend_from_slice(&EXIT_WITH_V0)?;
     let counted = session_of(
         alloc,
@@ -508,29 +576,17 @@ fn arguments_and_their_limit(rt: HostRuntime) -> Result<(), Fail> {
 #[test]
 fn refused_images(rt: HostRuntime) -> Result<(), Fail> {
     let alloc = rt.alloc();
-    let program = executable(alloc, &HELLO, 0x100, b"Hi\n")?;
+    let program = hello(alloc)?;
     let mut longer = EMPTY_ROOT.to_vec(alloc)?;
     longer.push(0)?;
     let mut file_as_root = EMPTY_ROOT.to_vec(alloc)?;
     write_at(&mut file_as_root, 20, &[1]);
     // PROGRAM's file, the image, and the line.
     let rows: [(&[u8], &[u8], &str); 5] = [
-        (program.as_slice(), b"", "o32run: image rule 1 at 0\n"),
-        (
-            program.as_slice(),
-            longer.as_slice(),
-            "o32run: image rule 14 at 35\n",
-        ),
-        (
-            program.as_slice(),
-            file_as_root.as_slice(),
-            "o32run: image rule 5 at 20\n",
-        ),
-        (
-            program.as_slice(),
-            program.as_slice(),
-            "o32run: image rule 2 at 0\n",
-        ),
+        (&program, b"", "o32run: image rule 1 at 0\n"),
+        (&program, &longer, "o32run: image rule 14 at 35\n"),
+        (&program, &file_as_root, "o32run: image rule 5 at 20\n"),
+        (&program, &program, "o32run: image rule 2 at 0\n"),
         (b"", b"", "o32run: elf rule 1\n"),
     ];
     for (file, image, line) in rows {
@@ -545,7 +601,13 @@ fn refused_images(rt: HostRuntime) -> Result<(), Fail> {
         assert_eq!(rt; run.answer.status, 125);
         assert!(rt; run.store.file("s").is_none());
     }
-    // The image is looked at before the start.
+    Ok(())
+}
+
+#[test]
+fn image_is_looked_at_before_the_start(rt: HostRuntime) -> Result<(), Fail> {
+    let alloc = rt.alloc();
+    let program = hello(alloc)?;
     let mut long = String::new(alloc);
     for _ in 0..131_072 {
         long.push_str("a")?;
@@ -567,7 +629,7 @@ fn refused_images(rt: HostRuntime) -> Result<(), Fail> {
 #[test]
 fn saved_trees(rt: HostRuntime) -> Result<(), Fail> {
     let alloc = rt.alloc();
-    let program = executable(alloc, &HELLO, 0x100, b"Hi\n")?;
+    let program = hello(alloc)?;
     // The words, how the run ends, and the image that is saved to `s`, where there was a file before.
     let rows: [(&[&str], End, &[u8]); 4] = [
         (&["run", "--save", "s", "p"], End::Exited(7), &EMPTY_ROOT),
@@ -599,33 +661,71 @@ fn saved_trees(rt: HostRuntime) -> Result<(), Fail> {
     Ok(())
 }
 
+/// `Hi` written over a store whose image `i` is saved to `s`, where the puts of standard output and the calls on the
+/// store of these numbers fail. The loads of program and image are calls 1 and 2 on the store, `create` is call 3, `append`
+/// call 4.
+fn saving_session(alloc: Global, puts: &[u64], store_calls: &[u64]) -> Result<Done, Fail> {
+    let program = hello(alloc)?;
+    session_over(
+        alloc,
+        &["run", "--save", "s", "--image", "i", "p"],
+        &[("p", program.as_slice()), ("i", &ONE_FILE), ("s", b"old")],
+        puts,
+        store_calls,
+    )
+}
+
+/// The session answered so, wrote this to standard output and nothing to standard error, and left `saved` in `s`.
+fn session_left(
+    rt: &impl Abort,
+    run: &Done,
+    answer: Answer,
+    out: &[u8],
+    saved: &[u8],
+) -> Result<(), Fail> {
+    assert!(rt; run.answer == answer);
+    assert_eq!(rt; run.out.as_slice(), out);
+    assert_eq!(rt; run.err.len(), 0);
+    assert_eq!(rt; run.store.file("s").ok_or("no file")?, saved);
+    Ok(())
+}
+
 #[test]
-fn stops_with_a_store_that_fails(rt: HostRuntime) -> Result<(), Fail> {
+fn stops_where_a_load_fails(rt: HostRuntime) -> Result<(), Fail> {
     let alloc = rt.alloc();
-    let program = executable(alloc, &HELLO, 0x100, b"Hi\n")?;
-    // The puts of standard output and the calls on the store that fail, the end with its status and turns, standard output,
-    // and the file `s`. The loads of program and image are calls 1 and 2 on the store, `create` is call 3, `append` call 4.
-    let rows: [(&[u64], &[u64], End, u8, u64, &[u8], &[u8]); 5] = [
-        (&[], &[1], End::ReadFault, 122, 0, b"", b"old"),
-        (&[], &[2], End::ReadFault, 122, 0, b"", b"old"),
-        (&[], &[3], End::WriteFault, 119, 9, b"Hi\n", b"old"),
-        (&[], &[4], End::WriteFault, 119, 9, b"Hi\n", b""),
-        (&[1], &[], End::WriteFault, 119, 5, b"", b"old"),
-    ];
-    for (failing, failing_files, end, status, turns, out, saved) in rows {
-        let run = session_over(
-            alloc,
-            &["run", "--save", "s", "--image", "i", "p"],
-            &[("p", program.as_slice()), ("i", &ONE_FILE), ("s", b"old")],
-            failing,
-            failing_files,
-        )?;
-        assert!(rt; run.answer.end == end);
-        assert_eq!(rt; run.answer.status, status);
-        assert_eq!(rt; run.answer.turns, turns);
-        assert_eq!(rt; run.out.as_slice(), out);
-        assert_eq!(rt; run.err.len(), 0);
-        assert_eq!(rt; run.store.file("s").ok_or("no file")?, saved);
+    let answer = Answer {
+        status: 122,
+        end: End::ReadFault,
+        turns: 0,
+    };
+    for load in [1, 2] {
+        let run = saving_session(alloc, &[], &[load])?;
+        session_left(&rt, &run, answer, b"", b"old")?;
     }
     Ok(())
+}
+
+#[test]
+fn stops_where_the_save_fails(rt: HostRuntime) -> Result<(), Fail> {
+    let alloc = rt.alloc();
+    let answer = Answer {
+        status: 119,
+        end: End::WriteFault,
+        turns: 9,
+    };
+    let unmade = saving_session(alloc, &[], &[3])?;
+    session_left(&rt, &unmade, answer, b"Hi\n", b"old")?;
+    let unwritten = saving_session(alloc, &[], &[4])?;
+    session_left(&rt, &unwritten, answer, b"Hi\n", b"")
+}
+
+#[test]
+fn stops_where_standard_output_fails(rt: HostRuntime) -> Result<(), Fail> {
+    let run = saving_session(rt.alloc(), &[1], &[])?;
+    let answer = Answer {
+        status: 119,
+        end: End::WriteFault,
+        turns: 5,
+    };
+    session_left(&rt, &run, answer, b"", b"old")
 }

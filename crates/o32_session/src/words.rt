@@ -1,18 +1,21 @@
 //! The words after the emulator's own name: `run [--image F] [--budget N] [--save F]
 //! [--env K=V].. PROGRAM [WORD..]`.
 
-ghost use Rattle.std.specs.Prelude.{ℕ, ◌≡◌, ◌+◌, ◌<◌, ◌^◌, ◌==◌, length, drop, IfOk, IfErr, Some, None};
-ghost use Rattle.std.specs.List.{list_any, list_all};
+ghost use Rattle.std.specs.Prelude.{ℕ, ◌≡◌, ◌+◌, ◌<◌, ◌^◌, ◌==◌, length, drop, if◌then◌else◌, IfOk, IfErr, IfSome, Some, None};
+ghost use Rattle.std.specs.List.{list_any, list_all, position};
+ghost use Rattle.std.specs.String.{string_bytes};
 ghost use Rattle.std.specs.Char.{is_ascii_digit};
 ghost use Rattle.o32_session.specs.Words.{texts, read_words, read_line, read_guest, budget_of, is_setting, is_program, is_file_name, is_plain_number, has_nul, no_options, Line, line_of, Asks, word_at, later_of_equal, equal_to_saved, equal_name};
-ghost use Rattle.o32_session.specs.Steps.{read_from, step_of, step_at_option, step_at_image, step_at_budget, step_at_save, step_at_setting, Option_or_program};
+ghost use Rattle.o32_session.specs.Steps.{read_from, step_of, step_at_option, step_at_setting, Option_or_program};
+ghost use Rattle.o32_session.specs.declared.words.Expected.TheVariants.{OptionOrProgram};
+ghost use Rattle.o32_session.specs.declared.words.Step.TheVariants.{GoesOn, IsWrong};
 ghost use Rattle.o32_session.specs.Reader.{IsPlace, place_seen, guest_reading, options_seen, line_seen, IsReason};
 
 use std::alloc::{AllocError, AllocFailed, Global};
 
 /// What the words of a run ask for.
 #[derive(Drop)]
-pub struct RunLine {
+pub(crate) struct RunLine {
     /// The most turns that the run may take: 1 to 10^12.
     pub budget: u64,
     /// The guest's environment, in the order of its `--env` options.
@@ -27,7 +30,7 @@ pub struct RunLine {
 
 /// Why the words give no run.
 #[derive(Clone, Copy)]
-pub enum WordsError {
+pub(crate) enum WordsError {
     /// The index of the first word at which a reading from the left fails, or the number of words where one is missing.
     Usage { word: usize },
     /// There was no memory for the environment.
@@ -55,7 +58,7 @@ impl<T: Drop> From<AllocFailed<T>> for WordsError {
 }
 
 /// The most turns of a run whose words give no budget.
-pub const DEFAULT_BUDGET: u64 = 1_000_000_000;
+pub(crate) const DEFAULT_BUDGET: u64 = 1_000_000_000;
 
 /// The greatest budget.
 const GREATEST_BUDGET: u64 = 1_000_000_000_000;
@@ -135,14 +138,8 @@ fn budget(word: &str) -> Option<u64>
     if !is_plain(word) {
         return None;
     }
-    let Ok(turns) = word.parse::<u64>() else {
-        return None;
-    };
-    if turns <= GREATEST_BUDGET {
-        Some(turns)
-    } else {
-        None
-    }
+    let turns = word.parse::<u64>().ok()?;
+    (turns <= GREATEST_BUDGET).then_some(turns)
 }
 
 fn place_at(word: &str) -> Place
@@ -163,6 +160,13 @@ fn place_at(word: &str) -> Place
     }
 }
 
+/// The index of a word, where it may be the name of a file.
+fn file_name(at: usize, word: &str) -> Option<usize>
+    ensures { result ≡ (if is_file_name word.now then Some at else None) }
+{
+    is_name_of_file(word).then_some(at)
+}
+
 /// The options that were read.
 #[derive(Drop)]
 struct Options {
@@ -177,6 +181,18 @@ enum Step {
     GoesOn(Expected),
     IsProgram,
     IsWrong,
+}
+
+/// Keeps the value of an option in its place: a value that is none is a wrong word.
+fn keep<T: Copy>(place: &mut Option<T>, value: Option<T>) -> Step
+    ensures kept { IfSome value (λ v. (result ≡ GoesOn OptionOrProgram) × (place.new ≡ Some v)) }
+    ensures wrong { value ≡ None → result ≡ IsWrong }
+{
+    if value.is_none() {
+        return Step::IsWrong;
+    }
+    *place = value;
+    Step::GoesOn(Expected::OptionOrProgram)
 }
 
 impl Options {
@@ -205,9 +221,9 @@ impl Options {
     {
         match expected {
             Expected::OptionOrProgram => Ok(self.step_at_option(place_at(word))),
-            Expected::ImageValue => Ok(self.step_at_image(at, word)),
-            Expected::BudgetValue => Ok(self.step_at_budget(budget(word))),
-            Expected::SaveValue => Ok(self.step_at_save(at, word)),
+            Expected::ImageValue => Ok(keep(&mut self.image, file_name(at, word))),
+            Expected::BudgetValue => Ok(keep(&mut self.budget, budget(word))),
+            Expected::SaveValue => Ok(keep(&mut self.save, file_name(at, word))),
             Expected::EnvironmentValue => self.step_at_setting(alloc, word),
         }
     }
@@ -228,40 +244,6 @@ impl Options {
         }
     }
 
-    fn step_at_image(&mut self, at: usize, word: &str) -> Step
-        ensures { StepIs (step_at_image at (options_seen self.old) word.now) result self.old self.new }
-    {
-        if is_name_of_file(word) {
-            self.image = Some(at);
-            Step::GoesOn(Expected::OptionOrProgram)
-        } else {
-            Step::IsWrong
-        }
-    }
-
-    fn step_at_save(&mut self, at: usize, word: &str) -> Step
-        ensures { StepIs (step_at_save at (options_seen self.old) word.now) result self.old self.new }
-    {
-        if is_name_of_file(word) {
-            self.save = Some(at);
-            Step::GoesOn(Expected::OptionOrProgram)
-        } else {
-            Step::IsWrong
-        }
-    }
-
-    fn step_at_budget(&mut self, turns: Option<u64>) -> Step
-        ensures { StepIs (step_at_budget (options_seen self.old) turns) result self.old self.new }
-    {
-        match turns {
-            Some(turns) => {
-                self.budget = Some(turns);
-                Step::GoesOn(Expected::OptionOrProgram)
-            }
-            None => Step::IsWrong,
-        }
-    }
-
     fn step_at_setting(&mut self, alloc: Global, word: &str) -> Result<Step, AllocError>
         ensures { IfOk result (λ step. StepIs (step_at_setting (options_seen self.old) word.now) step self.old self.new) }
     {
@@ -279,20 +261,18 @@ fn guest_error(words: &[String], from: usize) -> Option<usize>
     requires { from + length words.now < 2 ^ 64 }
     ensures { (line : Line) → read_guest line from (texts words.now) ≡ guest_reading line result }
 {
-    let mut rest = words;
-    let mut at = from;
-    while let [word, after @ ..] = rest {
-        if holds_nul(word.as_str()) {
-            return Some(at);
-        }
-        rest = after;
-        at += 1;
-    }
-    None
+    Some(from + first_with_nul(words)?)
+}
+
+/// The place of the first word that holds a NUL.
+fn first_with_nul(words: &[String]) -> Option<usize>
+    ensures { result ≡ position (λ word. has_nul (string_bytes word)) words.now }
+{
+    words.iter().position(|word| holds_nul(word.as_str()))
 }
 
 /// The word at an index, and the empty word where there is none.
-pub fn word_at(words: &[String], index: usize) -> &str
+pub(crate) fn word_at(words: &[String], index: usize) -> &str
     ensures { result.now ≡ word_at (texts words.now) index }
 {
     match words.get(index) {
@@ -328,10 +308,7 @@ fn equal_to_saved(words: &[String], line: &RunLine, saved: usize) -> Option<usiz
 fn equal_name(words: &[String], line: &RunLine) -> Option<usize>
     ensures { result ≡ equal_name (texts words.now) (line_seen line.now) }
 {
-    match line.save {
-        Some(saved) => equal_to_saved(words, line, saved),
-        None => None,
-    }
+    equal_to_saved(words, line, line.save?)
 }
 
 /// Reads the words of a run, the emulator's own name left out.
@@ -340,17 +317,15 @@ fn equal_name(words: &[String], line: &RunLine) -> Option<usize>
 ///
 /// `Usage` exactly where the words are not in the grammar; `NoMemory` where the environment found no memory.
 /// The grammar is this project's own.
-pub fn read(alloc: Global, words: &[String]) -> Result<RunLine, WordsError>
+pub(crate) fn read(alloc: Global, words: &[String]) -> Result<RunLine, WordsError>
     ensures line { IfOk result (λ line. read_words (texts words.now) ≡ Asks (line_seen line)) }
     ensures wrong { IfErr result (λ error. IsReason (read_words (texts words.now)) error) }
     ensures program { IfOk result (λ line. line.program < length words.now) }
 {
-    match read_line(alloc, words) {
-        Ok(line) => match equal_name(words, &line) {
-            Some(word) => Err(WordsError::Usage { word }),
-            None => Ok(line),
-        },
-        Err(error) => Err(error),
+    let line = read_line(alloc, words)?;
+    match equal_name(words, &line) {
+        Some(word) => Err(WordsError::Usage { word }),
+        None => Ok(line),
     }
 }
 

@@ -7,9 +7,9 @@ use Rattle.o32_session.specs.declared.answer.Refusal.{Refusal}
 use Rattle.o32_session.proofs.Trees.{empty_tree_valid}
 use Rattle.o32_session.proofs.image.first_tree.Goals as goal
 
-pub returns-in-Ok-clause-tree : goal.returns-in-Ok-clause-tree
-returns-in-Ok-clause-tree g c = (
-  subst (λ i. IsOpened (g.F.Store.files c.args.files.now) (option_map (word_at (texts c.args.words.now)) i) (Ok c.in-Ok.tree))
-      (sym c.in-None.is) (ap (λ t. let r : Result Tree Refusal = Ok t in r) c.in-Ok.ensures),
-  subst IsValid (sym c.in-Ok.ensures) empty_tree_valid,
+pub returns-in_ok-empty_tree-in-None-clause-tree : goal.returns-in_ok-empty_tree-in-None-clause-tree
+returns-in_ok-empty_tree-in-None-clause-tree g c = (
+  subst (λ i. IsOpened (g.F.Store.files c.args.files.now) (option_map (word_at (texts c.args.words.now)) i) (Ok c.in_ok-empty_tree-in-None.field-0))
+      (sym c.in-None.is) (ap (λ t. let r : Result Tree Refusal = Ok t in r) c.in_ok-empty_tree-in-None.ensures),
+  subst IsValid (sym c.in_ok-empty_tree-in-None.ensures) empty_tree_valid,
 )
