@@ -20,11 +20,12 @@ use kernel_core::{CoreError, Errno};
 use slab::Slab;
 
 impl Vfs {
-    /// Writes the bytes to a file from `at` on and answers how many (pwrite(2)): as many as there are
-    /// blocks for. The times of its last modification and change are set. It is refused with EFBIG where
-    /// it would end past 2^44 bytes, and with ENOSPC where no byte has a block; a write of no byte is
-    /// never refused, and changes nothing. After NoMemory a first part of the bytes may be written, and
-    /// the times are as they were. (The limits are this project's own.)
+    /// Writes the bytes to a file from byte `at` on and answers how many (pwrite(2)): as many as there
+    /// are blocks for. The times of its last modification and change are set. `node` is the key of a live
+    /// regular file, and `now` is in nanoseconds since the Epoch, within whole seconds of 64 bits. It is
+    /// refused with EFBIG where it would end past 2^44 bytes, and with ENOSPC where no byte has a block; a
+    /// write of no byte is never refused, and changes nothing. After NoMemory a first part of the bytes may
+    /// be written, and the times are as they were. (The limits are this project's own.)
     pub fn write(
         &mut self,
         node: usize,
@@ -47,8 +48,10 @@ impl Vfs {
         write_file(&mut self.table, &mut self.blocks, node, at, bytes, now)
     }
 
-    /// Makes `to` a file's size (ftruncate(2)), and sets the times of its last modification and change.
-    /// It is refused with EFBIG where that is above 2^44 (this project's own). It takes no memory.
+    /// Makes `to` a file's size in bytes (ftruncate(2)), and sets the times of its last modification and
+    /// change. `node` is the key of a live regular file, and `now` is in nanoseconds since the Epoch, within
+    /// whole seconds of 64 bits. It is refused with EFBIG where the size is above 2^44 (this project's own).
+    /// It takes no memory.
     pub fn set_size(&mut self, node: usize, to: u64, now: i128) -> Result<(), CoreError>
         requires live { IsLiveKey self.old node }
         requires file { IsSome (file_at self.old.nodes (number_at self.old node)) }

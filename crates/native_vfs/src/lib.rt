@@ -7,6 +7,7 @@ mod loading;
 mod making;
 mod node_calls;
 mod node_facts;
+mod numbers;
 mod path;
 mod place;
 mod refusals;

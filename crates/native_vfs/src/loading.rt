@@ -15,6 +15,7 @@ ghost use Rattle.native_vfs.specs.Loading as load;
 ghost use Rattle.native_vfs.specs.Steps.{IsAddition};
 ghost use Rattle.native_vfs.specs.Stored.{Table, nodes_of, inode_of, content_of, listing_of, HasDistinctNumbers, ContentLeads, DirectoryLeads, AgreesPool, Leads};
 
+use crate::numbers::place_of;
 use crate::refusals::is_directory;
 use crate::seconds::nanoseconds;
 use crate::steps::insert;
@@ -23,13 +24,10 @@ use crate::vfs::Vfs;
 use directory_names::{Directory, NodeRef};
 use file_blocks::Content;
 use kernel_core::{Block, DirEntry, Kind, NoMemory, Node, Tree};
-use number_pool::{NumberPool, PLACES};
+use number_pool::NumberPool;
 use slab::Slab;
 use std::alloc::{AllocError, Global};
 use std::collections::BTreeMap;
-
-/// The least number that the pool gives out.
-const FIRST_NUMBER: u64 = 2;
 
 /// How often a number is named, and the number of the node that names it first.
 #[derive(Clone, Copy)]
@@ -87,11 +85,8 @@ fn entry_count(nodes: &[Node]) -> u32
     requires few { all_entries nodes.now ≤ entry_limit }
     ensures { result ≡ all_entries nodes.now }
 {
-    let mut count = 0;
-    for node in nodes {
-        count += entries(node).len() as u32;
-    }
-    count
+    let count: usize = nodes.iter().map(|node| entries(node).len()).sum();
+    count as u32
 }
 
 /// How many blocks all files keep.
@@ -99,11 +94,8 @@ fn block_count(nodes: &[Node]) -> u32
     requires few { all_blocks nodes.now ≤ block_limit }
     ensures { result ≡ all_blocks nodes.now }
 {
-    let mut count = 0;
-    for node in nodes {
-        count += blocks(node).len() as u32;
-    }
-    count
+    let count: usize = nodes.iter().map(|node| blocks(node).len()).sum();
+    count as u32
 }
 
 /// A pool from which the numbers of the nodes are taken.
@@ -112,9 +104,8 @@ fn taken_numbers(alloc: Global, nodes: &[Node]) -> Result<NumberPool, NoMemory>
 {
     let mut numbers = NumberPool::new(alloc)?;
     for node in nodes {
-        let number = node.number;
-        if number >= FIRST_NUMBER && number - FIRST_NUMBER < u64::from(PLACES) {
-            numbers.take((number - FIRST_NUMBER) as u32);
+        if let Some(place) = place_of(node.number) {
+            numbers.take(place);
         }
     }
     Ok(numbers)
@@ -179,10 +170,10 @@ fn node_ref(places: &BTreeMap<u64, usize>, number: u64) -> NodeRef
     ensures number { result.number ≡ number }
     ensures key { tree_get nat_cmp places.now number ≡ Some result.key }
 {
-    NodeRef {
-        number,
-        key: *places.get(&number).unwrap(),
-    }
+    let Some(key) = places.get(&number) else {
+        unreachable!()
+    };
+    NodeRef { number, key: *key }
 }
 
 /// The parent of a directory, which is the node that names it, or the root itself.
@@ -196,10 +187,12 @@ fn parent_ref(
     ensures key { tree_get nat_cmp places.now result.number ≡ Some result.key }
 {
     if number == ROOT {
-        node_ref(places, ROOT)
-    } else {
-        node_ref(places, namings.get(&number).unwrap().parent)
+        return node_ref(places, ROOT);
     }
+    let Some(naming) = namings.get(&number) else {
+        unreachable!()
+    };
+    node_ref(places, naming.parent)
 }
 
 // Nodes without entries

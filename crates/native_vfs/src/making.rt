@@ -12,6 +12,7 @@ ghost use Rattle.native_vfs.specs.Making.{IsMade, IsNamedAgain};
 ghost use Rattle.native_vfs.specs.Steps.{IsSame};
 ghost use Rattle.native_vfs.specs.Stored.{AgreesPool, ContentLeads, HasDistinctNumbers, content_of, keyed_of, nodes_of, number_of_key};
 
+use crate::numbers::number_of;
 use crate::place::Place;
 use crate::refusals::{link_refusal, make_refusal, number, symlink_refusal};
 use crate::steps::{add_link, add_name, insert, link, reserve_name};
@@ -134,10 +135,10 @@ impl Vfs {
         Ok(())
     }
 
-    /// Gives a file or a symbolic link the place's name as one more (link(2)). `node` is its key, and
-    /// `now` is in nanoseconds since the Epoch, within whole seconds of 64 bits. It is refused with EPERM
-    /// where the node is a directory, EEXIST where the name is there, ENOENT where the directory was
-    /// removed, and ENOSPC where 131,072 entries live or the directory's cookies end (these limits, and
+    /// Gives a file or a symbolic link the place's name as one more (link(2)). `node` is the key of a live
+    /// node, and `now` is in nanoseconds since the Epoch, within whole seconds of 64 bits. It is refused
+    /// with EPERM where the node is a directory, EEXIST where the name is there, ENOENT where the directory
+    /// was removed, and ENOSPC where 131,072 entries live or the directory's cookies end (these limits, and
     /// that EPERM comes before EEXIST, are this project's own). After an error nothing has changed.
     pub fn link(&mut self, node: usize, at: &Place, now: i128) -> Result<(), CoreError>
         requires live { IsLiveKey self.old node }
@@ -186,7 +187,7 @@ fn make(
     ensures numbers { OnErr result (numbers.new ≡ numbers.old) }
 {
     let place = free_place(numbers);
-    let number = u64::from(place) + 2;
+    let number = number_of(place);
     let name = copied(alloc, at.name.as_slice())?;
     reserve_name(table, at.dir)?;
     let stored = Stored {

@@ -13,6 +13,8 @@ use crate::vfs::Vfs;
 impl Vfs {
     /// Holds a node once more, as a file description that has it open does, or a use as working
     /// directory (open(2), chdir(2)): it stays, also without a name, until it is released as often.
+    /// `node` is the key of a live node of any kind, which has fewer than 2^32 - 1 holds (this project's
+    /// own limit).
     pub fn hold(&mut self, node: usize)
         requires live { IsLiveKey self.old node }
         requires few { IfSome (inode_at self.old node) (λ inode. inode.holds + 1 < 2 ^ 32) }
@@ -25,7 +27,7 @@ impl Vfs {
     }
 
     /// Releases one of a node's holds (close(2)). A node that has no name and no other hold goes, and its
-    /// key with it.
+    /// key with it. `node` is the key of a live node of any kind, which was held more often than released.
     pub fn release(&mut self, node: usize)
         requires live { IsLiveKey self.old node }
         requires held { IfSome (inode_at self.old node) (λ inode. 0 < inode.holds) }
@@ -38,7 +40,9 @@ impl Vfs {
         settle(&mut self.table, &mut self.numbers, &mut self.blocks, node);
     }
 
-    /// Sets the twelve mode bits of a node, and the time of its last change (chmod(2)).
+    /// Sets the twelve mode bits of a node, and the time of its last change (chmod(2)). `node` is the key
+    /// of a live node of any kind, `mode` is at most 0o7777, and `now` is in nanoseconds since the Epoch,
+    /// within whole seconds of 64 bits.
     pub fn set_mode(&mut self, node: usize, mode: u16, now: i128)
         requires live { IsLiveKey self.old node }
         requires mode { mode ≤ greatest_mode }
@@ -52,7 +56,8 @@ impl Vfs {
     }
 
     /// Sets the times of a node's last access and last modification where they are given, and that of
-    /// its last change (utimensat(2)).
+    /// its last change (utimensat(2)). `node` is the key of a live node of any kind, and each time is in
+    /// nanoseconds since the Epoch, within whole seconds of 64 bits.
     pub fn set_times(
         &mut self,
         node: usize,

@@ -12,12 +12,28 @@ ghost use Rattle.native_vfs.specs.Stored.{content_of, inode_of};
 use crate::place::Status;
 use crate::stored::{Stored, StoredContent};
 use crate::vfs::Vfs;
+use kernel_core::limits::BLOCK_SIZE;
 
-/// The size of a directory in bytes.
-const DIRECTORY_SIZE: u64 = 4096;
+/// The type bits of a regular file in a mode (inode(7)).
+const S_IFREG: u16 = 0o100_000;
+
+/// The type bits of a directory in a mode (inode(7)).
+const S_IFDIR: u16 = 0o040_000;
+
+/// The type bits of a symbolic link in a mode (inode(7)).
+const S_IFLNK: u16 = 0o120_000;
+
+/// The size of a directory in bytes, which is that of one block (this project's own).
+const DIRECTORY_SIZE: u64 = BLOCK_SIZE as u64;
+
+/// The unit of `st_blocks` in bytes (stat(2)).
+const SECTOR_SIZE: usize = 512;
+
+/// How many units of `st_blocks` a block has.
+const SECTORS_PER_BLOCK: u32 = (BLOCK_SIZE / SECTOR_SIZE) as u32;
 
 impl Vfs {
-    /// What stat(2) tells of a node. It takes no memory.
+    /// What stat(2) tells of a node, of which `node` is the key: a live one of any kind. It takes no memory.
     pub fn status(&self, node: usize) -> Status
         requires live { IsLiveKey self.now node }
         ensures { (inode : Inode) × (inode_at self.now node ≡ Some inode) × (result ≡ status_of (number_at self.now node) inode) }
@@ -26,8 +42,9 @@ impl Vfs {
         describe(stored)
     }
 
-    /// Reads a file's bytes from `at` on into the beginning of `buf`, as many as there are before its
-    /// end, and answers their number (pread(2)). The rest of `buf` stays as it was. It takes no memory.
+    /// Reads a file from byte `at` on into the beginning of `buf`, as many bytes as there are before its
+    /// end, and answers their number (pread(2)). The rest of `buf` stays as it was. `node` is the key of a
+    /// live regular file. It takes no memory.
     pub fn read(&self, node: usize, at: u64, buf: &mut [u8]) -> usize
         requires live { IsLiveKey self.now node }
         requires file { IsSome (file_at self.now.nodes (number_at self.now node)) }
@@ -40,7 +57,7 @@ impl Vfs {
         }
     }
 
-    /// The target of a symbolic link (readlink(2)).
+    /// The target of a symbolic link (readlink(2)). `node` is the key of a live one.
     pub fn target(&self, node: usize) -> &[u8]
         requires live { IsLiveKey self.now node }
         requires link { IsSome (target_at self.now.nodes (number_at self.now node)) }
@@ -52,24 +69,26 @@ impl Vfs {
         }
     }
 
-    /// The directory that `..` names in a directory that was not removed (path_resolution(7)).
+    /// The key of the directory that `..` names (path_resolution(7)) in the directory of which `dir` is
+    /// the key: a live one that was not removed.
     pub fn parent(&self, dir: usize) -> usize
         requires live { IsLiveKey self.now dir }
         requires directory { IsSome (parent_at self.now.nodes (number_at self.now dir)) }
         ensures parent { parent_at self.now.nodes (number_at self.now dir) ≡ Some (number_at self.now result) }
         ensures live { IsLiveKey self.now result }
     {
-        match &self.table[dir].content {
-            StoredContent::Directory(directory) => match directory.parent {
-                Some(parent) => parent.key,
-                None => unreachable!(),
-            },
-            _ => unreachable!(),
-        }
+        let StoredContent::Directory(directory) = &self.table[dir].content else {
+            unreachable!()
+        };
+        let Some(parent) = directory.parent else {
+            unreachable!()
+        };
+        parent.key
     }
 
-    /// The entry of a directory with the least cookie above this one: the cookie, the name and the node;
-    /// or None where no cookie is above it (getdents(2)). It costs the logarithm of the entries' number.
+    /// The entry of a directory with the least cookie above this one: the cookie, the name and the node's
+    /// key; or None where no cookie is above it (getdents(2)). `dir` is the key of a live directory. It
+    /// costs the logarithm of the entries' number.
     pub fn entry_after(&self, dir: usize, cookie: u32) -> Option<(u32, &[u8], usize)>
         requires live { IsLiveKey self.now dir }
         requires directory { IsSome (listing_at self.now.nodes (number_at self.now dir)) }
@@ -104,14 +123,14 @@ fn describe(stored: &Stored) -> Status
     }
 }
 
-/// The type bits of a mode: S_IFREG, S_IFDIR or S_IFLNK of inode(7).
+/// The type bits of a node's mode.
 fn type_bits(content: &StoredContent) -> u16
     ensures { result ≡ type_bits (content_of content.now) }
 {
     match content {
-        StoredContent::File(_) => 0x8000,
-        StoredContent::Directory(_) => 0x4000,
-        StoredContent::Link(_) => 0xA000,
+        StoredContent::File(_) => S_IFREG,
+        StoredContent::Directory(_) => S_IFDIR,
+        StoredContent::Link(_) => S_IFLNK,
     }
 }
 
@@ -132,8 +151,8 @@ fn sectors(content: &StoredContent) -> u32
     ensures { result ≡ content_sectors (content_of content.now) }
 {
     match content {
-        StoredContent::File(content) => 8 * content.blocks(),
-        StoredContent::Directory(_) => 8,
+        StoredContent::File(content) => SECTORS_PER_BLOCK * content.blocks(),
+        StoredContent::Directory(_) => SECTORS_PER_BLOCK,
         StoredContent::Link(_) => 0,
     }
 }

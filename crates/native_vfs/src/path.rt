@@ -131,10 +131,7 @@ fn without_slashes(text: &[u8]) -> &[u8]
     ensures plain { list_any is_nul text.now ≡ false → list_any is_nul result.now ≡ false }
 {
     let mut rest = text;
-    while let Some((first, after)) = rest.split_first() {
-        if *first != b'/' {
-            break;
-        }
+    while let [b'/', after @ ..] = rest {
         rest = after;
     }
     rest

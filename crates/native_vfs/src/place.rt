@@ -5,7 +5,9 @@ use kernel_core::Bytes;
 /// Where a path's last name stands (path_resolution(7)): the directory, the name, and the node that the
 /// name stands for there, or None where the directory has no such name. A node is given by the key that
 /// the file system gave it. The name `.` and the empty name stand for the directory itself, and `..`
-/// for its parent, or for nothing where the directory was removed. (The form is this project's own.)
+/// for its parent, or for nothing where the directory was removed. A call that takes a place needs one
+/// that a walk would find now: its nodes live, and its name still stands for its node. (The form is this
+/// project's own.)
 #[derive(Drop)]
 pub struct Place {
     pub dir: usize,

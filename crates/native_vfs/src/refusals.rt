@@ -42,10 +42,7 @@ pub(crate) fn is_orphan(table: &Slab<Stored>, key: usize) -> bool
     requires distinct { HasDistinctNumbers table.now }
     ensures { result ≡ names.is_orphan (nodes.listing_at (nodes_of table.now) (number_of_key table.now key)) }
 {
-    match directory(table, key) {
-        Some(directory) => directory.parent.is_none(),
-        None => false,
-    }
+    directory(table, key).is_some_and(|directory| directory.parent.is_none())
 }
 
 /// Whether the directory has given out its last cookie.
@@ -54,10 +51,7 @@ pub(crate) fn lacks_cookie(table: &Slab<Stored>, key: usize) -> bool
     requires distinct { HasDistinctNumbers table.now }
     ensures { result ≡ names.is_used_up (nodes.listing_at (nodes_of table.now) (number_of_key table.now key)) }
 {
-    match directory(table, key) {
-        Some(directory) => directory.names.greatest() >= GREATEST_COOKIE,
-        None => false,
-    }
+    directory(table, key).is_some_and(|directory| directory.names.greatest() >= GREATEST_COOKIE)
 }
 
 pub(crate) fn has_entries(table: &Slab<Stored>, key: usize) -> bool
@@ -65,10 +59,7 @@ pub(crate) fn has_entries(table: &Slab<Stored>, key: usize) -> bool
     requires distinct { HasDistinctNumbers table.now }
     ensures { result ≡ names.has_entries (nodes_of table.now) (number_of_key table.now key) }
 {
-    match directory(table, key) {
-        Some(directory) => !directory.names.is_empty(),
-        None => false,
-    }
+    directory(table, key).is_some_and(|directory| !directory.names.is_empty())
 }
 
 /// Why a name can't be made, where `full` tells that a limit of the whole file system is reached.

@@ -23,7 +23,7 @@ impl Vfs {
     /// Takes a name away from a file or symbolic link (unlink(2)), which goes where that was its last name
     /// and nothing holds it. It is refused with ENOENT where nothing has the name, and with EISDIR where a
     /// directory has it. After an error nothing has changed, and it takes no memory. `now` is in
-    /// nanoseconds since the Epoch.
+    /// nanoseconds since the Epoch, within whole seconds of 64 bits.
     pub fn unlink(&mut self, at: &Place, now: i128) -> Result<(), CoreError>
         requires agrees { AgreesAt self.old at.now }
         requires time { IsTime now }
@@ -37,17 +37,16 @@ impl Vfs {
         if let Some(error) = unlink_refusal(&self.table, at) {
             return Err(CoreError::Refused(error));
         }
-        if let Some(node) = at.node {
-            unlink_at(
-                &mut self.table,
-                &mut self.numbers,
-                &mut self.blocks,
-                at,
-                node,
-                now,
-            );
-            self.entries -= 1;
-        }
+        let Some(node) = at.node else { unreachable!() };
+        unlink_at(
+            &mut self.table,
+            &mut self.numbers,
+            &mut self.blocks,
+            at,
+            node,
+            now,
+        );
+        self.entries -= 1;
         Ok(())
     }
 
@@ -55,7 +54,7 @@ impl Vfs {
     /// refused with ENOENT where nothing has the name, EINVAL for `.`, ENOTEMPTY for `..`, EBUSY for the
     /// root, EINVAL for the empty name of another directory (this project's own), ENOTDIR where it is no
     /// directory, and ENOTEMPTY where it has entries. After an error nothing has changed, and it takes no
-    /// memory. `now` is in nanoseconds since the Epoch.
+    /// memory. `now` is in nanoseconds since the Epoch, within whole seconds of 64 bits.
     pub fn rmdir(&mut self, at: &Place, now: i128) -> Result<(), CoreError>
         requires agrees { AgreesAt self.old at.now }
         requires time { IsTime now }
@@ -69,17 +68,16 @@ impl Vfs {
         if let Some(error) = rmdir_refusal(&self.table, at) {
             return Err(CoreError::Refused(error));
         }
-        if let Some(node) = at.node {
-            rmdir_at(
-                &mut self.table,
-                &mut self.numbers,
-                &mut self.blocks,
-                at,
-                node,
-                now,
-            );
-            self.entries -= 1;
-        }
+        let Some(node) = at.node else { unreachable!() };
+        rmdir_at(
+            &mut self.table,
+            &mut self.numbers,
+            &mut self.blocks,
+            at,
+            node,
+            now,
+        );
+        self.entries -= 1;
         Ok(())
     }
 }

@@ -33,7 +33,7 @@ impl Vfs {
     /// EBUSY where either name is `.`, `..` or empty; EINVAL where a directory would go into its own
     /// subtree; ENOTDIR, ENOTEMPTY or EISDIR by what is replaced; ENOENT where the new directory was
     /// removed; and ENOSPC where it has no cookie left. After an error, also for want of memory, nothing has
-    /// changed. `now` is in nanoseconds since the Epoch.
+    /// changed. `now` is in nanoseconds since the Epoch, within whole seconds of 64 bits.
     pub fn rename(&mut self, from: &Place, to: &Place, now: i128) -> Result<(), CoreError>
         requires from { AgreesAt self.old from.now }
         requires to { AgreesAt self.old to.now }

@@ -7,6 +7,7 @@ ghost use Rattle.kernel_core.specs.Totals.{content_blocks, live_blocks};
 ghost use Rattle.native_vfs.specs.Steps.{IsSettled, IsUnnamed, GivesBack};
 ghost use Rattle.native_vfs.specs.Stored.{nodes_of, content_of, number_of_key, HasDistinctNumbers, AgreesPool};
 
+use crate::numbers::place_of;
 use crate::steps;
 use crate::stored::{Stored, StoredContent};
 use number_pool::NumberPool;
@@ -54,7 +55,7 @@ fn kept_blocks(content: &StoredContent) -> u32
 fn give_back(numbers: &mut NumberPool, number: u64)
     ensures { GivesBack numbers.old numbers.new number }
 {
-    if (2..65_538).contains(&number) {
-        numbers.give_back((number - 2) as u32);
+    if let Some(place) = place_of(number) {
+        numbers.give_back(place);
     }
 }

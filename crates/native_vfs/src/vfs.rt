@@ -6,9 +6,14 @@ use slab::Slab;
 use std::alloc::Global;
 use std::marker::Model;
 
-/// A file system: its nodes, and the names under which they hang together. Contracts see it as a `Keyed`
-/// of `specs/Keyed.antt`: the live nodes by their numbers, which are a file system of
-/// `kernel_core`, and the number of the node that each key stands for.
+/// A file system in memory: its nodes (inode(7)), and the names under which they hang together
+/// (path_resolution(7)). Contracts see it as a `Keyed` of `specs/Keyed.antt`: the live nodes by their
+/// numbers, which are a file system of `kernel_core`, and the number of the node that each key stands
+/// for.
+///
+/// Calls are told a node by its key, which `walk`, `create`, `mkdir`, `parent` or `entry_after` gave. A
+/// key stands for its node as long as the node lives: until it has neither a name nor a hold. (The type
+/// and its keys are this project's own.)
 #[derive(Drop)]
 pub struct Vfs {
     pub(crate) table: Slab<Stored>,

@@ -13,12 +13,12 @@ ghost use Rattle.native_vfs.specs.Walking.{IsSound, named_key, walk_of, steps_le
 use crate::path::{Rest, begins_with_slash, ends_with_slash};
 use crate::place::Place;
 use crate::steps::node;
-use crate::stored::{Stored, StoredContent, StoredDirectory};
+use crate::stored::{Stored, StoredContent, StoredDirectory, copied};
 use crate::vfs::Vfs;
 use kernel_core::limits::LONGEST_NAME;
-use kernel_core::{Bytes, CoreError, Errno};
+use kernel_core::{CoreError, Errno};
 
-/// The greatest number of symbolic links that a walk follows.
+/// The greatest number of symbolic links that a walk follows (path_resolution(7)).
 const LINK_LIMIT: u32 = 40;
 
 /// A walk under way: the key of the node where it stands, the components that are left, whether the
@@ -45,7 +45,8 @@ impl Vfs {
     /// Walks the path from the directory `from` on, or from the root where the path begins with a
     /// slash (path_resolution(7)), and tells where its last name stands. A symbolic link in the
     /// last place is followed where `follow` says so, and before a slash always. The path has no
-    /// NUL.
+    /// NUL. `from` is the key of a live directory, also of a removed one; where the path begins with
+    /// a slash it may be any number.
     ///
     /// ENOENT: the path is empty, or a component other than the last is not there, or the last one
     /// of a link's target that ends in a slash while the path doesn't. ENAMETOOLONG: a component
@@ -78,10 +79,8 @@ impl Vfs {
             links: 0,
         };
         loop {
-            match self.walk_step(&mut walk, follow) {
-                Ok(None) => {}
-                Ok(Some(found)) => return self.copied(found),
-                Err(error) => return Err(error),
+            if let Some(found) = self.walk_step(&mut walk, follow)? {
+                return self.place_of(found);
             }
         }
     }
@@ -213,13 +212,13 @@ impl Vfs {
     }
 
     /// The place, with a copy of its name.
-    fn copied(&self, found: Found) -> Result<Place, CoreError>
+    fn place_of(&self, found: Found) -> Result<Place, CoreError>
         ensures { IsCopied found.entry result }
     {
-        let name = found.name.to_vec(self.alloc)?;
+        let name = copied(self.alloc, found.name)?;
         Ok(Place {
             dir: found.dir,
-            name: Bytes::from(name),
+            name,
             node: found.node,
         })
     }

@@ -1,4 +1,4 @@
-use Rattle.std.proofs.Common.{refl, sym, ap, subst, ◌∙◌, ◌+◌, is_some}
+use Rattle.std.proofs.Common.{refl, sym, ap, subst, ◌∙◌, is_some}
 use Rattle.std.specs.Int.{w128}
 use Rattle.std.proofs.Math.Facts.{to_z-of_z}
 use Rattle.kernel_core.specs.NameCalls as names
@@ -42,7 +42,7 @@ add_name-requires-clause-can c =
     can-insert c.args.table.now c.reserve_name.new.table c.insert.new.table c.in_ok-key.key _ c.args.at.now c.in_ok-name.name _ c.requires.agrees c.requires.free c.reserve_name.ensures.same
     c.in_ok-key.ensures.ok
     (new-number (nodes_of c.args.table.now) c.args.numbers.now c.requires.pool c.free_place-place.ensures.whole c.free_place-place.result _ c.free_place-place.ensures.least
-    (ap (λ n. n + 2) c.from-number.ensures)).unused
+    c.number_of-number.ensures).unused
     (c.in_ok-name.ensures ∙ c.as_slice.ensures)
 
 pub returns-clause-made : goal.returns-clause-made
@@ -54,4 +54,4 @@ returns-clause-made c =
     (sym c.take.ensures.taken)
     (made c.args.table.now c.reserve_name.new.table c.insert.new.table c.in_ok-key.key _ c.args.at.now.dir (live-dir c.args.table.now c.args.at.now c.requires.agrees) c.reserve_name.ensures.same
     (rw (to_z-of_z {w = w128} {z = c.args.now} c.ranges.now) at c.in_ok-key.ensures.ok) c.add_name.new.table c.args.now c.args.at.now refl c.in_ok-name.name (c.in_ok-name.ensures ∙ c.as_slice.ensures) (rw (to_z-of_z {w = w128} {z = c.args.now} c.ranges.now) at c.add_name.ensures.step) c.args.numbers.now
-    c.free_place-place.result c.requires.distinct c.requires.pool c.free_place-place.ensures.whole c.free_place-place.ensures.least (ap (λ n. n + 2) c.from-number.ensures))
+    c.free_place-place.result c.requires.distinct c.requires.pool c.free_place-place.ensures.whole c.free_place-place.ensures.least c.number_of-number.ensures)

@@ -17,15 +17,15 @@ index-requires c = live-seen c.self.inside.table c.args.self.now c.self.view_is 
 
 pub unreachable-requires : goal.unreachable-requires
 unreachable-requires c =
-    let none : parent_at c.args.self.now.nodes (number_at c.args.self.now c.args.dir) ≡ None =
-    parent-seen c.self.inside.table c.args.self.now c.self.view_is c.self.invariant.distinct c.args.dir c.index.result.now c.index.ensures c.in-Directory.directory c.in-Directory.is ∙ ap (option_map number_of) c.in-None.is in
-    let h : false ≡ true = sym (ap is_some none) ∙ c.requires.directory in
-    cc
-
-pub unreachable-requires-in_default : goal.unreachable-requires-in_default
-unreachable-requires-in_default c =
     no-directory c.index.result.now.content c.in_default.not-Directory
     (parented (listing_in (content_of c.index.result.now.content)) (sym (ap is_some (ap parent_of (part-seen c.self.inside.table c.args.self.now c.self.view_is c.self.invariant.distinct c.args.dir c.index.result.now c.index.ensures listing_in))) ∙ c.requires.directory))
+
+pub unreachable-requires-in_default-parent : goal.unreachable-requires-in_default-parent
+unreachable-requires-in_default-parent c =
+    let none : parent_at c.args.self.now.nodes (number_at c.args.self.now c.args.dir) ≡ None =
+    parent-seen c.self.inside.table c.args.self.now c.self.view_is c.self.invariant.distinct c.args.dir c.index.result.now c.index.ensures c.in-Directory.directory c.in-Directory.is ∙ ap (option_map number_of) c.in_default-parent.is in
+    let h : false ≡ true = sym (ap is_some none) ∙ c.requires.directory in
+    cc
 
 pub returns-clause-parent : goal.returns-clause-parent
 returns-clause-parent c =

@@ -44,21 +44,21 @@ kept c =
 pub invariant_of-self : goal.invariant_of-self
 invariant_of-self c = kept c
 
-pub returns-in-Some-node-clause-answer : goal.returns-in-Some-node-clause-answer
-returns-in-Some-node-clause-answer c = sym (seen-at c.self.inside.table c.args.self.now c.self.view_is rmdir_refusal c.args.at.now) ∙ sym c.rmdir_refusal.ensures ∙ c.in_default.is
+pub returns-clause-answer : goal.returns-clause-answer
+returns-clause-answer c = sym (seen-at c.self.inside.table c.args.self.now c.self.view_is rmdir_refusal c.args.at.now) ∙ sym c.rmdir_refusal.ensures ∙ c.in_default.is
 
-pub returns-in-Some-node-clause-ok : goal.returns-in-Some-node-clause-ok
-returns-in-Some-node-clause-ok c =
+pub returns-clause-ok : goal.returns-clause-ok
+returns-clause-ok c =
     after-seen c.self.inside.table c.args.self.now c.self.view_is (λ nodes place node. after_rmdir nodes place node c.args.now) c.args.at.now
     c.in-Some-node.node c.in-Some-node.is c.rmdir_at.new.table
     (c.rmdir_at.ensures.nodes ∙ ap (after_rmdir (nodes_of c.self.inside.table) (place_at (keyed_of c.self.inside.table) c.args.at.now) (number_of_key c.self.inside.table c.in-Some-node.node))
     (to_z-of_z {w = w128} {z = c.args.now} c.ranges.now))
 
-pub returns-in-Some-node-clause-kept : goal.returns-in-Some-node-clause-kept
-returns-in-Some-node-clause-kept c = keeps-seen c.self.inside.table c.args.self.now c.self.view_is c.rmdir_at.new.table c.rmdir_at.ensures.loss.keys
+pub returns-clause-kept : goal.returns-clause-kept
+returns-clause-kept c = keeps-seen c.self.inside.table c.args.self.now c.self.view_is c.rmdir_at.new.table c.rmdir_at.ensures.loss.keys
 
-pub returns-in-Some-node-clause-valid : goal.returns-in-Some-node-clause-valid
-returns-in-Some-node-clause-valid c = valid-view _ _ _ _ _ (kept c)
+pub returns-clause-valid : goal.returns-clause-valid
+returns-clause-valid c = valid-view _ _ _ _ _ (kept c)
 
-pub returns-in-Some-node-clause-keys : goal.returns-in-Some-node-clause-keys
-returns-in-Some-node-clause-keys c = are-keys-view _ _ _ _ _ (kept c)
+pub returns-clause-keys : goal.returns-clause-keys
+returns-clause-keys c = are-keys-view _ _ _ _ _ (kept c)

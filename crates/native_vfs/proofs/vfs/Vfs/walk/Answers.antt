@@ -1,3 +1,4 @@
+use Rattle.std.proofs.lemmas.Result.{err_from_is_err_and}
 use Rattle.native_vfs.specs.Keyed.{number_at}
 use Rattle.native_vfs.specs.Walking.{steps_left}
 use Rattle.native_vfs.proofs.TextLemmas.{is-empty}
@@ -10,24 +11,26 @@ returns-then-is_empty c =
     walk-empty system.nodes (number_at system c.args.from) c.args.path.now c.args.follow
     (is-empty c.is_empty.result c.args.path.now c.is_empty.ensures c.if-is_empty.true)
 
-pub loop-found-preserved : goal.loop-found-preserved
-loop-found-preserved c =
+pub loop-walk-preserved : goal.loop-walk-preserved
+loop-walk-preserved c =
     let system = c.args.self.now in
-    let gives = rw c.in-Ok-None.field-0-is at c.in-Ok-None.ensures in
+    let gives = rw c.in_default.is at c.in_ok-found.ensures in
     record {
       way = gives.1;
-      same = λ result ends. c.loop-found.invariant.same result (one-step system.nodes c.args.follow _ _ result gives.0 ends);
+      same = λ result ends. c.loop-walk.invariant.same result (one-step system.nodes c.args.follow _ _ result gives.0 ends);
     }
 
-pub returns-in-Ok-Some : goal.returns-in-Ok-Some
-returns-in-Ok-Some c =
+pub returns-in-Some : goal.returns-in-Some
+returns-in-Some c =
     let system = c.args.self.now in
-    walked-found system (number_at system c.args.from) c.args.path.now c.args.follow c.loop-found.walk c.walk_step.new.walk
-    (steps_left c.loop-found.walk) c.loop-found.invariant.same c.in-Ok-Some.found c.copied.result
-    (rw c.in-Ok-Some.field-0-is at c.in-Ok-Some.ensures) c.copied.ensures
+    walked-found system (number_at system c.args.from) c.args.path.now c.args.follow c.loop-walk.walk c.walk_step.new.walk
+    (steps_left c.loop-walk.walk) c.loop-walk.invariant.same c.in-Some.found c.place_of.result
+    (rw c.in-Some.is at c.in_ok-found.ensures) c.place_of.ensures
 
-pub returns-in-Err : goal.returns-in-Err
-returns-in-Err c =
+pub returns-in_err-found : goal.returns-in_err-found
+returns-in_err-found c =
     let system = c.args.self.now in
-    walked-error system (number_at system c.args.from) c.args.path.now c.args.follow c.loop-found.walk c.walk_step.new.walk
-    (steps_left c.loop-found.walk) c.loop-found.invariant.same c.in-Err.error c.in-Err.ensures
+    let p = err_from_is_err_and c.from_residual.result c.from_residual.ensures.1 in
+    rw (p.1, p.2)
+    (walked-error system (number_at system c.args.from) c.args.path.now c.args.follow c.loop-walk.walk c.walk_step.new.walk
+    (steps_left c.loop-walk.walk) c.loop-walk.invariant.same c.in_err-found.field-0.0 c.in_err-found.ensures)

@@ -5,13 +5,13 @@ use Rattle.native_vfs.specs.Keyed.{number_at}
 use Rattle.native_vfs.specs.Walking.{walk_of, steps_left, IsUnderWay}
 use Rattle.native_vfs.proofs.vfs.Vfs.walk.Given as goal
 
-abbrev pub invariant-loop-found : goal.invariant-loop-found
-invariant-loop-found l = record {
+abbrev pub invariant-loop-walk : goal.invariant-loop-walk
+invariant-loop-walk l = record {
   way : IsUnderWay l.self l.walk;
   same : (result : Result walking.Place Errno)
       → (count : ℕ) × walking.EndsAfter count l.self.nodes l.follow (walking.Goes (walk_of l.self l.walk)) result
       → walking.Walks l.self.nodes (number_at l.self l.from) l.path l.follow result;
 }
 
-abbrev pub decreases-loop-found : goal.decreases-loop-found
-decreases-loop-found l = steps_left l.walk
+abbrev pub decreases-loop-walk : goal.decreases-loop-walk
+decreases-loop-walk l = steps_left l.walk
