@@ -1,6 +1,5 @@
--- Two trees that the tests begin with are valid: one of an empty root directory, and one whose root has an entry of the greatest
--- cookie.
-use Rattle.std.proofs.Common.{ℕ, zero, suc, ◌<◌, List, [], ◌∷◌, All, Contains, refl, pos, arith, rules, FitsSigned, slice_index, lit≤}
+-- Trees that the tests begin with are valid: that of an empty root directory, and those of a root with one file.
+use Rattle.std.proofs.Common.{◌≡◌, ◌≤◌, ℤ, sym, subst, ℕ, zero, suc, ◌<◌, List, [], ◌∷◌, All, Contains, refl, pos, arith, rules, FitsSigned, slice_index, lit≤}
 use Rattle.std.proofs.lemmas.List.Elements.{All-cons}
 use Rattle.std.specs.Int.{w64}
 use Rattle.std.specs.List.{IsDistinct}
@@ -11,7 +10,7 @@ use Rattle.kernel_core.specs.declared.tree.Node.{Node}
 use Rattle.kernel_core.specs.declared.tree.Block.{Block}
 use Rattle.kernel_core.specs.declared.tree.DirEntry.{DirEntry}
 use Rattle.kernel_core.specs.declared.tree.Kind.TheVariants.{Dir, File}
-use Rattle.kernel_core.specs.ValidTree.{IsValid, IsNode, IsName, IsEntry, AreEntries, AreBlocks, IsNamedRightly, IsReached, entries_of, numbers}
+use Rattle.kernel_core.specs.ValidTree.{IsValid, IsNode, IsName, IsEntry, AreEntries, AreBlocks, IsNamedRightly, IsReached, entries_of, numbers, names_in, times_named}
 
 none : {X : Type 0} (P : X → Type 0) → All P []
 none P k d below = absurd (omega arith)
@@ -61,19 +60,19 @@ empty_tree_valid = record {
   reached = single (λ (n : Node). IsReached (empty_root ∷ []) n.number) empty_root (0, refl);
 }
 
--- A root with one file `f`, whose entry has the greatest cookie
+-- A root with one file `f`, of this cookie, number and time
 
-abbrev pub last_entry : DirEntry
-last_entry = record { cookie = 2147483647; name = 102 ∷ []; node = 2 }
+abbrev pub entry : ℕ → ℕ → DirEntry
+entry cookie number = record { cookie = cookie; name = 102 ∷ []; node = number }
 
-abbrev pub full_root : Node
-full_root = record { number = 1; mode = 493; mtime = pos 0; kind = Dir (last_entry ∷ []) }
+abbrev pub full_root : ℕ → ℕ → Node
+full_root cookie number = record { number = 1; mode = 493; mtime = pos 0; kind = Dir (entry cookie number ∷ []) }
 
-abbrev pub empty_file : Node
-empty_file = record { number = 2; mode = 420; mtime = pos 0; kind = File 0 [] }
+abbrev pub file : ℕ → ℤ → Node
+file number mtime = record { number = number; mode = 420; mtime = mtime; kind = File 0 [] }
 
-abbrev pub two_nodes : List Node
-two_nodes = full_root ∷ empty_file ∷ []
+abbrev pub two_nodes : ℕ → ℕ → ℤ → List Node
+two_nodes cookie number mtime = full_root cookie number ∷ file number mtime ∷ []
 
 letter : (place : ℕ) → slice_index (102 ∷ []) place < 256
 letter zero = omega arith
@@ -82,44 +81,59 @@ letter (suc place) = search rules
 is_name : IsName (102 ∷ [])
 is_name = record { are_bytes = letter; some = lit≤ tt; short = lit≤ tt; no_dots = refl; plain = refl }
 
-is_entry : IsEntry last_entry
-is_entry = record { low = lit≤ tt; high = lit≤ tt; name = is_name }
-
-one_entry : AreEntries (last_entry ∷ [])
-unfolding IsStrictlySortedBy IsDistinct
-one_entry = record { each = single IsEntry last_entry is_entry; rising = one_number 2147483647; distinct = (tt, tt) }
-
 no_blocks : AreBlocks 0 []
 unfolding IsStrictlySortedBy
 no_blocks = record { each = none (λ (b : Block). IsBlock 0 b.index b.bytes); rising = tt }
 
-full_root_is_node : IsNode full_root
-full_root_is_node = record { low = lit≤ tt; high = lit≤ tt; mode = lit≤ tt; mtime = epoch; kind = one_entry }
+module _ (cookie number : ℕ) (mtime : ℤ) (cookie_low : 3 ≤ cookie) (cookie_high : cookie ≤ 2147483647) (number_low : 2 ≤ number)
+    (number_high : number ≤ 9223372036854775807) (fits : FitsSigned w64 mtime) where
+  is_entry : IsEntry (entry cookie number)
+  is_entry = record { low = cookie_low; high = cookie_high; name = is_name }
 
-file_is_node : IsNode empty_file
-file_is_node = record { low = lit≤ tt; high = lit≤ tt; mode = lit≤ tt; mtime = epoch; kind = (lit≤ tt, no_blocks) }
+  one_entry : AreEntries (entry cookie number ∷ [])
+  unfolding IsStrictlySortedBy IsDistinct
+  one_entry = record { each = single IsEntry (entry cookie number) is_entry; rising = one_number cookie; distinct = (tt, tt) }
 
-rising : IsStrictlySortedBy nat_cmp (1 ∷ 2 ∷ [])
-unfolding IsStrictlySortedBy
-rising = ((refl, tt), (tt, tt))
+  full_root_is_node : IsNode (full_root cookie number)
+  full_root_is_node = record { low = lit≤ tt; high = lit≤ tt; mode = lit≤ tt; mtime = epoch; kind = one_entry }
 
-full_root_is_named : IsNamedRightly two_nodes full_root
-full_root_is_named = ((λ is. refl), (λ other. absurd (other refl)), (λ is. absurd cc))
+  positive : 1 ≤ number
+  positive = omega arith
 
-file_is_named : IsNamedRightly two_nodes empty_file
-file_is_named = ((λ is. absurd cc), (λ other is. absurd cc), (λ is. lit≤ tt))
+  file_is_node : IsNode (file number mtime)
+  file_is_node = record { low = positive; high = number_high; mode = lit≤ tt; mtime = fits; kind = (lit≤ tt, no_blocks) }
 
-pub last_tree_valid : IsValid (record { nodes = two_nodes })
-last_tree_valid = record {
-  begins = (full_root, refl, refl, refl);
-  count = lit≤ tt;
-  rising = rising;
-  each = two IsNode full_root empty_file full_root_is_node file_is_node;
-  blocks = lit≤ tt;
-  entries = lit≤ tt;
-  targets = two (AreThere two_nodes) full_root empty_file
-      (single (λ (e : DirEntry). Contains (numbers two_nodes) e.node) last_entry (1, lit≤ tt, refl))
-      (none (λ (e : DirEntry). Contains (numbers two_nodes) e.node));
-  named = two (IsNamedRightly two_nodes) full_root empty_file full_root_is_named file_is_named;
-  reached = two (λ (n : Node). IsReached two_nodes n.number) full_root empty_file (0, refl) (1, (full_root, (0, lit≤ tt, refl), lit≤ tt, refl));
-}
+  rising : IsStrictlySortedBy nat_cmp (1 ∷ number ∷ [])
+  unfolding IsStrictlySortedBy
+  rising = search rules
+
+  named_once : times_named (two_nodes cookie number mtime) number ≡ 1
+  named_once = search rules
+
+  root_not_named : times_named (two_nodes cookie number mtime) 1 ≡ 0
+  root_not_named = search rules
+
+  named_in_root : 1 ≤ names_in (entry cookie number ∷ []) number
+  named_in_root = search rules
+
+  full_root_is_named : IsNamedRightly (two_nodes cookie number mtime) (full_root cookie number)
+  full_root_is_named = ((λ is. root_not_named), (λ other. absurd (other refl)), (λ is. absurd cc))
+
+  file_is_named : IsNamedRightly (two_nodes cookie number mtime) (file number mtime)
+  file_is_named = ((λ is. absurd (omega arith)), (λ other is. absurd cc), (λ is. subst (λ n. 1 ≤ n) (sym named_once) (lit≤ tt)))
+
+  pub tree_of_file_valid : IsValid (record { nodes = two_nodes cookie number mtime })
+  tree_of_file_valid = record {
+    begins = (full_root cookie number, refl, refl, refl);
+    count = lit≤ tt;
+    rising = rising;
+    each = two IsNode (full_root cookie number) (file number mtime) full_root_is_node file_is_node;
+    blocks = lit≤ tt;
+    entries = lit≤ tt;
+    targets = two (AreThere (two_nodes cookie number mtime)) (full_root cookie number) (file number mtime)
+        (single (λ (e : DirEntry). Contains (numbers (two_nodes cookie number mtime)) e.node) (entry cookie number) (1, lit≤ tt, refl))
+        (none (λ (e : DirEntry). Contains (numbers (two_nodes cookie number mtime)) e.node));
+    named = two (IsNamedRightly (two_nodes cookie number mtime)) (full_root cookie number) (file number mtime) full_root_is_named file_is_named;
+    reached = two (λ (n : Node). IsReached (two_nodes cookie number mtime) n.number) (full_root cookie number) (file number mtime)
+        (0, refl) (1, (full_root cookie number, (0, lit≤ tt, refl), named_in_root, refl));
+  }

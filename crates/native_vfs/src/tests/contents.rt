@@ -104,6 +104,8 @@ fn sets_modes_and_times(rt: HostRuntime) -> Result<(), Fail> {
         See(Facts(At("/d"), 3, 0o047_777, 2, 4096, 8)),
         See(Facts(At("/s"), 4, 0o127_777, 1, 1, 0)),
         See(Times(f, 1, 1, 5)),
+        See(Times(At("/d"), 1, 1, 5)),
+        See(Times(At("/s"), 1, 1, 5)),
         Clock(6),
         Do(SetTimes(f, Some(-7), None)),
         See(Times(f, -7, 1, 6)),

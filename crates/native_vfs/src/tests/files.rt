@@ -1,5 +1,5 @@
 //! A file system whose calls are made by path, and tell an error by its name.
-ghost use Rattle.std.specs.Prelude.{◌≡◌, ◌==◌, IsTrue, IfOk, false};
+ghost use Rattle.std.specs.Prelude.{◌≡◌, ◌≤◌, ◌==◌, IsTrue, IfOk, false};
 ghost use Rattle.std.specs.List.{list_any};
 ghost use Rattle.kernel_core.specs.ValidTree.{IsValid};
 ghost use Rattle.native_vfs.specs.Keyed.{AgreesAt};
@@ -20,10 +20,10 @@ pub(super) type Answer<T> = Result<T, &'static str>;
 pub(super) struct Files {
     alloc: Global,
     vfs: Vfs,
-    /// The key of the directory that paths without a slash at their beginning begin at.
-    start: usize,
+    /// The key of the directory that paths without a slash at their beginning begin at, once there is one.
+    start: Option<usize>,
     /// The key of the node that a test has named.
-    named: usize,
+    named: Option<usize>,
     /// The time of the calls, in nanoseconds since the Epoch.
     clock: i64,
 }
@@ -87,15 +87,25 @@ fn empty_tree(alloc: Global) -> Result<Tree, AllocError>
     })
 }
 
-/// The tree of a root directory whose entry `f` has the greatest cookie, and names an empty file.
-pub(super) fn last_cookie_tree(alloc: Global) -> Result<Tree, AllocError>
+/// The tree of a root directory whose entry `f` names an empty file: the cookie of the entry, the file's number and its time of
+/// modification in seconds.
+pub(super) fn tree_of_file(
+    alloc: Global,
+    cookie: u32,
+    number: u64,
+    mtime: i64,
+) -> Result<Tree, AllocError>
+    requires cookie_low { 3 ≤ cookie }
+    requires cookie_high { cookie ≤ 2147483647 }
+    requires number_low { 2 ≤ number }
+    requires number_high { number ≤ 9223372036854775807 }
     ensures { IfOk result IsValid }
 {
     let mut entries = Vec::new(alloc);
     entries.push(DirEntry {
-        cookie: 2_147_483_647,
+        cookie,
         name: Bytes::from(b"f".to_vec(alloc)?),
-        node: 2,
+        node: number,
     })?;
     let mut nodes = Vec::new(alloc);
     nodes.push(Node {
@@ -107,9 +117,9 @@ pub(super) fn last_cookie_tree(alloc: Global) -> Result<Tree, AllocError>
         },
     })?;
     nodes.push(Node {
-        number: 2,
+        number,
         mode: 0o644,
-        mtime: 0,
+        mtime,
         kind: Kind::File {
             size: 0,
             blocks: Items::from(Vec::new(alloc)),
@@ -137,8 +147,8 @@ impl Files {
             Ok(vfs) => Ok(Files {
                 alloc,
                 vfs,
-                start: 0,
-                named: 0,
+                start: None,
+                named: None,
                 clock: 1,
             }),
             Err(NoMemory) => Err("no memory"),
@@ -184,13 +194,13 @@ impl Files {
 
     /// Lets paths without a slash at their beginning begin at this node.
     pub(super) fn start_at(&mut self, node: Which) -> Answer<()> {
-        self.start = self.key(node)?;
+        self.start = Some(self.key(node)?);
         Ok(())
     }
 
     /// Names the node of a path.
     pub(super) fn name(&mut self, path: &str) -> Answer<()> {
-        self.named = self.key_at(path)?;
+        self.named = Some(self.key_at(path)?);
         Ok(())
     }
 
@@ -202,10 +212,11 @@ impl Files {
         if path.contains(&0) {
             return Err("a path without NUL");
         }
-        if !begins_with_slash(path) && !is_directory(&self.vfs, self.start) {
+        let start = self.start.unwrap_or(0);
+        if !begins_with_slash(path) && !is_directory(&self.vfs, start) {
             return Err("a directory to begin at");
         }
-        match self.vfs.walk(self.start, path, follow) {
+        match self.vfs.walk(start, path, follow) {
             Ok(place) => Ok(place),
             Err(error) => Err(error_name(error)),
         }
@@ -233,7 +244,7 @@ impl Files {
     fn key(&self, node: Which) -> Answer<usize> {
         match node {
             Which::At(path) => self.key_at(path),
-            Which::Named => Ok(self.named),
+            Which::Named => self.named.ok_or("a named node"),
         }
     }
 

@@ -2,8 +2,8 @@
 
 use super::files::Call::{Create, Hold, Link, Mkdir, Release, Rename, SetSize, Symlink, Unlink};
 use super::files::Which::{At, Named};
-use super::files::{Answer, Files, last_cookie_tree};
-use super::steps::Look::{Facts, Times, Tree};
+use super::files::{Answer, Files, tree_of_file};
+use super::steps::Look::{Facts, Next, Times, Tree};
 use super::steps::Step::{Clock, Do, Name, Refuse, See, Write, WriteSevens};
 use super::steps::first_wrong;
 use std::alloc::Global;
@@ -69,6 +69,9 @@ fn has_at_most_131072_entries(rt: HostRuntime) -> Result<(), Fail> {
     Ok(())
 }
 
+/// The greatest size of a file.
+const GREATEST: u64 = 1 << 44;
+
 /// A file system of the files `/f` and `/g`, the first with as many blocks.
 fn full_of_blocks(alloc: Global, blocks: u64) -> Answer<Files> {
     let mut files = Files::with(alloc, &[Create("/f", 0o644), Create("/g", 0o644)])?;
@@ -104,9 +107,40 @@ fn keeps_at_most_65536_blocks(rt: HostRuntime) -> Result<(), Fail> {
 }
 
 #[test]
+fn blocks_of_a_held_file_are_kept(rt: HostRuntime) -> Result<(), Fail> {
+    let mut files = full_of_blocks(rt.alloc(), 65_534)?;
+    let g = At("/g");
+    let steps = [
+        WriteSevens(g, 0, 8192, Ok(8192)),
+        Write(g, GREATEST, "x", Err("EFBIG")),
+        Name("/f"),
+        Do(Hold(Named)),
+        Do(Unlink("/f")),
+        Write(g, 8192, "x", Err("ENOSPC")),
+        Do(Release(Named)),
+        Write(g, 8192, "x", Ok(1)),
+    ];
+    assert_eq!(rt; first_wrong(&mut files, &steps), None);
+    Ok(())
+}
+
+#[test]
+fn gives_out_the_cookie_2147483647(rt: HostRuntime) -> Result<(), Fail> {
+    let alloc = rt.alloc();
+    let mut files = Files::of(alloc, tree_of_file(alloc, 2_147_483_646, 2, 0)?)?;
+    let steps = [
+        Do(Create("/x", 0o644)),
+        See(Next(At("/"), 2_147_483_646, Some((2_147_483_647, "x", 3)))),
+        Refuse(Create("/y", 0o644), "ENOSPC"),
+    ];
+    assert_eq!(rt; first_wrong(&mut files, &steps), None);
+    Ok(())
+}
+
+#[test]
 fn a_cookie_is_at_most_2147483647(rt: HostRuntime) -> Result<(), Fail> {
     let alloc = rt.alloc();
-    let mut files = Files::of(alloc, last_cookie_tree(alloc)?)?;
+    let mut files = Files::of(alloc, tree_of_file(alloc, 2_147_483_647, 2, 0)?)?;
     let steps = [
         Refuse(Create("/x", 0o644), "ENOSPC"),
         Refuse(Mkdir("/x", 0o755), "ENOSPC"),

@@ -20,8 +20,8 @@ fn makes_nodes(rt: HostRuntime) -> Result<(), Fail> {
         See(Times(At("/d"), 5, 5, 5)),
         See(Facts(At("/"), 1, 0o040_755, 3, 4096, 8)),
         See(Times(At("/"), 0, 5, 5)),
-        See(Parent(At("/d"), Ok(1))),
-        See(Parent(At("/"), Ok(1))),
+        See(Parent(At("/d"), 1)),
+        See(Parent(At("/"), 1)),
         Clock(6),
         Do(Create("/d/f", 0o4644)),
         See(Facts(At("/d/f"), 3, 0o104_644, 1, 0, 0)),
@@ -70,7 +70,7 @@ fn takes_names_away(rt: HostRuntime) -> Result<(), Fail> {
         Clock(7),
         Do(Unlink("/h")),
         See(Next(At("/"), 4, None)),
-        See(Next(At("/"), 4, None)),
+        See(Times(At("/"), 0, 7, 7)),
     ];
     assert_eq!(rt; first_wrong(&mut files, &steps), None);
     Ok(())
@@ -114,6 +114,7 @@ const PLANTED_TREE: &str = "1 755 0 dir: 3=f=2 4=g=3 5=d=4 6=s=6\n2 644 0 0:\n3 
 fn refuses_to_make_names(rt: HostRuntime) -> Result<(), Fail> {
     let mut files = Files::with(rt.alloc(), &PLANTED)?;
     let steps = [
+        Clock(5_000_000_000),
         Refuse(Create("/f", 0o644), "EEXIST"),
         Refuse(Create("/d", 0o644), "EEXIST"),
         Refuse(Create("/s", 0o644), "EEXIST"),
@@ -131,6 +132,8 @@ fn refuses_to_make_names(rt: HostRuntime) -> Result<(), Fail> {
         Refuse(Link("/d", "/x"), "EPERM"),
         Refuse(Link("/d", "/f"), "EPERM"),
         See(Tree(PLANTED_TREE)),
+        Do(Create("/x", 0o644)),
+        See(Facts(At("/x"), 7, 0o100_644, 1, 0, 0)),
     ];
     assert_eq!(rt; first_wrong(&mut files, &steps), None);
     Ok(())
@@ -140,18 +143,25 @@ fn refuses_to_make_names(rt: HostRuntime) -> Result<(), Fail> {
 fn refuses_to_take_names_away(rt: HostRuntime) -> Result<(), Fail> {
     let mut files = Files::with(rt.alloc(), &PLANTED)?;
     let steps = [
+        Clock(5_000_000_000),
         Refuse(Unlink("/none"), "ENOENT"),
+        Refuse(Unlink("/f/"), "ENOTDIR"),
         Refuse(Unlink("/d"), "EISDIR"),
         Refuse(Unlink("/d/e/."), "EISDIR"),
         Refuse(Unlink("/"), "EISDIR"),
         Refuse(Rmdir("/none"), "ENOENT"),
         Refuse(Rmdir("/d/e/."), "EINVAL"),
+        Refuse(Rmdir("/."), "EINVAL"),
         Refuse(Rmdir("/d/e/.."), "ENOTEMPTY"),
+        Refuse(Rmdir("/d/.."), "ENOTEMPTY"),
         Refuse(Rmdir("/"), "EBUSY"),
         Refuse(Rmdir("/f"), "ENOTDIR"),
         Refuse(Rmdir("/s"), "ENOTDIR"),
+        Refuse(Rmdir("/s/"), "ENOTEMPTY"),
         Refuse(Rmdir("/d"), "ENOTEMPTY"),
         See(Tree(PLANTED_TREE)),
+        Do(Create("/x", 0o644)),
+        See(Facts(At("/x"), 7, 0o100_644, 1, 0, 0)),
     ];
     assert_eq!(rt; first_wrong(&mut files, &steps), None);
     Ok(())
@@ -177,6 +187,8 @@ fn makes_nothing_in_a_removed_directory(rt: HostRuntime) -> Result<(), Fail> {
         Refuse(Link("/f", "x"), "ENOENT"),
         Refuse(Rename("/f", "x"), "ENOENT"),
         Refuse(Rename("/d", "x"), "ENOENT"),
+        Refuse(Rename("..", "/x"), "ENOENT"),
+        Refuse(Rename("/f", ".."), "EBUSY"),
         Refuse(Unlink("x"), "ENOENT"),
         Refuse(Rmdir(".."), "ENOENT"),
         Refuse(Rmdir("."), "EINVAL"),
@@ -186,6 +198,57 @@ fn makes_nothing_in_a_removed_directory(rt: HostRuntime) -> Result<(), Fail> {
         Do(Release(Named)),
         Do(Create("/y", 0o644)),
         See(Facts(At("/y"), 3, 0o100_644, 1, 0, 0)),
+    ];
+    assert_eq!(rt; first_wrong(&mut files, &steps), None);
+    Ok(())
+}
+
+#[test]
+fn a_symbolic_link_has_names_of_its_own(rt: HostRuntime) -> Result<(), Fail> {
+    let mut files = Files::new(rt.alloc())?;
+    let steps = [
+        Do(Symlink("none", "/s")),
+        Clock(5),
+        Do(Link("/s", "/t")),
+        See(Facts(At("/t"), 2, 0o120_777, 2, 4, 0)),
+        See(Times(At("/s"), 1, 1, 5)),
+        Do(Unlink("/s")),
+        See(Target(At("/t"), "none")),
+        Do(Unlink("/t")),
+        Do(Create("/f", 0o644)),
+        See(Facts(At("/f"), 2, 0o100_644, 1, 0, 0)),
+    ];
+    assert_eq!(rt; first_wrong(&mut files, &steps), None);
+    Ok(())
+}
+
+#[test]
+fn a_missing_name_before_a_slash_is_a_directory_to_be(rt: HostRuntime) -> Result<(), Fail> {
+    let mut files = Files::new(rt.alloc())?;
+    let steps = [
+        Do(Mkdir("/x/", 0o755)),
+        Do(Rename("/x/", "/y/")),
+        See(Next(At("/"), 0, Some((4, "y", 2)))),
+        Do(Symlink("none", "/h")),
+        Do(Mkdir("/h/", 0o755)),
+        See(Facts(At("/none"), 4, 0o040_755, 2, 4096, 8)),
+        See(Target(At("/h"), "none")),
+        Refuse(Mkdir("/h/", 0o755), "EEXIST"),
+    ];
+    assert_eq!(rt; first_wrong(&mut files, &steps), None);
+    Ok(())
+}
+
+#[test]
+fn a_named_file_stays_without_a_hold(rt: HostRuntime) -> Result<(), Fail> {
+    let mut files = Files::new(rt.alloc())?;
+    let steps = [
+        Do(Create("/f", 0o644)),
+        Do(Hold(At("/f"))),
+        Do(Release(At("/f"))),
+        See(Facts(At("/f"), 2, 0o100_644, 1, 0, 0)),
+        Do(Create("/g", 0o644)),
+        See(Facts(At("/g"), 3, 0o100_644, 1, 0, 0)),
     ];
     assert_eq!(rt; first_wrong(&mut files, &steps), None);
     Ok(())

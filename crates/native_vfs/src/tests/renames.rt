@@ -4,7 +4,7 @@ use super::files::Call::{self, Create, Hold, Link, Mkdir, Release, Rename, Symli
 use super::files::Files;
 use super::files::Which::{At, Named};
 use super::steps::Look::{Facts, Parent, Times, Tree};
-use super::steps::Step::{Clock, Do, Name, Refuse, See};
+use super::steps::Step::{Clock, Do, Name, Refuse, See, Start};
 use super::steps::first_wrong;
 use std::test::Fail;
 
@@ -31,6 +31,7 @@ const PLANTED_TREE: &str = "1 755 0 dir: 3=f=2 4=g=3 5=d=4 6=empty=7 7=full=8 8=
 fn refuses_renames(rt: HostRuntime) -> Result<(), Fail> {
     let mut files = Files::with(rt.alloc(), &PLANTED)?;
     let steps = [
+        Clock(5_000_000_000),
         Refuse(Rename("/none", "/x"), "ENOENT"),
         Refuse(Rename("/none", "/."), "ENOENT"),
         Refuse(Rename("/d/.", "/x"), "EBUSY"),
@@ -55,6 +56,8 @@ fn refuses_renames(rt: HostRuntime) -> Result<(), Fail> {
         Refuse(Rename("/f", "/g/x"), "ENOTDIR"),
         Refuse(Rename("/f", "/none/x"), "ENOENT"),
         See(Tree(PLANTED_TREE)),
+        Do(Create("/x", 0o644)),
+        See(Facts(At("/x"), 11, 0o100_644, 1, 0, 0)),
     ];
     assert_eq!(rt; first_wrong(&mut files, &steps), None);
     Ok(())
@@ -105,6 +108,23 @@ fn renames_over_a_file(rt: HostRuntime) -> Result<(), Fail> {
 }
 
 #[test]
+fn renames_over_one_of_two_names(rt: HostRuntime) -> Result<(), Fail> {
+    let mut files = Files::with(rt.alloc(), &PLANTED)?;
+    let steps = [
+        Clock(9),
+        Do(Rename("/g", "/k")),
+        See(Facts(At("/f"), 2, 0o100_644, 1, 0, 0)),
+        See(Times(At("/f"), 1, 1, 9)),
+        Do(Rename("/f", "/s")),
+        See(Facts(At("/s"), 2, 0o100_644, 1, 0, 0)),
+        Do(Create("/x", 0o644)),
+        See(Facts(At("/x"), 10, 0o100_644, 1, 0, 0)),
+    ];
+    assert_eq!(rt; first_wrong(&mut files, &steps), None);
+    Ok(())
+}
+
+#[test]
 fn renames_between_directories(rt: HostRuntime) -> Result<(), Fail> {
     let mut files = Files::new(rt.alloc())?;
     let steps = [
@@ -115,7 +135,7 @@ fn renames_between_directories(rt: HostRuntime) -> Result<(), Fail> {
         Do(Symlink("f", "/d/s")),
         Clock(5),
         Do(Rename("/d/e", "/g/x")),
-        See(Parent(At("/g/x"), Ok(5))),
+        See(Parent(At("/g/x"), 5)),
         See(Facts(At("/g/x"), 3, 0o040_755, 2, 4096, 8)),
         See(Facts(At("/d"), 2, 0o040_755, 2, 4096, 8)),
         See(Facts(At("/g"), 5, 0o040_755, 3, 4096, 8)),
@@ -149,8 +169,7 @@ fn renames_over_an_empty_directory(rt: HostRuntime) -> Result<(), Fail> {
         Clock(5),
         Do(Rename("/d", "/e/g")),
         See(Facts(At("/e/g"), 2, 0o040_755, 2, 4096, 8)),
-        See(Parent(At("/e/g"), Ok(4))),
-        See(Parent(Named, Err("a directory with a parent"))),
+        See(Parent(At("/e/g"), 4)),
         See(Facts(Named, 5, 0o040_755, 0, 4096, 8)),
         See(Times(Named, 1, 1, 1)),
         See(Facts(At("/e"), 4, 0o040_755, 4, 4096, 8)),
@@ -161,6 +180,8 @@ fn renames_over_an_empty_directory(rt: HostRuntime) -> Result<(), Fail> {
         Do(Unlink("/e/g/f")),
         Do(Rename("/e/h", "/e/g")),
         See(Facts(At("/e"), 4, 0o040_755, 3, 4096, 8)),
+        Start(Named),
+        Refuse(Rename("..", "/x"), "ENOENT"),
         Do(Release(Named)),
         Do(Create("/i", 0o644)),
         See(Facts(At("/i"), 2, 0o100_644, 1, 0, 0)),

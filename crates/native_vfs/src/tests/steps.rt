@@ -35,7 +35,7 @@ pub(super) enum Look {
     /// The link's target.
     Target(Which, &'static str),
     /// The number of the directory above this one.
-    Parent(Which, Answer<u64>),
+    Parent(Which, u64),
     /// The entry after a cookie: its cookie, its name, and the number of its node.
     Next(Which, u32, Option<(u32, &'static str, u64)>),
     /// The whole tree, as text.
@@ -105,7 +105,7 @@ fn is_seen(files: &Files, look: Look) -> Answer<bool> {
             )
         }
         Look::Target(link, target) => files.has_target(link, target),
-        Look::Parent(dir, answer) => Ok(files.parent(dir) == answer),
+        Look::Parent(dir, number) => Ok(files.parent(dir)? == number),
         Look::Next(dir, after, wanted) => files.is_next(dir, after, wanted),
         Look::Tree(text) => Ok(files.text()?.as_str() == text),
     }

@@ -3,9 +3,9 @@
 use super::files::Call::{
     Create, Hold, Link, Mkdir, Rmdir, SetMode, SetSize, SetTimes, Symlink, Unlink,
 };
-use super::files::Files;
 use super::files::Which::At;
-use super::steps::Look::{Facts, Parent, Read, Times, Tree};
+use super::files::{Files, tree_of_file};
+use super::steps::Look::{Facts, Next, Parent, Read, Times, Tree};
 use super::steps::Step::{self, Clock, Do, See, Write};
 use super::steps::first_wrong;
 use std::test::Fail;
@@ -39,7 +39,7 @@ fn a_tree_goes_in_and_comes_out(rt: HostRuntime) -> Result<(), Fail> {
     let steps = [
         See(Tree(TREE)),
         See(Facts(At("/d"), 2, 0o040_755, 3, 4096, 8)),
-        See(Parent(At("/d/e"), Ok(2))),
+        See(Parent(At("/d/e"), 2)),
         See(Facts(At("/d/f"), 3, 0o100_644, 1, 20_000, 16)),
         See(Times(At("/d/f"), 2_000_000_000, 2_000_000_000, 2_000_000_000)),
         See(Facts(At("/d/h"), 5, 0o107_070, 2, 0, 0)),
@@ -80,5 +80,40 @@ fn a_tree_has_what_hangs_below_the_root(rt: HostRuntime) -> Result<(), Fail> {
         )),
     ];
     assert_eq!(rt; first_wrong(&mut files.loaded()?, &steps), None);
+    Ok(())
+}
+
+#[test]
+fn a_loaded_directory_goes_on_after_its_entries(rt: HostRuntime) -> Result<(), Fail> {
+    let calls = [
+        Mkdir("/d", 0o755),
+        Create("/d/a", 0o644),
+        Create("/d/b", 0o644),
+        Unlink("/d/b"),
+    ];
+    let files = Files::with(rt.alloc(), &calls)?;
+    let steps = [
+        Do(Create("/d/c", 0o644)),
+        See(Next(At("/d"), 3, Some((4, "c", 4)))),
+    ];
+    assert_eq!(rt; first_wrong(&mut files.loaded()?, &steps), None);
+    Ok(())
+}
+
+#[test]
+fn a_tree_may_have_the_greatest_number_and_the_least_time(rt: HostRuntime) -> Result<(), Fail> {
+    let alloc = rt.alloc();
+    let tree = tree_of_file(alloc, 3, 9_223_372_036_854_775_807, i64::MIN)?;
+    let mut files = Files::of(alloc, tree)?;
+    let steps = [
+        See(Tree(
+            "1 755 0 dir: 3=f=9223372036854775807\n\
+9223372036854775807 644 -9223372036854775808 0:\n",
+        )),
+        Do(Unlink("/f")),
+        Do(Create("/g", 0o644)),
+        See(Facts(At("/g"), 2, 0o100_644, 1, 0, 0)),
+    ];
+    assert_eq!(rt; first_wrong(&mut files, &steps), None);
     Ok(())
 }
