@@ -8,7 +8,7 @@ use Rattle.std.proofs.lemmas.List.Folds.{list_any_at}
 use Rattle.elf_image.specs.Span.{Span, overlaps, pages_touched}
 use Rattle.elf_image.specs.Fields.{program_headers, is_load, loads, span_of, AreInside}
 use Rattle.elf_image.specs.Rules.{first_broken, header_rules, load_rules, loads_rules, whole_rules, rules, first_failure}
-use Rattle.elf_image.specs.Loading.{protection_of, segment_of, segment_span, plan_of, IsValidSegment, IsValid}
+use Rattle.elf_image.specs.Loading.{protection_of, segment_of, segment_span, plan_of, IsValidSegment, IsValidPlan}
 use Rattle.elf_image.specs.declared.program_header.ProgramHeader.{ProgramHeader}
 use Rattle.elf_image.specs.declared.load_plan.Segment.{Segment}
 use Rattle.elf_image.specs.declared.refusal.ElfRefusal.{ElfRefusal}
@@ -156,7 +156,7 @@ headers-apart bytes h i j d before l =
     ∙ ap (overlaps (span_of (get_or hs j d))) (sym is) ∙ at
 
 -- the plan of a file that breaks no rule
-pub valid : (bytes : List ℕ) → first_failure bytes ≡ None → IsValid (plan_of bytes)
+pub valid : (bytes : List ℕ) → first_failure bytes ≡ None → IsValidPlan (plan_of bytes)
 valid bytes h =
     let hs = loads bytes in
     let d = empty_header in

@@ -55,7 +55,7 @@ pub record IsValidSegment (s : Segment) : Type 0 where
   pub high : s.vaddr + s.memsz ≤ 0x7F7F0000
 
 -- what each plan keeps: there is a segment, each is valid, no two overlap, and all touch at most 120,000 pages
-pub record IsValid (plan : Plan) : Type 0 where
+pub record IsValidPlan (plan : Plan) : Type 0 where
   pub some : 0 < length plan.segments
   pub each : All IsValidSegment plan.segments
   pub apart : AllPairs (λ s t. overlaps (segment_span s) (segment_span t) ≡ false) plan.segments

@@ -4,21 +4,21 @@ use Rattle.elf_image.specs.declared.refusal.ElfRefusal.{ElfRefusal}
 use Rattle.elf_image.specs.declared.refusal.ElfRefusal.TheVariants.{Short, Magic, Class, Order, Version, «Type», Machine, Abi, Table, Interp, Outside, Sizes, Address, Offset, Overlap, NoLoad, Pages}
 
 -- the place of a rule among the seventeen
-abbrev pub number_of : ElfRefusal → ℕ
-number_of Short = 1
-number_of Magic = 2
-number_of Class = 3
-number_of Order = 4
-number_of Version = 5
-number_of «Type» = 6
-number_of Machine = 7
-number_of Abi = 8
-number_of Table = 9
-number_of Interp = 10
-number_of Outside = 11
-number_of Sizes = 12
-number_of Address = 13
-number_of Offset = 14
-number_of Overlap = 15
-number_of NoLoad = 16
-number_of Pages = 17
+abbrev pub elf_rule_number : ElfRefusal → ℕ
+elf_rule_number Short = 1
+elf_rule_number Magic = 2
+elf_rule_number Class = 3
+elf_rule_number Order = 4
+elf_rule_number Version = 5
+elf_rule_number «Type» = 6
+elf_rule_number Machine = 7
+elf_rule_number Abi = 8
+elf_rule_number Table = 9
+elf_rule_number Interp = 10
+elf_rule_number Outside = 11
+elf_rule_number Sizes = 12
+elf_rule_number Address = 13
+elf_rule_number Offset = 14
+elf_rule_number Overlap = 15
+elf_rule_number NoLoad = 16
+elf_rule_number Pages = 17

@@ -2,7 +2,7 @@
 ghost use Rattle.std.specs.Prelude.{◌≡◌, ◌≤◌, None, Some, IfOk, IfErr, length};
 ghost use Rattle.elf_image.specs.Fields.{loads as loads_of_file, AreInside, HasHeader};
 ghost use Rattle.elf_image.specs.Rules.{first_broken, header_rules, first_failure, IsCause, Judges};
-ghost use Rattle.elf_image.specs.Loading.{plan_of, IsValid};
+ghost use Rattle.elf_image.specs.Loading.{plan_of, IsValidPlan};
 
 use crate::fields::{ENTRY, TABLE_COUNT, TABLE_PLACE, half_at, word_at};
 use crate::load_plan::Plan;
@@ -65,7 +65,7 @@ pub fn parse(alloc: Global, bytes: &[u8]) -> Result<Plan, ElfError>
     ensures header { (rule : ElfRefusal) → first_broken (header_rules bytes.now) ≡ Some rule
         → result ≡ Err (ElfError.Refused rule) }
 
-    ensures valid { IfOk result IsValid }
+    ensures valid { IfOk result IsValidPlan }
 {
     let loads = judged_loads(alloc, bytes)?;
     let plan = planned(alloc, bytes, loads.as_slice())?;

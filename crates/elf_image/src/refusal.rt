@@ -1,6 +1,6 @@
 //! Why a file is not loaded.
 ghost use Rattle.std.specs.Prelude.{◌≡◌};
-ghost use Rattle.elf_image.specs.Refusal.{number_of};
+ghost use Rattle.elf_image.specs.Refusal.{elf_rule_number};
 ghost use Rattle.elf_image.specs.declared.refusal.ElfError.TheVariants.{NoMemory};
 
 use std::alloc::{AllocError, AllocFailed};
@@ -52,7 +52,7 @@ pub enum ElfRefusal {
 impl ElfRefusal {
     /// The rule's number, 1 to 17 in the order in which the rules are tried.
     pub fn number(self) -> u8
-        ensures { result ≡ number_of self }
+        ensures { result ≡ elf_rule_number self }
     {
         match self {
             ElfRefusal::Short => 1,

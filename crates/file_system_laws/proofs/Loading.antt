@@ -14,7 +14,7 @@ use Rattle.kernel_core.specs.Nodes.{Inode, Listing, listing_at, listing_in, in_i
 use Rattle.kernel_core.specs.Totals.{total, content_entries, content_blocks, live_entries, live_blocks}
 use Rattle.kernel_core.specs.FileSystem.{IsFileSystem, IsLive, IsLiveContent, IsLiveEntry, HasParent, IsBelowRoot, IsBelowRootBy, IsTime, name_count, parent_at, parent_of, subdirectories}
 use Rattle.kernel_core.specs.LoadedTree.{loaded, loaded_inode, content_of, links_of, parent_in, is_dir_in, greatest_of, nanoseconds}
-use Rattle.kernel_core.specs.ValidTree.{IsValid, IsNode, IsKind, IsEntry, IsNamedRightly, IsReached, IsReachedIn, numbers, names_in, times_named, entries_of, blocks_of, is_dir, all_entries, all_blocks, root, greatest_cookie}
+use Rattle.kernel_core.specs.ValidTree.{IsValidTree, IsNode, IsKind, IsEntry, IsNamedRightly, IsReached, IsReachedIn, numbers, names_in, times_named, entries_of, blocks_of, is_dir, all_entries, all_blocks, root, greatest_cookie}
 use Rattle.kernel_core.specs.declared.tree.Tree.{Tree}
 use Rattle.kernel_core.specs.declared.tree.Node.{Node}
 use Rattle.kernel_core.specs.declared.tree.Kind.{Kind}
@@ -91,7 +91,7 @@ any_directory (n ∷ ns) q rising =
     or_nothing true = refl
     or_nothing false = refl
 
-module _ (tree : Tree) (valid : IsValid tree) where
+module _ (tree : Tree) (valid : IsValidTree tree) where
   get-loaded : (q : ℕ) → get (loaded tree) q ≡ option_map (loaded_inode tree.nodes) (element (λ n. n.number) (loaded_inode tree.nodes) tree.nodes q)
   unfolding loaded
   get-loaded q = get-keyed (λ n. n.number) (loaded_inode tree.nodes) tree.nodes q

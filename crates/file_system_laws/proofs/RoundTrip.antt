@@ -10,7 +10,7 @@ use Rattle.std.proofs.lemmas.Nat.{div-mul-add}
 use Rattle.std.proofs.lemmas.List.Elements.{All-contains, Contains-get_or, recursion_from_All}
 use Rattle.kernel_core.specs.Nodes.{Inode}
 use Rattle.kernel_core.specs.LoadedTree.{loaded, saved, loaded_inode, saved_node, content_of, kind_of, nanoseconds, whole_seconds}
-use Rattle.kernel_core.specs.ValidTree.{IsValid, IsNode, IsKind}
+use Rattle.kernel_core.specs.ValidTree.{IsValidTree, IsNode, IsKind}
 use Rattle.kernel_core.specs.declared.tree.Tree.{Tree}
 use Rattle.kernel_core.specs.declared.tree.Node.{Node}
 use Rattle.kernel_core.specs.declared.tree.Kind.{Kind}
@@ -48,7 +48,7 @@ node_again nodes n is = λ i. record { number = n.number; mode = n.mode; mtime =
 
 -- All nodes
 
-module _ (tree : Tree) (valid : IsValid tree) where
+module _ (tree : Tree) (valid : IsValidTree tree) where
   abbrev entry : Node → ℕ × Inode
   entry n = (n.number, loaded_inode tree.nodes n)
 

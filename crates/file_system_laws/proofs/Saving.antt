@@ -18,7 +18,7 @@ use Rattle.std.specs.FinMap.Entries.{below_all}
 use Rattle.kernel_core.specs.FileContent.{FileContent, IsContent, IsBlock}
 use Rattle.kernel_core.specs.Nodes.{Nodes, Inode, NodeContent, File, Directory, Link, Listing, listing_in, in_inode, entries_in}
 use Rattle.kernel_core.specs.Totals.{total, content_entries, content_blocks}
-use Rattle.kernel_core.specs.ValidTree.{IsValid, IsNode, IsKind, AreBlocks, IsNamedRightly, IsReached, IsReachedIn, BeginsWithRoot, numbers, names_in, times_named, entries_of, blocks_of, is_dir, root}
+use Rattle.kernel_core.specs.ValidTree.{IsValidTree, IsNode, IsKind, AreBlocks, IsNamedRightly, IsReached, IsReachedIn, BeginsWithRoot, numbers, names_in, times_named, entries_of, blocks_of, is_dir, root}
 use Rattle.kernel_core.specs.LoadedTree.{saved, saved_node, kind_of, whole_seconds}
 use Rattle.kernel_core.specs.FileSystem.{name_count, IsTime, parent_of, parent_at, IsBelowRoot, IsBelowRootBy, IsFileSystem}
 use Rattle.kernel_core.specs.declared.tree.Node.{Node}
@@ -553,7 +553,7 @@ module _ (nodes : Nodes) (fs : IsFileSystem nodes) where
           let some = low.0 in
           absurd (omega (arith, lt, some))
 
-  pub saved_valid : IsValid (saved nodes)
+  pub saved_valid : IsValidTree (saved nodes)
   saved_valid = record {
     begins = begins;
     count =

@@ -5,12 +5,12 @@ ghost use Rattle.std.specs.FinMap.{get};
 ghost use Rattle.kernel_core.specs.FileSystem.{IsFileSystem};
 ghost use Rattle.kernel_core.specs.LoadedTree.{loaded, saved};
 ghost use Rattle.kernel_core.specs.Nodes.{Nodes, Inode};
-ghost use Rattle.kernel_core.specs.ValidTree.{IsValid, IsReached, numbers};
+ghost use Rattle.kernel_core.specs.ValidTree.{IsValidTree, IsReached, numbers};
 ghost use Rattle.kernel_core.specs.declared.tree.Tree.{Tree};
 
 /// A file system is saved as a valid file tree.
 pub fn a_file_system_is_saved_as_a_valid_tree()
-    ensures { (nodes : Nodes) → IsFileSystem nodes → IsValid (saved nodes) }
+    ensures { (nodes : Nodes) → IsFileSystem nodes → IsValidTree (saved nodes) }
 {}
 
 /// A node with a link is one that names lead to from the root.
@@ -29,5 +29,5 @@ pub fn the_nodes_that_are_reached_are_saved()
 /// times and blocks that it had, so that a run that changes no file gives back the image that it
 /// was given.
 pub fn a_loaded_tree_is_saved_as_it_was()
-    ensures { (tree : Tree) → IsValid tree → saved (loaded tree) ≡ tree }
+    ensures { (tree : Tree) → IsValidTree tree → saved (loaded tree) ≡ tree }
 {}

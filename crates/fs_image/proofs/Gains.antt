@@ -12,7 +12,7 @@ use Rattle.std.proofs.lemmas.List.Sums.{get_or-le-sum_by}
 use Rattle.std.proofs.lemmas.List.Elements.{All-get_or}
 use Rattle.kernel_core.specs.declared.tree.Tree.{Tree}
 use Rattle.kernel_core.specs.declared.tree.Node.{Node}
-use Rattle.kernel_core.specs.ValidTree.{IsValid, IsNode, blocks_of, entries_of}
+use Rattle.kernel_core.specs.ValidTree.{IsValidTree, IsNode, blocks_of, entries_of}
 
 -- nothing was added
 pub adds_nothing : (text old new : List ℕ) → new ≡ old → AddsPrefix text old new
@@ -69,7 +69,7 @@ adds_then a b (Ok done) old mid new first second = second ∙ (ap (λ (t : List 
 adds_then a b (Err error) old mid new first second = prefix_second a b old mid new first second
 
 -- each node of a valid tree can be written
-pub can_be_written : (tree : Tree) → IsValid tree → All CanBeWritten tree.nodes
+pub can_be_written : (tree : Tree) → IsValidTree tree → All CanBeWritten tree.nodes
 can_be_written tree valid = λ k d below. record {
   valid = All-get_or IsNode tree.nodes k d below valid.each;
   blocks = omega (arith, get_or-le-sum_by (λ (n : Node). length (blocks_of n.kind)) tree.nodes k d below, valid.blocks);

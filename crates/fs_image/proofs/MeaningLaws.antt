@@ -6,7 +6,7 @@ use Rattle.std.proofs.lemmas.List.Elements.{All-contains, All-map, All-weaker}
 use Rattle.kernel_core.specs.declared.tree.Tree.{Tree}
 use Rattle.kernel_core.specs.declared.tree.Node.{Node}
 use Rattle.kernel_core.specs.declared.tree.DirEntry.{DirEntry}
-use Rattle.kernel_core.specs.ValidTree.{IsValid, IsNode, root, is_dir, entries_of, numbers}
+use Rattle.kernel_core.specs.ValidTree.{IsValidTree, IsNode, root, is_dir, entries_of, numbers}
 use Rattle.fs_image.specs.declared.refusal.ImageRefusal.{ImageRefusal}
 use Rattle.fs_image.specs.Refusal.{unless}
 use Rattle.fs_image.specs.Text.{magic, node_text, text_of}
@@ -33,7 +33,7 @@ root_dirs nodes are = λ k d below.
     let split : nodes ≡ take k nodes ++ get_or nodes k d ∷ drop (k + 1) nodes = sym (take-append-drop k nodes) ∙ ap (λ (ns : List Node). take k nodes ++ ns) (drop_more nodes k d below) in
     root_first nodes (take k nodes) (get_or nodes k d) (drop (k + 1) nodes) are split
 
-pub valid_from : (tree : Tree) → IsRead tree → naming_failure tree ≡ None → IsValid tree
+pub valid_from : (tree : Tree) → IsRead tree → naming_failure tree ≡ None → IsValidTree tree
 valid_from tree read none =
     let well = naming-sound tree (root_dirs tree.nodes read.nodes) none in
     let first = first_of_some tree.nodes read.some in
@@ -57,7 +57,7 @@ some_first : (nodes : List Node) (first : Node) → slice_get nodes 0 ≡ Some f
 some_first [] first e = absurd cc
 some_first (n ∷ nodes) first e = omega arith
 
-pub read_from : (tree : Tree) → IsValid tree → IsRead tree
+pub read_from : (tree : Tree) → IsValidTree tree → IsRead tree
 read_from tree valid = record {
   nodes = record {
     begins = λ n e.
@@ -73,7 +73,7 @@ read_from tree valid = record {
 }
 
 -- an entry's number fits its field
-pub known_numbers : (tree : Tree) → IsValid tree → All (λ (n : Node). All (λ (o : DirEntry). o.node < 256 ^ 8) (entries_of n.kind)) tree.nodes
+pub known_numbers : (tree : Tree) → IsValidTree tree → All (λ (n : Node). All (λ (o : DirEntry). o.node < 256 ^ 8) (entries_of n.kind)) tree.nodes
 known_numbers tree valid =
     let small : All (λ (m : ℕ). m < 256 ^ 8) (numbers tree.nodes) =
     All-map (λ (m : ℕ). m < 256 ^ 8) (λ (n : Node). n.number) tree.nodes (All-weaker IsNode (λ (n : Node). n.number < 256 ^ 8) (λ n h. omega (arith, h.high)) tree.nodes valid.each) in
@@ -84,16 +84,16 @@ unless_ok : (failure : Option ImageRefusal) (made tree : Tree) → unless failur
 unless_ok None made tree e = (refl, ok_is made tree e)
 unless_ok (Some refusal) made tree e = absurd cc
 
-pub meaning-sound : (bytes : List ℕ) (tree : Tree) → IsBytes bytes → meaning_of bytes ≡ Ok tree → IsValid tree × (bytes ≡ text_of tree)
+pub meaning-sound : (bytes : List ℕ) (tree : Tree) → IsBytes bytes → meaning_of bytes ≡ Ok tree → IsValidTree tree × (bytes ≡ text_of tree)
 unfolding meaning_of
 meaning-sound bytes tree fits e =
     let b = bind_ok (reading_of bytes) (λ made. unless (naming_failure made) made) tree e in
     let u = unless_ok (naming_failure b.0) b.0 tree b.2 in
     let read = reading_takes bytes b.0 fits b.1 in
-    let P : Tree → Type 0 = λ t. IsValid t × (bytes ≡ text_of t) in
+    let P : Tree → Type 0 = λ t. IsValidTree t × (bytes ≡ text_of t) in
     subst P u.1 (valid_from b.0 read.1 u.0, read.0)
 
-pub meaning-complete : (tree : Tree) → IsValid tree → meaning_of (text_of tree) ≡ Ok tree
+pub meaning-complete : (tree : Tree) → IsValidTree tree → meaning_of (text_of tree) ≡ Ok tree
 unfolding meaning_of
 meaning-complete tree valid =
     let read = reading_again tree (read_from tree valid) (known_numbers tree valid) in
@@ -101,7 +101,7 @@ meaning-complete tree valid =
     ap (λ r. r >>= λ made. unless (naming_failure made) made) read ∙ ap (λ o. unless o tree) none
 
 -- a text is that of one tree alone
-pub one_tree : (a b : Tree) → IsValid a → IsValid b → text_of a ≡ text_of b → a ≡ b
+pub one_tree : (a b : Tree) → IsValidTree a → IsValidTree b → text_of a ≡ text_of b → a ≡ b
 one_tree a b va vb e = ok_is a b (sym (meaning-complete a va) ∙ (ap meaning_of e ∙ meaning-complete b vb))
 
 -- Answers
@@ -128,11 +128,11 @@ nodes_short bytes tree fits e =
     let whole : length (text_of tree) ≡ 12 + length (flat_map node_text tree.nodes) = length-append (magic ++ big_bytes 4 (length tree.nodes)) (flat_map node_text tree.nodes) in
     omega (arith, len, whole)
 
-pub accepted_from : (bytes : List ℕ) (r : Result Tree ImageError) → IsBytes bytes → Gives r (meaning_of bytes) → IfOk r (λ tree. IsValid tree × (bytes ≡ text_of tree))
+pub accepted_from : (bytes : List ℕ) (r : Result Tree ImageError) → IsBytes bytes → Gives r (meaning_of bytes) → IfOk r (λ tree. IsValidTree tree × (bytes ≡ text_of tree))
 accepted_from bytes (Ok tree) fits e = meaning-sound bytes tree fits e
 accepted_from bytes (Err error) fits e = tt
 
-pub complete_from : (bytes : List ℕ) (r : Result Tree ImageError) → Gives r (meaning_of bytes) → (tree : Tree) → IsValid tree → bytes ≡ text_of tree → Gives r (Ok tree)
+pub complete_from : (bytes : List ℕ) (r : Result Tree ImageError) → Gives r (meaning_of bytes) → (tree : Tree) → IsValidTree tree → bytes ≡ text_of tree → Gives r (Ok tree)
 complete_from bytes r e tree valid is =
     let P : Result Tree ImageRefusal → Type 0 = Gives r in
     subst P (ap meaning_of is ∙ meaning-complete tree valid) e

@@ -8,7 +8,7 @@ use Rattle.std.proofs.lemmas.List.{get_or-map, length-map}
 use Rattle.kernel_core.specs.declared.tree.Tree.{Tree}
 use Rattle.kernel_core.specs.declared.tree.Node.{Node}
 use Rattle.kernel_core.specs.declared.tree.DirEntry.{DirEntry}
-use Rattle.kernel_core.specs.ValidTree.{IsValid, root, is_dir, entries_of, numbers, times_named, IsNamedRightly, IsReached}
+use Rattle.kernel_core.specs.ValidTree.{IsValidTree, root, is_dir, entries_of, numbers, times_named, IsNamedRightly, IsReached}
 use Rattle.fs_image.specs.declared.refusal.Rule.TheVariants as rule
 use Rattle.fs_image.specs.declared.refusal.ImageRefusal.{ImageRefusal}
 use Rattle.fs_image.specs.Refusal.{refused, first_of}
@@ -158,7 +158,7 @@ naming-sound tree root_dir e =
       reached = All-weaker (InTree tree.nodes) (λ (n : Node). IsReached tree.nodes n.number) (λ n h. h.1) tree.nodes all;
     }
 
-pub naming-complete : (tree : Tree) → IsValid tree → naming_failure tree ≡ None
+pub naming-complete : (tree : Tree) → IsValidTree tree → naming_failure tree ≡ None
 unfolding naming_failure
 naming-complete tree valid =
     both_none (lost_target tree.nodes first_node tree.nodes) (stray_node tree.nodes first_node tree.nodes)

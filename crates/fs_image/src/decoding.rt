@@ -1,7 +1,7 @@
 //! From bytes to the tree that they are the text of.
 ghost use Rattle.std.specs.Prelude.{◌≡◌, None, Ok, IfOk, IfErr, OnOk};
 ghost use Rattle.kernel_core.specs.declared.tree.Tree.{Tree};
-ghost use Rattle.kernel_core.specs.ValidTree.{IsValid};
+ghost use Rattle.kernel_core.specs.ValidTree.{IsValidTree};
 ghost use Rattle.fs_image.specs.Text.{text_of};
 ghost use Rattle.fs_image.specs.Meaning.{meaning_of, first_failure, Gives, IsCause};
 
@@ -30,10 +30,10 @@ fn decoded(alloc: Global, bytes: &[u8]) -> Result<Tree, ImageError>
 /// (The format is this project's own.)
 pub fn decode(alloc: Global, bytes: &[u8]) -> Result<Tree, ImageError>
     // What is accepted is the text of a valid tree, and that tree comes.
-    ensures accepted { IfOk result (λ tree. IsValid tree × (bytes.now ≡ text_of tree)) }
+    ensures accepted { IfOk result (λ tree. IsValidTree tree × (bytes.now ≡ text_of tree)) }
 
     // The text of a valid tree is accepted, unless memory runs out.
-    ensures complete { (tree : Tree) → IsValid tree → bytes.now ≡ text_of tree → Gives result (Ok tree) }
+    ensures complete { (tree : Tree) → IsValidTree tree → bytes.now ≡ text_of tree → Gives result (Ok tree) }
 
     // What comes for any bytes.
     ensures exact { Gives result (meaning_of bytes.now) }
@@ -45,10 +45,10 @@ pub fn decode(alloc: Global, bytes: &[u8]) -> Result<Tree, ImageError>
 
 /// The text of a valid tree breaks no rule, and says that tree.
 pub fn text_is_accepted()
-    ensures { (tree : Tree) → IsValid tree → meaning_of (text_of tree) ≡ Ok tree }
+    ensures { (tree : Tree) → IsValidTree tree → meaning_of (text_of tree) ≡ Ok tree }
 {}
 
 /// A text is that of one valid tree alone.
 pub fn text_is_of_one_tree()
-    ensures { (a b : Tree) → IsValid a → IsValid b → text_of a ≡ text_of b → a ≡ b }
+    ensures { (a b : Tree) → IsValidTree a → IsValidTree b → text_of a ≡ text_of b → a ≡ b }
 {}

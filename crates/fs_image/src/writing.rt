@@ -3,7 +3,7 @@ ghost use Rattle.std.specs.Prelude.{◌≡◌, ◌<◌, ◌≤◌, ◌^◌, ◌+
 ghost use Rattle.std.specs.List.{flat_map};
 ghost use Rattle.std.specs.Int.{w64, cast_unsigned};
 ghost use Rattle.byteorder.specs.Endian.{big_bytes};
-ghost use Rattle.kernel_core.specs.ValidTree.{IsValid, IsKind, IsEntry, IsTarget, node_limit, block_limit, entry_limit, blocks_of, entries_of};
+ghost use Rattle.kernel_core.specs.ValidTree.{IsValidTree, IsKind, IsEntry, IsTarget, node_limit, block_limit, entry_limit, blocks_of, entries_of};
 ghost use Rattle.fs_image.specs.Text.{block_text, entry_text, kind_number, kind_text, head_text, node_text, text_of, tree_text, magic};
 ghost use Rattle.fs_image.specs.Adding.{Adds, AddsPrefix, CanBeWritten};
 
@@ -187,7 +187,7 @@ fn put_tree(out: &mut Vec<u8>, nodes: &[Node]) -> Result<(), NoMemory>
 /// Adds the one text of a valid tree to `out`. After `NoMemory` a prefix of it was added. Costs by
 /// the text's length. (The format is this project's own.)
 pub fn encode(tree: &Tree, out: &mut Vec<u8>) -> Result<(), NoMemory>
-    requires { IsValid tree.now }
+    requires { IsValidTree tree.now }
     ensures ok { OnOk result (out.new.items ≡ out.old.items ++ text_of tree.now) }
     ensures err { OnErr result (AddsPrefix (text_of tree.now) out.old.items out.new.items) }
 {

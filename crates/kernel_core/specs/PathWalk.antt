@@ -82,26 +82,26 @@ pub record Walk : Type 0 where
   pub links : ℕ
 
 -- a walk ends with a place or an error, or goes on
-pub data Step : Type 0 where
-  Ends : Result Place Errno → Step
-  Goes : Walk → Step
+pub data WalkStep : Type 0 where
+  Ends : Result Place Errno → WalkStep
+  Goes : Walk → WalkStep
 
-abbrev pub found : ℕ → List ℕ → Option ℕ → Step
+abbrev pub found : ℕ → List ℕ → Option ℕ → WalkStep
 found directory name node = Ends (Ok (record { directory = directory; name = name; node = node }))
 
 -- A component that names no node: the last one may be missing, and every other must be there. Where a link's target ends in a
 -- slash it needs a directory, so no name can be made there; of the path's own slash the caller knows (own).
-abbrev pub at_missing : Walk → List ℕ → List (List ℕ) → Step
+abbrev pub at_missing : Walk → List ℕ → List (List ℕ) → WalkStep
 at_missing walk name [] = if walk.target_slash && not walk.slash then Ends (Err ENOENT) else found walk.at name None
 at_missing walk name (next ∷ rest) = Ends (Err ENOENT)
 
 -- a component that names a directory or a file: the last one is found, and where the path ends in a slash it is a directory
-abbrev pub at_node : Bool → Walk → List ℕ → List (List ℕ) → ℕ → Step
+abbrev pub at_node : Bool → Walk → List ℕ → List (List ℕ) → ℕ → WalkStep
 at_node is_dir walk name [] node = if (walk.slash || walk.target_slash) && not is_dir then Ends (Err ENOTDIR) else found walk.at name (Some node)
 at_node is_dir walk name (next ∷ rest) node = Goes (record walk { at = node; rest = next ∷ rest })
 
 -- The link's target takes the component's place; from the root on where it begins with a slash. The forty-first link is ELOOP.
-abbrev pub following : Walk → List ℕ → List (List ℕ) → Bool → Step
+abbrev pub following : Walk → List ℕ → List (List ℕ) → Bool → WalkStep
 following walk target rest target_slash =
     if walk.links == link_limit then Ends (Err ELOOP)
     else Goes (record {
@@ -114,43 +114,43 @@ following walk target rest target_slash =
 
 -- a component that names a symbolic link: one that is not last, or before a slash, is followed (a last one before a slash by every
 -- call: own), and the last one as the call says
-abbrev pub at_link : Bool → Walk → List ℕ → List (List ℕ) → ℕ → List ℕ → Step
+abbrev pub at_link : Bool → Walk → List ℕ → List (List ℕ) → ℕ → List ℕ → WalkStep
 at_link follow walk name [] node target =
     if walk.slash || walk.target_slash || follow then following walk target [] (walk.target_slash || ends_with_slash target)
     else found walk.at name (Some node)
 at_link follow walk name (next ∷ rest) node target = following walk target (next ∷ rest) walk.target_slash
 
-abbrev pub at_kind : Nodes → Bool → Walk → List ℕ → List (List ℕ) → ℕ → Option (List ℕ) → Step
+abbrev pub at_kind : Nodes → Bool → Walk → List ℕ → List (List ℕ) → ℕ → Option (List ℕ) → WalkStep
 at_kind nodes follow walk name rest node None = at_node (is_directory nodes node) walk name rest node
 at_kind nodes follow walk name rest node (Some target) = at_link follow walk name rest node target
 
-abbrev pub at_named : Nodes → Bool → Walk → List ℕ → List (List ℕ) → Option ℕ → Step
+abbrev pub at_named : Nodes → Bool → Walk → List ℕ → List (List ℕ) → Option ℕ → WalkStep
 at_named nodes follow walk name rest None = at_missing walk name rest
 at_named nodes follow walk name rest (Some node) = at_kind nodes follow walk name rest node (target_at nodes node)
 
 -- a component is looked up in a directory
-abbrev pub in_listing : Nodes → Bool → Walk → List ℕ → List (List ℕ) → Option Listing → Step
+abbrev pub in_listing : Nodes → Bool → Walk → List ℕ → List (List ℕ) → Option Listing → WalkStep
 in_listing nodes follow walk name rest None = Ends (Err ENOTDIR)
 in_listing nodes follow walk name rest (Some listing) = at_named nodes follow walk name rest (named walk.at listing name)
 
 -- One component; with none, which only a path of slashes leaves, the path names the root. ENAMETOOLONG comes before ENOTDIR (own).
-abbrev pub at_component : Nodes → Bool → Walk → List (List ℕ) → Step
+abbrev pub at_component : Nodes → Bool → Walk → List (List ℕ) → WalkStep
 at_component nodes follow walk [] = found walk.at [] (Some walk.at)
 at_component nodes follow walk (name ∷ rest) =
     if nat_lt name_limit (length name) then Ends (Err ENAMETOOLONG)
     else in_listing nodes follow walk name rest (listing_at nodes walk.at)
 
-unfoldable pub step : Nodes → Bool → Walk → Step
-step nodes follow walk = at_component nodes follow walk walk.rest
+unfoldable pub walk_step : Nodes → Bool → Walk → WalkStep
+walk_step nodes follow walk = at_component nodes follow walk walk.rest
 
 -- a walk ends, after some steps, with this place or error
-unfoldable pub EndsAfter : ℕ → Nodes → Bool → Step → Result Place Errno → Type 0
+unfoldable pub EndsAfter : ℕ → Nodes → Bool → WalkStep → Result Place Errno → Type 0
 EndsAfter count nodes follow (Ends answer) result = answer ≡ result
 EndsAfter zero nodes follow (Goes walk) result = ⊥
-EndsAfter (suc count) nodes follow (Goes walk) result = EndsAfter count nodes follow (step nodes follow walk) result
+EndsAfter (suc count) nodes follow (Goes walk) result = EndsAfter count nodes follow (walk_step nodes follow walk) result
 
 -- the walk of a path from a directory on, or from the root where the path begins with a slash. An empty path is ENOENT.
-abbrev pub begin : ℕ → List ℕ → Step
+abbrev pub begin : ℕ → List ℕ → WalkStep
 begin from [] = Ends (Err ENOENT)
 begin from (byte ∷ bytes) = Goes (record {
   at = if begins_with_slash (byte ∷ bytes) then root else from;

@@ -148,7 +148,7 @@ IsReached nodes number = (steps : ℕ) × IsReachedIn nodes steps number
 abbrev pub BeginsWithRoot : List Node → Type 0
 BeginsWithRoot nodes = (first : Node) × (slice_get nodes 0 ≡ Some first) × (first.number ≡ root) × (is_dir first.kind ≡ true)
 
-pub record IsValid (tree : Tree) : Type 0 where
+pub record IsValidTree (tree : Tree) : Type 0 where
   pub begins : BeginsWithRoot tree.nodes
   pub count : length tree.nodes ≤ node_limit
   pub rising : IsStrictlySortedBy nat_cmp (numbers tree.nodes)

@@ -12,7 +12,7 @@ use Rattle.std.proofs.lemmas.List.Elements.{All-weaker, All-contains}
 use Rattle.std.proofs.lemmas.List.Sums.{get_or-le-sum_by}
 use Rattle.kernel_core.specs.LoadedTree.{loaded_inode, content_of as content_in, links_of, parent_in, is_dir_in, greatest_of}
 use Rattle.kernel_core.specs.Nodes.{Inode, NodeContent, Directory, update, listing_in, in_inode, is_directory}
-use Rattle.kernel_core.specs.ValidTree.{IsValid, IsNode, IsKind, AreEntries, IsNamedRightly, entry_limit, names_in, times_named, entries_of, is_dir, numbers, root}
+use Rattle.kernel_core.specs.ValidTree.{IsValidTree, IsNode, IsKind, AreEntries, IsNamedRightly, entry_limit, names_in, times_named, entries_of, is_dir, numbers, root}
 use Rattle.kernel_core.specs.declared.tree.Node.{Node}
 use Rattle.kernel_core.specs.declared.tree.Kind.{Kind}
 use Rattle.kernel_core.specs.declared.tree.Kind.TheVariants as kinds
@@ -215,7 +215,7 @@ module _ (all : List Node) (i : ℕ) (node : Node) (short : i < length all) (is 
 
 -- What a valid tree has for a directory
 
-module _ (all : List Node) (valid : IsValid (tree_of all)) (places : Places) (found : All (λ n. HasPlace places n.number) all) where
+module _ (all : List Node) (valid : IsValidTree (tree_of all)) (places : Places) (found : All (λ n. HasPlace places n.number) all) where
   pub has-place : (q : ℕ) → Contains (numbers all) q → HasPlace places q
   has-place q there =
       let n = Contains-map (λ n. n.number) all q there in

@@ -9,7 +9,7 @@ use Rattle.kernel_core.specs.FileSystem.{IsFileSystem}
 use Rattle.kernel_core.specs.LoadedTree.{loaded, loaded_inode, content_of as content_in}
 use Rattle.kernel_core.specs.Nodes.{Inode}
 use Rattle.kernel_core.specs.Totals.{total, content_entries, content_blocks, live_entries, live_blocks}
-use Rattle.kernel_core.specs.ValidTree.{IsValid, IsKind, all_entries, all_blocks, entries_of, blocks_of, root}
+use Rattle.kernel_core.specs.ValidTree.{IsValidTree, IsKind, all_entries, all_blocks, entries_of, blocks_of, root}
 use Rattle.kernel_core.specs.declared.tree.Node.{Node}
 use Rattle.kernel_core.specs.declared.tree.Kind.{Kind}
 use Rattle.kernel_core.specs.declared.tree.Kind.TheVariants as kinds
@@ -28,7 +28,7 @@ kind_blocks nodes number (kinds.File size blocks) is = len-keyed (λ b. b.index)
 kind_blocks nodes number (kinds.Dir entries) is = refl
 kind_blocks nodes number (kinds.Link target) is = refl
 
-module _ (all : List Node) (valid : IsValid (tree_of all)) (table : Table) (places : Places) (named : AreNamed all all [] table places) where
+module _ (all : List Node) (valid : IsValidTree (tree_of all)) (table : Table) (places : Places) (named : AreNamed all all [] table places) where
   pub nodes-loaded : nodes_of table ≡ loaded (tree_of all)
   unfolding loaded
   nodes-loaded = named.nodes ∙ ap from_entries (append-nil (map (loaded_entry all) all))

@@ -10,7 +10,7 @@ use Rattle.kernel_core.specs.declared.tree.Node.{Node}
 use Rattle.kernel_core.specs.declared.tree.Block.{Block}
 use Rattle.kernel_core.specs.declared.tree.DirEntry.{DirEntry}
 use Rattle.kernel_core.specs.declared.tree.Kind.TheVariants.{Dir, File}
-use Rattle.kernel_core.specs.ValidTree.{IsValid, IsNode, IsName, IsEntry, AreEntries, AreBlocks, IsNamedRightly, IsReached, entries_of, numbers, names_in, times_named}
+use Rattle.kernel_core.specs.ValidTree.{IsValidTree, IsNode, IsName, IsEntry, AreEntries, AreBlocks, IsNamedRightly, IsReached, entries_of, numbers, names_in, times_named}
 
 none : {X : Type 0} (P : X → Type 0) → All P []
 none P k d below = absurd (omega arith)
@@ -47,7 +47,7 @@ empty_root_is_named = ((λ is. refl), (λ other. absurd (other refl)), (λ is. a
 abbrev AreThere : List Node → Node → Type 0
 AreThere nodes node = All (λ e. Contains (numbers nodes) e.node) (entries_of node.kind)
 
-pub empty_tree_valid : IsValid (record { nodes = empty_root ∷ [] })
+pub empty_tree_valid : IsValidTree (record { nodes = empty_root ∷ [] })
 empty_tree_valid = record {
   begins = (empty_root, refl, refl, refl);
   count = lit≤ tt;
@@ -122,7 +122,7 @@ module _ (cookie number : ℕ) (mtime : ℤ) (cookie_low : 3 ≤ cookie) (cookie
   file_is_named : IsNamedRightly (two_nodes cookie number mtime) (file number mtime)
   file_is_named = ((λ is. absurd (omega arith)), (λ other is. absurd cc), (λ is. subst (λ n. 1 ≤ n) (sym named_once) (lit≤ tt)))
 
-  pub tree_of_file_valid : IsValid (record { nodes = two_nodes cookie number mtime })
+  pub tree_of_file_valid : IsValidTree (record { nodes = two_nodes cookie number mtime })
   tree_of_file_valid = record {
     begins = (full_root cookie number, refl, refl, refl);
     count = lit≤ tt;

@@ -130,7 +130,7 @@ component-short nodes follow walk name rest short =
 
 pub step-long :
     (system : Keyed) (follow : Bool) (walk : KeyedWalk) (name : List ℕ) (rest : List (List ℕ)) → walk.rest ≡ name ∷ rest → 255 < length name →
-    walking.step system.nodes follow (walk_of system walk) ≡ walking.Ends (Err ENAMETOOLONG)
+    walking.walk_step system.nodes follow (walk_of system walk) ≡ walking.Ends (Err ENAMETOOLONG)
 step-long system follow walk name rest is long =
     step-some system follow walk name rest is ∙ component-long system.nodes follow (walk_of system walk) name rest long
 
@@ -142,7 +142,7 @@ no-listing (kept.Link target) other = refl
 pub step-no_directory :
     (system : Keyed) (follow : Bool) (walk : KeyedWalk) (name : List ℕ) (rest : List (List ℕ)) (node : Stored) → walk.rest ≡ name ∷ rest →
     length name ≤ 255 → inode_at system walk.at ≡ Some (inode_of node) → ((directory : StoredDirectory) → node.content ≡ kept.Directory directory → ⊥) →
-    walking.step system.nodes follow (walk_of system walk) ≡ walking.Ends (Err ENOTDIR)
+    walking.walk_step system.nodes follow (walk_of system walk) ≡ walking.Ends (Err ENOTDIR)
 step-no_directory system follow walk name rest node is short inode other =
     step-some system follow walk name rest is
     ∙ component-short system.nodes follow (walk_of system walk) name rest short
@@ -173,7 +173,7 @@ pub step-named :
     (system : Keyed) (follow : Bool) (walk : KeyedWalk) (name : List ℕ) (rest : List (List ℕ)) (node : Stored) (directory : StoredDirectory)
     (result : Option ℕ) → walk.rest ≡ name ∷ rest → length name ≤ 255 → inode_at system walk.at ≡ Some (inode_of node) →
     node.content ≡ kept.Directory directory → IsSound system node.content → result ≡ named_key walk.at directory name →
-    walking.step system.nodes follow (walk_of system walk)
+    walking.walk_step system.nodes follow (walk_of system walk)
     ≡ walking.at_named system.nodes follow (walk_of system (record walk { rest = rest })) name rest (option_map (number_at system) result)
 step-named system follow walk name rest node directory result is short inode content sound names =
     step-some system follow walk name rest is
@@ -189,7 +189,7 @@ step-left walk name rest is =
     omega (arith, size)
 
 pub gives-same :
-    (system : Keyed) (most other : ℕ) (step same : walking.Step) (walk : KeyedWalk) (result : Result (Option Found) CoreError) → most ≡ other → step ≡ same →
+    (system : Keyed) (most other : ℕ) (step same : walking.WalkStep) (walk : KeyedWalk) (result : Result (Option Found) CoreError) → most ≡ other → step ≡ same →
     Gives system most step walk result → Gives system other same walk result
 gives-same system most other step same walk result m s gives =
     subst (λ m. Gives system m same walk result) m (subst (λ s. Gives system most s walk result) s gives)

@@ -70,19 +70,19 @@ root-directory system table view fs =
 
 pub step-none :
     (system : Keyed) (follow : Bool) (walk : KeyedWalk) → walk.rest ≡ [] →
-    walking.step system.nodes follow (walk_of system walk) ≡ walking.found (number_at system walk.at) [] (Some (number_at system walk.at))
-unfolding walking.step
+    walking.walk_step system.nodes follow (walk_of system walk) ≡ walking.found (number_at system walk.at) [] (Some (number_at system walk.at))
+unfolding walking.walk_step
 step-none system follow walk none = ap (walking.at_component system.nodes follow (walk_of system walk)) none
 
 pub step-some :
     (system : Keyed) (follow : Bool) (walk : KeyedWalk) (name : List ℕ) (rest : List (List ℕ)) → walk.rest ≡ name ∷ rest →
-    walking.step system.nodes follow (walk_of system walk) ≡ walking.at_component system.nodes follow (walk_of system walk) (name ∷ rest)
-unfolding walking.step
+    walking.walk_step system.nodes follow (walk_of system walk) ≡ walking.at_component system.nodes follow (walk_of system walk) (name ∷ rest)
+unfolding walking.walk_step
 step-some system follow walk name rest some = ap (walking.at_component system.nodes follow (walk_of system walk)) some
 
 -- a step more
 pub one-step :
-    (nodes : Nodes) (follow : Bool) (walk : walking.Walk) (next : walking.Step) (result : Result walking.Place Errno) → walking.step nodes follow walk ≡ next →
+    (nodes : Nodes) (follow : Bool) (walk : walking.Walk) (next : walking.WalkStep) (result : Result walking.Place Errno) → walking.walk_step nodes follow walk ≡ next →
     ((count : ℕ) × walking.EndsAfter count nodes follow next result) → (count : ℕ) × walking.EndsAfter count nodes follow (walking.Goes walk) result
 unfolding walking.EndsAfter
 one-step nodes follow walk next result is ends =
@@ -103,11 +103,11 @@ walk-empty nodes from path follow none = subst (λ p. walking.Walks nodes from p
 module _ (system : Keyed) (from : ℕ) (path : List ℕ) (follow : Bool) (walk after : KeyedWalk) (most : ℕ) (same : (result : Result walking.Place Errno)
     → (count : ℕ) × walking.EndsAfter count system.nodes follow (walking.Goes (walk_of system walk)) result → walking.Walks system.nodes from path follow result) where
   -- where a walk ends here, the walk from its beginning does
-  pub walk-ends : (result : Result walking.Place Errno) → walking.step system.nodes follow (walk_of system walk) ≡ walking.Ends result → walking.Walks system.nodes from path follow result
+  pub walk-ends : (result : Result walking.Place Errno) → walking.walk_step system.nodes follow (walk_of system walk) ≡ walking.Ends result → walking.Walks system.nodes from path follow result
   walk-ends result is = same result (one-step system.nodes follow (walk_of system walk) (walking.Ends result) result is (ended system.nodes follow result))
 
   pub walked-found :
-      (found : Found) (result : Result Place CoreError) → Gives system most (walking.step system.nodes follow (walk_of system walk)) after (Ok (Some found)) →
+      (found : Found) (result : Result Place CoreError) → Gives system most (walking.walk_step system.nodes follow (walk_of system walk)) after (Ok (Some found)) →
       IsCopied found result → IsWalked system from path follow result
   walked-found found (Ok place) gives copied =
       subst (λ p. AgreesAt system p × walking.Walks system.nodes from path follow (Ok (place_at system p))) (sym copied)
@@ -118,7 +118,7 @@ module _ (system : Keyed) (from : ℕ) (path : List ℕ) (follow : Bool) (walk a
   walked-found found (Err (Stop WriteFault)) gives copied = absurd copied
 
   pub walked-error :
-      (error : CoreError) → Gives system most (walking.step system.nodes follow (walk_of system walk)) after (Err error) → IsWalked system from path follow (Err error)
+      (error : CoreError) → Gives system most (walking.walk_step system.nodes follow (walk_of system walk)) after (Err error) → IsWalked system from path follow (Err error)
   walked-error (Refused error) gives = walk-ends (Err error) gives
   walked-error (Stop NoMemory) gives = tt
   walked-error (Stop ReadFault) gives = gives

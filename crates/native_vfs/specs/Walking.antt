@@ -3,7 +3,7 @@ use Rattle.std.specs.Prelude.{◌≡◌, ℕ, true, ◌+◌, ◌-◌, ◌*◌, �
 use Rattle.std.specs.FinMap.{get}
 use Rattle.std.specs.Str.{bytes_eq}
 use Rattle.kernel_core.specs.Nodes.{is_directory}
-use Rattle.kernel_core.specs.PathWalk.{Walk, Step, Ends, Goes, link_limit}
+use Rattle.kernel_core.specs.PathWalk.{Walk, WalkStep, Ends, Goes, link_limit}
 use Rattle.kernel_core.specs.ValidTree.{IsTarget}
 use Rattle.kernel_core.specs.declared.core_error.CoreError.{CoreError}
 use Rattle.kernel_core.specs.declared.core_error.CoreError.TheVariants.{Refused, Stop}
@@ -78,7 +78,7 @@ pub record IsUnderWay (system : Keyed) (walk : KeyedWalk) : Type 0 where
   pub links : walk.links ≤ link_limit
 
 -- What a step answers, and the walk after it where it goes on, which then has fewer steps left than `most`.
-abbrev pub Gives : Keyed → ℕ → Step → KeyedWalk → Result (Option Found) CoreError → Type 0
+abbrev pub Gives : Keyed → ℕ → WalkStep → KeyedWalk → Result (Option Found) CoreError → Type 0
 Gives system most step after (Ok None) = (step ≡ Goes (walk_of system after)) × IsUnderWay system after × (steps_left after < most)
 Gives system most step after (Ok (Some found)) = (step ≡ Ends (Ok (place_at system (found_place found)))) × IsFound system found
 Gives system most step after (Err (Refused error)) = step ≡ Ends (Err error)

@@ -9,7 +9,7 @@ ghost use Rattle.kernel_core.specs.FileContent.{greatest_size};
 ghost use Rattle.kernel_core.specs.FileSystem.{IsFileSystem};
 ghost use Rattle.kernel_core.specs.LoadedTree.{loaded, is_dir_in, nanoseconds};
 ghost use Rattle.kernel_core.specs.Nodes.{is_directory};
-ghost use Rattle.kernel_core.specs.ValidTree.{IsValid, IsNode, IsKind, AreEntries, AreBlocks, all_entries, all_blocks, entries_of, blocks_of, names_in, entry_limit, block_limit};
+ghost use Rattle.kernel_core.specs.ValidTree.{IsValidTree, IsNode, IsKind, AreEntries, AreBlocks, all_entries, all_blocks, entries_of, blocks_of, names_in, entry_limit, block_limit};
 ghost use Rattle.native_vfs.specs.Keyed.{AreKeys};
 ghost use Rattle.native_vfs.specs.Loading as load;
 ghost use Rattle.native_vfs.specs.Steps.{IsAddition};
@@ -40,7 +40,7 @@ impl Vfs {
     /// A file system with the nodes of the tree, to which nothing holds. Their times are the tree's time of
     /// modification. It takes all its memory from `alloc`. (The form is this project's own.)
     pub fn new(alloc: Global, tree: Tree) -> Result<Vfs, NoMemory>
-        requires valid { IsValid tree }
+        requires valid { IsValidTree tree }
         ensures loaded { IfOk result (λ v. v.nodes ≡ loaded tree) }
         ensures valid { IfOk result (λ v. IsFileSystem v.nodes) }
         ensures keys { IfOk result AreKeys }
@@ -205,7 +205,7 @@ fn place_nodes(
     nodes: &[Node],
 ) -> Result<BTreeMap<u64, usize>, NoMemory>
     requires empty { (key : ℕ) → slab_get table.old key ≡ None }
-    requires valid { IsValid (load.tree_of nodes.now) }
+    requires valid { IsValidTree (load.tree_of nodes.now) }
     requires namings { load.AreNamings namings.now nodes.now }
     ensures { IfOk result (load.ArePlaced nodes.now nodes.now table.new) }
 {
@@ -296,7 +296,7 @@ fn name_nodes(
     namings: &BTreeMap<u64, Naming>,
     nodes: &[Node],
 ) -> Result<(), NoMemory>
-    requires valid { IsValid (load.tree_of nodes.now) }
+    requires valid { IsValidTree (load.tree_of nodes.now) }
     requires namings { load.AreNamings namings.now nodes.now }
     requires placed { load.ArePlaced nodes.now nodes.now table.old places.now }
     ensures { OnOk result (load.AreNamed nodes.now nodes.now [] table.new places.now) }

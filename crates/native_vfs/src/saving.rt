@@ -3,7 +3,7 @@ ghost use Rattle.std.specs.Prelude.{◌≡◌, ◌↔◌, ℕ, IfOk, map, All, C
 ghost use Rattle.std.specs.FinMap.{entries};
 ghost use Rattle.kernel_core.specs.FileSystem.{IsTime};
 ghost use Rattle.kernel_core.specs.LoadedTree as tree;
-ghost use Rattle.kernel_core.specs.ValidTree.{IsValid, IsReached, numbers};
+ghost use Rattle.kernel_core.specs.ValidTree.{IsValidTree, IsReached, numbers};
 ghost use Rattle.directory_names.specs.Names.{plain};
 ghost use Rattle.native_vfs.specs.Saving.{block_of, linked_in, numbered, saved_of, HasTime};
 ghost use Rattle.native_vfs.specs.Stored.{nodes_of, inode_of, content_of, HasDistinctNumbers};
@@ -24,7 +24,7 @@ impl Vfs {
     /// project's own.)
     pub fn tree(&self) -> Result<Tree, NoMemory>
         ensures saved { IfOk result (λ t. t ≡ tree.saved self.now.nodes) }
-        ensures valid { IfOk result IsValid }
+        ensures valid { IfOk result IsValidTree }
         ensures reached { IfOk result (λ t. (number : ℕ) → Contains (numbers t.nodes) number ↔ IsReached t.nodes number) }
     {
         let linked = linked_nodes(self.alloc, &self.table)?;

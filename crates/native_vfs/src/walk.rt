@@ -110,7 +110,7 @@ impl Vfs {
     ) -> Result<Option<Found<'a>>, CoreError>
         requires { IsUnderWay self.now walk.old }
         ensures { Gives self.now (steps_left walk.old)
-            (walking.step self.now.nodes follow (walk_of self.now walk.old)) walk.new result }
+            (walking.walk_step self.now.nodes follow (walk_of self.now walk.old)) walk.new result }
     {
         let Some(name) = walk.rest.next_component() else {
             return Ok(Some(Found {

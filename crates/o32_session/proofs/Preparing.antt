@@ -3,7 +3,7 @@ use Rattle.std.proofs.Common.{◌≡◌, ℕ, List, Option, None, Result, Ok, Er
 use Rattle.outside.specs.Files.{Files}
 use Rattle.kernel_core.specs.declared.tree.Tree.{Tree}
 use Rattle.elf_image.specs.Rules.{first_failure}
-use Rattle.elf_image.specs.Loading.{plan_of, IsValid}
+use Rattle.elf_image.specs.Loading.{plan_of, IsValidPlan}
 use Rattle.elf_image.specs.declared.load_plan.Plan.{Plan}
 use Rattle.o32_session.specs.Words.{Line}
 use Rattle.o32_session.specs.Asked.{Asked, Refuse, Run, names_of, Absent, Long, Bytes, IsFound, IsOpened, asked_of_tree, asked_of_plan, AsksUnless, AsksFor, arguments_of, program_limit}
@@ -19,7 +19,7 @@ use Rattle.o32_session.specs.declared.prepare.Ready.{Ready}
 
 -- what the bytes of a program come to
 pub planned : (told : Option Files) (name bytes : List ℕ) → IsFound told program_limit name (Bytes bytes) → (result : Result Plan NotRun) →
-    IfOk result (λ plan. (first_failure bytes ≡ None) × ((plan ≡ plan_of bytes) × IsValid plan)) →
+    IfOk result (λ plan. (first_failure bytes ≡ None) × ((plan ≡ plan_of bytes) × IsValidPlan plan)) →
     IfErr result (IsElfReason (first_failure bytes)) → IsPlanned told name result
 planned told name bytes found (Ok plan) is reason =
     record { bytes = bytes; found = found; formed = is.0; same = is.1.0; valid = is.1.1 }

@@ -7,7 +7,7 @@ use Rattle.std.specs.List.Sorted.{IsStrictlySortedBy}
 use Rattle.std.specs.Ordering.{nat_cmp}
 use Rattle.kernel_core.specs.declared.tree.Node.{Node}
 use Rattle.kernel_core.specs.declared.tree.DirEntry.{DirEntry}
-use Rattle.kernel_core.specs.ValidTree.{IsValid, IsNode, IsEntry, AreEntries, IsNamedRightly, IsReached, entries_of, numbers}
+use Rattle.kernel_core.specs.ValidTree.{IsValidTree, IsNode, IsEntry, AreEntries, IsNamedRightly, IsReached, entries_of, numbers}
 use Rattle.o32_session.specs.Asked.{empty_root, empty_tree}
 
 none : {X : Type 0} (P : X → Type 0) → All P []
@@ -37,7 +37,7 @@ root_is_named = ((λ is. refl), (λ other. absurd (other refl)), (λ is. absurd 
 abbrev AreThere : Node → Type 0
 AreThere node = All (λ e. Contains (numbers (empty_root ∷ [])) e.node) (entries_of node.kind)
 
-pub empty_tree_valid : IsValid empty_tree
+pub empty_tree_valid : IsValidTree empty_tree
 empty_tree_valid = record {
   begins = (empty_root, refl, refl, refl);
   count = lit≤ tt;

@@ -4,7 +4,7 @@ use Rattle.outside.specs.Files.{Files}
 use Rattle.kernel_core.specs.declared.tree.Tree.{Tree}
 use Rattle.kernel_core.specs.declared.tree.Node.{Node}
 use Rattle.kernel_core.specs.declared.tree.Kind.TheVariants.{Dir}
-use Rattle.kernel_core.specs.ValidTree.{IsValid}
+use Rattle.kernel_core.specs.ValidTree.{IsValidTree}
 use Rattle.fs_image.specs.Text.{text_of}
 use Rattle.fs_image.specs.Meaning as images
 use Rattle.fs_image.specs.declared.refusal.ImageRefusal.{ImageRefusal}
@@ -76,7 +76,7 @@ empty_tree = record { nodes = empty_root ∷ [] }
 
 -- the tree of an image: the valid one whose text the file is
 pub record IsTreeOf (bytes : List ℕ) (tree : Tree) : Type 0 where
-  pub valid : IsValid tree
+  pub valid : IsValidTree tree
   pub text : bytes ≡ text_of tree
 
 -- an image's tree, or the first rule that it breaks

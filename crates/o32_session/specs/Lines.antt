@@ -1,7 +1,7 @@
 -- The one line that a refusal writes on standard error. Numbers are decimal. This project's own.
 use Rattle.std.specs.Prelude.{ℕ, List, [], ◌∷◌, ◌++◌, codes}
 use Rattle.std.specs.Fmt.{decimal}
-use Rattle.elf_image.specs.Refusal.{number_of}
+use Rattle.elf_image.specs.Refusal.{elf_rule_number}
 use Rattle.o32_session.specs.declared.answer.Refusal.{Refusal}
 use Rattle.o32_session.specs.declared.answer.Refusal.TheVariants.{Usage, Missing, TooLong, Elf, Image, Start}
 
@@ -10,7 +10,7 @@ abbrev pub text_of : Refusal → List ℕ
 text_of (Usage word) = codes "o32run: usage at word " ++ decimal word
 text_of (Missing file) = codes "o32run: file " ++ decimal file ++ codes " missing"
 text_of (TooLong file) = codes "o32run: file " ++ decimal file ++ codes " too long"
-text_of (Elf rule) = codes "o32run: elf rule " ++ decimal (number_of rule)
+text_of (Elf rule) = codes "o32run: elf rule " ++ decimal (elf_rule_number rule)
 text_of (Image broken) = codes "o32run: image rule " ++ decimal broken.rule ++ codes " at " ++ decimal broken.at
 text_of Start = codes "o32run: arguments too long"
 

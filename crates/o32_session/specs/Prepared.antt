@@ -7,7 +7,7 @@ use Rattle.outside.specs.Turned.{TurnedLoad}
 use Rattle.outside.specs.declared.errors.LoadError.{LoadError}
 use Rattle.outside.specs.declared.errors.LoadError.TheVariants as loads
 use Rattle.kernel_core.specs.declared.tree.Tree.{Tree}
-use Rattle.kernel_core.specs.ValidTree.{IsValid}
+use Rattle.kernel_core.specs.ValidTree.{IsValidTree}
 use Rattle.fs_image.specs.declared.refusal.ImageError.{ImageError}
 use Rattle.fs_image.specs.declared.refusal.ImageError.TheVariants as images
 use Rattle.elf_image.specs.Rules.{first_failure}
@@ -145,7 +145,7 @@ IsRead bytes (Err NoMemory) = ⊤
 
 -- the tree that was opened; a fault or want of memory says nothing
 abbrev pub IsTree : Option Files → Option (List ℕ) → Result Tree NotRun → Type 0
-IsTree told name (Ok tree) = IsOpened told name (Ok tree) × IsValid tree
+IsTree told name (Ok tree) = IsOpened told name (Ok tree) × IsValidTree tree
 IsTree told name (Err (Refused refusal)) = IsOpened told name (Err refusal)
 IsTree told name (Err ReadFault) = ⊤
 IsTree told name (Err NoMemory) = ⊤

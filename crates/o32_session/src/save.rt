@@ -1,6 +1,6 @@
 //! The final tree of a run, saved to a file.
 ghost use Rattle.std.specs.Prelude.{◌≡◌, ◌≤◌, OnOk, OnErr, option_map};
-ghost use Rattle.kernel_core.specs.ValidTree.{IsValid};
+ghost use Rattle.kernel_core.specs.ValidTree.{IsValidTree};
 ghost use Rattle.fs_image.specs.Text.{text_of};
 ghost use Rattle.outside.specs.Causes.{FailsOnlyIfRose};
 ghost use Rattle.o32_session.specs.Runs.{IsSavedSo};
@@ -21,7 +21,7 @@ fn save_tree<F: Store>(
     tree: &Tree,
     files: &mut F,
 ) -> Result<(), DevError>
-    requires { IsValid tree.now }
+    requires { IsValidTree tree.now }
     ensures saved { OnOk result (SavesText name.now (text_of tree.now)
         (stored_of F.files F.created F.turned_away F.write_faults files.old)
         (stored_of F.files F.created F.turned_away F.write_faults files.new)) }
@@ -61,7 +61,7 @@ pub(crate) fn save_final<F: Store>(
     tree: &Tree,
     files: &mut F,
 ) -> Result<(), DevError>
-    requires { IsValid tree.now }
+    requires { IsValidTree tree.now }
     ensures saved { IsSavedSo (option_map (word_at (texts words.now)) save) tree.now result
         (stored_of F.files F.created F.turned_away F.write_faults files.old)
         (stored_of F.files F.created F.turned_away F.write_faults files.new) }

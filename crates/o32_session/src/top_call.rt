@@ -13,7 +13,7 @@ ghost use Rattle.o32_session.specs.Session.{AnswersWords, AsksForRun, IsRunEnd, 
 ghost use Rattle.o32_session.specs.Saved.{stored_of};
 ghost use Rattle.o32_session.specs.SavedFile.{SavesWords};
 ghost use Rattle.o32_session.specs.Words.{texts, word_at};
-ghost use Rattle.kernel_core.specs.ValidTree.{IsValid};
+ghost use Rattle.kernel_core.specs.ValidTree.{IsValidTree};
 
 use crate::answer::{Answer, End, Finish, Refusal};
 use crate::machine::Stop;
@@ -159,7 +159,7 @@ fn run_ready<F: Store, O: Sink>(
     files: &mut F,
     out: &mut O,
 ) -> Answer
-    requires { IsValid ready.tree }
+    requires { IsValidTree ready.tree }
     ensures run { RanIntoAnswer ready.machine ready.budget ready.tree (option_map (word_at (texts words.now)) ready.save) result
         (O.written out.old) (O.written out.new) (O.faults out.old) (O.faults out.new)
         (stored_of F.files F.created F.turned_away F.write_faults files.old)

@@ -1,6 +1,6 @@
 //! The state in which a program starts.
 ghost use Rattle.std.specs.Prelude.{◌≡◌, ◌<◌, ◌↔◌, length, map, string_bytes, IsErrOf, IfOk};
-ghost use Rattle.elf_image.specs.Loading.{IsValid};
+ghost use Rattle.elf_image.specs.Loading.{IsValidPlan};
 ghost use Rattle.start_stack.specs.Stack.{start_size};
 ghost use Rattle.start_stack.specs.Start.{start_memory, start_processor};
 
@@ -38,7 +38,7 @@ pub fn build(
     env: &[String],
     random: [u8; 16],
 ) -> Result<Start, StartError>
-    requires valid { IsValid plan.now }
+    requires valid { IsValidPlan plan.now }
     requires named { 0 < length args.now }
     ensures too_long { IsErrOf result StartError.TooLong ↔ (131072 < start_size (map string_bytes args.now) (map string_bytes env.now)) }
     ensures space { IfOk result (λ start. start.space ≡ start_memory plan.now (map string_bytes args.now) (map string_bytes env.now) random) }

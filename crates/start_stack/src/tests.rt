@@ -1,6 +1,6 @@
 //! Programs that start.
 ghost use Rattle.std.specs.Prelude.{IfOk};
-ghost use Rattle.elf_image.specs.Loading.{IsValid};
+ghost use Rattle.elf_image.specs.Loading.{IsValidPlan};
 
 use crate::{Start, StartError, build};
 use elf_image::{Plan, parse};
@@ -43,7 +43,7 @@ const WORDS: [u32; 29] = [
 
 /// The plan of that executable.
 fn plan(alloc: Global) -> Result<Plan, Fail>
-    ensures { IfOk result IsValid }
+    ensures { IfOk result IsValidPlan }
 {
     let mut bytes = Vec::new(alloc);
     for word in WORDS {

@@ -1,7 +1,7 @@
 //! A file system whose calls are made by path, and tell an error by its name.
 ghost use Rattle.std.specs.Prelude.{◌≡◌, ◌≤◌, ◌==◌, IsTrue, IfOk, false};
 ghost use Rattle.std.specs.List.{list_any};
-ghost use Rattle.kernel_core.specs.ValidTree.{IsValid};
+ghost use Rattle.kernel_core.specs.ValidTree.{IsValidTree};
 ghost use Rattle.native_vfs.specs.Keyed.{AgreesAt};
 
 use super::checks::{has_parent, holds, is_directory, is_file, is_link};
@@ -72,7 +72,7 @@ pub(super) struct Found {
 
 /// The tree of one empty root directory.
 fn empty_tree(alloc: Global) -> Result<Tree, AllocError>
-    ensures { IfOk result IsValid }
+    ensures { IfOk result IsValidTree }
 {
     let mut nodes = Vec::new(alloc);
     let entries = Items::from(Vec::new(alloc));
@@ -99,7 +99,7 @@ pub(super) fn tree_of_file(
     requires cookie_high { cookie ≤ 2147483647 }
     requires number_low { 2 ≤ number }
     requires number_high { number ≤ 9223372036854775807 }
-    ensures { IfOk result IsValid }
+    ensures { IfOk result IsValidTree }
 {
     let mut entries = Vec::new(alloc);
     entries.push(DirEntry {
@@ -141,7 +141,7 @@ impl Files {
 
     /// The file system of a tree, at the time 1.
     pub(super) fn of(alloc: Global, tree: Tree) -> Answer<Files>
-        requires { IsValid tree }
+        requires { IsValidTree tree }
     {
         match Vfs::new(alloc, tree) {
             Ok(vfs) => Ok(Files {
@@ -166,7 +166,7 @@ impl Files {
 
     /// The tree that the file system stands for.
     pub(super) fn tree(&self) -> Answer<Tree>
-        ensures { IfOk result IsValid }
+        ensures { IfOk result IsValidTree }
     {
         match self.vfs.tree() {
             Ok(tree) => Ok(tree),

@@ -1,6 +1,6 @@
 use Rattle.std.proofs.Common.{List, sym, subst, ◌∙◌, length}
 use Rattle.elf_image.specs.Fields.{AreInside}
-use Rattle.elf_image.specs.Loading.{IsValid}
+use Rattle.elf_image.specs.Loading.{IsValidPlan}
 use Rattle.elf_image.specs.declared.program_header.ProgramHeader.{ProgramHeader}
 use Rattle.elf_image.proofs.Whole.{are-inside, valid}
 use Rattle.elf_image.proofs.parsing.parse.Goals as goal
@@ -11,4 +11,4 @@ planned-requires-clause-inside c =
     subst (λ (hs : List ProgramHeader). AreInside (length c.args.bytes.now) hs) (sym is) (are-inside c.args.bytes.now c.in_ok-loads.ensures.judged)
 
 pub returns-clause-valid : goal.returns-clause-valid
-returns-clause-valid c = subst IsValid (sym c.in_ok-plan.ensures) (valid c.args.bytes.now c.in_ok-loads.ensures.judged)
+returns-clause-valid c = subst IsValidPlan (sym c.in_ok-plan.ensures) (valid c.args.bytes.now c.in_ok-loads.ensures.judged)

@@ -1,7 +1,7 @@
 use Rattle.std.proofs.Common.{◌≡◌, List, sym, ap, subst, ◌∙◌}
 use Rattle.kernel_core.specs.FileSystem.{IsFileSystem}
 use Rattle.kernel_core.specs.LoadedTree.{loaded}
-use Rattle.kernel_core.specs.ValidTree.{IsValid}
+use Rattle.kernel_core.specs.ValidTree.{IsValidTree}
 use Rattle.kernel_core.specs.declared.tree.Node.{Node}
 use Rattle.kernel_core.specs.declared.tree.Tree.{Tree}
 use Rattle.file_system_laws.proofs.Loading.{loaded_is_file_system}
@@ -13,8 +13,8 @@ use Rattle.native_vfs.proofs.LoadedDirectories.{root-place}
 use Rattle.native_vfs.proofs.LoadedSystem.{nodes-loaded, kept-loaded}
 use Rattle.native_vfs.proofs.vfs.Vfs.new.Goals as goal
 
-valid_slice : (tree : Tree) (nodes : List Node) → nodes ≡ tree.nodes → IsValid tree → IsValid (tree_of nodes)
-valid_slice tree nodes same valid = subst (λ ns. IsValid (tree_of ns)) (sym same) valid
+valid_slice : (tree : Tree) (nodes : List Node) → nodes ≡ tree.nodes → IsValidTree tree → IsValidTree (tree_of nodes)
+valid_slice tree nodes same valid = subst (λ ns. IsValidTree (tree_of ns)) (sym same) valid
 
 pub place_nodes-requires-clause-valid : goal.place_nodes-requires-clause-valid
 place_nodes-requires-clause-valid c = valid_slice c.args.tree c.as_slice-nodes.result.now c.as_slice-nodes.ensures c.requires.valid

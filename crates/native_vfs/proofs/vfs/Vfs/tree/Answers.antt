@@ -1,6 +1,6 @@
 use Rattle.std.proofs.Common.{◌≡◌, ◌↔◌, ℕ, Contains, sym, ap, subst, ◌∙◌}
 use Rattle.kernel_core.specs.LoadedTree.{saved}
-use Rattle.kernel_core.specs.ValidTree.{IsValid, IsReached, numbers}
+use Rattle.kernel_core.specs.ValidTree.{IsValidTree, IsReached, numbers}
 use Rattle.kernel_core.specs.declared.tree.Tree.{Tree}
 use Rattle.file_system_laws.proofs.Saving.{saved_valid, saved_iff_reached}
 use Rattle.native_vfs.specs.Stored.{nodes_of}
@@ -20,7 +20,7 @@ pub returns-clause-saved : goal.returns-clause-saved
 returns-clause-saved c = made c ∙ ap saved (nodes-seen c.self.inside.table c.args.self.now c.self.view_is)
 
 pub returns-clause-valid : goal.returns-clause-valid
-returns-clause-valid c = subst IsValid (sym (made c)) (saved_valid (nodes_of c.self.inside.table) c.self.invariant.system)
+returns-clause-valid c = subst IsValidTree (sym (made c)) (saved_valid (nodes_of c.self.inside.table) c.self.invariant.system)
 
 pub returns-clause-reached : goal.returns-clause-reached
 returns-clause-reached c =
