@@ -126,7 +126,7 @@ pub record IsPlanOf (told : Option Files) (name : List ℕ) (plan : Plan) : Type
   pub found : IsFound told program_limit name (Bytes bytes)
   pub formed : first_failure bytes ≡ None
   pub same : plan ≡ elf_plans.plan_of bytes
-  pub valid : elf_plans.IsValid plan
+  pub valid : elf_plans.IsValidPlan plan
 
 abbrev pub IsPlanned : Option Files → List ℕ → Result Plan NotRun → Type 0
 IsPlanned told name (Ok plan) = IsPlanOf told name plan

@@ -40,7 +40,7 @@ pub(crate) struct Ready {
 
 /// The plan of the program whose file has these bytes.
 fn plan_of_file(alloc: Global, bytes: &[u8]) -> Result<Plan, NotRun>
-    ensures plan { IfOk result (λ plan. (first_failure bytes.now ≡ None) × ((plan ≡ plan_of bytes.now) × plans.IsValid plan)) }
+    ensures plan { IfOk result (λ plan. (first_failure bytes.now ≡ None) × ((plan ≡ plan_of bytes.now) × plans.IsValidPlan plan)) }
     ensures reason { IfErr result (IsElfReason (first_failure bytes.now)) }
 {
     Ok(parse(alloc, bytes)?)
@@ -68,10 +68,10 @@ fn machine_of_plan(
     tree: Tree,
 ) -> Result<Ready, NotRun>
     requires named { 0 < length args.now }
-    requires plan { plans.IsValid plan.now }
-    requires tree { trees.IsValid tree }
+    requires plan { plans.IsValidPlan plan.now }
+    requires tree { trees.IsValidTree tree }
     ensures ready { IfOk result (λ ready. asked_of_tree (texts args.now) (line_seen line) plan.now tree ≡ Run ready.machine ready.budget ready.tree) }
-    ensures tree { IfOk result (λ ready. trees.IsValid ready.tree) }
+    ensures tree { IfOk result (λ ready. trees.IsValidTree ready.tree) }
     ensures save { IfOk result (λ ready. ready.save ≡ line.save) }
     ensures reason { IfErr result (IsStartReason (asked_of_tree (texts args.now) (line_seen line) plan.now tree)) }
 {
@@ -91,7 +91,7 @@ pub(crate) fn prepare<F: Store>(
     files: &mut F,
 ) -> Result<Ready, NotRun>
     ensures prepared { IsPrepared (texts words.now) (read_words (texts words.now)) (F.files files.old) result }
-    ensures tree { IfOk result (λ ready. trees.IsValid ready.tree) }
+    ensures tree { IfOk result (λ ready. trees.IsValidTree ready.tree) }
     ensures turned { stored_of F.files F.created F.turned_away F.write_faults files.new
         ≡ after_turned (stored_of F.files F.created F.turned_away F.write_faults files.old)
         (turned_reading (texts words.now) (read_words (texts words.now)) result) }
@@ -111,7 +111,7 @@ fn prepare_line<F: Store>(
 ) -> Result<Ready, NotRun>
     requires { line.program < length words.now }
     ensures prepared { IsPreparedLine (texts words.now) (line_seen line) (F.files files.old) result }
-    ensures tree { IfOk result (λ ready. trees.IsValid ready.tree) }
+    ensures tree { IfOk result (λ ready. trees.IsValidTree ready.tree) }
     ensures turned { stored_of F.files F.created F.turned_away F.write_faults files.new
         ≡ after_turned (stored_of F.files F.created F.turned_away F.write_faults files.old)
         (turned_if (turned_by (names_of (texts words.now) (line_seen line))) result) }
