@@ -1,14 +1,12 @@
 #!/usr/bin/env python3
 """Builds the example program `hello` from its nine instruction words.
 
-usage: build_hello.py FILE [EXIT-STATUS]
-
 It is a big-endian MIPS ELF-32 executable of one segment at 0x00400000: nine words, and `Hi` and a newline at
 0x00400100. It writes these three bytes to descriptor 1 (write is call 4004) and exits with the status, 7 if none is
 given (exit is call 4001). Run by hand; not part of what is proved.
 """
+import argparse
 import struct
-import sys
 
 BASE = 0x00400000
 TEXT_AT = 0x100
@@ -39,10 +37,26 @@ def executable(status):
     return (ident + header + load).ljust(SEGMENT_OFFSET, b"\0") + segment
 
 
+def exit_status(text):
+    status = int(text)
+    if not 0 <= status <= 255:
+        raise ValueError(text)
+    return status
+
+
 def main():
-    status = int(sys.argv[2]) if len(sys.argv) > 2 else 7
-    with open(sys.argv[1], "wb") as file:
-        file.write(executable(status))
+    parser = argparse.ArgumentParser(description="Builds the example program that writes `Hi` and exits with a status.")
+    parser.add_argument("file", metavar="FILE", help="the file to write the program to")
+    parser.add_argument(
+        "status", metavar="STATUS", nargs="?", type=exit_status, default=7, help="its exit status, 0 to 255 (default: 7)"
+    )
+    asked = parser.parse_args()
+    try:
+        with open(asked.file, "wb") as file:
+            file.write(executable(asked.status))
+    except OSError as error:
+        parser.error(f"{asked.file}: {error.strerror}")
 
 
-main()
+if __name__ == "__main__":
+    main()
