@@ -5,6 +5,7 @@ pub mod NameCalls
 pub mod NodeCalls
 pub mod Nodes
 pub mod PathWalk
+pub mod Queries
 pub mod RealTime
 pub mod Totals
 pub mod ValidTree
