@@ -3,11 +3,13 @@ pub mod CallCounts
 pub mod Carried
 pub mod Counts
 pub mod Entries
+pub mod HeldNodes
 pub mod KeyedLists
 pub mod Loading
 pub mod Lookups
 pub mod Loose
 pub mod Making
+pub mod NewNumbers
 pub mod NodeLaws
 pub mod Places
 pub mod Reach
@@ -17,4 +19,5 @@ pub mod RoundTrip
 pub mod Saving
 pub mod Tallies
 pub mod Totals
+pub mod WalkedPaths
 pub mod Walking

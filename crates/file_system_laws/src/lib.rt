@@ -5,8 +5,10 @@
 //! refusal, a new number, times and modes within their ranges. (The rules are this project's own.)
 #![tactic(auto)]
 
+pub mod held_nodes;
 pub mod loaded_trees;
 pub mod making_calls;
+pub mod new_numbers;
 pub mod node_calls;
 pub mod removing_calls;
 pub mod renaming_calls;

@@ -134,6 +134,8 @@ abbrev pub KeepsKinds : Nodes → Nodes → Type 0
 KeepsKinds old new =
     (number : ℕ) → is_some (get old number) ≡ true → is_some (get new number) ≡ true → kind_at new number ≡ kind_at old number
 
--- Held nodes live on: a node that is held after a call, and was before, lives and is of the kind that it was.
+-- Held nodes live on: a node that is held before and after a call lives, and is of the kind that it was.
 abbrev pub LiveOn : Nodes → Nodes → Type 0
-LiveOn old new = (number : ℕ) → 1 ≤ holds_at old number → 1 ≤ holds_at new number → kind_at new number ≡ kind_at old number
+LiveOn old new =
+    (number : ℕ) → 1 ≤ holds_at old number → 1 ≤ holds_at new number
+    → (is_some (get new number) ≡ true) × (kind_at new number ≡ kind_at old number)

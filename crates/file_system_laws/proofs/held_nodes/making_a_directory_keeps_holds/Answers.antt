@@ -1,0 +1,8 @@
+use Rattle.file_system_laws.proofs.HeldNodes.{mkdir_keeps_holds}
+use Rattle.file_system_laws.proofs.held_nodes.making_a_directory_keeps_holds.Goals as goal
+
+pub returns : goal.returns
+returns c = record {
+  holds = λ nodes place number mode now new. (mkdir_keeps_holds nodes place number new now mode).holds;
+  kinds = λ nodes place number mode now new. (mkdir_keeps_holds nodes place number new now mode).kinds;
+}
