@@ -7,7 +7,8 @@ use Rattle.std.proofs.lemmas.List.Quantifiers.{position-Some}
 use Rattle.std.proofs.lemmas.List.Elements.{Contains-push_cases}
 use Rattle.std.proofs.lemmas.List.Sums.{fails_before_first}
 use Rattle.std.proofs.lemmas.Slice.Eq.{bytes_eq-Decides}
-use Rattle.outside.specs.Content.{FileBytes, content_of, IsThere, AreThere}
+use Rattle.outside.specs.Content.{FileBytes, content_of}
+use Rattle.outside.specs.inside.Present.{IsThere, AreThere}
 use Rattle.outside.specs.Files.{ChangesFile, IsEmptied, Gains, GainsPart}
 use Rattle.outside.proofs.OutputLemmas.{IsPrefix-empty}
 

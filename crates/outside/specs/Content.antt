@@ -1,5 +1,5 @@
 -- The files of a store in memory. This project's own.
-use Rattle.std.specs.Prelude.{◌≡◌, ℕ, Contains, List, [], ◌∷◌, Option, None, Some, if◌then◌else◌}
+use Rattle.std.specs.Prelude.{ℕ, List, [], ◌∷◌, Option, None, Some, if◌then◌else◌}
 use Rattle.std.specs.Str.{bytes_eq}
 
 -- a file: its name and its bytes
@@ -11,11 +11,3 @@ pub record FileBytes : Type 0 where
 abbrev pub content_of : List FileBytes → List ℕ → Option (List ℕ)
 content_of [] name = None
 content_of (file ∷ files) name = if bytes_eq file.name name then Some file.bytes else content_of files name
-
--- there is a file of this name
-abbrev pub IsThere : List FileBytes → List ℕ → Type 0
-IsThere files name = (bytes : List ℕ) × (content_of files name ≡ Some bytes)
-
--- each of these names has its file
-pub record AreThere (files : List FileBytes) (names : List (List ℕ)) : Type 0 where
-  pub each : (name : List ℕ) → Contains names name → IsThere files name

@@ -10,3 +10,4 @@ pub mod Memory
 pub mod Content
 pub mod Register
 pub mod Adapted
+pub mod inside

@@ -5,18 +5,18 @@
 //! `Dir` devices adapt the real things and tell none.
 #![tactic(auto)]
 
-pub mod devices;
-pub mod directory;
-pub mod errors;
+mod devices;
+mod directory;
+mod errors;
 mod failing;
-pub mod memory;
+mod memory;
 mod named;
-pub mod real;
+mod real;
 mod register;
-pub mod stores;
+mod stores;
 mod streams;
-pub mod sure;
-pub mod traits;
+mod sure;
+mod traits;
 mod transfer;
 
 pub use devices::Devices;

@@ -2,7 +2,8 @@
 ghost use Rattle.std.specs.Prelude.{◌≡◌, ◌≢◌, ◌<◌, ◌++◌, ℕ, List, [], ◌∷◌, Some, None, IfNone, IfSome, length, position, vec_len, slice_index_or, slice_set, OnOk, OnErr};
 ghost use Rattle.std.specs.Option.{option_copied};
 ghost use Rattle.std.specs.Str.{bytes_eq};
-ghost use Rattle.outside.specs.Content.{FileBytes, content_of, IsThere, AreThere};
+ghost use Rattle.outside.specs.Content.{FileBytes, content_of};
+ghost use Rattle.outside.specs.inside.Present.{IsThere, AreThere};
 ghost use Rattle.outside.specs.Files.{AnswersLoad, ChangesFile, IsEmptied, IsUnchangedOrEmptied, Gains, GainsPart};
 ghost use Rattle.outside.specs.Turned.{turned_by};
 ghost use Rattle.outside.specs.declared.errors.LoadError.TheVariants.{Failed};

@@ -25,7 +25,7 @@ pub struct SureStore {
 }
 
 impl Model for SureStore {
-    ghost use Rattle.outside.specs.Content.{AreThere};
+    ghost use Rattle.outside.specs.inside.Present.{AreThere};
     ghost use Rattle.outside.specs.Memory.{SureFiles};
 
     ghost Value = { SureFiles };
@@ -94,7 +94,7 @@ pub struct MemStore {
 
 impl Model for MemStore {
     ghost use Rattle.std.specs.Prelude.{◌≤◌};
-    ghost use Rattle.outside.specs.Content.{AreThere};
+    ghost use Rattle.outside.specs.inside.Present.{AreThere};
     ghost use Rattle.outside.specs.Count.{last_count};
     ghost use Rattle.outside.specs.Memory.{MemFiles};
 

@@ -71,32 +71,42 @@ fn two_files(alloc: Global) -> Result<Vec<NamedFile>, AllocError> {
     Ok(files)
 }
 
-// The answers to loads, in a store where `a` has three bytes.
-fn loads<S: Store>(rt: &impl Abort, alloc: Global, store: &mut S, names: [&str; 3]) {
-    for (name, limit, answer) in [
-        (names[0], 3, Ok(())),
-        (names[0], 2, Err(LoadError::TooLong)),
-        (names[1], 0, Ok(())),
-        (names[2], 9, Err(LoadError::Missing)),
-    ] {
+/// A load of this name under this limit, and its answer with the bytes that it loads.
+type Load<'a> = (&'a str, usize, Result<&'a [u8], LoadError>);
+
+/// The loads in a store where `a` has `abc` and `b` nothing.
+const LOADS: [Load<'static>; 4] = [
+    ("a", 3, Ok(b"abc")),
+    ("a", 2, Err(LoadError::TooLong)),
+    ("b", 0, Ok(b"")),
+    ("c", 9, Err(LoadError::Missing)),
+];
+
+fn loads<S: Store>(rt: &impl Abort, alloc: Global, store: &mut S, rows: &[Load]) {
+    for (name, limit, answer) in rows {
         let mut into = Vec::new(alloc);
-        assert_eq!(rt; store.load(name, limit, &mut into), answer);
-        if answer.is_ok() {
-            assert_eq!(rt; into.len(), limit);
+        let loaded = store.load(name, *limit, &mut into);
+        match answer {
+            Ok(bytes) => {
+                assert_eq!(rt; loaded, Ok(()));
+                assert_eq!(rt; into.as_slice(), *bytes);
+            }
+            Err(error) => assert_eq!(rt; loaded, Err(*error)),
         }
     }
 }
 
-// The answers to a create and, after another one, to two appends.
+/// The answers to a create and, after another one, to an append of `bytes` and one of `yz`.
 fn writes<S: Store>(
     rt: &impl Abort,
     store: &mut S,
     name: &str,
+    bytes: &[u8],
     answers: [Result<(), DevError>; 3],
 ) {
     assert_eq!(rt; store.create(name), answers[0]);
     store.create(name).expect(rt, "create");
-    assert_eq!(rt; store.append(name, b"x"), answers[1]);
+    assert_eq!(rt; store.append(name, bytes), answers[1]);
     assert_eq!(rt; store.append(name, b"yz"), answers[2]);
 }
 
@@ -104,8 +114,8 @@ fn writes<S: Store>(
 fn sure_store(rt: HostRuntime) -> Result<(), Fail> {
     let alloc = rt.alloc();
     let mut store = SureStore::new(alloc, two_files(alloc)?);
-    loads(&rt, alloc, &mut store, ["a", "b", "c"]);
-    writes(&rt, &mut store, "a", [Ok(()), Ok(()), Ok(())]);
+    loads(&rt, alloc, &mut store, &LOADS);
+    writes(&rt, &mut store, "a", b"x", [Ok(()), Ok(()), Ok(())]);
     assert_eq!(rt; store.file("a"), Some(b"xyz".as_slice()));
     assert_eq!(rt; store.file("c"), None);
     Ok(())
@@ -115,15 +125,15 @@ fn sure_store(rt: HostRuntime) -> Result<(), Fail> {
 fn failing_store(rt: HostRuntime) -> Result<(), Fail> {
     let alloc = rt.alloc();
     let mut store = MemStore::new(alloc, two_files(alloc)?, [5, 7].to_vec(alloc)?);
-    loads(&rt, alloc, &mut store, ["a", "b", "c"]);
+    loads(&rt, alloc, &mut store, &LOADS);
     let failed = Err(DevError::Failed);
-    writes(&rt, &mut store, "c", [failed, failed, Ok(())]);
+    writes(&rt, &mut store, "c", b"x", [failed, failed, Ok(())]);
     assert_eq!(rt; store.file("c"), Some(b"yz".as_slice()));
     assert_eq!(rt; store.file("a"), Some(b"abc".as_slice()));
     Ok(())
 }
 
-// Gives two bytes, then an error, then two bytes, then nothing.
+/// Gives two bytes, then an error, then two bytes, then nothing.
 #[derive(Drop)]
 struct Stutter(u8);
 
@@ -142,7 +152,7 @@ impl Read for Stutter {
     }
 }
 
-// Takes one byte at a write, and fails at the fourth write and takes nothing at the fifth.
+/// Takes one byte at a write, and fails at the fourth write and takes nothing at the fifth.
 #[derive(Drop)]
 struct Trickle {
     writes: u8,
@@ -165,6 +175,41 @@ impl Write for Trickle {
     fn flush(&mut self) -> io::Result<()> {
         Ok(())
     }
+}
+
+/// Takes every byte, and fails at the first flush.
+#[derive(Drop)]
+struct Unflushed {
+    flushes: u8,
+    taken: Vec<u8>,
+}
+
+impl Write for Unflushed {
+    fn write(&mut self, buf: &[u8]) -> io::Result<usize> {
+        self.taken.extend_from_slice(buf)?;
+        Ok(buf.len())
+    }
+
+    fn flush(&mut self) -> io::Result<()> {
+        self.flushes = self.flushes.saturating_add(1);
+        if self.flushes == 1 {
+            return Err(io::Error::from(ErrorKind::Other));
+        }
+        Ok(())
+    }
+}
+
+#[test]
+fn put_ends_with_a_flush(rt: HostRuntime) {
+    let mut writer = Unflushed {
+        flushes: 0,
+        taken: Vec::new(rt.alloc()),
+    };
+    let mut sink = StdSink::new(&mut writer);
+    assert_eq!(rt; sink.put(b"ab"), Err(DevError::Failed));
+    assert_eq!(rt; sink.put(b"cd"), Ok(()));
+    assert_eq!(rt; writer.flushes, 2);
+    assert_eq!(rt; writer.taken.as_slice(), b"abcd".as_slice());
 }
 
 #[test]
@@ -195,18 +240,27 @@ fn host_files(rt: HostRuntime) -> Result<(), Fail> {
     let id = process::id(rt.process());
     let a = format!(in alloc; "/tmp/o32run-outside-{id}-a")?;
     let b = format!(in alloc; "/tmp/o32run-outside-{id}-b")?;
+    let under_a = format!(in alloc; "{a}/x")?;
+    fs::write(&rt, a.as_str(), "an old text")?;
     let mut store = DirStore::new(alloc, rt);
-    store.create(b.as_str()).expect(&rt, "create");
-    writes(&rt, &mut store, a.as_str(), [Ok(()), Ok(()), Ok(())]);
-    loads(
-        &rt,
-        alloc,
-        &mut store,
-        [a.as_str(), b.as_str(), "/tmp/o32run-none"],
-    );
-    let mut into = Vec::new(alloc);
-    assert_eq!(rt; store.load("/tmp", 9, &mut into), Err(LoadError::Failed));
+    writes(&rt, &mut store, b.as_str(), b"x", [Ok(()); 3]);
+    writes(&rt, &mut store, a.as_str(), b"wx", [Ok(()); 3]);
+    assert_eq!(rt; fs::read(&rt, a.as_str())?.as_slice(), b"wxyz".as_slice());
+    assert_eq!(rt; fs::read(&rt, b.as_str())?.as_slice(), b"xyz".as_slice());
+    let rows: [Load; 6] = [
+        (a.as_str(), 4, Ok(b"wxyz")),
+        (b.as_str(), 9, Ok(b"xyz")),
+        (a.as_str(), 3, Err(LoadError::TooLong)),
+        ("/tmp/o32run-none", 9, Err(LoadError::Missing)),
+        // A name under a file, and a folder.
+        (under_a.as_str(), 9, Err(LoadError::Failed)),
+        ("/tmp", 9, Err(LoadError::Failed)),
+    ];
+    loads(&rt, alloc, &mut store, &rows);
     assert_eq!(rt; store.create("/tmp"), Err(DevError::Failed));
+    assert_eq!(rt; store.create(a.as_str()), Ok(()));
+    loads(&rt, alloc, &mut store, &[(a.as_str(), 0, Ok(b""))]);
+    assert_eq!(rt; fs::read(&rt, b.as_str())?.as_slice(), b"xyz".as_slice());
     fs::remove_file(&rt, a.as_str())?;
     fs::remove_file(&rt, b.as_str())?;
     Ok(())
