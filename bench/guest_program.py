@@ -1,8 +1,8 @@
 """Guest programs from instruction words: big-endian MIPS ELF-32 executables of one loop.
 
-A program sets its registers up, goes round its loop a number of times, and exits with status 0. It has two segments:
-the words at TEXT, and one page at DATA that the loop may load from and store to. How many instructions it carries out
-follows from its words and its number of rounds.
+A program sets its registers up, goes round its loop a number of times, and exits with a byte of what it computed. It
+has two segments: the words at TEXT, and pages at DATA that the loop may load from and store to. How many instructions
+it carries out follows from its words and its number of rounds.
 """
 import struct
 
@@ -89,6 +89,14 @@ def lw(rt, offset, base):
     return immediate_word(0x23, base, rt, offset)
 
 
+def lbu(rt, offset, base):
+    return immediate_word(0x24, base, rt, offset)
+
+
+def sb(rt, offset, base):
+    return immediate_word(0x28, base, rt, offset)
+
+
 def sw(rt, offset, base):
     return immediate_word(0x2B, base, rt, offset)
 
@@ -106,32 +114,46 @@ def load_constant(register, value):
     return [lui(register, value >> 16), ori(register, register, value & 0xFFFF)]
 
 
-EXIT = [addiu(V0, ZERO, EXIT_CALL), addiu(A0, ZERO, 0), syscall()]
+
+# How many words end a program.
+ENDING = 3
+
+
+def ending(result):
+    """Exits with the low byte of a register as the status."""
+    return [addiu(V0, ZERO, EXIT_CALL), addu(A0, result, ZERO), syscall()]
 
 
 class Program:
     """A loop with what stands before it and the function that it calls, if it calls one.
 
     `loop` makes the words of a round from the address of its first word and that of the function. A round carries out
-    all its words and all words of the function once, and goes on by a branch that is its last word but one.
+    all its words and all words of the function once, and goes on by a branch that is its last word but one. Where the
+    words hold a loop of their own, `repeated` tells how many instructions that carries out beyond once its words. The
+    low byte of the register `result` is the exit status. `data` are the first bytes at DATA, where `data_size` bytes
+    are mapped.
     """
 
-    def __init__(self, name, setup, loop, function=()):
+    def __init__(self, name, setup, loop, result, function=(), repeated=0, data=b"", data_size=PAGE):
         self.name = name
         self.setup = setup
         self.loop = loop
+        self.result = result
         self.function = list(function)
+        self.repeated = repeated
+        self.data = data
+        self.data_size = data_size
 
     def fixed(self):
         """How many instructions are carried out besides the rounds."""
-        return len(self.setup) + 2 + len(EXIT)
+        return len(self.setup) + 2 + ENDING
 
     def per_round(self):
-        return len(self.loop(0, 0)) + len(self.function)
+        return len(self.loop(0, 0)) + len(self.function) + self.repeated
 
     def rounds(self, instructions):
-        """The greatest number of rounds with which the program carries out at most so many instructions."""
-        return (instructions - self.fixed()) // self.per_round()
+        """The greatest number of rounds, at least one, with which the program carries out at most so many instructions."""
+        return max(1, (instructions - self.fixed()) // self.per_round())
 
     def instructions(self, rounds):
         return self.fixed() + rounds * self.per_round()
@@ -139,28 +161,29 @@ class Program:
     def words(self, rounds):
         before = self.setup + load_constant(COUNTER, rounds)
         start = TEXT + 4 * len(before)
-        function = start + 4 * (len(self.loop(0, 0)) + len(EXIT))
-        return before + self.loop(start, function) + EXIT + self.function
+        function = start + 4 * (len(self.loop(0, 0)) + ENDING)
+        return before + self.loop(start, function) + ending(self.result) + self.function
 
     def executable(self, rounds):
         text = b"".join(struct.pack(">I", word) for word in self.words(rounds))
-        return executable(text)
+        return executable(text, self.data, self.data_size)
 
 
 def load_header(offset, address, file_size, memory_size, flags):
     return struct.pack(">IIIIIIII", 1, offset, address, address, file_size, memory_size, flags, PAGE)
 
 
-def executable(text):
-    """The file: its headers, and from its second page on the text; the page at DATA has no bytes in the file."""
+def executable(text, data, data_size):
+    """The file: its headers, from its second page on the text, and from its third page on the first bytes at DATA."""
     # class 32, big-endian, version 1
     ident = b"\x7fELF" + bytes([1, 2, 1]) + bytes(9)
     # type EXEC, machine MIPS, version 1, entry, program headers at 52, no sections, MIPS32R2 and o32, the sizes of
     # both kinds of header, and two program headers
     header = struct.pack(">HHIIIIIHHHHHH", 2, 8, 1, TEXT, 52, 0, 0x70001000, 52, 32, 2, 0, 0, 0)
     text_header = load_header(PAGE, TEXT, len(text), len(text), READ | EXECUTE)
-    data_header = load_header(0, DATA, 0, PAGE, READ | WRITE)
-    return (ident + header + text_header + data_header).ljust(PAGE, b"\0") + text
+    data_header = load_header(2 * PAGE, DATA, len(data), data_size, READ | WRITE)
+    first = (ident + header + text_header + data_header).ljust(PAGE, b"\0")
+    return first + text.ljust(PAGE, b"\0") + data
 
 
 def memory_round(_start, _function):
@@ -198,6 +221,24 @@ def arithmetic_round(_start, _function):
     ]
 
 
+COPIED = 0x10000
+
+COPY_BYTE = [
+    lbu(T1, 0, T0),
+    addiu(T0, T0, 1),
+    sb(T1, 0, T2),
+    bne(T0, T3, -4),
+    addiu(T2, T2, 1),
+]
+
+
+def copy_round(_start, _function):
+    copying = load_constant(T0, DATA) + load_constant(T2, DATA + COPIED) + load_constant(T3, DATA + COPIED) + COPY_BYTE
+    # the byte that was copied last
+    counting = [lbu(T4, -1, T2), addiu(COUNTER, COUNTER, -1), bne(COUNTER, ZERO, -len(copying) - 3), addiu(T6, T6, 1)]
+    return copying + counting
+
+
 MEMORY_SETUP = load_constant(T0, DATA) + [addiu(T2, ZERO, 1), addiu(T3, ZERO, 5)]
 
 CALL_SETUP = [addiu(T7, ZERO, 0)]
@@ -207,7 +248,25 @@ CALLED = [jr(RA), addiu(T7, T7, 1)]
 ARITHMETIC_SETUP = load_constant(T1, 0x00010DCD) + [addiu(T0, ZERO, 3), addiu(T4, ZERO, 10007)]
 
 PROGRAMS = [
-    Program("load and store", MEMORY_SETUP, memory_round),
-    Program("calls and returns", CALL_SETUP, call_round, CALLED),
-    Program("multiplies and divides", ARITHMETIC_SETUP, arithmetic_round),
+    Program("load and store", MEMORY_SETUP, memory_round, T4),
+    Program("calls and returns", CALL_SETUP, call_round, T7, function=CALLED),
+    Program("multiplies and divides", ARITHMETIC_SETUP, arithmetic_round, T6),
+    Program(
+        "copy of bytes",
+        [],
+        copy_round,
+        T4,
+        repeated=len(COPY_BYTE) * (COPIED - 1),
+        data=bytes(place % 251 for place in range(COPIED)),
+        data_size=2 * COPIED,
+    ),
 ]
+
+
+def untouched(pages):
+    """A program that counts down, with so many pages that it never touches."""
+
+    def count_round(_start, _function):
+        return [addiu(COUNTER, COUNTER, -1), bne(COUNTER, ZERO, -2), addiu(T6, T6, 1)]
+
+    return Program(f"{pages:,} pages", [], count_round, ZERO, data_size=pages * PAGE)

@@ -7,8 +7,9 @@ use Rattle.std.proofs.lemmas.Bool.{and_parts, and_from, cond-true, cond_both, eq
 use Rattle.mips_code.specs.declared.insn.Insn.{Insn}
 use Rattle.mips_code.specs.declared.parts.Parts.TheVariants.{Jump, Signed, Immediate, Register, LongCode, ShortCode}
 use Rattle.mips_code.specs.Instructions.{Form, Row, only_if, or_else, opcode, rs, rt, rd, sa, function, target, immediate, signed_immediate, long_code, short_code, jump, immediate_form, compare_zero, register_immediate, unsigned_immediate, upper_immediate, shift, three_registers, jump_register, jump_and_link_register, long_code_form, barrier, to_register, from_register, two_registers, short_code_form, count, extract, insert, unary, instruction_of, find_row, find_special, find_plain, regimm_rows, special2_rows, special3_rows}
-use Rattle.mips_code.specs.Words.{fit, value, is_half, parts_of, is_bounded, is_in_range}
-use Rattle.mips_code.proofs.WordFields.{Six, Four, Two, Long, Short, six, four, two, long, short, six-value, six-fit, four-value, four-fit, two-value, two-fit, long-value, long-fit, short-value, short-fit, half-below, half-read, signed-half, signed-bits}
+use Rattle.mips_code.specs.Words.{fit, is_half, parts_of, is_bounded, is_in_range}
+use Rattle.mips_code.specs.inside.Assembled.{word_of_parts}
+use Rattle.mips_code.proofs.WordFields.{Six, Four, Two, Long, Short, six, four, two, long, short, six-word, six-fit, four-word, four-fit, two-word, two-fit, long-word, long-fit, short-word, short-fit, half-below, half-read, signed-half, signed-bits}
 
 -- a word with these fields is looked up by this form
 abbrev pub ByFunction : ℕ → ℕ → Form → Type 0
@@ -55,7 +56,7 @@ only_if-true holds insn e = cond-true holds (Some insn) None e
 -- what is read of a word builds it, and is in range
 abbrev pub Sound : ℕ → Option Insn → Type 0
 Sound word read =
-    IfSome read (λ insn. (value (parts_of insn) ≡ word) × IsTrue (is_in_range insn))
+    IfSome read (λ insn. (word_of_parts (parts_of insn) ≡ word) × IsTrue (is_in_range insn))
 
 -- of two rows of one number
 pub sound_or :
@@ -87,7 +88,7 @@ sound_six :
     (word o a b c d n : ℕ) (insn : Insn) → word < 2 ^ 32 → Six word o a b c d n
     → parts_of insn ≡ Register o a b c d n → is_bounded insn ≡ true → Sound word (Some insn)
 sound_six word o a b c d n insn lt f parts bounded = (
-  rw parts (six-value word o a b c d n lt f),
+  rw parts (six-word word o a b c d n lt f),
   and_from _ _ (rw parts (six-fit word o a b c d n lt f)) bounded,
 )
 
@@ -95,7 +96,7 @@ sound_four :
     (word o a b i : ℕ) (insn : Insn) → word < 2 ^ 32 → Four word o a b i
     → parts_of insn ≡ Immediate o a b i → is_bounded insn ≡ true → Sound word (Some insn)
 sound_four word o a b i insn lt f parts bounded = (
-  rw parts (four-value word o a b i lt f),
+  rw parts (four-word word o a b i lt f),
   and_from _ _ (rw parts (four-fit word o a b i lt f)) bounded,
 )
 
@@ -103,7 +104,7 @@ sound_two :
     (word o t : ℕ) (insn : Insn) → word < 2 ^ 32 → Two word o t
     → parts_of insn ≡ Jump o t → is_bounded insn ≡ true → Sound word (Some insn)
 sound_two word o t insn lt f parts bounded = (
-  rw parts (two-value word o t lt f),
+  rw parts (two-word word o t lt f),
   and_from _ _ (rw parts (two-fit word o t lt f)) bounded,
 )
 
@@ -111,7 +112,7 @@ sound_long :
     (word k n : ℕ) (insn : Insn) → word < 2 ^ 32 → Long word k n
     → parts_of insn ≡ LongCode k n → is_bounded insn ≡ true → Sound word (Some insn)
 sound_long word k n insn lt f parts bounded = (
-  rw parts (long-value word k n lt f),
+  rw parts (long-word word k n lt f),
   and_from _ _ (rw parts (long-fit word k n lt f)) bounded,
 )
 
@@ -119,7 +120,7 @@ sound_short :
     (word a b k n : ℕ) (insn : Insn) → word < 2 ^ 32 → Short word a b k n
     → parts_of insn ≡ ShortCode a b k n → is_bounded insn ≡ true → Sound word (Some insn)
 sound_short word a b k n insn lt f parts bounded = (
-  rw parts (short-value word a b k n lt f),
+  rw parts (short-word word a b k n lt f),
   and_from _ _ (rw parts (short-fit word a b k n lt f)) bounded,
 )
 
@@ -133,12 +134,12 @@ pub shift-read :
     (o n kind : ℕ) (make : ℕ → ℕ → ℕ → Insn) (b c d : ℕ)
     → ((word : ℕ) → Six word o kind b c d n → instruction_of word ≡ shift kind make word)
     → IsTrue (fit (Register o kind b c d n) && (true))
-    → instruction_of (value (Register o kind b c d n)) ≡ Some (make b c d)
+    → instruction_of (word_of_parts (Register o kind b c d n)) ≡ Some (make b c d)
 shift-read o n kind make b c d at h =
     let both = and_parts _ _ h in
     let f = six o kind b c d n both.0 in
-    at (value (Register o kind b c d n)) f
-    ∙ shift_made (value (Register o kind b c d n)) o n kind make b c d f
+    at (word_of_parts (Register o kind b c d n)) f
+    ∙ shift_made (word_of_parts (Register o kind b c d n)) o n kind make b c d f
 
 pub shift-sound :
     (o n kind : ℕ) (make : ℕ → ℕ → ℕ → Insn) (word : ℕ) → word < 2 ^ 32 → opcode word ≡ o
@@ -167,12 +168,12 @@ pub three_registers-read :
     (o n kind : ℕ) (make : ℕ → ℕ → ℕ → Insn) (a b c : ℕ)
     → ((word : ℕ) → Six word o a b c kind n → instruction_of word ≡ three_registers kind make word)
     → IsTrue (fit (Register o a b c kind n) && (true))
-    → instruction_of (value (Register o a b c kind n)) ≡ Some (make a b c)
+    → instruction_of (word_of_parts (Register o a b c kind n)) ≡ Some (make a b c)
 three_registers-read o n kind make a b c at h =
     let both = and_parts _ _ h in
     let f = six o a b c kind n both.0 in
-    at (value (Register o a b c kind n)) f
-    ∙ three_registers_made (value (Register o a b c kind n)) o n kind make a b c f
+    at (word_of_parts (Register o a b c kind n)) f
+    ∙ three_registers_made (word_of_parts (Register o a b c kind n)) o n kind make a b c f
 
 pub three_registers-sound :
     (o n kind : ℕ) (make : ℕ → ℕ → ℕ → Insn) (word : ℕ) → word < 2 ^ 32 → opcode word ≡ o
@@ -201,12 +202,12 @@ pub jump_register-read :
     (o n : ℕ) (make : ℕ → ℕ → Insn) (a d : ℕ)
     → ((word : ℕ) → Six word o a 0 0 d n → instruction_of word ≡ jump_register make word)
     → IsTrue (fit (Register o a 0 0 d n) && (true))
-    → instruction_of (value (Register o a 0 0 d n)) ≡ Some (make a d)
+    → instruction_of (word_of_parts (Register o a 0 0 d n)) ≡ Some (make a d)
 jump_register-read o n make a d at h =
     let both = and_parts _ _ h in
     let f = six o a 0 0 d n both.0 in
-    at (value (Register o a 0 0 d n)) f
-    ∙ jump_register_made (value (Register o a 0 0 d n)) o n make a d f
+    at (word_of_parts (Register o a 0 0 d n)) f
+    ∙ jump_register_made (word_of_parts (Register o a 0 0 d n)) o n make a d f
 
 pub jump_register-sound :
     (o n : ℕ) (make : ℕ → ℕ → Insn) (word : ℕ) → word < 2 ^ 32 → opcode word ≡ o
@@ -236,12 +237,12 @@ pub jump_and_link_register-read :
     (o n : ℕ) (make : ℕ → ℕ → ℕ → Insn) (a c d : ℕ)
     → ((word : ℕ) → Six word o a 0 c d n → instruction_of word ≡ jump_and_link_register make word)
     → IsTrue (fit (Register o a 0 c d n) && (true))
-    → instruction_of (value (Register o a 0 c d n)) ≡ Some (make a c d)
+    → instruction_of (word_of_parts (Register o a 0 c d n)) ≡ Some (make a c d)
 jump_and_link_register-read o n make a c d at h =
     let both = and_parts _ _ h in
     let f = six o a 0 c d n both.0 in
-    at (value (Register o a 0 c d n)) f
-    ∙ jump_and_link_register_made (value (Register o a 0 c d n)) o n make a c d f
+    at (word_of_parts (Register o a 0 c d n)) f
+    ∙ jump_and_link_register_made (word_of_parts (Register o a 0 c d n)) o n make a c d f
 
 pub jump_and_link_register-sound :
     (o n : ℕ) (make : ℕ → ℕ → ℕ → Insn) (word : ℕ) → word < 2 ^ 32 → opcode word ≡ o
@@ -270,12 +271,12 @@ pub barrier-read :
     (o n : ℕ) (make : ℕ → Insn) (d : ℕ)
     → ((word : ℕ) → Six word o 0 0 0 d n → instruction_of word ≡ barrier make word)
     → IsTrue (fit (Register o 0 0 0 d n) && (true))
-    → instruction_of (value (Register o 0 0 0 d n)) ≡ Some (make d)
+    → instruction_of (word_of_parts (Register o 0 0 0 d n)) ≡ Some (make d)
 barrier-read o n make d at h =
     let both = and_parts _ _ h in
     let f = six o 0 0 0 d n both.0 in
-    at (value (Register o 0 0 0 d n)) f
-    ∙ barrier_made (value (Register o 0 0 0 d n)) o n make d f
+    at (word_of_parts (Register o 0 0 0 d n)) f
+    ∙ barrier_made (word_of_parts (Register o 0 0 0 d n)) o n make d f
 
 pub barrier-sound :
     (o n : ℕ) (make : ℕ → Insn) (word : ℕ) → word < 2 ^ 32 → opcode word ≡ o
@@ -306,12 +307,12 @@ pub to_register-read :
     (o n : ℕ) (make : ℕ → Insn) (c : ℕ)
     → ((word : ℕ) → Six word o 0 0 c 0 n → instruction_of word ≡ to_register make word)
     → IsTrue (fit (Register o 0 0 c 0 n) && (true))
-    → instruction_of (value (Register o 0 0 c 0 n)) ≡ Some (make c)
+    → instruction_of (word_of_parts (Register o 0 0 c 0 n)) ≡ Some (make c)
 to_register-read o n make c at h =
     let both = and_parts _ _ h in
     let f = six o 0 0 c 0 n both.0 in
-    at (value (Register o 0 0 c 0 n)) f
-    ∙ to_register_made (value (Register o 0 0 c 0 n)) o n make c f
+    at (word_of_parts (Register o 0 0 c 0 n)) f
+    ∙ to_register_made (word_of_parts (Register o 0 0 c 0 n)) o n make c f
 
 pub to_register-sound :
     (o n : ℕ) (make : ℕ → Insn) (word : ℕ) → word < 2 ^ 32 → opcode word ≡ o
@@ -342,12 +343,12 @@ pub from_register-read :
     (o n : ℕ) (make : ℕ → Insn) (a : ℕ)
     → ((word : ℕ) → Six word o a 0 0 0 n → instruction_of word ≡ from_register make word)
     → IsTrue (fit (Register o a 0 0 0 n) && (true))
-    → instruction_of (value (Register o a 0 0 0 n)) ≡ Some (make a)
+    → instruction_of (word_of_parts (Register o a 0 0 0 n)) ≡ Some (make a)
 from_register-read o n make a at h =
     let both = and_parts _ _ h in
     let f = six o a 0 0 0 n both.0 in
-    at (value (Register o a 0 0 0 n)) f
-    ∙ from_register_made (value (Register o a 0 0 0 n)) o n make a f
+    at (word_of_parts (Register o a 0 0 0 n)) f
+    ∙ from_register_made (word_of_parts (Register o a 0 0 0 n)) o n make a f
 
 pub from_register-sound :
     (o n : ℕ) (make : ℕ → Insn) (word : ℕ) → word < 2 ^ 32 → opcode word ≡ o
@@ -378,12 +379,12 @@ pub two_registers-read :
     (o n : ℕ) (make : ℕ → ℕ → Insn) (a b : ℕ)
     → ((word : ℕ) → Six word o a b 0 0 n → instruction_of word ≡ two_registers make word)
     → IsTrue (fit (Register o a b 0 0 n) && (true))
-    → instruction_of (value (Register o a b 0 0 n)) ≡ Some (make a b)
+    → instruction_of (word_of_parts (Register o a b 0 0 n)) ≡ Some (make a b)
 two_registers-read o n make a b at h =
     let both = and_parts _ _ h in
     let f = six o a b 0 0 n both.0 in
-    at (value (Register o a b 0 0 n)) f
-    ∙ two_registers_made (value (Register o a b 0 0 n)) o n make a b f
+    at (word_of_parts (Register o a b 0 0 n)) f
+    ∙ two_registers_made (word_of_parts (Register o a b 0 0 n)) o n make a b f
 
 pub two_registers-sound :
     (o n : ℕ) (make : ℕ → ℕ → Insn) (word : ℕ) → word < 2 ^ 32 → opcode word ≡ o
@@ -414,12 +415,12 @@ pub count-read :
     (o n : ℕ) (make : ℕ → ℕ → ℕ → Insn) (a b c : ℕ)
     → ((word : ℕ) → Six word o a b c 0 n → instruction_of word ≡ count make word)
     → IsTrue (fit (Register o a b c 0 n) && (b == c))
-    → instruction_of (value (Register o a b c 0 n)) ≡ Some (make a b c)
+    → instruction_of (word_of_parts (Register o a b c 0 n)) ≡ Some (make a b c)
 count-read o n make a b c at h =
     let both = and_parts _ _ h in
     let f = six o a b c 0 n both.0 in
-    at (value (Register o a b c 0 n)) f
-    ∙ count_made (value (Register o a b c 0 n)) o n make a b c f both.1
+    at (word_of_parts (Register o a b c 0 n)) f
+    ∙ count_made (word_of_parts (Register o a b c 0 n)) o n make a b c f both.1
 
 pub count-sound :
     (o n : ℕ) (make : ℕ → ℕ → ℕ → Insn) (word : ℕ) → word < 2 ^ 32 → opcode word ≡ o
@@ -450,12 +451,12 @@ pub extract-read :
     (o n : ℕ) (make : ℕ → ℕ → ℕ → ℕ → Insn) (a b c d : ℕ)
     → ((word : ℕ) → Six word o a b c d n → instruction_of word ≡ extract make word)
     → IsTrue (fit (Register o a b c d n) && (nat_le (c + d) 31))
-    → instruction_of (value (Register o a b c d n)) ≡ Some (make a b c d)
+    → instruction_of (word_of_parts (Register o a b c d n)) ≡ Some (make a b c d)
 extract-read o n make a b c d at h =
     let both = and_parts _ _ h in
     let f = six o a b c d n both.0 in
-    at (value (Register o a b c d n)) f
-    ∙ extract_made (value (Register o a b c d n)) o n make a b c d f both.1
+    at (word_of_parts (Register o a b c d n)) f
+    ∙ extract_made (word_of_parts (Register o a b c d n)) o n make a b c d f both.1
 
 pub extract-sound :
     (o n : ℕ) (make : ℕ → ℕ → ℕ → ℕ → Insn) (word : ℕ) → word < 2 ^ 32 → opcode word ≡ o
@@ -485,12 +486,12 @@ pub insert-read :
     (o n : ℕ) (make : ℕ → ℕ → ℕ → ℕ → Insn) (a b c d : ℕ)
     → ((word : ℕ) → Six word o a b c d n → instruction_of word ≡ insert make word)
     → IsTrue (fit (Register o a b c d n) && (nat_le d c))
-    → instruction_of (value (Register o a b c d n)) ≡ Some (make a b c d)
+    → instruction_of (word_of_parts (Register o a b c d n)) ≡ Some (make a b c d)
 insert-read o n make a b c d at h =
     let both = and_parts _ _ h in
     let f = six o a b c d n both.0 in
-    at (value (Register o a b c d n)) f
-    ∙ insert_made (value (Register o a b c d n)) o n make a b c d f both.1
+    at (word_of_parts (Register o a b c d n)) f
+    ∙ insert_made (word_of_parts (Register o a b c d n)) o n make a b c d f both.1
 
 pub insert-sound :
     (o n : ℕ) (make : ℕ → ℕ → ℕ → ℕ → Insn) (word : ℕ) → word < 2 ^ 32 → opcode word ≡ o
@@ -519,12 +520,12 @@ pub unary-read :
     (o n kind : ℕ) (make : ℕ → ℕ → Insn) (b c : ℕ)
     → ((word : ℕ) → Six word o 0 b c kind n → instruction_of word ≡ unary kind make word)
     → IsTrue (fit (Register o 0 b c kind n) && (true))
-    → instruction_of (value (Register o 0 b c kind n)) ≡ Some (make b c)
+    → instruction_of (word_of_parts (Register o 0 b c kind n)) ≡ Some (make b c)
 unary-read o n kind make b c at h =
     let both = and_parts _ _ h in
     let f = six o 0 b c kind n both.0 in
-    at (value (Register o 0 b c kind n)) f
-    ∙ unary_made (value (Register o 0 b c kind n)) o n kind make b c f
+    at (word_of_parts (Register o 0 b c kind n)) f
+    ∙ unary_made (word_of_parts (Register o 0 b c kind n)) o n kind make b c f
 
 pub unary-sound :
     (o n kind : ℕ) (make : ℕ → ℕ → Insn) (word : ℕ) → word < 2 ^ 32 → opcode word ≡ o
@@ -546,10 +547,10 @@ unary-sound o n kind make word lt eo en parts bounded =
 
 pub jump-read :
     (o : ℕ) (make : ℕ → Insn) → ByOpcode o (jump make) → (t : ℕ)
-    → IsTrue (fit (Jump o t) && true) → instruction_of (value (Jump o t)) ≡ Some (make t)
+    → IsTrue (fit (Jump o t) && true) → instruction_of (word_of_parts (Jump o t)) ≡ Some (make t)
 jump-read o make at t h =
     let f = two o t (and_parts _ _ h).0 in
-    at (value (Jump o t)) f.opcode_is ∙ ap (λ x. Some (make x)) f.target_is
+    at (word_of_parts (Jump o t)) f.opcode_is ∙ ap (λ x. Some (make x)) f.target_is
 
 pub jump-sound :
     (o : ℕ) (make : ℕ → Insn) (word : ℕ) → word < 2 ^ 32 → opcode word ≡ o
@@ -568,7 +569,7 @@ signed_read word o a b z half f = ap (cast_signed w16) f.immediate_is ∙ half-r
 
 signed_four :
     (o a b : ℕ) (z : ℤ) → IsTrue (fit (Signed o a b z))
-    → Four (value (Signed o a b z)) o a b (cast_unsigned w16 z) × IsTrue (is_half z)
+    → Four (word_of_parts (Signed o a b z)) o a b (cast_unsigned w16 z) × IsTrue (is_half z)
 signed_four o a b z h =
     let p = and_parts _ _ h in
     (four o a b (cast_unsigned w16 z) (and_from _ _ p.0 (lt-ltb _ (2 ^ 16) (half-below z p.1))), p.1)
@@ -579,18 +580,18 @@ sound_signed :
     → Sound word (Some insn)
 sound_signed word o a b insn lt f parts bounded =
     let fits = and_parts _ _ (four-fit word o a b (immediate word) lt f) in (
-      rw parts (rw (signed-bits word) (four-value word o a b (immediate word) lt f)),
+      rw parts (rw (signed-bits word) (four-word word o a b (immediate word) lt f)),
       and_from _ _ (rw parts (and_from _ _ fits.0 (signed-half word))) bounded,
     )
 
 pub immediate_form-read :
     (o : ℕ) (make : ℕ → ℕ → ℤ → Insn) → ByOpcode o (immediate_form make) → (a b : ℕ) (z : ℤ)
     → IsTrue (fit (Signed o a b z) && true)
-    → instruction_of (value (Signed o a b z)) ≡ Some (make a b z)
+    → instruction_of (word_of_parts (Signed o a b z)) ≡ Some (make a b z)
 unfolding immediate_form
 immediate_form-read o make at a b z h =
     let p = signed_four o a b z (and_parts _ _ h).0 in
-    let word = value (Signed o a b z) in
+    let word = word_of_parts (Signed o a b z) in
     let e = signed_read word o a b z p.1 p.0 in
     at word p.0.opcode_is ∙ ap3 make p.0.rs_is p.0.rt_is e
 
@@ -608,10 +609,10 @@ immediate_form-sound o make word lt eo parts bounded =
 pub compare_zero-read :
     (o : ℕ) (make : ℕ → ℤ → Insn) → ByOpcode o (compare_zero make) → (a : ℕ) (z : ℤ)
     → IsTrue (fit (Signed o a 0 z) && true)
-    → instruction_of (value (Signed o a 0 z)) ≡ Some (make a z)
+    → instruction_of (word_of_parts (Signed o a 0 z)) ≡ Some (make a z)
 compare_zero-read o make at a z h =
     let p = signed_four o a 0 z (and_parts _ _ h).0 in
-    let word = value (Signed o a 0 z) in
+    let word = word_of_parts (Signed o a 0 z) in
     let e = signed_read word o a 0 z p.1 p.0 in
     at word p.0.opcode_is ∙ (only_if-true _ _ (eq-eqb _ _ p.0.rt_is) ∙ ap2 make p.0.rs_is e)
 
@@ -628,11 +629,11 @@ compare_zero-sound o make word lt eo parts bounded =
 pub register_immediate-read :
     (n : ℕ) (make : ℕ → ℤ → Insn) → ByRt n (register_immediate make) → (a : ℕ) (z : ℤ)
     → IsTrue (fit (Signed 1 a n z) && true)
-    → instruction_of (value (Signed 1 a n z)) ≡ Some (make a z)
+    → instruction_of (word_of_parts (Signed 1 a n z)) ≡ Some (make a z)
 unfolding register_immediate
 register_immediate-read n make at a z h =
     let p = signed_four 1 a n z (and_parts _ _ h).0 in
-    let word = value (Signed 1 a n z) in
+    let word = word_of_parts (Signed 1 a n z) in
     let e = signed_read word 1 a n z p.1 p.0 in
     at word p.0.opcode_is p.0.rt_is ∙ ap2 make p.0.rs_is e
 
@@ -649,10 +650,10 @@ register_immediate-sound n make word lt eo en parts bounded =
 pub unsigned_immediate-read :
     (o : ℕ) (make : ℕ → ℕ → ℕ → Insn) → ByOpcode o (unsigned_immediate make) → (a b i : ℕ)
     → IsTrue (fit (Immediate o a b i) && true)
-    → instruction_of (value (Immediate o a b i)) ≡ Some (make a b i)
+    → instruction_of (word_of_parts (Immediate o a b i)) ≡ Some (make a b i)
 unsigned_immediate-read o make at a b i h =
     let f = four o a b i (and_parts _ _ h).0 in
-    at (value (Immediate o a b i)) f.opcode_is ∙ ap3 make f.rs_is f.rt_is f.immediate_is
+    at (word_of_parts (Immediate o a b i)) f.opcode_is ∙ ap3 make f.rs_is f.rt_is f.immediate_is
 
 pub unsigned_immediate-sound :
     (o : ℕ) (make : ℕ → ℕ → ℕ → Insn) (word : ℕ) → word < 2 ^ 32 → opcode word ≡ o
@@ -666,10 +667,10 @@ unsigned_immediate-sound o make word lt eo parts bounded =
 pub upper_immediate-read :
     (o : ℕ) (make : ℕ → ℕ → Insn) → ByOpcode o (upper_immediate make) → (b i : ℕ)
     → IsTrue (fit (Immediate o 0 b i) && true)
-    → instruction_of (value (Immediate o 0 b i)) ≡ Some (make b i)
+    → instruction_of (word_of_parts (Immediate o 0 b i)) ≡ Some (make b i)
 upper_immediate-read o make at b i h =
     let f = four o 0 b i (and_parts _ _ h).0 in
-    at (value (Immediate o 0 b i)) f.opcode_is
+    at (word_of_parts (Immediate o 0 b i)) f.opcode_is
     ∙ (only_if-true _ _ (eq-eqb _ _ f.rs_is) ∙ ap2 make f.rt_is f.immediate_is)
 
 pub upper_immediate-sound :
@@ -684,10 +685,10 @@ upper_immediate-sound o make word lt eo parts bounded =
 
 pub long_code_form-read :
     (n : ℕ) (make : ℕ → Insn) → ByFunction 0 n (long_code_form make) → (k : ℕ)
-    → IsTrue (fit (LongCode k n) && true) → instruction_of (value (LongCode k n)) ≡ Some (make k)
+    → IsTrue (fit (LongCode k n) && true) → instruction_of (word_of_parts (LongCode k n)) ≡ Some (make k)
 long_code_form-read n make at k h =
     let f = long k n (and_parts _ _ h).0 in
-    at (value (LongCode k n)) f.opcode_is f.function_is ∙ ap (λ x. Some (make x)) f.long_code_is
+    at (word_of_parts (LongCode k n)) f.opcode_is f.function_is ∙ ap (λ x. Some (make x)) f.long_code_is
 
 pub long_code_form-sound :
     (n : ℕ) (make : ℕ → Insn) (word : ℕ) → word < 2 ^ 32 → opcode word ≡ 0 → function word ≡ n
@@ -701,10 +702,10 @@ long_code_form-sound n make word lt eo en parts bounded =
 pub short_code_form-read :
     (n : ℕ) (make : ℕ → ℕ → ℕ → Insn) → ByFunction 0 n (short_code_form make) → (a b k : ℕ)
     → IsTrue (fit (ShortCode a b k n) && true)
-    → instruction_of (value (ShortCode a b k n)) ≡ Some (make a b k)
+    → instruction_of (word_of_parts (ShortCode a b k n)) ≡ Some (make a b k)
 short_code_form-read n make at a b k h =
     let f = short a b k n (and_parts _ _ h).0 in
-    at (value (ShortCode a b k n)) f.opcode_is f.function_is
+    at (word_of_parts (ShortCode a b k n)) f.opcode_is f.function_is
     ∙ ap3 make f.rs_is f.rt_is f.short_code_is
 
 pub short_code_form-sound :

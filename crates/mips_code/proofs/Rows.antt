@@ -5,12 +5,13 @@ use Rattle.std.proofs.lemmas.Bool.{cond_both, eqb-true}
 use Rattle.mips_code.specs.declared.insn.Insn.{Insn}
 use Rattle.mips_code.specs.declared.insn.Insn.TheVariants.{J, Jal, Beq, Bne, Blez, Bgtz, Addi, Addiu, Slti, Sltiu, Andi, Ori, Xori, Lui, Beql, Bnel, Blezl, Bgtzl, Lb, Lh, Lwl, Lw, Lbu, Lhu, Lwr, Sb, Sh, Swl, Sw, Swr, Ll, Pref, Sc, Sll, Srl, Rotr, Sra, Sllv, Srlv, Rotrv, Srav, Jr, Jalr, Movz, Movn, Syscall, Break, Sync, Mfhi, Mthi, Mflo, Mtlo, Mult, Multu, Div, Divu, Add, Addu, Sub, Subu, And, Or, Xor, Nor, Slt, Sltu, Tge, Tgeu, Tlt, Tltu, Teq, Tne, Bltz, Bgez, Bltzl, Bgezl, Tgei, Tgeiu, Tlti, Tltiu, Teqi, Tnei, Bltzal, Bgezal, Bltzall, Bgezall, Synci, Madd, Maddu, Mul, Msub, Msubu, Clz, Clo, Ext, Ins, Wsbh, Seb, Seh, Rdhwr}
 use Rattle.mips_code.specs.Instructions.{Form, opcode, rt, function, instruction_of, find_row, plain_rows, memory_rows, special_rows, arithmetic_rows, regimm_rows, special2_rows, special3_rows}
-use Rattle.mips_code.specs.Words.{value, parts_of, is_in_range}
+use Rattle.mips_code.specs.Words.{parts_of, is_in_range}
+use Rattle.mips_code.specs.inside.Assembled.{word_of_parts}
 use Rattle.mips_code.proofs.Forms.{Sound, sound_or, sound_row, at_special, at_regimm, at_special2, at_special3, at_plain, barrier-read, barrier-sound, compare_zero-read, compare_zero-sound, count-read, count-sound, extract-read, extract-sound, from_register-read, from_register-sound, immediate_form-read, immediate_form-sound, insert-read, insert-sound, jump-read, jump-sound, jump_and_link_register-read, jump_and_link_register-sound, jump_register-read, jump_register-sound, long_code_form-read, long_code_form-sound, register_immediate-read, register_immediate-sound, shift-read, shift-sound, short_code_form-read, short_code_form-sound, three_registers-read, three_registers-sound, to_register-read, to_register-sound, two_registers-read, two_registers-sound, unary-read, unary-sound, unsigned_immediate-read, unsigned_immediate-sound, upper_immediate-read, upper_immediate-sound}
 
 -- the word that is built of an instruction in range is read as that instruction
 pub decodes :
-    (insn : Insn) → IsTrue (is_in_range insn) → instruction_of (value (parts_of insn)) ≡ Some insn
+    (insn : Insn) → IsTrue (is_in_range insn) → instruction_of (word_of_parts (parts_of insn)) ≡ Some insn
 unfolding arithmetic_rows memory_rows plain_rows regimm_rows special2_rows special3_rows special_rows
 decodes (J target) h = jump-read 2 J (at_plain 2 refl refl refl refl) target h
 decodes (Jal target) h = jump-read 3 Jal (at_plain 3 refl refl refl refl) target h

@@ -6,7 +6,8 @@ use Rattle.std.proofs.lemmas.Int.{to_z-of_z, of_z-to_z}
 use Rattle.std.proofs.lemmas.Bool.{cond_both, ltb-false, and_parts, and_from, ltb-true, lt-ltb}
 use Rattle.mips_code.specs.Instructions.{opcode, rs, rt, rd, sa, function, target, immediate, signed_immediate, long_code, short_code}
 use Rattle.mips_code.specs.declared.parts.Parts.TheVariants.{Jump, Immediate, Register, LongCode, ShortCode}
-use Rattle.mips_code.specs.Words.{fit, value, is_half}
+use Rattle.mips_code.specs.Words.{fit, is_half}
+use Rattle.mips_code.specs.inside.Assembled.{word_of_parts}
 
 -- the fields of a word of the shape Register
 pub record Six (word o a b c d n : ℕ) : Type 0 where
@@ -19,7 +20,7 @@ pub record Six (word o a b c d n : ℕ) : Type 0 where
 
 six_below :
     (o a b c d n : ℕ) → o < 64 → a < 32 → b < 32 → c < 32 → d < 32 → n < 64
-    → Six (value (Register o a b c d n)) o a b c d n
+    → Six (word_of_parts (Register o a b c d n)) o a b c d n
 six_below o a b c d n ho ha hb hc hd hn =
     record {
       opcode_is = omega arith;
@@ -32,7 +33,7 @@ six_below o a b c d n ho ha hb hc hd hn =
 
 pub six :
     (o a b c d n : ℕ) → IsTrue (fit (Register o a b c d n))
-    → Six (value (Register o a b c d n)) o a b c d n
+    → Six (word_of_parts (Register o a b c d n)) o a b c d n
 six o a b c d n h =
     let p5 = and_parts _ _ h in
     let p4 = and_parts _ _ p5.0 in
@@ -46,10 +47,10 @@ six o a b c d n h =
     (ltb-true _ _ p4.1)
     (ltb-true _ _ p5.1)
 
-pub six-value :
+pub six-word :
     (word o a b c d n : ℕ) → word < 2 ^ 32 → Six word o a b c d n
-    → value (Register o a b c d n) ≡ word
-six-value word o a b c d n lt f =
+    → word_of_parts (Register o a b c d n) ≡ word
+six-word word o a b c d n lt f =
     omega (arith, f.opcode_is, f.rs_is, f.rt_is, f.rd_is, f.sa_is, f.function_is)
 
 pub six-fit :
@@ -67,7 +68,7 @@ pub record Four (word o a b i : ℕ) : Type 0 where
 
 four_below :
     (o a b i : ℕ) → o < 64 → a < 32 → b < 32 → i < 2 ^ 16
-    → Four (value (Immediate o a b i)) o a b i
+    → Four (word_of_parts (Immediate o a b i)) o a b i
 four_below o a b i ho ha hb hi =
     record {
       opcode_is = omega arith;
@@ -78,7 +79,7 @@ four_below o a b i ho ha hb hi =
 
 pub four :
     (o a b i : ℕ) → IsTrue (fit (Immediate o a b i))
-    → Four (value (Immediate o a b i)) o a b i
+    → Four (word_of_parts (Immediate o a b i)) o a b i
 four o a b i h =
     let p3 = and_parts _ _ h in
     let p2 = and_parts _ _ p3.0 in
@@ -88,10 +89,10 @@ four o a b i h =
     (ltb-true _ _ p2.1)
     (ltb-true _ _ p3.1)
 
-pub four-value :
+pub four-word :
     (word o a b i : ℕ) → word < 2 ^ 32 → Four word o a b i
-    → value (Immediate o a b i) ≡ word
-four-value word o a b i lt f =
+    → word_of_parts (Immediate o a b i) ≡ word
+four-word word o a b i lt f =
     omega (arith, f.opcode_is, f.rs_is, f.rt_is, f.immediate_is)
 
 pub four-fit :
@@ -107,7 +108,7 @@ pub record Two (word o t : ℕ) : Type 0 where
 
 two_below :
     (o t : ℕ) → o < 64 → t < 2 ^ 26
-    → Two (value (Jump o t)) o t
+    → Two (word_of_parts (Jump o t)) o t
 two_below o t ho ht =
     record {
       opcode_is = omega arith;
@@ -116,16 +117,16 @@ two_below o t ho ht =
 
 pub two :
     (o t : ℕ) → IsTrue (fit (Jump o t))
-    → Two (value (Jump o t)) o t
+    → Two (word_of_parts (Jump o t)) o t
 two o t h =
     let p1 = and_parts _ _ h in
     two_below o t (ltb-true _ _ p1.0)
     (ltb-true _ _ p1.1)
 
-pub two-value :
+pub two-word :
     (word o t : ℕ) → word < 2 ^ 32 → Two word o t
-    → value (Jump o t) ≡ word
-two-value word o t lt f =
+    → word_of_parts (Jump o t) ≡ word
+two-word word o t lt f =
     omega (arith, f.opcode_is, f.target_is)
 
 pub two-fit :
@@ -142,7 +143,7 @@ pub record Long (word k n : ℕ) : Type 0 where
 
 long_below :
     (k n : ℕ) → k < 2 ^ 20 → n < 64
-    → Long (value (LongCode k n)) k n
+    → Long (word_of_parts (LongCode k n)) k n
 long_below k n hk hn =
     record {
       opcode_is = omega arith;
@@ -152,16 +153,16 @@ long_below k n hk hn =
 
 pub long :
     (k n : ℕ) → IsTrue (fit (LongCode k n))
-    → Long (value (LongCode k n)) k n
+    → Long (word_of_parts (LongCode k n)) k n
 long k n h =
     let p1 = and_parts _ _ h in
     long_below k n (ltb-true _ _ p1.0)
     (ltb-true _ _ p1.1)
 
-pub long-value :
+pub long-word :
     (word k n : ℕ) → word < 2 ^ 32 → Long word k n
-    → value (LongCode k n) ≡ word
-long-value word k n lt f =
+    → word_of_parts (LongCode k n) ≡ word
+long-word word k n lt f =
     omega (arith, f.opcode_is, f.long_code_is, f.function_is)
 
 pub long-fit :
@@ -180,7 +181,7 @@ pub record Short (word a b k n : ℕ) : Type 0 where
 
 short_below :
     (a b k n : ℕ) → a < 32 → b < 32 → k < 2 ^ 10 → n < 64
-    → Short (value (ShortCode a b k n)) a b k n
+    → Short (word_of_parts (ShortCode a b k n)) a b k n
 short_below a b k n ha hb hk hn =
     record {
       opcode_is = omega arith;
@@ -192,7 +193,7 @@ short_below a b k n ha hb hk hn =
 
 pub short :
     (a b k n : ℕ) → IsTrue (fit (ShortCode a b k n))
-    → Short (value (ShortCode a b k n)) a b k n
+    → Short (word_of_parts (ShortCode a b k n)) a b k n
 short a b k n h =
     let p3 = and_parts _ _ h in
     let p2 = and_parts _ _ p3.0 in
@@ -202,10 +203,10 @@ short a b k n h =
     (ltb-true _ _ p2.1)
     (ltb-true _ _ p3.1)
 
-pub short-value :
+pub short-word :
     (word a b k n : ℕ) → word < 2 ^ 32 → Short word a b k n
-    → value (ShortCode a b k n) ≡ word
-short-value word a b k n lt f =
+    → word_of_parts (ShortCode a b k n) ≡ word
+short-word word a b k n lt f =
     omega (arith, f.opcode_is, f.rs_is, f.rt_is, f.short_code_is, f.function_is)
 
 pub short-fit :

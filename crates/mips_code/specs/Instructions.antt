@@ -1,5 +1,7 @@
--- The integer instructions of MIPS32 Release 2 and their words: MIPS32 Architecture for Programmers,
--- Volume II, one row for each instruction, by opcode, or by function or rt within an opcode.
+-- The 100 instructions of MIPS32 Release 2 that user programs have without a coprocessor, and their words: MIPS32
+-- Architecture for Programmers, Volume II, one row for each instruction, by opcode, or by function or rt within an
+-- opcode. Left out are floating point (COP1, COP1X, MOVF, MOVT), the system's instructions (COP0, CACHE), COP2, and
+-- SDBBP.
 use Rattle.std.specs.Prelude.{ℕ, ◌+◌, ◌/◌, ◌%◌, ◌^◌, ◌==◌, ◌&&◌, nat_le, nat_lt, ℤ, Bool, Option, Some, None, List, [], ◌∷◌, if◌then◌else◌}
 use Rattle.std.specs.Int.{cast_signed, w16}
 use Rattle.mips_code.specs.declared.insn.Insn.{Insn}

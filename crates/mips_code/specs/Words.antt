@@ -1,6 +1,6 @@
--- The word of an instruction, field by field: MIPS32 Architecture for Programmers, Volume II.
-use Rattle.std.specs.Prelude.{ℕ, ◌+◌, ◌*◌, ◌^◌, ◌==◌, ◌&&◌, nat_le, nat_lt, Bool, true, ℤ, pos, negsuc}
-use Rattle.std.specs.Int.{cast_unsigned, w16}
+-- What stands in the fields of an instruction's word, and which fields fit their bits: MIPS32 Architecture for
+-- Programmers, Volume II.
+use Rattle.std.specs.Prelude.{◌+◌, ◌^◌, ◌==◌, ◌&&◌, nat_le, nat_lt, Bool, true, ℤ, pos, negsuc}
 use Rattle.mips_code.specs.declared.insn.Insn.{Insn}
 use Rattle.mips_code.specs.declared.insn.Insn.TheVariants.{J, Jal, Beq, Bne, Blez, Bgtz, Addi, Addiu, Slti, Sltiu, Andi, Ori, Xori, Lui, Beql, Bnel, Blezl, Bgtzl, Lb, Lh, Lwl, Lw, Lbu, Lhu, Lwr, Sb, Sh, Swl, Sw, Swr, Ll, Pref, Sc, Sll, Srl, Rotr, Sra, Sllv, Srlv, Rotrv, Srav, Jr, Jalr, Movz, Movn, Syscall, Break, Sync, Mfhi, Mthi, Mflo, Mtlo, Mult, Multu, Div, Divu, Add, Addu, Sub, Subu, And, Or, Xor, Nor, Slt, Sltu, Tge, Tgeu, Tlt, Tltu, Teq, Tne, Bltz, Bgez, Bltzl, Bgezl, Tgei, Tgeiu, Tlti, Tltiu, Teqi, Tnei, Bltzal, Bgezal, Bltzall, Bgezall, Synci, Madd, Maddu, Mul, Msub, Msubu, Clz, Clo, Ext, Ins, Wsbh, Seb, Seh, Rdhwr}
 use Rattle.mips_code.specs.declared.parts.Parts.{Parts}
@@ -138,14 +138,3 @@ is_bounded _ = true
 
 abbrev pub is_in_range : Insn → Bool
 is_in_range insn = fit (parts_of insn) && is_bounded insn
-
--- the word of these parts
-abbrev pub value : Parts → ℕ
-value (Jump opcode target) = opcode * 2 ^ 26 + target
-value (Signed opcode rs rt imm) =
-    opcode * 2 ^ 26 + rs * 2 ^ 21 + rt * 2 ^ 16 + cast_unsigned w16 imm
-value (Immediate opcode rs rt imm) = opcode * 2 ^ 26 + rs * 2 ^ 21 + rt * 2 ^ 16 + imm
-value (Register opcode rs rt rd sa function) =
-    opcode * 2 ^ 26 + rs * 2 ^ 21 + rt * 2 ^ 16 + rd * 2 ^ 11 + sa * 2 ^ 6 + function
-value (LongCode code function) = code * 2 ^ 6 + function
-value (ShortCode rs rt code function) = rs * 2 ^ 21 + rt * 2 ^ 16 + code * 2 ^ 6 + function

@@ -1,8 +1,12 @@
 //! The instructions and their fields.
 
-/// One integer instruction of MIPS32 Release 2 (MIPS32 Architecture for Programmers, Volume II):
-/// one variant for each row of the instruction table, with the fields of its word from the upper
-/// bits down.
+/// One of the 100 instructions of MIPS32 Release 2 that user programs have without a coprocessor
+/// (MIPS32 Architecture for Programmers, Volume II): one variant for each row of the instruction
+/// table, with the fields of its word from the upper bits down.
+///
+/// Not among them are the instructions of the coprocessors: of floating point (COP1, COP1X and their
+/// loads and stores, and MOVF and MOVT, which test its conditions), of the system (COP0, CACHE) and
+/// of COP2; and SDBBP, which calls a debugger.
 ///
 /// `rs`, `rt` and `rd` are register numbers, `sa` is a shift amount, and `hint` and `kind` are hints,
 /// each of 5 bits. `target` has 26 bits, and counts words. `imm` is bits 15 to 0, signed (`i16`)

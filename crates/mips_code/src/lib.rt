@@ -1,4 +1,5 @@
-//! The integer instructions of MIPS32 Release 2 and their words, both ways.
+//! The 100 instructions of MIPS32 Release 2 that user programs have without a coprocessor, and their
+//! words, both ways.
 #![tactic(auto)]
 
 ghost use Rattle.std.specs.Prelude.{◌≡◌, ◌^◌, ◌<◌, ℕ, Some, IsTrue, IfSome};

@@ -1,7 +1,8 @@
 //! What stands in the fields of a word.
 
 ghost use Rattle.std.specs.Prelude.{◌≡◌, ◌+◌, ◌*◌, ◌^◌, ◌<◌, IsTrue};
-ghost use Rattle.mips_code.specs.Words.{parts_of, fit, is_bounded, value};
+ghost use Rattle.mips_code.specs.Words.{parts_of, fit, is_bounded};
+ghost use Rattle.mips_code.specs.inside.Assembled.{word_of_parts};
 
 use crate::insn::Insn;
 
@@ -164,7 +165,7 @@ pub fn keeps_bounds(insn: Insn) -> bool
 /// The word of parts that fit.
 pub fn word_of_parts(parts: Parts) -> u32
     requires { IsTrue (fit parts) }
-    ensures { result ≡ value parts }
+    ensures { result ≡ word_of_parts parts }
 {
     match parts {
         Parts::Jump(opcode, target) => (u32::from(opcode) << 26) + target,

@@ -6,5 +6,4 @@ pub mod Jumps
 pub mod Operands
 pub mod Processor
 pub mod Step
-pub mod Transfers
 pub mod Traps

@@ -18,6 +18,7 @@ use Rattle.guest_space.specs.declared.access.Access.TheVariants as access
 use Rattle.guest_space.specs.declared.access.Why.TheVariants.{Absent, Forbidden, Beyond}
 use Rattle.guest_space.specs.Bytes.{read, written, are_ready}
 use Rattle.guest_space.specs.Memory.{Memory}
+use Rattle.mips_exec.specs.declared.codes.TheConstants.{ILLEGAL, ABSENT, FORBIDDEN, BAD_ADDRESS}
 use Rattle.mips_exec.specs.declared.cpu.Slot.{Slot}
 use Rattle.mips_exec.specs.declared.effect.Span.{Span}
 use Rattle.mips_exec.specs.declared.effect.Span.TheVariants.{Byte, Half, Word, Left, Right}
@@ -59,16 +60,16 @@ abbrev pub goes_to_next : Processor → Memory → Step
 goes_to_next p m = record { processor = advanced p; memory = m; came = Next }
 
 abbrev pub faults : Processor → Memory → Sig → ℕ → ℕ → Step
-faults p m sig code addr = record { processor = stopped p; memory = m; came = Fault sig code addr }
+faults p m signal code address = record { processor = stopped p; memory = m; came = Fault signal code address }
 
 -- SIGILL and SIGFPE have the address that is left in pc (for SIGILL this project's own)
 abbrev pub faults_here : Processor → Memory → Sig → ℕ → Step
-faults_here p m sig code = faults p m sig code (restart p.slot p.pc)
+faults_here p m signal code = faults p m signal code (restart p.slot p.pc)
 
 -- a branch, a jump or SYSCALL in a slot is no instruction (this project's own: the manual leaves it open)
 abbrev pub outside_slot : Option Slot → Processor → Memory → Step → Step
 outside_slot None p m step = step
-outside_slot (Some slot) p m step = faults_here p m Ill 1
+outside_slot (Some slot) p m step = faults_here p m Ill ILLEGAL
 
 -- a link register gets the address past the slot
 abbrev pub with_link : Option ℕ → Processor → Processor
@@ -89,9 +90,9 @@ access_signal Forbidden = Segv
 access_signal Beyond = Bus
 
 abbrev pub access_code : Why → ℕ
-access_code Absent = 1
-access_code Forbidden = 2
-access_code Beyond = 1
+access_code Absent = ABSENT
+access_code Forbidden = FORBIDDEN
+access_code Beyond = BAD_ADDRESS
 
 abbrev pub denies : Processor → Memory → Denied → Step
 denies p m denied = faults p m (access_signal denied.why) (access_code denied.why) denied.addr
@@ -172,7 +173,7 @@ stores_conditionally p m a n =
 
 -- LL and SC take an aligned address; the signal of another is this project's own
 abbrev pub aligned : Processor → Memory → ℕ → Step → Step
-aligned p m a step = if a % 4 == 0 then step else faults p m Bus 1 a
+aligned p m a step = if a % 4 == 0 then step else faults p m Bus BAD_ADDRESS a
 
 -- ---- one step
 
@@ -196,8 +197,8 @@ carried_out p m (Breakpoint code) = faults p m Trap code 0
 carried_out p m SystemCall =
     let q = record p { pc = sum p.pc 4; link = None } in
     outside_slot p.slot p m (record { processor = q; memory = m; came = Syscall })
-carried_out p m Reserved = faults_here p m Ill 1
-carried_out p m (FetchFault sig code addr) = faults p m sig code addr
+carried_out p m Reserved = faults_here p m Ill ILLEGAL
+carried_out p m (FetchFault signal code address) = faults p m signal code address
 
 -- the effect of a word that was fetched
 abbrev pub effect_of_instruction : Option Insn → Processor → Effect
@@ -211,7 +212,7 @@ effect_of_fetch p (Err denied) = FetchFault (access_signal denied.why) (access_c
 -- the effect of the instruction at the program counter, whose address is aligned; the signal of another is this
 -- project's own
 unfoldable pub effect_at : Processor → Memory → Effect
-effect_at p m = if p.pc % 4 == 0 then effect_of_fetch p (read m p.pc 4) else FetchFault Bus 1 p.pc
+effect_at p m = if p.pc % 4 == 0 then effect_of_fetch p (read m p.pc 4) else FetchFault Bus BAD_ADDRESS p.pc
 
 -- One step from a processor and a memory.
 unfoldable pub step_of : Processor → Memory → Step

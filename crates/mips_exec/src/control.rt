@@ -34,23 +34,27 @@ fn restart(cpu: &Cpu) -> u32
 
 /// Stops with a signal.
 #[inline]
-pub fn fault(cpu: &mut Cpu, sig: Sig, code: u32, addr: u32) -> Stepped
+pub fn fault(cpu: &mut Cpu, signal: Sig, code: u32, address: u32) -> Stepped
     ensures processor { cpu.new ≡ stopped cpu.old }
-    ensures came { result ≡ Stepped.Fault sig code addr }
+    ensures came { result ≡ Stepped.Fault signal code address }
 {
     cpu.pc = restart(cpu);
     cpu.slot = None;
-    Stepped::Fault { sig, code, addr }
+    Stepped::Fault {
+        sig: signal,
+        code,
+        addr: address,
+    }
 }
 
 /// Stops with a signal whose address is the one that is left in pc.
 #[inline]
-pub fn fault_here(cpu: &mut Cpu, sig: Sig, code: u32) -> Stepped
+pub fn fault_here(cpu: &mut Cpu, signal: Sig, code: u32) -> Stepped
     ensures processor { cpu.new ≡ stopped cpu.old }
-    ensures came { result ≡ Stepped.Fault sig code (restart cpu.old.slot cpu.old.pc) }
+    ensures came { result ≡ Stepped.Fault signal code (restart cpu.old.slot cpu.old.pc) }
 {
-    let addr = restart(cpu);
-    fault(cpu, sig, code, addr)
+    let address = restart(cpu);
+    fault(cpu, signal, code, address)
 }
 
 /// Goes to the slot and then to the target, or past the slot.
@@ -61,7 +65,7 @@ pub fn jump(cpu: &mut Cpu, link: Option<u8>, target: Option<u32>) -> Stepped
 {
     let branch = cpu.pc;
     if let Some(number) = link {
-        cpu.set_reg(number, branch.wrapping_add(8));
+        cpu.set_operand(number, branch.wrapping_add(8));
     }
     match target {
         Some(target) => {

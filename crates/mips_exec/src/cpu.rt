@@ -1,7 +1,7 @@
 //! The state of the processor.
 ghost use Rattle.std.specs.Prelude.{◌≡◌, ◌%◌, ◌<◌, None};
-ghost use Rattle.mips_exec.specs.Operands.{reg};
-ghost use Rattle.mips_exec.specs.Processor.{register, with_register, fresh};
+ghost use Rattle.mips_exec.specs.Operands.{operand};
+ghost use Rattle.mips_exec.specs.Processor.{register, with_register, fresh, IsValidProcessor};
 
 use std::marker::Model;
 
@@ -49,7 +49,8 @@ impl Model for Cpu {
 impl Cpu {
     /// A processor at `pc` with all other registers 0, no slot and no link.
     pub fn new(pc: u32) -> Cpu
-        ensures { result ≡ fresh pc }
+        ensures fresh { result ≡ fresh pc }
+        ensures valid { IsValidProcessor result }
     {
         Cpu {
             regs: [0; 32],
@@ -75,7 +76,8 @@ impl Cpu {
     #[inline]
     pub fn set_register(&mut self, number: u8, value: u32)
         requires { number < 32 }
-        ensures { self.new ≡ with_register self.old number value }
+        ensures set { self.new ≡ with_register self.old number value }
+        ensures valid { IsValidProcessor self.new }
     {
         if number != 0 {
             self.regs[number as usize] = value;
@@ -84,14 +86,15 @@ impl Cpu {
 
     /// The register that a field of 5 bits names.
     #[inline]
-    pub(crate) fn reg(&self, field: u8) -> u32
-        ensures { result ≡ reg self.now field }
+    pub(crate) fn operand(&self, field: u8) -> u32
+        ensures { result ≡ operand self.now field }
     {
         self.register(field % 32)
     }
+
     /// Sets the register that a field of 5 bits names; register 0 stays 0.
     #[inline]
-    pub(crate) fn set_reg(&mut self, field: u8, value: u32)
+    pub(crate) fn set_operand(&mut self, field: u8, value: u32)
         ensures { self.new ≡ with_register self.old (field % 32) value }
     {
         self.set_register(field % 32, value);

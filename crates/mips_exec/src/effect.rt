@@ -1,12 +1,6 @@
-//! What an instruction does, told from its fields and the registers.
-ghost use Rattle.std.specs.Prelude.{◌≡◌};
-ghost use Rattle.mips_exec.specs.Effect.{effect_of};
-ghost use Rattle.mips_exec.specs.Operands.{set};
+//! What an instruction can do.
 
-use crate::cpu::Cpu;
-use crate::{accumulator, computing, jumps, transfers, traps};
 use kernel_core::Sig;
-use mips_code::Insn;
 
 /// The bytes of memory that a load or a store is about.
 #[derive(Clone, Copy)]
@@ -78,51 +72,8 @@ pub enum Effect {
     Reserved,
     /// The instruction can't be fetched.
     FetchFault {
-        sig: Sig,
+        signal: Sig,
         code: u32,
-        addr: u32,
+        address: u32,
     },
-}
-
-/// The effect of an instruction on a processor.
-#[inline]
-pub fn effect_of(insn: Insn, cpu: &Cpu) -> Effect
-    ensures { result ≡ effect_of insn cpu.now }
-{
-    if let Some(effect) = computing::immediate(insn, cpu) {
-        return effect;
-    }
-    if let Some(effect) = computing::registers(insn, cpu) {
-        return effect;
-    }
-    if let Some(effect) = computing::shift(insn, cpu) {
-        return effect;
-    }
-    if let Some(effect) = computing::field(insn, cpu) {
-        return effect;
-    }
-    if let Some(effect) = accumulator::high_low(insn, cpu) {
-        return effect;
-    }
-    if let Some(effect) = transfers::transfer(insn, cpu) {
-        return effect;
-    }
-    if let Some(effect) = traps::trap(insn, cpu) {
-        return effect;
-    }
-    if let Some(effect) = jumps::jump(insn, cpu) {
-        return effect;
-    }
-    if let Some(effect) = jumps::branch(insn, cpu) {
-        return effect;
-    }
-    jumps::branch_likely(insn, cpu).unwrap_or(Effect::Reserved)
-}
-
-/// A register gets a value.
-#[inline]
-pub fn set(register: u8, value: u32) -> Option<Effect>
-    ensures { result ≡ set register value }
-{
-    Some(Effect::Register { register, value })
 }

@@ -1,11 +1,14 @@
 //! One step of the processor.
 ghost use Rattle.std.specs.Prelude.{◌≡◌, IfOk, OnErr, IsTrue};
 ghost use Rattle.mips_exec.specs.Step.{step_of, carried_out, effect_at, needs_page, asks_for_page};
+ghost use Rattle.mips_exec.specs.Processor.{IsValidProcessor};
 
+use crate::codes::{BAD_ADDRESS, ILLEGAL};
 use crate::control::{fault, fault_here, go_on, jump, system_call};
 use crate::cpu::Cpu;
-use crate::effect::{Effect, effect_of};
+use crate::effect::Effect;
 use crate::memory::{access_code, access_signal, load, load_linked, store, store_conditional};
+use crate::table::effect_of;
 use guest_space::Space;
 use kernel_core::{NoMemory, Sig};
 use mips_code::decode;
@@ -48,9 +51,12 @@ pub fn step(cpu: &mut Cpu, space: &mut Space) -> Result<Stepped, NoMemory>
     ensures unchanged_cpu { OnErr result (cpu.new ≡ cpu.old) }
     ensures unchanged_space { OnErr result (space.new ≡ space.old) }
     ensures cause { OnErr result (IsTrue (asks_for_page cpu.old space.old)) }
+    ensures valid { IsValidProcessor cpu.new }
 {
     let effect = effect_at(cpu, space);
-    carry_out(cpu, space, effect)
+    let came = carry_out(cpu, space, effect);
+    let _ = &cpu.regs;
+    came
 }
 
 /// The effect of the instruction at the program counter.
@@ -61,9 +67,9 @@ fn effect_at(cpu: &Cpu, space: &Space) -> Effect
 {
     if cpu.pc % 4 != 0 {
         return Effect::FetchFault {
-            sig: Sig::Bus,
-            code: 1,
-            addr: cpu.pc,
+            signal: Sig::Bus,
+            code: BAD_ADDRESS,
+            address: cpu.pc,
         };
     }
     match space.fetch(cpu.pc) {
@@ -72,9 +78,9 @@ fn effect_at(cpu: &Cpu, space: &Space) -> Effect
             None => Effect::Reserved,
         },
         Err(denied) => Effect::FetchFault {
-            sig: access_signal(denied.why),
+            signal: access_signal(denied.why),
             code: access_code(denied.why),
-            addr: denied.addr,
+            address: denied.addr,
         },
     }
 }
@@ -90,7 +96,7 @@ fn carry_out(cpu: &mut Cpu, space: &mut Space, effect: Effect) -> Result<Stepped
     match effect {
         Effect::Proceed => Ok(go_on(cpu)),
         Effect::Register { register, value } => {
-            cpu.set_reg(register, value);
+            cpu.set_operand(register, value);
             Ok(go_on(cpu))
         }
         Effect::HighLow { high, low } => {
@@ -114,13 +120,17 @@ fn carry_out(cpu: &mut Cpu, space: &mut Space, effect: Effect) -> Result<Stepped
             store_conditional(cpu, space, address, register)
         }
         Effect::Branch { .. } | Effect::SystemCall if cpu.slot.is_some() => {
-            Ok(fault_here(cpu, Sig::Ill, 1))
+            Ok(fault_here(cpu, Sig::Ill, ILLEGAL))
         }
         Effect::Branch { link, target } => Ok(jump(cpu, link, target)),
         Effect::ArithmeticError { code } => Ok(fault_here(cpu, Sig::Fpe, code)),
         Effect::Breakpoint { code } => Ok(fault(cpu, Sig::Trap, code, 0)),
         Effect::SystemCall => Ok(system_call(cpu)),
-        Effect::Reserved => Ok(fault_here(cpu, Sig::Ill, 1)),
-        Effect::FetchFault { sig, code, addr } => Ok(fault(cpu, sig, code, addr)),
+        Effect::Reserved => Ok(fault_here(cpu, Sig::Ill, ILLEGAL)),
+        Effect::FetchFault {
+            signal,
+            code,
+            address,
+        } => Ok(fault(cpu, signal, code, address)),
     }
 }

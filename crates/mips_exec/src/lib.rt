@@ -3,6 +3,7 @@
 
 mod accumulator;
 mod arithmetic;
+mod codes;
 mod computing;
 mod control;
 mod cpu;
@@ -10,6 +11,7 @@ mod effect;
 mod execution;
 mod jumps;
 mod memory;
+mod table;
 mod transfers;
 mod traps;
 

@@ -1,10 +1,13 @@
 //! Loads and stores over guest memory, and the signals of their refusals.
-ghost use Rattle.std.specs.Prelude.{◌≡◌, ◌%◌, ◌<◌, ◌≤◌, Some, IfOk, OnErr, IsTrue};
+ghost use Rattle.std.specs.Prelude.{◌≡◌, ◌%◌, ◌<◌, Some, IfOk, OnOk, OnErr, IsTrue};
 ghost use Rattle.guest_space.specs.Access.{first_denied};
+ghost use Rattle.guest_space.specs.Answers.{IsStoreAnswer};
+ghost use Rattle.guest_space.specs.Bytes.{read, written, are_ready};
 ghost use Rattle.guest_space.specs.declared.access.Access.TheVariants as Access;
 ghost use Rattle.mips_exec.specs.Step.{carried_out, needs_page, stopped, load_address, load_width, loaded_value, merged_left, merged_right, store_address, store_width, stored_value, access_signal, access_code};
 
 use crate::arithmetic::{extend_byte, extend_half};
+use crate::codes::{ABSENT, BAD_ADDRESS, FORBIDDEN};
 use crate::control::{fault, go_on};
 use crate::cpu::Cpu;
 use crate::effect::{Effect, Span};
@@ -29,8 +32,9 @@ pub fn access_code(why: Why) -> u32
     ensures { result ≡ access_code why }
 {
     match why {
-        Why::Absent | Why::Beyond => 1,
-        Why::Forbidden => 2,
+        Why::Absent => ABSENT,
+        Why::Forbidden => FORBIDDEN,
+        Why::Beyond => BAD_ADDRESS,
     }
 }
 
@@ -48,28 +52,16 @@ fn deny(cpu: &mut Cpu, denied: Denied) -> Stepped
     )
 }
 
-/// Where the bytes of a load begin.
+/// The number that a load reads, or the first byte that may not be loaded.
 #[inline]
-fn load_address(span: Span, address: u32) -> u32
-    ensures { result ≡ load_address span address }
+fn read(space: &Space, span: Span, address: u32) -> Result<u32, Denied>
+    ensures { result ≡ read space.now (load_address span address) (load_width span) }
 {
     match span {
-        Span::Left | Span::Right => address - address % 4,
-        Span::Byte | Span::Half | Span::Word => address,
-    }
-}
-
-/// How many bytes a load takes.
-#[inline]
-fn load_width(span: Span) -> u32
-    ensures value { result ≡ load_width span }
-    ensures low { 1 ≤ result }
-    ensures high { result ≤ 4 }
-{
-    match span {
-        Span::Byte => 1,
-        Span::Half => 2,
-        Span::Word | Span::Left | Span::Right => 4,
+        Span::Byte => space.load(address, 1),
+        Span::Half => space.load(address, 2),
+        Span::Word => space.load(address, 4),
+        Span::Left | Span::Right => space.load(address - address % 4, 4),
     }
 }
 
@@ -128,10 +120,10 @@ pub fn load(
     ensures { carried_out cpu.old space.now (Effect.Load span signed address register)
         ≡ record { processor = cpu.new; memory = space.now; came = result } }
 {
-    match space.load(load_address(span, address), load_width(span)) {
+    match read(space, span, address) {
         Ok(number) => {
-            let old = cpu.reg(register);
-            cpu.set_reg(register, loaded_value(span, signed, address, old, number));
+            let old = cpu.operand(register);
+            cpu.set_operand(register, loaded_value(span, signed, address, old, number));
             go_on(cpu)
         }
         Err(denied) => deny(cpu, denied),
@@ -145,53 +137,35 @@ pub fn load_linked(cpu: &mut Cpu, space: &Space, address: u32, register: u8) -> 
         ≡ record { processor = cpu.new; memory = space.now; came = result } }
 {
     if address % 4 != 0 {
-        return fault(cpu, Sig::Bus, 1, address);
+        return fault(cpu, Sig::Bus, BAD_ADDRESS, address);
     }
     match space.load(address, 4) {
         Ok(number) => {
             cpu.link = Some(address);
-            cpu.set_reg(register, number);
+            cpu.set_operand(register, number);
             go_on(cpu)
         }
         Err(denied) => deny(cpu, denied),
     }
 }
 
-/// Where the bytes of a store begin.
+/// Writes what a store writes: all its bytes, or none with the first that may not be stored to.
 #[inline]
-fn store_address(span: Span, address: u32) -> u32
-    ensures { result ≡ store_address span address }
+fn write(space: &mut Space, span: Span, address: u32, value: u32) -> Result<(), StoreError>
+    ensures ok { OnOk result (space.new
+        ≡ written space.old (store_address span address) (store_width span address) (stored_value span address value)) }
+    ensures err { OnErr result (space.new ≡ space.old) }
+    ensures answer { IsStoreAnswer
+        (first_denied Access.Store space.old.pages (store_address span address) (store_width span address))
+        (are_ready space.old.pages (store_address span address) (store_width span address)) result }
 {
+    let place = address % 4;
     match span {
-        Span::Right => address - address % 4,
-        Span::Byte | Span::Half | Span::Word | Span::Left => address,
-    }
-}
-
-/// How many bytes a store writes.
-#[inline]
-fn store_width(span: Span, address: u32) -> u32
-    ensures value { result ≡ store_width span address }
-    ensures low { 1 ≤ result }
-    ensures high { result ≤ 4 }
-{
-    match span {
-        Span::Byte => 1,
-        Span::Half => 2,
-        Span::Word => 4,
-        Span::Left => 4 - address % 4,
-        Span::Right => address % 4 + 1,
-    }
-}
-
-/// The number whose lowest bytes a store writes.
-#[inline]
-fn stored_value(span: Span, address: u32, value: u32) -> u32
-    ensures { result ≡ stored_value span address value }
-{
-    match span {
-        Span::Left => value >> (8 * (address % 4)),
-        Span::Byte | Span::Half | Span::Word | Span::Right => value,
+        Span::Byte => space.store(address, 1, value),
+        Span::Half => space.store(address, 2, value),
+        Span::Word => space.store(address, 4, value),
+        Span::Left => space.store(address, 4 - place, value >> (8 * place)),
+        Span::Right => space.store(address - place, place + 1, value),
     }
 }
 
@@ -210,9 +184,7 @@ pub fn store(
     ensures unchanged_space { OnErr result (space.new ≡ space.old) }
     ensures cause { OnErr result (IsTrue (needs_page cpu.old space.old (Effect.Store span address value))) }
 {
-    let bytes = stored_value(span, address, value);
-    let width = store_width(span, address);
-    match space.store(store_address(span, address), width, bytes) {
+    match write(space, span, address, value) {
         Ok(()) => Ok(go_on(cpu)),
         Err(StoreError::Denied(denied)) => Ok(deny(cpu, denied)),
         Err(StoreError::NoMemory) => Err(NoMemory),
@@ -251,7 +223,7 @@ pub fn store_conditional(
 {
     if address % 4 != 0 {
         cpu.link = None;
-        return Ok(fault(cpu, Sig::Bus, 1, address));
+        return Ok(fault(cpu, Sig::Bus, BAD_ADDRESS, address));
     }
     if cpu.link == Some(address) {
         return store_linked(cpu, space, address, register);
@@ -260,7 +232,7 @@ pub fn store_conditional(
     match store_refusal(space, address) {
         Some(denied) => Ok(deny(cpu, denied)),
         None => {
-            cpu.set_reg(register, 0);
+            cpu.set_operand(register, 0);
             Ok(go_on(cpu))
         }
     }
@@ -282,10 +254,10 @@ fn store_linked(
     ensures unchanged_space { OnErr result (space.new ≡ space.old) }
     ensures cause { OnErr result (IsTrue (needs_page cpu.old space.old (Effect.StoreConditional address register))) }
 {
-    match space.store(address, 4, cpu.reg(register)) {
+    match space.store(address, 4, cpu.operand(register)) {
         Ok(()) => {
             cpu.link = None;
-            cpu.set_reg(register, 1);
+            cpu.set_operand(register, 1);
             Ok(go_on(cpu))
         }
         Err(StoreError::Denied(denied)) => {
