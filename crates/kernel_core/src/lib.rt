@@ -7,23 +7,29 @@
 mod byte_list;
 mod core_error;
 mod error;
-mod flags;
 mod items;
 pub mod limits;
+mod map_flags;
 mod mask;
+mod open_flags;
+mod poll_bits;
 mod request;
 mod resource;
+mod sa_flags;
 mod signal;
 mod tree;
 
 pub use byte_list::Bytes;
 pub use core_error::{CoreError, NoMemory, Stop};
 pub use error::Errno;
-pub use flags::{Access, MapFlags, MapKind, OpenFlags, PollBits, SaFlags};
 pub use items::Items;
+pub use map_flags::{MapBits, MapFlags, MapKind};
 pub use mask::MaskChange;
+pub use open_flags::{Access, OpenBits, OpenFlags};
+pub use poll_bits::{EventBits, PollBits};
 pub use request::Request;
 pub use resource::Resource;
+pub use sa_flags::{SaBits, SaFlags};
 pub use signal::{RealTime, Sig};
 pub use tree::{Block, DirEntry, Kind, Node, Tree};
 
