@@ -1,5 +1,5 @@
 -- The bits in which `PollBits` are kept.
-use Rattle.std.specs.Prelude.{◌≡◌, ℕ, ◌+◌, ◌*◌, ◌/◌, ◌%◌, ◌<◌, ◌==◌}
+use Rattle.std.specs.Prelude.{◌≡◌, ℕ, ◌+◌, ◌*◌, ◌%◌, ◌<◌}
 use Rattle.std.proofs.Common.{arith, sym, ◌∙◌, ap}
 use Rattle.kernel_core.specs.Bits.{one_if, one_if-has, has_below}
 use Rattle.kernel_core.specs.PollSet.{PollSet, poll_set}

@@ -1,6 +1,6 @@
 -- The bits in which `OpenFlags` are kept.
-use Rattle.std.specs.Prelude.{◌≡◌, ℕ, ◌+◌, ◌*◌, ◌/◌, ◌%◌, ◌<◌, ◌==◌}
-use Rattle.std.proofs.Common.{arith, sym, ◌∙◌, ap}
+use Rattle.std.specs.Prelude.{◌≡◌, ℕ, ◌+◌, ◌*◌, ◌%◌, ◌<◌}
+use Rattle.std.proofs.Common.{arith}
 use Rattle.kernel_core.specs.Bits.{one_if, one_if-has, has_below}
 use Rattle.kernel_core.specs.OpenSet.{OpenSet, open_set}
 use Rattle.kernel_core.specs.declared.open_flags.Access.{Access}
@@ -24,9 +24,6 @@ open_bits set =
 -- are those from which the set was read
 pub open_bits_again : (access : Access) (bits : ℕ) → bits < 4096 → open_bits (open_set access bits) ≡ bits
 open_bits_again access bits small = omega (arith, one_if-has)
-
-pub open_bits_of : (access : Access) (bits : ℕ) (set : OpenSet) → bits < 4096 → open_set access bits ≡ set → open_bits set ≡ bits
-open_bits_of access bits set small is = ap open_bits (sym is) ∙ open_bits_again access bits small
 
 -- bits without a name say nothing
 pub open_set_named : (access : Access) (bits : ℕ) → open_set access (bits % 4096) ≡ open_set access bits
