@@ -67,8 +67,7 @@ impl Flags for OpenBits {
 ///
 /// A contract sees the mode and which flags are set, and no bit without a name. `sync` is the own bit of
 /// O_SYNC, which stands beside that of O_DSYNC in every number that open(2) knows.
-#[derive(Clone, Copy, PartialEq, Eq)]
-#[tactic(auto, using(crate::specs::inside::OpenBits::open_bits_of))]
+#[derive(Clone, Copy)]
 pub struct OpenFlags {
     access: Access,
     bits: OpenBits,

@@ -1,7 +1,7 @@
 -- The bits in which `PollBits` are kept.
-use Rattle.std.specs.Prelude.{◌≡◌, ℕ, ◌+◌, ◌*◌, ◌/◌, ◌%◌, ◌<◌, ◌==◌}
+use Rattle.std.specs.Prelude.{◌≡◌, ℕ, ◌+◌, ◌*◌, ◌/◌, ◌%◌, ◌<◌}
 use Rattle.std.proofs.Common.{arith, sym, ◌∙◌, ap}
-use Rattle.kernel_core.specs.Bits.{one_if, one_if-has, has_below}
+use Rattle.kernel_core.specs.Bits.{one_if, one_if-has, has_below, one_if-le, is_one}
 use Rattle.kernel_core.specs.PollSet.{PollSet, poll_set}
 
 -- the bits of a set
@@ -38,4 +38,19 @@ poll_set_named bits = λ i. record {
   rdband = has_below bits 1024 128 (omega arith) i;
   wrnorm = has_below bits 1024 256 (omega arith) i;
   wrband = has_below bits 1024 512 (omega arith) i;
+}
+
+-- the set of a set's bits is the set
+pub poll_set_again : (set : PollSet) → poll_set (poll_bits set) ≡ set
+poll_set_again set = λ i. record {
+  input = is_one set.input (poll_bits set / 1 % 2) (omega (arith, one_if-le)) i;
+  pri = is_one set.pri (poll_bits set / 2 % 2) (omega (arith, one_if-le)) i;
+  output = is_one set.output (poll_bits set / 4 % 2) (omega (arith, one_if-le)) i;
+  err = is_one set.err (poll_bits set / 8 % 2) (omega (arith, one_if-le)) i;
+  hup = is_one set.hup (poll_bits set / 16 % 2) (omega (arith, one_if-le)) i;
+  nval = is_one set.nval (poll_bits set / 32 % 2) (omega (arith, one_if-le)) i;
+  rdnorm = is_one set.rdnorm (poll_bits set / 64 % 2) (omega (arith, one_if-le)) i;
+  rdband = is_one set.rdband (poll_bits set / 128 % 2) (omega (arith, one_if-le)) i;
+  wrnorm = is_one set.wrnorm (poll_bits set / 256 % 2) (omega (arith, one_if-le)) i;
+  wrband = is_one set.wrband (poll_bits set / 512 % 2) (omega (arith, one_if-le)) i;
 }

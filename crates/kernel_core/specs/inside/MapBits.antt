@@ -1,7 +1,7 @@
 -- The bits in which `MapFlags` are kept.
-use Rattle.std.specs.Prelude.{◌≡◌, ℕ, ◌+◌, ◌*◌, ◌/◌, ◌%◌, ◌<◌, ◌==◌}
+use Rattle.std.specs.Prelude.{◌≡◌, ℕ, ◌+◌, ◌*◌, ◌/◌, ◌%◌, ◌<◌}
 use Rattle.std.proofs.Common.{arith, sym, ◌∙◌, ap}
-use Rattle.kernel_core.specs.Bits.{one_if, one_if-has, has_below}
+use Rattle.kernel_core.specs.Bits.{one_if, one_if-has, has_below, one_if-le, is_one}
 use Rattle.kernel_core.specs.MapSet.{MapSet, map_set}
 use Rattle.kernel_core.specs.declared.map_flags.MapKind.{MapKind}
 
@@ -26,4 +26,13 @@ map_set_named kind bits = λ i. record {
   fixed = has_below bits 8 1 (omega arith) i;
   noreserve = has_below bits 8 2 (omega arith) i;
   anonymous = has_below bits 8 4 (omega arith) i;
+}
+
+-- the set of a set's bits is the set
+pub map_set_again : (set : MapSet) → map_set set.kind (map_bits set) ≡ set
+map_set_again set = λ i. record {
+  kind = set.kind;
+  fixed = is_one set.fixed (map_bits set / 1 % 2) (omega (arith, one_if-le)) i;
+  noreserve = is_one set.noreserve (map_bits set / 2 % 2) (omega (arith, one_if-le)) i;
+  anonymous = is_one set.anonymous (map_bits set / 4 % 2) (omega (arith, one_if-le)) i;
 }

@@ -1,7 +1,7 @@
 -- The bits in which `OpenFlags` are kept.
-use Rattle.std.specs.Prelude.{◌≡◌, ℕ, ◌+◌, ◌*◌, ◌/◌, ◌%◌, ◌<◌, ◌==◌}
-use Rattle.std.proofs.Common.{arith, sym, ◌∙◌, ap}
-use Rattle.kernel_core.specs.Bits.{one_if, one_if-has, has_below}
+use Rattle.std.specs.Prelude.{◌≡◌, ℕ, ◌+◌, ◌*◌, ◌/◌, ◌%◌, ◌<◌}
+use Rattle.std.proofs.Common.{arith}
+use Rattle.kernel_core.specs.Bits.{one_if, one_if-has, has_below, one_if-le, is_one}
 use Rattle.kernel_core.specs.OpenSet.{OpenSet, open_set}
 use Rattle.kernel_core.specs.declared.open_flags.Access.{Access}
 
@@ -25,9 +25,6 @@ open_bits set =
 pub open_bits_again : (access : Access) (bits : ℕ) → bits < 4096 → open_bits (open_set access bits) ≡ bits
 open_bits_again access bits small = omega (arith, one_if-has)
 
-pub open_bits_of : (access : Access) (bits : ℕ) (set : OpenSet) → bits < 4096 → open_set access bits ≡ set → open_bits set ≡ bits
-open_bits_of access bits set small is = ap open_bits (sym is) ∙ open_bits_again access bits small
-
 -- bits without a name say nothing
 pub open_set_named : (access : Access) (bits : ℕ) → open_set access (bits % 4096) ≡ open_set access bits
 open_set_named access bits = λ i. record {
@@ -44,4 +41,22 @@ open_set_named access bits = λ i. record {
   directory = has_below bits 4096 512 (omega arith) i;
   nofollow = has_below bits 4096 1024 (omega arith) i;
   cloexec = has_below bits 4096 2048 (omega arith) i;
+}
+
+-- the set of a set's bits is the set
+pub open_set_again : (set : OpenSet) → open_set set.access (open_bits set) ≡ set
+open_set_again set = λ i. record {
+  access = set.access;
+  append = is_one set.append (open_bits set / 1 % 2) (omega (arith, one_if-le)) i;
+  dsync = is_one set.dsync (open_bits set / 2 % 2) (omega (arith, one_if-le)) i;
+  nonblock = is_one set.nonblock (open_bits set / 4 % 2) (omega (arith, one_if-le)) i;
+  creat = is_one set.creat (open_bits set / 8 % 2) (omega (arith, one_if-le)) i;
+  trunc = is_one set.trunc (open_bits set / 16 % 2) (omega (arith, one_if-le)) i;
+  excl = is_one set.excl (open_bits set / 32 % 2) (omega (arith, one_if-le)) i;
+  noctty = is_one set.noctty (open_bits set / 64 % 2) (omega (arith, one_if-le)) i;
+  largefile = is_one set.largefile (open_bits set / 128 % 2) (omega (arith, one_if-le)) i;
+  sync = is_one set.sync (open_bits set / 256 % 2) (omega (arith, one_if-le)) i;
+  directory = is_one set.directory (open_bits set / 512 % 2) (omega (arith, one_if-le)) i;
+  nofollow = is_one set.nofollow (open_bits set / 1024 % 2) (omega (arith, one_if-le)) i;
+  cloexec = is_one set.cloexec (open_bits set / 2048 % 2) (omega (arith, one_if-le)) i;
 }

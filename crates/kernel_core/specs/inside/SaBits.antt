@@ -1,7 +1,7 @@
 -- The bits in which `SaFlags` are kept.
-use Rattle.std.specs.Prelude.{◌≡◌, ℕ, ◌+◌, ◌*◌, ◌/◌, ◌%◌, ◌<◌, ◌==◌}
+use Rattle.std.specs.Prelude.{◌≡◌, ℕ, ◌+◌, ◌*◌, ◌/◌, ◌%◌, ◌<◌}
 use Rattle.std.proofs.Common.{arith, sym, ◌∙◌, ap}
-use Rattle.kernel_core.specs.Bits.{one_if, one_if-has, has_below}
+use Rattle.kernel_core.specs.Bits.{one_if, one_if-has, has_below, one_if-le, is_one}
 use Rattle.kernel_core.specs.SaSet.{SaSet, sa_set}
 
 -- the bits of a set
@@ -32,4 +32,16 @@ sa_set_named bits = λ i. record {
   restart = has_below bits 128 16 (omega arith) i;
   nodefer = has_below bits 128 32 (omega arith) i;
   resethand = has_below bits 128 64 (omega arith) i;
+}
+
+-- the set of a set's bits is the set
+pub sa_set_again : (set : SaSet) → sa_set (sa_bits set) ≡ set
+sa_set_again set = λ i. record {
+  nocldstop = is_one set.nocldstop (sa_bits set / 1 % 2) (omega (arith, one_if-le)) i;
+  siginfo = is_one set.siginfo (sa_bits set / 2 % 2) (omega (arith, one_if-le)) i;
+  nocldwait = is_one set.nocldwait (sa_bits set / 4 % 2) (omega (arith, one_if-le)) i;
+  onstack = is_one set.onstack (sa_bits set / 8 % 2) (omega (arith, one_if-le)) i;
+  restart = is_one set.restart (sa_bits set / 16 % 2) (omega (arith, one_if-le)) i;
+  nodefer = is_one set.nodefer (sa_bits set / 32 % 2) (omega (arith, one_if-le)) i;
+  resethand = is_one set.resethand (sa_bits set / 64 % 2) (omega (arith, one_if-le)) i;
 }
