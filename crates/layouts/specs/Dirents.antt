@@ -1,6 +1,14 @@
 -- The entries that getdents(2) and getdents64(2) give, whose length is that of their name.
 use Rattle.std.specs.Prelude.{ℕ, ◌+◌, ◌*◌, ◌/◌, ◌-◌, Bool, true, List, [], ◌∷◌, ◌++◌, length, take, drop, replicate}
 use Rattle.layouts.specs.Number.{bytes_of}
+use Rattle.layouts.specs.declared.dirent.EntryType.{EntryType}
+use Rattle.layouts.specs.declared.dirent.EntryType.TheVariants.{Directory, File, Link}
+
+-- the numbers of the types of entries (DT_DIR, DT_REG and DT_LNK of Linux include/linux/fs_types.h)
+abbrev pub type_number : EntryType → ℕ
+type_number Directory = 4
+type_number File = 8
+type_number Link = 10
 
 -- a length rounded up to a multiple of a step
 abbrev pub rounded_up : ℕ → ℕ → ℕ

@@ -1,10 +1,13 @@
 -- The bytes of a signal's frame and what a return reads there, over plain numbers. The layouts of
 -- the frames are this project's own profile.
-use Rattle.std.specs.Prelude.{ℕ, ◌+◌, ◌%◌, ◌^◌, ◌==◌, true, List, [], ◌∷◌, ◌++◌, map, drop, ℤ, pos, if◌then◌else◌}
-use Rattle.layouts.specs.Number.{unsigned, value_of}
-use Rattle.layouts.specs.Shape.{Shape, word, double, row, record_bytes}
-use Rattle.layouts.specs.O32.{siginfo, siginfo_fault, frame, rt_frame_of}
-use Rattle.layouts.specs.declared.field.Field.{Field}
+use Rattle.std.specs.Prelude.{◌≡◌, ℕ, ◌+◌, ◌-◌, ◌<◌, ◌^◌, ◌==◌, true, List, [], ◌∷◌, ◌++◌, map, take, drop, length, slice_index, bit_and, All, ℤ, pos, if◌then◌else◌}
+use Rattle.layouts.specs.Number.{value_of, low_number}
+use Rattle.layouts.specs.Shape.{Shape, record_bytes, record_values}
+use Rattle.layouts.specs.O32.{stack, siginfo, siginfo_fault, sigcontext, frame, rt_frame_of}
+
+-- a number of 32 bits
+abbrev pub IsWord : ℕ → Type 0
+IsWord number = number < 2 ^ 32
 
 -- what a handler's return puts back into the processor: words
 pub record Context : Type 0 where
@@ -13,11 +16,29 @@ pub record Context : Type 0 where
   pub hi : ℕ
   pub lo : ℕ
 
+-- there are 32 registers, and words alone
+pub record IsContext (context : Context) : Type 0 where
+  pub count : length context.registers ≡ 32
+  pub registers : All IsWord context.registers
+  pub pc : IsWord context.pc
+  pub hi : IsWord context.hi
+  pub lo : IsWord context.lo
+
+-- a mask is four words, signal 1 the lowest bit of the first
+pub record IsMask (mask : List ℕ) : Type 0 where
+  pub count : length mask ≡ 4
+  pub words : All IsWord mask
+
 -- the alternate stack as sigaltstack(2) shows it: words
 pub record AlternateStack : Type 0 where
   pub sp : ℕ
   pub size : ℕ
   pub flags : ℕ
+
+pub record IsAlternateStack (stack : AlternateStack) : Type 0 where
+  pub sp : IsWord stack.sp
+  pub size : IsWord stack.size
+  pub flags : IsWord stack.flags
 
 -- what a handler is told of its signal; the address is 0 in all but a fault
 pub record Information : Type 0 where
@@ -52,7 +73,7 @@ siginfo_values info =
 abbrev pub siginfo_bytes : Information → List ℕ
 siginfo_bytes info = record_bytes (siginfo_of info) (siginfo_values info)
 
--- the bytes of a frame: the mask is four words, signal 1 the lowest bit of the first
+-- the bytes of a frame
 abbrev pub frame_bytes : Context → List ℕ → List ℕ
 frame_bytes context mask = record_bytes frame (context_values context ++ map pos mask)
 
@@ -61,49 +82,48 @@ rt_frame_bytes info stack context mask =
     record_bytes (rt_frame_of (siginfo_of info))
     (siginfo_values info ++ stack_values stack ++ context_values context ++ map pos mask)
 
--- the low word of a number of 8 bytes from a place on, and a word there
-abbrev pub low_word_at : ℕ → List ℕ → ℕ
-low_word_at offset bytes = unsigned true 8 (drop offset bytes) % 2 ^ 32
+-- the low words of the fields of a structure in some bytes
+abbrev pub words_in : Shape → List ℕ → List ℕ
+words_in shape bytes = map (low_number 4) (record_values shape bytes)
 
-abbrev pub word_at : ℕ → List ℕ → ℕ
-word_at offset bytes = unsigned true 4 (drop offset bytes)
+-- the processor and the alternate stack that some words are, in the order of their structures
+abbrev pub context_of : List ℕ → Context
+context_of words =
+    record { pc = slice_index words 0; registers = take 32 (drop 1 words); hi = slice_index words 33; lo = slice_index words 34 }
 
--- the numbers that stand at these fields' places
-abbrev pub numbers_at : (ℕ → List ℕ → ℕ) → List Field → List ℕ → List ℕ
-numbers_at read fields bytes = map (λ (field : Field). read field.offset bytes) fields
+abbrev pub stack_of : List ℕ → AlternateStack
+stack_of words = record { sp = slice_index words 0; size = slice_index words 1; flags = slice_index words 2 }
 
--- the processor in a sigcontext from a place on
-abbrev pub context_at : ℕ → List ℕ → Context
-context_at offset bytes = record {
-  pc = low_word_at (offset + 8) bytes;
-  registers = numbers_at low_word_at (row double 32 (offset + 16)) bytes;
-  hi = low_word_at (offset + 552) bytes;
-  lo = low_word_at (offset + 560) bytes;
-}
+-- the words behind those of a structure
+abbrev pub behind : Shape → List ℕ → List ℕ
+behind shape words = drop (length shape.fields) words
 
--- the four words of a mask, and an alternate stack
-abbrev pub mask_at : ℕ → List ℕ → List ℕ
-mask_at offset bytes = numbers_at word_at (row word 4 offset) bytes
+-- the signals that no mask holds back (signal(7)): KILL is 9 and STOP is 23, and a set has bit s - 1
+-- for signal s
+abbrev pub unblockable : ℕ
+unblockable = 2 ^ (9 - 1) + 2 ^ (23 - 1)
 
-abbrev pub stack_at : ℕ → List ℕ → AlternateStack
-stack_at offset bytes = record {
-  sp = word_at offset bytes;
-  size = word_at (offset + 4) bytes;
-  flags = word_at (offset + 8) bytes;
-}
+-- a mask that comes back loses them
+abbrev pub returned_mask : List ℕ → List ℕ
+returned_mask [] = []
+returned_mask (first ∷ more) = bit_and first (2 ^ 32 - 1 - unblockable) ∷ more
 
--- what a return reads in a frame
+-- what a return reads in any bytes of a frame
 abbrev pub frame_context : List ℕ → Context
-frame_context bytes = context_at 24 bytes
+frame_context bytes = context_of (words_in frame bytes)
 
 abbrev pub frame_mask : List ℕ → List ℕ
-frame_mask bytes = mask_at 616 bytes
+frame_mask bytes = returned_mask (behind sigcontext (words_in frame bytes))
 
-abbrev pub rt_frame_context : List ℕ → Context
-rt_frame_context bytes = context_at 176 bytes
+-- the same of a frame with siginfo, which a return does not look at
+abbrev pub ucontext_words : List ℕ → List ℕ
+ucontext_words bytes = behind siginfo (words_in (rt_frame_of siginfo) bytes)
 
 abbrev pub rt_frame_stack : List ℕ → AlternateStack
-rt_frame_stack bytes = stack_at 160 bytes
+rt_frame_stack bytes = stack_of (ucontext_words bytes)
+
+abbrev pub rt_frame_context : List ℕ → Context
+rt_frame_context bytes = context_of (behind stack (ucontext_words bytes))
 
 abbrev pub rt_frame_mask : List ℕ → List ℕ
-rt_frame_mask bytes = mask_at 768 bytes
+rt_frame_mask bytes = returned_mask (behind sigcontext (behind stack (ucontext_words bytes)))

@@ -4,3 +4,5 @@ pub mod Native
 pub mod Number
 pub mod O32
 pub mod Shape
+pub mod Termios
+pub mod Utsname

@@ -1,5 +1,6 @@
 -- A number of some bytes, and a field of a structure.
-use Rattle.std.specs.Prelude.{◌≡◌, ℕ, ◌+◌, ◌/◌, ◌-◌, ◌^◌, ◌≤◌, suc, Bool, true, false, List, ◌++◌, take, drop, slice_index, slice_index_or, ◌<◌, ◌⊎◌, nat_lt, ℤ, pos, negsuc, ◌-ℤ◌, if◌then◌else◌}
+use Rattle.std.specs.Prelude.{◌≡◌, ℕ, ◌+◌, ◌/◌, ◌-◌, ◌^◌, ◌≤◌, suc, Bool, true, false, List, ◌++◌, take, drop, slice_index, slice_index_or, ◌<◌, ◌⊎◌, nat_lt, ℤ, pos, negsuc, ◌-ℤ◌, unsigned_abs, if◌then◌else◌}
+use Rattle.std.specs.Int.{int_rem_euclid}
 use Rattle.byteorder.specs.Endian.{big_number, little_number, big_bytes, little_bytes}
 use Rattle.layouts.specs.declared.field.Field.{Field}
 use Rattle.layouts.specs.declared.field.Fit.{Fit}
@@ -26,9 +27,13 @@ value_of true width number = if nat_lt number (half width) then pos number else 
 value_of false width number = pos number
 
 -- the number that stands for a value: two's complement below 0
-abbrev pub number_of : ℕ → ℤ → ℕ
-number_of width (pos n) = n
-number_of width (negsuc n) = 256 ^ width - suc n
+abbrev pub number_for : ℕ → ℤ → ℕ
+number_for width (pos n) = n
+number_for width (negsuc n) = 256 ^ width - suc n
+
+-- the low bits of a value, as many as a number of this width has: the value modulo 256 to the width
+abbrev pub low_number : ℕ → ℤ → ℕ
+low_number width value = unsigned_abs (int_rem_euclid value (pos (256 ^ width)))
 
 -- whether a value is in the range of a number of this width
 abbrev pub is_in_range : Bool → ℕ → ℤ → Bool
@@ -57,7 +62,7 @@ field_value big field bytes = value_of field.signed field.width (unsigned big fi
 -- the bytes with a value in a field, and every other byte as it was
 abbrev pub with_value : Bool → Field → ℤ → List ℕ → List ℕ
 with_value big field value bytes =
-    take field.offset bytes ++ bytes_of big field.width (number_of field.width value) ++ drop (field.offset + field.width) bytes
+    take field.offset bytes ++ bytes_of big field.width (number_for field.width value) ++ drop (field.offset + field.width) bytes
 
 -- what a put answers and leaves
 abbrev pub fit_of : Field → ℤ → Fit
@@ -66,6 +71,10 @@ fit_of field value = if is_in_range field.signed field.width value then Fits els
 abbrev pub after_put : Bool → Field → ℤ → List ℕ → List ℕ
 after_put big field value bytes =
     if is_in_range field.signed field.width value then with_value big field value bytes else bytes
+
+-- what a field holds of a value that may be too wide for it: the low bits
+abbrev pub low_value : Field → ℤ → ℤ
+low_value field value = value_of field.signed field.width (low_number field.width value)
 
 -- each byte outside a field is as it was
 abbrev pub EachByteOutside : Field → List ℕ → List ℕ → Type 0

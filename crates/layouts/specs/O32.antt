@@ -95,14 +95,28 @@ abbrev pub sigcontext : Shape
 sigcontext = big_endian 592
     (signed_double 8 ∷ row signed_double 32 16 ++ signed_double 552 ∷ signed_double 560 ∷ [])
 
+-- where the parts of the frames lie, in bytes from a frame's start: the ucontext has the alternate
+-- stack, the sigcontext and the mask
+abbrev pub sigcontext_in_frame : ℕ
+sigcontext_in_frame = 24
+
+abbrev pub siginfo_in_rt_frame : ℕ
+siginfo_in_rt_frame = 24
+
+abbrev pub ucontext_in_rt_frame : ℕ
+ucontext_in_rt_frame = 152
+
 -- the frame of a handler without siginfo: the processor, the mask
 abbrev pub frame : Shape
-frame = big_endian 632 (moved 24 sigcontext.fields ++ row word 4 616)
+frame = big_endian 632 (moved sigcontext_in_frame sigcontext.fields ++ row word 4 616)
 
--- the frame of a handler with siginfo: the siginfo, the alternate stack, the processor, the mask
+-- the alternate stack, the processor, the mask
+abbrev pub ucontext : Shape
+ucontext = big_endian 632 (moved 8 stack.fields ++ moved 24 sigcontext.fields ++ row word 4 616)
+
+-- the frame of a handler with siginfo: the siginfo, the ucontext
 abbrev pub rt_frame_of : Shape → Shape
-rt_frame_of info =
-    big_endian 784 (moved 24 info.fields ++ moved 160 stack.fields ++ moved 176 sigcontext.fields ++ row word 4 768)
+rt_frame_of info = big_endian 784 (moved siginfo_in_rt_frame info.fields ++ moved ucontext_in_rt_frame ucontext.fields)
 
 abbrev pub o32_shape : O32Structure → Shape
 o32_shape Stat = stat

@@ -3,6 +3,23 @@ ghost use Rattle.std.specs.Prelude.{◌≡◌, ◌+◌, ◌≤◌, length};
 ghost use Rattle.layouts.specs.Dirents as spec;
 ghost use Rattle.layouts.specs.Number.{bytes_of};
 
+/// What an entry of a directory names, as getdents(2) tells it (`d_type` of Linux `include/linux/fs_types.h`).
+#[derive(Clone, Copy)]
+pub enum EntryType {
+    Directory = 4,
+    File = 8,
+    Link = 10,
+}
+
+impl EntryType {
+    /// The number that stands in an entry.
+    pub fn number(self) -> u8
+        ensures { result ≡ spec.type_number self }
+    {
+        self as u8
+    }
+}
+
 /// The length in bytes of an entry of getdents(2) with a name of this length.
 pub fn dirent_length(name: usize) -> usize
     requires { name ≤ 255 }
@@ -20,7 +37,7 @@ pub fn dirent64_length(name: usize) -> usize
 }
 
 /// Puts a part at a place.
-fn place(bytes: &mut [u8], offset: usize, part: &[u8])
+pub(crate) fn put_part(bytes: &mut [u8], offset: usize, part: &[u8])
     requires { offset + length part.now ≤ length bytes.old }
     ensures { bytes.new ≡ spec.placed offset part.now bytes.old }
 {
@@ -36,11 +53,11 @@ pub fn put_dirent(entry: &mut [u8], ino: u32, offset: u32, kind: u8, name: &[u8]
 {
     let length = entry.len();
     entry.fill(0);
-    place(entry, 0, &ino.to_be_bytes());
-    place(entry, 4, &offset.to_be_bytes());
-    place(entry, 8, &(length as u16).to_be_bytes());
-    place(entry, 10, name);
-    place(entry, length - 1, &[kind]);
+    put_part(entry, 0, &ino.to_be_bytes());
+    put_part(entry, 4, &offset.to_be_bytes());
+    put_part(entry, 8, &(length as u16).to_be_bytes());
+    put_part(entry, 10, name);
+    put_part(entry, length - 1, &[kind]);
 }
 
 /// The bytes of a number of 8 bytes, the first counting most or least.
@@ -75,9 +92,9 @@ pub fn put_dirent64(big: bool, entry: &mut [u8], ino: u64, offset: u64, kind: u8
 {
     let length = entry.len();
     entry.fill(0);
-    place(entry, 0, &double(big, ino));
-    place(entry, 8, &double(big, offset));
-    place(entry, 16, &short(big, length as u16));
-    place(entry, 18, &[kind]);
-    place(entry, 19, name);
+    put_part(entry, 0, &double(big, ino));
+    put_part(entry, 8, &double(big, offset));
+    put_part(entry, 16, &short(big, length as u16));
+    put_part(entry, 18, &[kind]);
+    put_part(entry, 19, name);
 }

@@ -1,7 +1,7 @@
 //! Reading and writing one field of a structure in place.
 ghost use Rattle.std.specs.Prelude.{◌≡◌, ◌+◌, ◌^◌, ◌<◌, ◌≤◌, ◌++◌, IsTrue, length, take, drop, pos};
 ghost use Rattle.layouts.specs.Number as spec;
-ghost use Rattle.layouts.specs.Number.{IsPlaced, field_at, field_value, fit_of, after_put, bytes_of, EachByteOutside};
+ghost use Rattle.layouts.specs.Number.{IsPlaced, field_at, field_value, fit_of, after_put, with_value, low_value, bytes_of, EachByteOutside};
 
 use byteorder::{BigEndian, ByteOrder, LittleEndian};
 
@@ -68,8 +68,31 @@ pub fn put(layout: &Layout, field: usize, bytes: &mut [u8], value: i128) -> Fit
     put_into(layout.big, layout.fields[field], bytes, value)
 }
 
+/// Puts the low bits of a value into a field, as many as the field has: the value itself where it is
+/// in the field's range.
+pub fn put_low(layout: &Layout, field: usize, bytes: &mut [u8], value: i128)
+    requires in_table { field < length layout.now.fields.now }
+    requires placed { IsPlaced layout.now.size (field_at layout.now.fields.now field) }
+    requires whole { length bytes.old ≡ layout.now.size }
+    ensures bytes { bytes.new ≡ with_value layout.now.big (field_at layout.now.fields.now field)
+        (low_value (field_at layout.now.fields.now field) value) bytes.old }
+    ensures value { field_value layout.now.big (field_at layout.now.fields.now field) bytes.new ≡ low_value (field_at layout.now.fields.now field) value }
+    ensures others { EachByteOutside (field_at layout.now.fields.now field) bytes.old bytes.new }
+{
+    let field = layout.fields[field];
+    let number = low_number(field, value);
+    write_value(layout.big, field, bytes, value_of(field, number));
+}
+
+/// The low 32 bits of a value.
+pub fn low_word(value: i128) -> u32
+    ensures { result ≡ spec.low_number 4 value }
+{
+    value.rem_euclid(0x1_0000_0000) as u32
+}
+
 /// Puts a value into a field, where the value is in the field's range.
-fn put_into(big: bool, field: Field, bytes: &mut [u8], value: i128) -> Fit
+pub(crate) fn put_into(big: bool, field: Field, bytes: &mut [u8], value: i128) -> Fit
     requires { IsPlaced (length bytes.old) field }
     ensures fit { result ≡ fit_of field value }
     ensures bytes { bytes.new ≡ after_put big field value bytes.old }
@@ -77,9 +100,18 @@ fn put_into(big: bool, field: Field, bytes: &mut [u8], value: i128) -> Fit
     if !is_in_range(field, value) {
         return Fit::TooWide;
     }
-    let number = number_of(field, value);
-    write(big, field, bytes, number);
+    write_value(big, field, bytes, value);
     Fit::Fits
+}
+
+/// Puts a value of the field's range into the field.
+pub(crate) fn write_value(big: bool, field: Field, bytes: &mut [u8], value: i128)
+    requires placed { IsPlaced (length bytes.old) field }
+    requires in_range { IsTrue (spec.is_in_range field.signed field.width value) }
+    ensures { bytes.new ≡ with_value big field value bytes.old }
+{
+    let number = number_for(field, value);
+    write(big, field, bytes, number);
 }
 
 /// 256 to this power.
@@ -115,7 +147,7 @@ fn value_of(field: Field, number: u64) -> i128
 }
 
 /// Whether a value is in a field's range.
-fn is_in_range(field: Field, value: i128) -> bool
+pub(crate) fn is_in_range(field: Field, value: i128) -> bool
     requires { field.width ≤ 8 }
     ensures { result ≡ spec.is_in_range field.signed field.width value }
 {
@@ -127,11 +159,20 @@ fn is_in_range(field: Field, value: i128) -> bool
     }
 }
 
+/// The low bits of a value, as many as the field has.
+fn low_number(field: Field, value: i128) -> u64
+    requires { field.width ≤ 8 }
+    ensures value { result ≡ spec.low_number field.width value }
+    ensures fits { result < 256 ^ field.width }
+{
+    value.rem_euclid(limit(field.width)).unsigned_abs() as u64
+}
+
 /// The number that stands for a value of the field's range.
-fn number_of(field: Field, value: i128) -> u64
+fn number_for(field: Field, value: i128) -> u64
     requires few { field.width ≤ 8 }
     requires in_range { IsTrue (spec.is_in_range field.signed field.width value) }
-    ensures value { result ≡ spec.number_of field.width value }
+    ensures value { result ≡ spec.number_for field.width value }
     ensures fits { result < 256 ^ field.width }
 {
     if value < 0 {

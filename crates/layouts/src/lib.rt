@@ -3,13 +3,16 @@
 
 mod dirent;
 mod field;
+pub mod field_index;
 mod native;
 mod o32;
-pub mod place;
+mod record;
 mod table;
+mod termios;
+mod utsname;
 
-pub use dirent::{dirent_length, dirent64_length, put_dirent, put_dirent64};
-pub use field::{Field, Fit, Layout, get, put};
+pub use dirent::{EntryType, dirent_length, dirent64_length, put_dirent, put_dirent64};
+pub use field::{Field, Fit, Layout, get, low_word, put, put_low};
 pub use native::{
     NAT_DIRENT64, NAT_IOVEC, NAT_ITIMERVAL, NAT_POLLFD, NAT_RLIMIT, NAT_SIGACTION, NAT_SIGINFO,
     NAT_STACK, NAT_STAT, NAT_TERMIOS, NAT_TIMESPEC, NAT_TIMEVAL, NAT_UTSNAME, NAT_WINSIZE,
@@ -21,6 +24,9 @@ pub use o32::{
     O32_SIGINFO_FAULT, O32_STACK, O32_STAT, O32_STAT64, O32_TERMIOS, O32_TIMESPEC, O32_TIMEVAL,
     O32_UTSNAME, O32_WINSIZE, O32Structure, o32_layout,
 };
+pub use record::{get_record, put_record, record_reads_back};
+pub use termios::{native_characters, o32_characters};
+pub use utsname::{UtsnameText, put_text};
 
 #[cfg(test)]
 mod tests;

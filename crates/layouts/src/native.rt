@@ -1,6 +1,6 @@
 //! The structures of the native kernel.
 ghost use Rattle.std.specs.Prelude.{◌≡◌};
-ghost use Rattle.layouts.specs.Shape.{shape};
+ghost use Rattle.layouts.specs.Shape.{shape, IsSound};
 ghost use Rattle.layouts.specs.Native.{native_shape};
 
 use crate::table::{field, fields};
@@ -178,7 +178,8 @@ pub enum NativeStructure {
 
 /// The table of a structure of the native kernel.
 pub fn native_layout(structure: NativeStructure) -> &'static Layout
-    ensures { shape result.now ≡ native_shape structure }
+    ensures table { shape result.now ≡ native_shape structure }
+    ensures sound { IsSound (shape result.now) }
 {
     match structure {
         NativeStructure::Stat => &NAT_STAT,

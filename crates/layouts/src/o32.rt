@@ -1,6 +1,6 @@
 //! The structures of an o32 program.
 ghost use Rattle.std.specs.Prelude.{◌≡◌};
-ghost use Rattle.layouts.specs.Shape.{shape};
+ghost use Rattle.layouts.specs.Shape.{shape, IsSound};
 ghost use Rattle.layouts.specs.O32.{o32_shape};
 
 use crate::table::{field, fields};
@@ -311,7 +311,8 @@ pub enum O32Structure {
 
 /// The table of a structure of an o32 program.
 pub fn o32_layout(structure: O32Structure) -> &'static Layout
-    ensures { shape result.now ≡ o32_shape structure }
+    ensures table { shape result.now ≡ o32_shape structure }
+    ensures sound { IsSound (shape result.now) }
 {
     match structure {
         O32Structure::Stat => &O32_STAT,

@@ -8,8 +8,8 @@ use Rattle.std.proofs.lemmas.List.Elements.{filter_map-append}
 use Rattle.std.proofs.lemmas.Bool.Decides.{nat_tests}
 use Rattle.std.proofs.Math.Seq.{take-append_seam, get_or-append_seam}
 use Rattle.schedule.specs.declared.Schedule.{Schedule}
-use Rattle.schedule.specs.declared.refusal.Rule.{Rule}
-use Rattle.schedule.specs.declared.refusal.Rule.TheVariants as rules
+use Rattle.schedule.specs.declared.refusal.ScheduleRule.{ScheduleRule}
+use Rattle.schedule.specs.declared.refusal.ScheduleRule.TheVariants as rules
 use Rattle.schedule.specs.declared.refusal.ScheduleError.{ScheduleError}
 use Rattle.schedule.specs.declared.refusal.ScheduleError.TheVariants as errors
 use Rattle.schedule.specs.declared.refusal.ScheduleRefusal.{ScheduleRefusal}
@@ -54,7 +54,7 @@ sound_moved lines lines' place place' e p sound =
     subst F e (subst G p sound)
 
 -- a fault at a place with none before it
-fault_here : (lines : List (List ℕ)) (place : ℕ) (broken : Rule) → place < length lines → AreSoundBefore lines place → fault_at lines place ≡ Some broken → IsFault lines (refused (place + 1) broken)
+fault_here : (lines : List (List ℕ)) (place : ℕ) (broken : ScheduleRule) → place < length lines → AreSoundBefore lines place → fault_at lines place ≡ Some broken → IsFault lines (refused (place + 1) broken)
 fault_here lines place broken below sound fault =
     let e : place ≡ place + 1 - 1 = omega arith in
     let F : ℕ → Type 0 = λ x. option_map number_of_rule (fault_at lines x) ≡ Some (number_of_rule broken) in
@@ -63,16 +63,16 @@ fault_here lines place broken below sound fault =
 length_one : (pre : List (List ℕ)) (text : List ℕ) → length (pre ++ text ∷ []) ≡ length pre + 1
 length_one pre text = length-append pre (text ∷ [])
 
-kept : (f : Option Rule) (t s : Statement) → unless_broken t f ≡ Ok s → t ≡ s
+kept : (f : Option ScheduleRule) (t s : Statement) → unless_broken t f ≡ Ok s → t ≡ s
 kept None t s e = cc
 kept (Some broken) t s e = cc
 
-said_alone-below : (above : List Statement) (r : Result Statement Rule) (s : Statement) → said_below above r ≡ Ok s → said_alone r ≡ Some s
+said_alone-below : (above : List Statement) (r : Result Statement ScheduleRule) (s : Statement) → said_below above r ≡ Ok s → said_alone r ≡ Some s
 said_alone-below above (Err broken) s e = cc
 said_alone-below above (Ok t) s e = ap (λ x. Some x) (kept (fault_below above t) t s e)
 
 -- a line with others behind it, if those behind it mean what they are to mean
-in_turn-more : (pre : List (List ℕ)) (text next : List ℕ) (more : List (List ℕ)) (r : Result Statement Rule) → said_below (all_said pre) (line_said text) ≡ r → AreSoundBefore (pre ++ text ∷ next ∷ more) (length pre) → ((longer : List (List ℕ)) → AreSoundBefore (longer ++ next ∷ more) (length longer) → Meant (longer ++ next ∷ more) (said_in_turn (next ∷ more) (all_said longer) (length longer + 1))) → Meant (pre ++ text ∷ next ∷ more) (go_on (length pre + 1) r (λ s. said_in_turn (next ∷ more) (all_said pre ++ s ∷ []) (length pre + 1 + 1)))
+in_turn-more : (pre : List (List ℕ)) (text next : List ℕ) (more : List (List ℕ)) (r : Result Statement ScheduleRule) → said_below (all_said pre) (line_said text) ≡ r → AreSoundBefore (pre ++ text ∷ next ∷ more) (length pre) → ((longer : List (List ℕ)) → AreSoundBefore (longer ++ next ∷ more) (length longer) → Meant (longer ++ next ∷ more) (said_in_turn (next ∷ more) (all_said longer) (length longer + 1))) → Meant (pre ++ text ∷ next ∷ more) (go_on (length pre + 1) r (λ s. said_in_turn (next ∷ more) (all_said pre ++ s ∷ []) (length pre + 1 + 1)))
 in_turn-more pre text next more (Ok s) said sound on =
     let lines = append_assoc pre (text ∷ []) (next ∷ more) in
     let alone = said_alone-below (all_said pre) (line_said text) s said in

@@ -11,15 +11,15 @@ use Rattle.schedule.specs.declared.draft.Draft.{Draft}
 use Rattle.schedule.specs.declared.draft.LineError.{LineError}
 use Rattle.schedule.specs.declared.draft.LineError.TheVariants as faults
 use Rattle.schedule.specs.declared.events.Due.{Due}
-use Rattle.schedule.specs.declared.refusal.Rule.{Rule}
-use Rattle.schedule.specs.declared.refusal.Rule.TheVariants as rules
+use Rattle.schedule.specs.declared.refusal.ScheduleRule.{ScheduleRule}
+use Rattle.schedule.specs.declared.refusal.ScheduleRule.TheVariants as rules
 use Rattle.schedule.specs.declared.refusal.ScheduleError.{ScheduleError}
 use Rattle.schedule.specs.declared.refusal.ScheduleError.TheVariants as errors
 use Rattle.schedule.specs.declared.refusal.ScheduleRefusal.{ScheduleRefusal}
 use Rattle.schedule.specs.declared.Schedule.{Schedule}
 use Rattle.schedule.specs.declared.statement.Statement.{Statement}
 use Rattle.schedule.specs.declared.statement.Statement.TheVariants as says
-use Rattle.schedule.specs.Draft.{empty, unless, with_statement, with_said, with_line, with_lines, schedule_from, error_at, Leaves, GivesDraft}
+use Rattle.schedule.specs.inside.Draft.{empty, unless, with_statement, with_said, with_line, with_lines, schedule_from, error_at, Leaves, GivesDraft}
 use Rattle.schedule.specs.Grammar.{quantum_in, epoch_in, tty_in, random_in, event_in, first_in, events_in, setting_fault, event_fault, unless_broken, said_below, go_on, said_in_turn, schedule_said, meaning_of, Gives}
 use Rattle.schedule.specs.Statement.{line_said}
 use Rattle.schedule.specs.Text.{lines_of}
@@ -100,11 +100,11 @@ drafts (Ok ss) = Ok (draft_of ss)
 drafts (Err refusal) = Err refusal
 
 -- a statement is taken by the draft as it is by the list
-abbrev longer : List Statement → Result Statement Rule → Result Draft Rule
+abbrev longer : List Statement → Result Statement ScheduleRule → Result Draft ScheduleRule
 longer above (Ok s) = Ok (draft_of (above ++ s ∷ []))
 longer above (Err broken) = Err broken
 
-taken_unless : (above : List Statement) (s : Statement) (f : Option Rule) (d : Draft) → (f ≡ None → d ≡ draft_of (above ++ s ∷ [])) → unless f d ≡ longer above (unless_broken s f)
+taken_unless : (above : List Statement) (s : Statement) (f : Option ScheduleRule) (d : Draft) → (f ≡ None → d ≡ draft_of (above ++ s ∷ [])) → unless f d ≡ longer above (unless_broken s f)
 taken_unless above s None d same = ap (λ x. Ok x) (same refl)
 taken_unless above s (Some broken) d same = refl
 
@@ -159,12 +159,12 @@ with_statement-same above (says.At due) =
     let r = skip random_in above s refl in
     cc)
 
-with_said-same : (above : List Statement) (r : Result Statement Rule) → with_said (draft_of above) r ≡ longer above (said_below above r)
+with_said-same : (above : List Statement) (r : Result Statement ScheduleRule) → with_said (draft_of above) r ≡ longer above (said_below above r)
 with_said-same above (Ok s) = with_statement-same above s
 with_said-same above (Err broken) = refl
 
 -- a line is taken by the draft as it is by the list, if those behind it are
-go_on-same : (ps : List (List ℕ)) (above : List Statement) (line : ℕ) (r : Result Statement Rule) → ((s : Statement) → with_lines ps (draft_of (above ++ s ∷ [])) (line + 1) ≡ drafts (said_in_turn ps (above ++ s ∷ []) (line + 1))) → go_on line (longer above r) (λ d. with_lines ps d (line + 1)) ≡ drafts (go_on line r (λ s. said_in_turn ps (above ++ s ∷ []) (line + 1)))
+go_on-same : (ps : List (List ℕ)) (above : List Statement) (line : ℕ) (r : Result Statement ScheduleRule) → ((s : Statement) → with_lines ps (draft_of (above ++ s ∷ [])) (line + 1) ≡ drafts (said_in_turn ps (above ++ s ∷ []) (line + 1))) → go_on line (longer above r) (λ d. with_lines ps d (line + 1)) ≡ drafts (go_on line r (λ s. said_in_turn ps (above ++ s ∷ []) (line + 1)))
 go_on-same ps above line (Ok s) same = same s
 go_on-same ps above line (Err broken) same = refl
 
@@ -213,12 +213,12 @@ in_order-push events due ordered free =
     let F : Option Due → Type 0 = λ o. event_fault due.time o ≡ None in
     not_later due.time (get_or events (length events - 1) d) (subst F last free))
 
-unless_ok : (f : Option Rule) (d new : Draft) → unless f d ≡ Ok new → (f ≡ None) × (d ≡ new)
+pub unless_ok : (f : Option ScheduleRule) (d new : Draft) → unless f d ≡ Ok new → (f ≡ None) × (d ≡ new)
 unless_ok None d new taken = (refl, cc)
 unless_ok (Some broken) d new taken = cc
 
 -- the events stay as they are
-in_order-same : (f : Option Rule) (d old new : Draft) → AreInOrder old.events → d.events ≡ old.events → unless f d ≡ Ok new → AreInOrder new.events
+in_order-same : (f : Option ScheduleRule) (d old new : Draft) → AreInOrder old.events → d.events ≡ old.events → unless f d ≡ Ok new → AreInOrder new.events
 in_order-same f d old new ordered same taken =
     let events : old.events ≡ new.events = sym same ∙ ap (λ (x : Draft). x.events) (unless_ok f d new taken).1 in
     let F : List Due → Type 0 = AreInOrder in
@@ -234,11 +234,11 @@ in_order-statement d new (says.At due) ordered taken =
     let F : List Due → Type 0 = AreInOrder in
     subst F (ap (λ (x : Draft). x.events) ok.1) (in_order-push d.events due ordered ok.0)
 
-in_order-said : (d new : Draft) (r : Result Statement Rule) → AreInOrder d.events → with_said d r ≡ Ok new → AreInOrder new.events
+in_order-said : (d new : Draft) (r : Result Statement ScheduleRule) → AreInOrder d.events → with_said d r ≡ Ok new → AreInOrder new.events
 in_order-said d new (Ok s) ordered taken = in_order-statement d new s ordered taken
 in_order-said d new (Err broken) ordered taken = cc
 
-in_order-on : (ps : List (List ℕ)) (line : ℕ) (end : Draft) (r : Result Draft Rule) → ((longer : Draft) → r ≡ Ok longer → AreInOrder longer.events) → ((longer : Draft) → AreInOrder longer.events → with_lines ps longer (line + 1) ≡ Ok end → AreInOrder end.events) → go_on line r (λ d. with_lines ps d (line + 1)) ≡ Ok end → AreInOrder end.events
+in_order-on : (ps : List (List ℕ)) (line : ℕ) (end : Draft) (r : Result Draft ScheduleRule) → ((longer : Draft) → r ≡ Ok longer → AreInOrder longer.events) → ((longer : Draft) → AreInOrder longer.events → with_lines ps longer (line + 1) ≡ Ok end → AreInOrder end.events) → go_on line r (λ d. with_lines ps d (line + 1)) ≡ Ok end → AreInOrder end.events
 in_order-on ps line end (Ok longer) ordered on told = on longer (ordered longer refl) told
 in_order-on ps line end (Err broken) ordered on told = cc
 

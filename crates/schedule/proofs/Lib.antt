@@ -1,4 +1,5 @@
 pub mod Digits
 pub mod FirstFault
+pub mod InRange
 pub mod InTurn
 pub mod Pieces

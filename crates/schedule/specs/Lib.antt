@@ -1,5 +1,6 @@
 pub mod Cursor
-pub mod Draft
 pub mod Grammar
+pub mod Ranges
 pub mod Statement
 pub mod Text
+pub mod inside

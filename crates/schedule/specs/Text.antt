@@ -1,10 +1,9 @@
 -- The text of a schedule, cut into lines and words, and the words that are numbers. The format is this
 -- project's own: lines of words with one space between them, each line ended by a newline.
-use Rattle.std.specs.Prelude.{ℕ, ◌-◌, ◌*◌, ◌+◌, ◌%◌, Bool, false, not, ◌&&◌, ◌||◌, ◌==◌, nat_lt, nat_le, List, [], ◌∷◌, length, if◌then◌else◌, Option, None, Some, Result, Ok, Err}
+use Rattle.std.specs.Prelude.{ℕ, ◌-◌, ◌*◌, ◌+◌, ◌%◌, Bool, false, not, ◌&&◌, ◌||◌, ◌==◌, nat_lt, nat_le, List, [], ◌∷◌, length, if◌then◌else◌, Result, Ok, Err}
 use Rattle.std.specs.List.{list_all, slice_split}
-use denote.Ref.{Bor}
-use Rattle.schedule.specs.declared.refusal.Rule.{Rule}
-use Rattle.schedule.specs.declared.refusal.Rule.TheVariants as rule
+use Rattle.schedule.specs.declared.refusal.ScheduleRule.{ScheduleRule}
+use Rattle.schedule.specs.declared.refusal.ScheduleRule.TheVariants as rule
 use Rattle.schedule.specs.declared.text.Bounds.{Bounds}
 
 -- the pieces of bytes between separators: one more than there are separators
@@ -18,11 +17,6 @@ lines_of text = pieces 10 text
 -- the words of a line: a word is empty where two spaces meet or one stands at an end
 abbrev pub words_of : List ℕ → List (List ℕ)
 words_of line = pieces 32 line
-
--- the words that are left, where some of a line may be
-abbrev pub words_left : Option (Bor (List ℕ)) → List (List ℕ)
-words_left None = []
-words_left (Some rest) = words_of rest.now
 
 -- a space or another printed character of ASCII
 abbrev pub is_printed : ℕ → Bool
@@ -66,33 +60,33 @@ bytes_of (digit ∷ []) = []
 bytes_of (high ∷ low ∷ more) = (16 * hexadecimal high + hexadecimal low) ∷ bytes_of more
 
 -- a number, if it is in its range
-abbrev pub within : Bounds → ℕ → Result ℕ Rule
+abbrev pub within : Bounds → ℕ → Result ℕ ScheduleRule
 within bounds n = if nat_le bounds.least n && nat_le n bounds.most then Ok n else Err rule.Range
 
 -- two values, if both are there
-abbrev pub both : Result ℕ Rule → Result ℕ Rule → Result (ℕ × ℕ) Rule
+abbrev pub both : Result ℕ ScheduleRule → Result ℕ ScheduleRule → Result (ℕ × ℕ) ScheduleRule
 both (Err broken) b = Err broken
 both (Ok a) (Err broken) = Err broken
 both (Ok a) (Ok b) = Ok (a, b)
 
 -- three values, if all are there
-abbrev pub all_three : Result ℕ Rule → Result ℕ Rule → Result ℕ Rule → Result (ℕ × ℕ × ℕ) Rule
+abbrev pub all_three : Result ℕ ScheduleRule → Result ℕ ScheduleRule → Result ℕ ScheduleRule → Result (ℕ × ℕ × ℕ) ScheduleRule
 all_three (Err broken) b c = Err broken
 all_three (Ok a) (Err broken) c = Err broken
 all_three (Ok a) (Ok b) (Err broken) = Err broken
 all_three (Ok a) (Ok b) (Ok c) = Ok (a, b, c)
 
 -- one word that is a number in its range
-abbrev pub number_said : Bounds → List ℕ → Result ℕ Rule
+abbrev pub number_said : Bounds → List ℕ → Result ℕ ScheduleRule
 number_said bounds word = if is_number word then within bounds (number_of word) else Err rule.Form
 
 -- two words: both are numbers before either has to be in its range
-abbrev pub pair_said : Bounds → Bounds → List ℕ → List ℕ → Result (ℕ × ℕ) Rule
+abbrev pub pair_said : Bounds → Bounds → List ℕ → List ℕ → Result (ℕ × ℕ) ScheduleRule
 pair_said first second a b =
     if is_number a && is_number b then both (within first (number_of a)) (within second (number_of b)) else Err rule.Form
 
 -- three words, in the same way
-abbrev pub triple_said : Bounds → Bounds → Bounds → List ℕ → List ℕ → List ℕ → Result (ℕ × ℕ × ℕ) Rule
+abbrev pub triple_said : Bounds → Bounds → Bounds → List ℕ → List ℕ → List ℕ → Result (ℕ × ℕ × ℕ) ScheduleRule
 triple_said first second third a b c =
     if is_number a && is_number b && is_number c
     then all_three (within first (number_of a)) (within second (number_of b)) (within third (number_of c))

@@ -3,12 +3,12 @@
 ghost use Rattle.std.specs.Prelude.{◌≡◌, IfOk, IfErr};
 ghost use Rattle.schedule.specs.Grammar.{setting_fault, event_fault};
 ghost use Rattle.schedule.specs.Text.{lines_of};
-ghost use Rattle.schedule.specs.Draft.{empty, with_statement, with_line, with_lines, schedule_from, error_at, UnlessFault, Leaves, GivesDraft};
+ghost use Rattle.schedule.specs.inside.Draft.{empty, with_statement, with_line, with_lines, schedule_from, error_at, UnlessFault, Leaves, GivesDraft};
 
 use crate::Schedule;
 use crate::events::{Due, Events, Winsize};
 use crate::random::RandomBytes;
-use crate::refusal::{Rule, ScheduleError, ScheduleRefusal};
+use crate::refusal::{ScheduleError, ScheduleRefusal, ScheduleRule};
 use crate::statement::{Statement, read_line};
 use crate::text::split_once;
 use std::alloc::Global;
@@ -16,7 +16,7 @@ use std::alloc::Global;
 /// Why a line is not taken.
 #[derive(Drop)]
 pub enum LineError {
-    Broken(Rule),
+    Broken(ScheduleRule),
     NoMemory,
 }
 
@@ -46,29 +46,29 @@ pub struct Draft {
 }
 
 /// The rule that a setting breaks below a setting of its kind and below events.
-fn setting_fault<T>(above: &Option<T>, events: &Events) -> Option<Rule>
+fn setting_fault<T>(above: &Option<T>, events: &Events) -> Option<ScheduleRule>
     ensures { result ≡ setting_fault above.now events.now }
 {
     if above.is_some() {
-        Some(Rule::Twice)
+        Some(ScheduleRule::Twice)
     } else if !events.is_empty() {
-        Some(Rule::Late)
+        Some(ScheduleRule::Late)
     } else {
         None
     }
 }
 
 /// The rule that an event of a time breaks below the one before.
-fn event_fault(time: u64, before: Option<Due>) -> Option<Rule>
+fn event_fault(time: u64, before: Option<Due>) -> Option<ScheduleRule>
     ensures { result ≡ event_fault time before }
 {
     match before {
-        Some(before) if time < before.time => Some(Rule::Order),
+        Some(before) if time < before.time => Some(ScheduleRule::Order),
         _ => None,
     }
 }
 
-fn unless(fault: Option<Rule>) -> Result<(), LineError>
+fn unless(fault: Option<ScheduleRule>) -> Result<(), LineError>
     ensures { UnlessFault result fault }
 {
     match fault {
@@ -174,7 +174,7 @@ pub fn read_lines(alloc: Global, text: &[u8]) -> Result<Draft, ScheduleError>
         line += 1;
     }
     if !rest.is_empty() {
-        return Err(LineError::Broken(Rule::End).at(line));
+        return Err(LineError::Broken(ScheduleRule::End).at(line));
     }
     Ok(draft)
 }

@@ -7,7 +7,8 @@
 ghost use Rattle.std.specs.Prelude.{◌≡◌, ◌+◌, ◌≤◌, IfOk, IfErr, slice_get, option_map};
 ghost use Rattle.std.specs.List.Sorted.{IsNonDecreasingBy};
 ghost use Rattle.schedule.specs.Cursor.{due_at, place_after};
-ghost use Rattle.schedule.specs.Grammar.{meaning_of, Gives, IsSchedule, NamesFirstFault};
+ghost use Rattle.schedule.specs.Grammar.{meaning_of, Gives, IsSchedule, NamesFirstFault, first_event_line};
+ghost use Rattle.schedule.specs.Ranges.{IsInRange, IsGivenSchedule};
 
 mod draft;
 mod events;
@@ -19,8 +20,10 @@ mod text;
 use draft::read_lines;
 pub use events::{Due, Events, Winsize};
 pub use random::RandomBytes;
-pub use refusal::{Rule, ScheduleError, ScheduleRefusal};
+pub use refusal::{ScheduleError, ScheduleRefusal, ScheduleRule};
+use statement::starts_event;
 use std::alloc::Global;
+use text::split_once;
 
 /// What a run is told of the outside.
 #[derive(Debug, Drop)]
@@ -49,9 +52,28 @@ pub fn parse(alloc: Global, text: &[u8]) -> Result<Schedule, ScheduleError>
     ensures accepted { IfOk result (IsSchedule text.now) }
     ensures refused { IfErr result (NamesFirstFault text.now) }
     ensures ordered { IfOk result (λ schedule. IsNonDecreasingBy (λ due. due.time) schedule.events) }
+    ensures ranges { IfOk result IsInRange }
+    ensures given { IfOk result IsGivenSchedule }
 {
     let draft = read_lines(alloc, text)?;
     draft.finish(alloc)
+}
+
+/// The line of the first event, counted from 1: the first whose first word is `at`. `None` where there
+/// is none. Takes time by the text's length, and no memory.
+pub fn first_event_line(text: &[u8]) -> Option<u64>
+    ensures { result ≡ first_event_line text.now }
+{
+    let mut rest = text;
+    let mut line = 1;
+    while let Some((front, after)) = split_once(rest, b'\n') {
+        if starts_event(front) {
+            return Some(line);
+        }
+        rest = after;
+        line += 1;
+    }
+    if starts_event(rest) { Some(line) } else { None }
 }
 
 impl Schedule {
@@ -67,6 +89,7 @@ impl Schedule {
     pub fn due(&mut self, now: u64) -> Option<Due>
         ensures event { result ≡ due_at now (slice_get self.old.events self.old.at) }
         ensures cursor { self.new ≡ record self.old { at = place_after result self.old.at } }
+        ensures given { IsGivenSchedule self.old → IsGivenSchedule self.new }
     {
         let events = self.events.as_slice();
         if self.at >= events.len() {

@@ -5,7 +5,7 @@ use thiserror::Error;
 /// The rules of a schedule's lines, by the numbers that a refusal shows. At one line they are looked
 /// at in this order: `End` first, then the others as they stand. The rules are this project's own.
 #[derive(Clone, Copy)]
-pub enum Rule {
+pub enum ScheduleRule {
     /// A byte outside 32 to 126.
     Ascii = 1,
     /// The first word, or the third one of `at`, is unknown.
@@ -25,7 +25,7 @@ pub enum Rule {
     End = 8,
 }
 
-impl Rule {
+impl ScheduleRule {
     ghost use Rattle.schedule.specs.Grammar.{number_of_rule};
 
     /// The number that a refusal shows.
@@ -37,7 +37,7 @@ impl Rule {
 }
 
 /// The first line of a text that breaks a rule, counted from 1, and the first rule that it breaks, by
-/// its number (`Rule`), 1 to 8.
+/// its number (`ScheduleRule`), 1 to 8.
 #[derive(Clone, Copy, Debug, PartialEq, Eq)]
 pub struct ScheduleRefusal {
     pub line: u64,

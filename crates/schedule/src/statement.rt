@@ -2,14 +2,15 @@
 
 ghost use Rattle.std.specs.Prelude.{◌≡◌, ◌<◌, ◌%◌, ◌++◌, ◌∷◌, [], length, IsTrue, IfOk};
 ghost use Rattle.std.specs.List.{list_all};
-ghost use Rattle.schedule.specs.Draft.{Means};
+ghost use Rattle.schedule.specs.inside.Draft.{Means};
+ghost use Rattle.schedule.specs.Grammar.{starts_event};
 ghost use Rattle.schedule.specs.Statement.{keyword_of, deed_of, quantum_said, epoch_said, tty_said, random_said, kill_said, queue_said, deed_said, event_said, row_said, words_said, line_said};
-ghost use Rattle.schedule.specs.Text.{bytes_of, hexadecimal, is_hexadecimal};
+ghost use Rattle.schedule.specs.Text.{bytes_of, hexadecimal, is_hexadecimal, words_of};
 
 use crate::draft::LineError;
 use crate::events::{Due, Winsize};
 use crate::random::RandomBytes;
-use crate::refusal::Rule;
+use crate::refusal::ScheduleRule;
 use crate::text::{self, Bounds, Words};
 use std::alloc::{AllocError, Global};
 
@@ -113,11 +114,11 @@ fn deed_of(word: &[u8]) -> Option<Deed>
     }
 }
 
-fn quantum(words: &mut Words<'_>) -> Result<Statement, Rule>
+fn quantum(words: &mut Words<'_>) -> Result<Statement, ScheduleRule>
     ensures { result ≡ quantum_said words.old }
 {
     let (Some(nanoseconds), None) = (words.next(), words.next()) else {
-        return Err(Rule::Form);
+        return Err(ScheduleRule::Form);
     };
     let bounds = Bounds {
         least: 1,
@@ -126,21 +127,21 @@ fn quantum(words: &mut Words<'_>) -> Result<Statement, Rule>
     Ok(Statement::Quantum(text::number(bounds, nanoseconds)?))
 }
 
-fn epoch(words: &mut Words<'_>) -> Result<Statement, Rule>
+fn epoch(words: &mut Words<'_>) -> Result<Statement, ScheduleRule>
     ensures { result ≡ epoch_said words.old }
 {
     let (Some(seconds), Some(nanoseconds), None) = (words.next(), words.next(), words.next()) else {
-        return Err(Rule::Form);
+        return Err(ScheduleRule::Form);
     };
     let (seconds, nanoseconds) = text::pair(SECONDS, NANOSECONDS, seconds, nanoseconds)?;
     Ok(Statement::Epoch(seconds, nanoseconds as u32))
 }
 
-fn tty(words: &mut Words<'_>) -> Result<Statement, Rule>
+fn tty(words: &mut Words<'_>) -> Result<Statement, ScheduleRule>
     ensures { result ≡ tty_said words.old }
 {
     let (Some(rows), Some(cols), None) = (words.next(), words.next(), words.next()) else {
-        return Err(Rule::Form);
+        return Err(ScheduleRule::Form);
     };
     let (rows, cols) = text::pair(SIDE, SIDE, rows, cols)?;
     Ok(Statement::Tty(Winsize {
@@ -149,11 +150,11 @@ fn tty(words: &mut Words<'_>) -> Result<Statement, Rule>
     }))
 }
 
-fn kill(time: &[u8], words: &mut Words<'_>) -> Result<Statement, Rule>
+fn kill(time: &[u8], words: &mut Words<'_>) -> Result<Statement, ScheduleRule>
     ensures { result ≡ kill_said time.now words.old }
 {
     let (Some(sig), None) = (words.next(), words.next()) else {
-        return Err(Rule::Form);
+        return Err(ScheduleRule::Form);
     };
     let (time, sig) = text::pair(TIME, SIGNAL, time, sig)?;
     Ok(Statement::At(Due {
@@ -163,11 +164,11 @@ fn kill(time: &[u8], words: &mut Words<'_>) -> Result<Statement, Rule>
     }))
 }
 
-fn queue(time: &[u8], words: &mut Words<'_>) -> Result<Statement, Rule>
+fn queue(time: &[u8], words: &mut Words<'_>) -> Result<Statement, ScheduleRule>
     ensures { result ≡ queue_said time.now words.old }
 {
     let (Some(sig), Some(value), None) = (words.next(), words.next(), words.next()) else {
-        return Err(Rule::Form);
+        return Err(ScheduleRule::Form);
     };
     let (time, sig, value) = text::triple((TIME, time), (SIGNAL, sig), (VALUE, value))?;
     Ok(Statement::At(Due {
@@ -177,13 +178,13 @@ fn queue(time: &[u8], words: &mut Words<'_>) -> Result<Statement, Rule>
     }))
 }
 
-fn event(words: &mut Words<'_>) -> Result<Statement, Rule>
+fn event(words: &mut Words<'_>) -> Result<Statement, ScheduleRule>
     ensures { result ≡ event_said words.old }
 {
     let (Some(time), Some(deed)) = (words.next(), words.next()) else {
-        return Err(Rule::Form);
+        return Err(ScheduleRule::Form);
     };
-    match deed_of(deed).ok_or(Rule::Word)? {
+    match deed_of(deed).ok_or(ScheduleRule::Word)? {
         Deed::Kill => kill(time, words),
         Deed::Queue => queue(time, words),
     }
@@ -220,13 +221,13 @@ fn random(alloc: Global, words: &mut Words<'_>) -> Result<Statement, LineError>
     ensures { Means result (random_said words.old) }
 {
     let (Some(digits), None) = (words.next(), words.next()) else {
-        return Err(LineError::Broken(Rule::Form));
+        return Err(LineError::Broken(ScheduleRule::Form));
     };
     if !text::are_bytes(digits) {
-        return Err(LineError::Broken(Rule::Form));
+        return Err(LineError::Broken(ScheduleRule::Form));
     }
     if digits.len() > 2 * MOST_BYTES {
-        return Err(LineError::Broken(Rule::Range));
+        return Err(LineError::Broken(ScheduleRule::Range));
     }
     let bytes = bytes_of(alloc, digits).map_err(|_| LineError::NoMemory)?;
     Ok(Statement::Random(bytes))
@@ -245,9 +246,19 @@ fn row(
         Some(Keyword::Epoch) => epoch(words),
         Some(Keyword::Tty) => tty(words),
         Some(Keyword::At) => event(words),
-        None => Err(Rule::Word),
+        None => Err(ScheduleRule::Word),
     };
     said.map_err(LineError::Broken)
+}
+
+/// Whether a line's first word is that of an event.
+pub fn starts_event(line: &[u8]) -> bool
+    ensures { result ≡ starts_event (words_of line.now) }
+{
+    match Words::new(line).next() {
+        Some(first) => matches!(keyword_of(first), Some(Keyword::At)),
+        None => false,
+    }
 }
 
 /// What a line says by itself, or the first of the rules that speak of one line that it breaks.
@@ -255,11 +266,11 @@ pub fn read_line(alloc: Global, line: &[u8]) -> Result<Statement, LineError>
     ensures { Means result (line_said line.now) }
 {
     if !text::are_printed(line) {
-        return Err(LineError::Broken(Rule::Ascii));
+        return Err(LineError::Broken(ScheduleRule::Ascii));
     }
     let mut words = Words::new(line);
     let Some(first) = words.next() else {
-        return Err(LineError::Broken(Rule::Word));
+        return Err(LineError::Broken(ScheduleRule::Word));
     };
     row(alloc, keyword_of(first), &mut words)
 }

@@ -4,7 +4,7 @@ ghost use Rattle.std.specs.Prelude.{◌≡◌, ◌+◌, ◌-◌, ◌∷◌, [], 
 ghost use Rattle.std.specs.List.{list_all};
 ghost use Rattle.schedule.specs.Text.{pieces, is_printed, is_decimal, is_hexadecimal, is_number, are_bytes, number_of, within, number_said, pair_said, triple_said};
 
-use crate::refusal::Rule;
+use crate::refusal::ScheduleRule;
 use std::marker::Model;
 
 /// The range of a number, both ends included.
@@ -42,7 +42,7 @@ pub struct Words<'a> {
 
 impl<'a> Model for Words<'a> {
     ghost use Rattle.std.specs.Prelude.{List, ℕ};
-    ghost use Rattle.schedule.specs.Text.{words_left};
+    ghost use Rattle.schedule.specs.inside.Words.{words_left};
 
     ghost Value = { List (List ℕ) };
 
@@ -132,18 +132,18 @@ fn number_of(word: &[u8]) -> u64
 }
 
 /// A number in its range.
-fn within(bounds: Bounds, number: u64) -> Result<u64, Rule>
+fn within(bounds: Bounds, number: u64) -> Result<u64, ScheduleRule>
     ensures { result ≡ within bounds number }
 {
     if bounds.least <= number && number <= bounds.most {
         Ok(number)
     } else {
-        Err(Rule::Range)
+        Err(ScheduleRule::Range)
     }
 }
 
 /// The number that a word says, in its range.
-fn number_within(bounds: Bounds, word: &[u8]) -> Result<u64, Rule>
+fn number_within(bounds: Bounds, word: &[u8]) -> Result<u64, ScheduleRule>
     requires { bounds.most < 2 ^ 64 - 1 }
     ensures value { result ≡ within bounds (number_of word.now) }
     ensures bounded { IfOk result (λ n. n ≤ bounds.most) }
@@ -152,25 +152,25 @@ fn number_within(bounds: Bounds, word: &[u8]) -> Result<u64, Rule>
 }
 
 /// A word that is a number in its range.
-pub fn number(bounds: Bounds, word: &[u8]) -> Result<u64, Rule>
+pub fn number(bounds: Bounds, word: &[u8]) -> Result<u64, ScheduleRule>
     requires { bounds.most < 2 ^ 64 - 1 }
     ensures { result ≡ number_said bounds word.now }
 {
     if !is_number(word) {
-        return Err(Rule::Form);
+        return Err(ScheduleRule::Form);
     }
     number_within(bounds, word)
 }
 
 /// Two words that are numbers in their ranges.
-pub fn pair(first: Bounds, second: Bounds, a: &[u8], b: &[u8]) -> Result<(u64, u64), Rule>
+pub fn pair(first: Bounds, second: Bounds, a: &[u8], b: &[u8]) -> Result<(u64, u64), ScheduleRule>
     requires first_bounded { first.most < 2 ^ 64 - 1 }
     requires second_bounded { second.most < 2 ^ 64 - 1 }
     ensures value { result ≡ pair_said first second a.now b.now }
     ensures bounded { IfOk result (λ n. (n.0 ≤ first.most) × (n.1 ≤ second.most)) }
 {
     if !(is_number(a) && is_number(b)) {
-        return Err(Rule::Form);
+        return Err(ScheduleRule::Form);
     }
     Ok((number_within(first, a)?, number_within(second, b)?))
 }
@@ -180,7 +180,7 @@ pub fn triple(
     first: (Bounds, &[u8]),
     second: (Bounds, &[u8]),
     third: (Bounds, &[u8]),
-) -> Result<(u64, u64, u64), Rule>
+) -> Result<(u64, u64, u64), ScheduleRule>
     requires first_bounded { first.0.most < 2 ^ 64 - 1 }
     requires second_bounded { second.0.most < 2 ^ 64 - 1 }
     requires third_bounded { third.0.most < 2 ^ 64 - 1 }
@@ -191,7 +191,7 @@ pub fn triple(
 {
     let (a, b, c) = (first.1, second.1, third.1);
     if !(is_number(a) && is_number(b) && is_number(c)) {
-        return Err(Rule::Form);
+        return Err(ScheduleRule::Form);
     }
     Ok((
         number_within(first.0, a)?,

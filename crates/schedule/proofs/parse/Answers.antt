@@ -1,5 +1,6 @@
 use Rattle.std.proofs.lemmas.Result.{err_from_is_err_and}
 use Rattle.schedule.proofs.FirstFault.{IsSchedule-given, IsFirstFault-given}
+use Rattle.schedule.proofs.InRange.{in_range-whole, given-whole}
 use Rattle.schedule.proofs.InTurn.{Gives-error, Gives-whole, in_order-whole}
 use Rattle.schedule.proofs.parse.Goals as goal
 
@@ -24,3 +25,11 @@ returns-clause-accepted c = IsSchedule-given c.args.text.now c.finish.result (re
 
 pub returns-clause-refused : goal.returns-clause-refused
 returns-clause-refused c = IsFirstFault-given c.args.text.now c.finish.result (returns-clause-exact c)
+
+pub returns-clause-ranges : goal.returns-clause-ranges
+returns-clause-ranges c =
+    in_range-whole c.args.text.now c.in_ok-draft.draft c.finish.result c.in_ok-draft.ensures c.finish.ensures.ok
+
+pub returns-clause-given : goal.returns-clause-given
+returns-clause-given c =
+    given-whole c.args.text.now c.in_ok-draft.draft c.finish.result c.in_ok-draft.ensures c.finish.ensures.ok

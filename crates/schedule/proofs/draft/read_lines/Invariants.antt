@@ -1,5 +1,5 @@
 use Rattle.std.proofs.Common.{◌≡◌, ◌+◌, ◌≤◌, length}
-use Rattle.schedule.specs.Draft.{empty, with_lines}
+use Rattle.schedule.specs.inside.Draft.{empty, with_lines}
 use Rattle.schedule.specs.Text.{lines_of}
 use Rattle.schedule.proofs.draft.read_lines.Given as goal
 

@@ -5,8 +5,8 @@ use Rattle.schedule.specs.declared.Schedule.{Schedule}
 use Rattle.schedule.specs.declared.draft.Draft.{Draft}
 use Rattle.schedule.specs.declared.draft.LineError.{LineError}
 use Rattle.schedule.specs.declared.draft.LineError.TheVariants as fault
-use Rattle.schedule.specs.declared.refusal.Rule.{Rule}
-use Rattle.schedule.specs.declared.refusal.Rule.TheVariants as rule
+use Rattle.schedule.specs.declared.refusal.ScheduleRule.{ScheduleRule}
+use Rattle.schedule.specs.declared.refusal.ScheduleRule.TheVariants as rule
 use Rattle.schedule.specs.declared.refusal.ScheduleError.{ScheduleError}
 use Rattle.schedule.specs.declared.refusal.ScheduleError.TheVariants as error
 use Rattle.schedule.specs.declared.refusal.ScheduleRefusal.{ScheduleRefusal}
@@ -20,12 +20,12 @@ abbrev pub empty : Draft
 empty = record { quantum = None; epoch = None; tty = None; random = None; events = [] }
 
 -- a draft, unless a rule is broken
-abbrev pub unless : Option Rule → Draft → Result Draft Rule
+abbrev pub unless : Option ScheduleRule → Draft → Result Draft ScheduleRule
 unless None draft = Ok draft
 unless (Some broken) draft = Err broken
 
 -- the draft with a statement more
-abbrev pub with_statement : Draft → Statement → Result Draft Rule
+abbrev pub with_statement : Draft → Statement → Result Draft ScheduleRule
 with_statement d (says.Quantum n) = unless (setting_fault d.quantum d.events) (record d { quantum = Some n })
 with_statement d (says.Epoch s n) = unless (setting_fault d.epoch d.events) (record d { epoch = Some (s, n) })
 with_statement d (says.Tty size) = unless (setting_fault d.tty d.events) (record d { tty = Some size })
@@ -33,12 +33,12 @@ with_statement d (says.Random bytes) = unless (setting_fault d.random d.events) 
 with_statement d (says.At due) =
     unless (event_fault due.time (slice_get d.events (length d.events - 1))) (record d { events = d.events ++ due ∷ [] })
 
-abbrev pub with_said : Draft → Result Statement Rule → Result Draft Rule
+abbrev pub with_said : Draft → Result Statement ScheduleRule → Result Draft ScheduleRule
 with_said d (Err broken) = Err broken
 with_said d (Ok statement) = with_statement d statement
 
 -- the draft with a line more
-abbrev pub with_line : Draft → List ℕ → Result Draft Rule
+abbrev pub with_line : Draft → List ℕ → Result Draft ScheduleRule
 with_line d line = with_said d (line_said line)
 
 -- the draft at the end of the text
@@ -72,13 +72,13 @@ error_at (fault.Broken broken) line = error.Refused (refused line broken)
 error_at fault.NoMemory line = error.NoMemory
 
 -- an answer is what is meant; want of memory says nothing
-abbrev pub Means : {A : Type 0} → Result A LineError → Result A Rule → Type 0
+abbrev pub Means : {A : Type 0} → Result A LineError → Result A ScheduleRule → Type 0
 Means (Ok value) meant = meant ≡ Ok value
 Means (Err (fault.Broken broken)) meant = meant ≡ Err broken
 Means (Err fault.NoMemory) meant = Unit {0}
 
 -- the draft afterwards is what is meant; where a rule is broken or memory runs out, nothing is said of it
-abbrev pub Leaves : {A : Type 0} → Result A LineError → Draft → Result Draft Rule → Type 0
+abbrev pub Leaves : {A : Type 0} → Result A LineError → Draft → Result Draft ScheduleRule → Type 0
 Leaves (Ok value) after meant = meant ≡ Ok after
 Leaves (Err (fault.Broken broken)) after meant = meant ≡ Err broken
 Leaves (Err fault.NoMemory) after meant = Unit {0}
@@ -90,7 +90,7 @@ GivesDraft (Err (error.Refused refusal)) meant = meant ≡ Err refusal
 GivesDraft (Err error.NoMemory) meant = Unit {0}
 
 -- an error exactly where there is a fault, and that one
-abbrev pub UnlessFault : {A : Type 0} → Result A LineError → Option Rule → Type 0
+abbrev pub UnlessFault : {A : Type 0} → Result A LineError → Option ScheduleRule → Type 0
 UnlessFault (Ok value) found = found ≡ None
 UnlessFault (Err (fault.Broken broken)) found = found ≡ Some broken
 UnlessFault (Err fault.NoMemory) found = ⊥

@@ -200,3 +200,74 @@ pub mod sigcontext {
 
     pub const LO: usize = 34;
 }
+
+/// The places in the table of the frame of a handler without siginfo.
+pub mod frame {
+    pub const PC: usize = 0;
+    /// The first of 32.
+    pub const REGISTERS: usize = 1;
+
+    pub const HI: usize = 33;
+
+    pub const LO: usize = 34;
+    /// The first of 4.
+    pub const MASK: usize = 35;
+}
+
+/// The places in the table of the frame of a handler with siginfo for a signal that was sent.
+pub mod rt_frame {
+    pub const SIGNO: usize = 0;
+
+    pub const CODE: usize = 1;
+
+    pub const ERRNO: usize = 2;
+
+    pub const PID: usize = 3;
+
+    pub const UID: usize = 4;
+
+    pub const VALUE: usize = 5;
+
+    pub const STACK_SP: usize = 6;
+
+    pub const STACK_SIZE: usize = 7;
+
+    pub const STACK_FLAGS: usize = 8;
+
+    pub const PC: usize = 9;
+    /// The first of 32.
+    pub const REGISTERS: usize = 10;
+
+    pub const HI: usize = 42;
+
+    pub const LO: usize = 43;
+    /// The first of 4.
+    pub const MASK: usize = 44;
+}
+
+/// The places in the table of the frame of a handler with siginfo for a fault.
+pub mod rt_frame_fault {
+    pub const SIGNO: usize = 0;
+
+    pub const CODE: usize = 1;
+
+    pub const ERRNO: usize = 2;
+
+    pub const ADDRESS: usize = 3;
+
+    pub const STACK_SP: usize = 4;
+
+    pub const STACK_SIZE: usize = 5;
+
+    pub const STACK_FLAGS: usize = 6;
+
+    pub const PC: usize = 7;
+    /// The first of 32.
+    pub const REGISTERS: usize = 8;
+
+    pub const HI: usize = 40;
+
+    pub const LO: usize = 41;
+    /// The first of 4.
+    pub const MASK: usize = 42;
+}

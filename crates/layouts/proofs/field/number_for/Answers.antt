@@ -1,7 +1,7 @@
 use Rattle.std.proofs.Common.{arith, ◌≤◌, ◌^◌}
 use Rattle.std.proofs.lemmas.Int.{ints}
 use Rattle.layouts.proofs.Ranges.{range-bounds, limit-le}
-use Rattle.layouts.proofs.field.number_of.Goals as goal
+use Rattle.layouts.proofs.field.number_for.Goals as goal
 
 pub overflow_cast-result : goal.overflow_cast-result
 overflow_cast-result c =
