@@ -29,8 +29,8 @@ pub record Keeps (old new : Nodes) : Type 0 where
   pub holds : KeepsHolds old new
   pub kinds : KeepsKinds old new
 
-nothing : (nodes : Nodes) → Loses nodes nodes
-nothing nodes = record { holds = λ number. refl; kinds = λ number live. refl }
+pub loses-nothing : (nodes : Nodes) → Loses nodes nodes
+loses-nothing nodes = record { holds = λ number. refl; kinds = λ number live. refl }
 
 lived : (old new : Nodes) (number : ℕ) → kind_at new number ≡ kind_at old number → is_some (get new number) ≡ true → is_some (get old number) ≡ true
 lived old new number same live = sym (live_kind (get old number)) ∙ sym (ap is_some same) ∙ live_kind (get new number) ∙ live
@@ -48,8 +48,8 @@ module _ (old middle new : Nodes) where
     kinds = λ number was live. let same = second.kinds number live in same ∙ first.kinds number was (lived middle new number same live);
   }
 
-keeps : (old new : Nodes) → Loses old new → Keeps old new
-keeps old new loses = record { holds = loses.holds; kinds = λ number was live. loses.kinds number live }
+pub keeps-lost : (old new : Nodes) → Loses old new → Keeps old new
+keeps-lost old new loses = record { holds = loses.holds; kinds = λ number was live. loses.kinds number live }
 
 -- One node that changes
 
@@ -70,8 +70,8 @@ module _ (nodes : Nodes) (node : ℕ) (change : Inode → Inode) (same : (i : In
   mapped_holds equal None = refl
   mapped_holds equal (Some i) = equal i
 
-  pub updated : ((i : Inode) → (change i).holds ≡ i.holds) → Loses nodes (update nodes node change)
-  updated equal = record {
+  pub loses-update : ((i : Inode) → (change i).holds ≡ i.holds) → Loses nodes (update nodes node change)
+  loses-update equal = record {
     holds = λ number. elim (cases_eq number node) [
       | inl here ↦
           ap (holds_at (update nodes node change)) here ∙ ap holds_in (get-update_same nodes node change) ∙ mapped_holds equal (get nodes node)
@@ -86,7 +86,7 @@ directory_kind change (File content) = refl
 directory_kind change (Directory listing) = refl
 directory_kind change (Link target) = refl
 
-content_kind : (change : FileContent → FileContent) (content : NodeContent) → kind_of (with_content change content) ≡ kind_of content
+pub content_kind : (change : FileContent → FileContent) (content : NodeContent) → kind_of (with_content change content) ≡ kind_of content
 content_kind change (File content) = refl
 content_kind change (Directory listing) = refl
 content_kind change (Link target) = refl
@@ -112,10 +112,10 @@ module _ (nodes : Nodes) (node : ℕ) where
     ];
   }
 
-  pub settles : Loses nodes (settled nodes node)
-  settles = elim (cases_Bool (is_unused (get nodes node))) [
+  pub loses-settle : Loses nodes (settled nodes node)
+  loses-settle = elim (cases_Bool (is_unused (get nodes node))) [
     | inl goes ↦ subst (Loses nodes) (sym (settled-unused nodes node goes)) (removed goes)
-    | inr stays ↦ subst (Loses nodes) (sym (settled-used nodes node stays)) (nothing nodes)
+    | inr stays ↦ subst (Loses nodes) (sym (settled-used nodes node stays)) (loses-nothing nodes)
   ]
 
 -- A node that is made
@@ -139,7 +139,7 @@ module _ (nodes : Nodes) (number : ℕ) (inode : Inode) (free : get nodes number
 
 module _ (nodes : Nodes) (directory : ℕ) (change : Listing → Listing) (now : ℤ) where
   relists : Loses nodes (update nodes directory (relisted now change))
-  relists = updated nodes directory (relisted now change) (λ i. directory_kind change i.content) (λ i. refl)
+  relists = loses-update nodes directory (relisted now change) (λ i. directory_kind change i.content) (λ i. refl)
 
 module _ (nodes : Nodes) (place : Place) (number : ℕ) (new : IsNewNumber nodes number) (now : ℤ) where
   made : (inode : Inode) → inode.holds ≡ 0 → Keeps nodes (after_make nodes place number inode now)
@@ -155,12 +155,12 @@ module _ (nodes : Nodes) (place : Place) (number : ℕ) (new : IsNewNumber nodes
 
   pub mkdir_keeps_holds : (mode : ℕ) → Keeps nodes (after_mkdir nodes place number mode now)
   mkdir_keeps_holds mode =
-      and_after nodes _ _ (made _ refl) (updated _ place.directory one_link_more (λ i. refl) (λ i. refl))
+      and_after nodes _ _ (made _ refl) (loses-update _ place.directory one_link_more (λ i. refl) (λ i. refl))
 
 module _ (nodes : Nodes) (place : Place) (node : ℕ) (now : ℤ) where
   pub link_loses : Loses nodes (after_link nodes node place now)
   link_loses =
-      followed_by nodes _ _ (updated nodes node (λ i. changed_at now (one_link_more i)) (λ i. refl) (λ i. refl))
+      followed_by nodes _ _ (loses-update nodes node (λ i. changed_at now (one_link_more i)) (λ i. refl) (λ i. refl))
       (relists _ place.directory (with_entry place.name node) now)
 
   taken : Loses nodes (take_name nodes place.directory place.name now)
@@ -169,16 +169,16 @@ module _ (nodes : Nodes) (place : Place) (node : ℕ) (now : ℤ) where
   pub unlink_loses : Loses nodes (after_unlink nodes place node now)
   unlink_loses =
       followed_by nodes _ _ taken
-      (followed_by _ _ _ (updated _ node (unlinked now) (λ i. refl) (λ i. refl)) (settles _ node))
+      (followed_by _ _ _ (loses-update _ node (unlinked now) (λ i. refl) (λ i. refl)) (loses-settle _ node))
 
   pub rmdir_loses : Loses nodes (after_rmdir nodes place node now)
   rmdir_loses =
       followed_by nodes _ _ taken
-      (followed_by _ _ _ (updated _ place.directory one_link_less (λ i. refl) (λ i. refl))
-      (followed_by _ _ _ (updated _ node orphaned (λ i. directory_kind (λ l. record l { parent = None }) i.content) (λ i. refl)) (settles _ node)))
+      (followed_by _ _ _ (loses-update _ place.directory one_link_less (λ i. refl) (λ i. refl))
+      (followed_by _ _ _ (loses-update _ node orphaned (λ i. directory_kind (λ l. record l { parent = None }) i.content) (λ i. refl)) (loses-settle _ node)))
 
 replace_loses : (nodes : Nodes) (to : Place) (node : Option ℕ) (now : ℤ) → Loses nodes (replace_name nodes to node now)
-replace_loses nodes to None now = nothing nodes
+replace_loses nodes to None now = loses-nothing nodes
 replace_loses nodes to (Some old) now = go (is_directory nodes old)
   where
     go : (directory : Bool) → Loses nodes (if directory then after_rmdir nodes to old now else after_unlink nodes to old now)
@@ -191,10 +191,10 @@ parent_loses nodes moved from to = go (is_directory nodes moved)
     go : (directory : Bool)
         → Loses nodes (if directory then update (update (update nodes from one_link_less) to one_link_more) moved (reparented to) else nodes)
     go true =
-        followed_by nodes _ _ (updated nodes from one_link_less (λ i. refl) (λ i. refl))
-        (followed_by _ _ _ (updated _ to one_link_more (λ i. refl) (λ i. refl))
-        (updated _ moved (reparented to) (λ i. directory_kind (λ l. record l { parent = Some to }) i.content) (λ i. refl)))
-    go false = nothing nodes
+        followed_by nodes _ _ (loses-update nodes from one_link_less (λ i. refl) (λ i. refl))
+        (followed_by _ _ _ (loses-update _ to one_link_more (λ i. refl) (λ i. refl))
+        (loses-update _ moved (reparented to) (λ i. directory_kind (λ l. record l { parent = Some to }) i.content) (λ i. refl)))
+    go false = loses-nothing nodes
 
 module _ (nodes : Nodes) (from to : Place) (moved : ℕ) (now : ℤ) where
   move_loses : Loses nodes (after_move nodes from to moved now)
@@ -203,31 +203,31 @@ module _ (nodes : Nodes) (from to : Place) (moved : ℕ) (now : ℤ) where
       (followed_by _ _ _ (replace_loses _ to to.node now)
       (followed_by _ _ _ (relists _ to.directory (with_entry to.name moved) now)
       (followed_by _ _ _ (parent_loses _ moved from.directory to.directory)
-      (updated _ moved (changed_at now) (λ i. refl) (λ i. refl)))))
+      (loses-update _ moved (changed_at now) (λ i. refl) (λ i. refl)))))
 
   pub rename_loses : Loses nodes (after_rename nodes from to moved now)
   rename_loses = go (is_node to.node moved)
     where
       go : (same : Bool) → Loses nodes (if same then nodes else after_move nodes from to moved now)
-      go true = nothing nodes
+      go true = loses-nothing nodes
       go false = move_loses
 
 -- One node
 
 module _ (nodes : Nodes) (number : ℕ) where
   pub mode_loses : (mode : ℕ) (now : ℤ) → Loses nodes (update nodes number (with_mode mode now))
-  mode_loses mode now = updated nodes number (with_mode mode now) (λ i. refl) (λ i. refl)
+  mode_loses mode now = loses-update nodes number (with_mode mode now) (λ i. refl) (λ i. refl)
 
   pub times_lose : (access modified : Option ℤ) (now : ℤ) → Loses nodes (update nodes number (with_times access modified now))
-  times_lose access modified now = updated nodes number (with_times access modified now) (λ i. refl) (λ i. refl)
+  times_lose access modified now = loses-update nodes number (with_times access modified now) (λ i. refl) (λ i. refl)
 
   pub resize_loses : (size : ℕ) (now : ℤ) → Loses nodes (after_resize nodes number size now)
-  resize_loses size now = updated nodes number (modified_at now (λ c. resized c size)) (λ i. content_kind (λ c. resized c size) i.content) (λ i. refl)
+  resize_loses size now = loses-update nodes number (modified_at now (λ c. resized c size)) (λ i. content_kind (λ c. resized c size) i.content) (λ i. refl)
 
   pub write_loses : (at : ℕ) (bytes : List ℕ) (now : ℤ) → Loses nodes (after_write nodes number at bytes now)
-  write_loses at [] now = nothing nodes
+  write_loses at [] now = loses-nothing nodes
   write_loses at (byte ∷ bytes) now =
-      updated nodes number (modified_at now (λ c. written c at (byte ∷ bytes))) (λ i. content_kind (λ c. written c at (byte ∷ bytes)) i.content) (λ i. refl)
+      loses-update nodes number (modified_at now (λ c. written c at (byte ∷ bytes))) (λ i. content_kind (λ c. written c at (byte ∷ bytes)) i.content) (λ i. refl)
 
   chosen_same : (change : ℕ → ℕ) (n : ℕ) → (if number == number then change n else n) ≡ change n
   chosen_same change n = ap (λ b. cond b (change n) n) (eq-eqb number number refl)
@@ -257,14 +257,14 @@ module _ (nodes : Nodes) (number : ℕ) where
 
   pub release_counts : ChangesHolds nodes (released nodes number) number (λ n. n - 1)
   release_counts other =
-      (settles (update nodes number let_go) number).holds other ∙ counts let_go (λ n. n - 1) (less (get nodes number)) other
+      (loses-settle (update nodes number let_go) number).holds other ∙ counts let_go (λ n. n - 1) (less (get nodes number)) other
 
   pub hold_kinds : KeepsKinds nodes (update nodes number held)
   hold_kinds other was live = update-kind nodes number held (λ i. refl) other
 
   pub release_kinds : KeepsKinds nodes (released nodes number)
   release_kinds other was live =
-      (settles (update nodes number let_go) number).kinds other live ∙ update-kind nodes number let_go (λ i. refl) other
+      (loses-settle (update nodes number let_go) number).kinds other live ∙ update-kind nodes number let_go (λ i. refl) other
 
 -- What it means
 

@@ -17,6 +17,7 @@ pub mod Removing
 pub mod Renaming
 pub mod RoundTrip
 pub mod Saving
+pub mod Swaps
 pub mod Tallies
 pub mod Totals
 pub mod WalkedPaths

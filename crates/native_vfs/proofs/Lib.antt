@@ -5,6 +5,7 @@ pub mod Ends
 pub mod Facts
 pub mod FileKept
 pub mod Files
+pub mod HeldKeys
 pub mod Kept
 pub mod LoadedDirectories
 pub mod LoadedLists
@@ -36,7 +37,6 @@ pub mod Settling
 pub mod SmallTrees
 pub mod Stages
 pub mod StepLemmas
-pub mod Swaps
 pub mod Tables
 pub mod TextLemmas
 pub mod Unnamed

@@ -22,7 +22,8 @@ use Rattle.native_vfs.specs.Loading.{tree_of, Places, HasPlace, Namings, AreNami
 use Rattle.native_vfs.specs.Steps.{IsAddition}
 use Rattle.native_vfs.specs.Stored.{Table, nodes_of, number_of_key}
 use Rattle.native_vfs.proofs.LoadedLists.{split-at, take-next, drop-next, at-index, absent-before}
-use Rattle.native_vfs.proofs.Lookups.{alike, tied, insert_same, insert_other, update_found}
+use Rattle.file_system_laws.proofs.Lookups.{same_nodes, get-insert_same, get-insert_other, update-found}
+use Rattle.native_vfs.proofs.Lookups.{tied}
 use Rattle.native_vfs.proofs.Tables.{not_none, distinct-kept, leads-kept}
 
 pub no_dir : (kind : Kind) → ((entries : List DirEntry) → kind ≡ kinds.Dir entries → ⊥) → is_dir kind ≡ false
@@ -76,12 +77,12 @@ module _ {V : Type 0} where
   get-within xs ys k a none = get-from_entries nat_cmp_total (xs ++ (k, a) ∷ ys) k ∙ find-at xs ys k a none
 
   insert-within : (xs ys : List (ℕ × V)) (k : ℕ) (a b : V) → maps.find nat_cmp k xs ≡ None → insert (from_entries {R = nat_cmp} (xs ++ (k, a) ∷ ys)) k b ≡ from_entries (xs ++ (k, b) ∷ ys)
-  insert-within xs ys k a b none = alike _ _ (λ q. elim (cases_eq q k) [
+  insert-within xs ys k a b none = same_nodes _ _ (λ q. elim (cases_eq q k) [
     | inl here ↦
-        ap (get (insert (from_entries {R = nat_cmp} (xs ++ (k, a) ∷ ys)) k b)) here ∙ insert_same (from_entries (xs ++ (k, a) ∷ ys)) k b
+        ap (get (insert (from_entries {R = nat_cmp} (xs ++ (k, a) ∷ ys)) k b)) here ∙ get-insert_same (from_entries (xs ++ (k, a) ∷ ys)) k b
         ∙ sym (ap (get (from_entries {R = nat_cmp} (xs ++ (k, b) ∷ ys))) here ∙ get-within xs ys k b none)
     | inr apart ↦
-        insert_other (from_entries (xs ++ (k, a) ∷ ys)) k b q apart ∙ get-from_entries nat_cmp_total (xs ++ (k, a) ∷ ys) q
+        get-insert_other (from_entries (xs ++ (k, a) ∷ ys)) k b q apart ∙ get-from_entries nat_cmp_total (xs ++ (k, a) ∷ ys) q
         ∙ find-past xs ys k q a b apart ∙ sym (get-from_entries nat_cmp_total (xs ++ (k, b) ∷ ys) q)
   ])
 
@@ -194,11 +195,11 @@ module _ (all : List Node) (i : ℕ) (node : Node) (short : i < length all) (is 
       | inl at ↦
           ap (λ m. is_directory m q) changed
           ∙ ap (λ n. is_directory (insert (nodes_of table) node.number (change parent entries bare_here)) n) at
-          ∙ ap (λ o. is_some (in_inode listing_in o)) (insert_same (nodes_of table) node.number (change parent entries bare_here))
+          ∙ ap (λ o. is_some (in_inode listing_in o)) (get-insert_same (nodes_of table) node.number (change parent entries bare_here))
           ∙ sym (ap (is_dir_in all) at ∙ sym (named.directories node.number) ∙ ap (λ o. is_some (in_inode listing_in o)) found_here ∙ ap (λ k. is_some (listing_in (bare_content k))) kind)
       | inr apart ↦
           ap (λ m. is_directory m q) changed
-          ∙ ap (λ o. is_some (in_inode listing_in o)) (insert_other (nodes_of table) node.number (change parent entries bare_here) q apart)
+          ∙ ap (λ o. is_some (in_inode listing_in o)) (get-insert_other (nodes_of table) node.number (change parent entries bare_here) q apart)
           ∙ named.directories q
     ];
     distinct = distinct-kept table new step.numbers named.distinct;
@@ -207,7 +208,7 @@ module _ (all : List Node) (i : ℕ) (node : Node) (short : i < length all) (is 
   }
     where
       changed : nodes_of new ≡ insert (nodes_of table) node.number (change parent entries bare_here)
-      changed = step.nodes ∙ ap (λ n. update (nodes_of table) n (change parent entries)) here ∙ update_found (nodes_of table) node.number (change parent entries) bare_here found_here
+      changed = step.nodes ∙ ap (λ n. update (nodes_of table) n (change parent entries)) here ∙ update-found (nodes_of table) node.number (change parent entries) bare_here found_here
 
       same : change parent entries bare_here ≡ loaded_inode all node
       same = filled-loaded all node entries (directory_links table entries) parent kind

@@ -22,9 +22,9 @@ use Rattle.directory_names.specs.Names.{Names, plain, find_name, with_entry}
 use Rattle.directory_names.specs.declared.entry.NodeRef.{NodeRef}
 use Rattle.directory_names.proofs.LoadLemmas.{absent-next, below-next}
 use Rattle.directory_names.proofs.PlainLemmas.{plain-with_entry}
-use Rattle.file_system_laws.proofs.Lookups.{len-insert_new}
+use Rattle.file_system_laws.proofs.Lookups.{len-insert_new, same_nodes}
 use Rattle.native_vfs.specs.Loading.{Namings, AreNamings, Notes, times_at, or_namer, first_namer, Places, IsKeyed, AreLoadedNames}
-use Rattle.native_vfs.proofs.Lookups.{alike, tied}
+use Rattle.native_vfs.proofs.Lookups.{tied}
 
 module _ {X : Type 0} where
   -- a list, split at an element
@@ -149,7 +149,7 @@ abbrev pub file_of : ℕ → List Block → FileContent
 file_of size blocks = record { size = size; blocks = from_entries (map (λ b. (b.index, b.bytes)) blocks) }
 
 none_kept : (p : ℕ → Bool) → retain_keys (empty {X = List ℕ} {R = nat_cmp}) p ≡ empty
-none_kept p = alike _ _ (λ q.
+none_kept p = same_nodes _ _ (λ q.
     get-retain_keys (empty {X = List ℕ} {R = nat_cmp}) p q (λ x same. ap p (sym (nat_cmp-IsAntisymmetric q x same)))
     ∙ ap (λ o. cond (p q) o None) (get-empty nat_cmp q) ∙ either (p q) ∙ sym (get-empty nat_cmp q))
   where

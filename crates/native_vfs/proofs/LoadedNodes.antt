@@ -26,7 +26,8 @@ use Rattle.native_vfs.specs.declared.stored.Stored.{Stored}
 use Rattle.native_vfs.specs.declared.stored.StoredDirectory.{StoredDirectory}
 use Rattle.native_vfs.specs.declared.stored.StoredContent.TheVariants as kept
 use Rattle.native_vfs.proofs.LoadedLists.{split-at, take-next, absent-before}
-use Rattle.native_vfs.proofs.Lookups.{alike, tied}
+use Rattle.file_system_laws.proofs.Lookups.{same_nodes}
+use Rattle.native_vfs.proofs.Lookups.{tied}
 use Rattle.native_vfs.proofs.Tables.{same_answer, same_some, not_none, node-found, number-there, updates-nodes, updates-numbers, updates-references, updates-room}
 
 -- What a place leads to
@@ -79,7 +80,7 @@ module _ (table : Table) (none : (key : ℕ) → slab_get table key ≡ None) wh
   -- an empty table has no node
   pub placed-none : (all : List Node) (places : Places) → places.entries ≡ [] → ArePlaced all [] table places
   placed-none all places empty_places = record {
-    nodes = alike _ _ (λ q. same_answer _ _ (λ i found. absurd (nothing q i found)) (λ i found. absurd (not_none i (sym found ∙ get-empty nat_cmp q))));
+    nodes = same_nodes _ _ (λ q. same_answer _ _ (λ i found. absurd (nothing q i found)) (λ i found. absurd (not_none i (sym found ∙ get-empty nat_cmp q))));
     distinct = λ key other node second at. absurd (not_none node (sym at ∙ none key));
     references = λ key node at. absurd (not_none node (sym at ∙ none key));
     leads = λ number key at. absurd (not_none key (sym at ∙ ap (lookup (λ k. is_eq (nat_cmp number k))) empty_places));

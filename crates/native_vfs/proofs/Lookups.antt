@@ -1,14 +1,10 @@
--- What is found in a map that is made from the entries of a list, and after a change of a map.
+-- What is found in a map that is made from the entries of a list.
 use Rattle.std.proofs.Common.{◌≡◌, ◌≢◌, ℕ, ◌+◌, Bool, true, false, cond, eqb, List, [], ◌∷◌, map, length, Option, Some, None, is_some, refl, sym, ap, ◌∙◌, arith, inl, inr, Contains}
 use Rattle.std.proofs.lemmas.Bool.{eq-eqb, eqb-true}
 use Rattle.std.specs.Ordering.{nat_cmp, eq_by_cmp}
 use Rattle.std.specs.Cmp.{nat_cmp_total, unsigned_tied}
-use Rattle.std.specs.FinMap.{FinMap, find, get, insert, remove, len, from_entries, get-from_entries, len-insert, len-empty}
-use Rattle.file_system_laws.proofs.Lookups.{get-insert_same, get-insert_other, get-remove_same, get-remove_other, same_nodes, update-found}
-use Rattle.file_system_laws.proofs.Totals.{total-zero}
+use Rattle.std.specs.FinMap.{find, get, len, from_entries, get-from_entries, len-insert, len-empty}
 use Rattle.slab.proofs.SlabLemmas.{Contains-cons, Contains-cons_cases}
-use Rattle.kernel_core.specs.Nodes.{Nodes, Inode, update}
-use Rattle.kernel_core.specs.Totals.{total}
 
 -- the same test, as lists and as maps have it
 pub tied : (q k : ℕ) → eq_by_cmp nat_cmp q k ≡ eqb q k
@@ -68,27 +64,3 @@ module _ {X A : Type 0} (g : X → ℕ × A) where
       let grown = len-insert nat_cmp_total (from_entries (map g es)) (g e).0 (g e).1
       ∙ ap (λ b. cond b (len (from_entries {R = nat_cmp} (map g es))) (len (from_entries {R = nat_cmp} (map g es)) + 1)) absent in
       omega (arith, grown, rest)
-
-module _ {X : Type 0} where
-  pub insert_same : (m : FinMap nat_cmp X) (k : ℕ) (v : X) → get (insert m k v) k ≡ Some v
-  insert_same m k v = get-insert_same m k v
-
-  pub insert_other : (m : FinMap nat_cmp X) (k : ℕ) (v : X) (q : ℕ) → q ≢ k → get (insert m k v) q ≡ get m q
-  insert_other m k v q apart = get-insert_other m k v q apart
-
-  pub remove_same : (m : FinMap nat_cmp X) (k : ℕ) → get (remove m k) k ≡ None
-  remove_same m k = get-remove_same m k
-
-  pub remove_other : (m : FinMap nat_cmp X) (k q : ℕ) → q ≢ k → get (remove m k) q ≡ get m q
-  remove_other m k q apart = get-remove_other m k q apart
-
-  -- maps that answer alike are equal
-  pub alike : (m n : FinMap nat_cmp X) → ((q : ℕ) → get m q ≡ get n q) → m ≡ n
-  alike m n h = same_nodes m n h
-
-pub update_found : (nodes : Nodes) (n : ℕ) (f : Inode → Inode) (i : Inode) → get nodes n ≡ Some i → update nodes n f ≡ insert nodes n (f i)
-update_found nodes n f i found = update-found nodes n f i found
-
--- where the sum over all is 0 each amount is
-pub total_zero : (amount : Inode → ℕ) (nodes : Nodes) (n : ℕ) (i : Inode) → total amount nodes ≡ 0 → get nodes n ≡ Some i → amount i ≡ 0
-total_zero amount nodes n i none found = total-zero amount nodes n i none found

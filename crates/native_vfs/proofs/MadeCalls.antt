@@ -14,7 +14,7 @@ use Rattle.kernel_core.specs.ValidTree.{greatest_mode}
 use Rattle.kernel_core.specs.declared.error.Errno.{Errno}
 use Rattle.kernel_core.specs.declared.error.Errno.TheVariants.{ENOENT}
 use Rattle.file_system_laws.proofs.CallCounts.{IsNamed, create_counts, mkdir_counts, symlink_counts, links-le}
-use Rattle.file_system_laws.proofs.Lookups.{is_some-update, get-update_found, directory_found}
+use Rattle.file_system_laws.proofs.Lookups.{is_some-update, get-update_found, directory_found, get-insert_other}
 use Rattle.file_system_laws.proofs.Making.{create_keeps, mkdir_keeps, symlink_keeps}
 use Rattle.directory_names.specs.Names.{Names, plain}
 use Rattle.native_vfs.specs.Answers.{Makes}
@@ -26,7 +26,6 @@ use Rattle.native_vfs.specs.declared.place.Place.{Place as KeyedPlace}
 use Rattle.native_vfs.specs.declared.stored.Stored.{Stored}
 use Rattle.native_vfs.specs.declared.stored.StoredContent.TheVariants as kept
 use Rattle.native_vfs.proofs.Kept.{nodes-view, keys-view, valid-view, are-keys-view}
-use Rattle.native_vfs.proofs.Lookups.{insert_other}
 use Rattle.native_vfs.proofs.MadeNodes.{agrees-nodes}
 use Rattle.native_vfs.proofs.Reasons.{live-dir}
 use Rattle.native_vfs.proofs.Tables.{keys-kept, distinct-kept, leads-kept, number-there, number_at-table}
@@ -183,7 +182,7 @@ module _ (old new : Table) (taken : List Bool) (key : ℕ) (at : KeyedPlace) (ag
       ap (λ n. links_in (get (nodes_of new) n)) above-number
       ∙ ap (λ nodes. links_in (get nodes (number_at (keyed_of old) at.dir))) made.nodes
       ∙ ap links_in (get-update_found (insert (nodes_of old) made.number inode) (number_at (keyed_of old) at.dir) (relisted now (with_entry at.name made.number)) found.0
-      (insert_other (nodes_of old) made.number inode (number_at (keyed_of old) at.dir) away ∙ found.1)) in
+      (get-insert_other (nodes_of old) made.number inode (number_at (keyed_of old) at.dir) away ∙ found.1)) in
       omega (arith, few, same)
 
 -- An empty directory

@@ -9,7 +9,7 @@ use Rattle.kernel_core.specs.Nodes.{Nodes, Inode, Listing, listing_at, listing_i
 use Rattle.kernel_core.specs.PathWalk.{Agrees}
 use Rattle.kernel_core.specs.Totals.{nodes_full, entries_full}
 use Rattle.kernel_core.specs.ValidTree.{IsName, node_limit}
-use Rattle.file_system_laws.proofs.Lookups.{is_some-update}
+use Rattle.file_system_laws.proofs.Lookups.{is_some-update, get-insert_same, get-insert_other}
 use Rattle.file_system_laws.proofs.Making.{IsFreePlace, not_refused}
 use Rattle.number_pool.specs.Places.{is_taken_at, AreAllTaken, IsLeastFree}
 use Rattle.number_pool.proofs.Pigeonhole.{full_pool_fits}
@@ -21,7 +21,6 @@ use Rattle.native_vfs.specs.Stored.{Table, nodes_of, keyed_of, inode_of, number_
 use Rattle.native_vfs.specs.declared.place.Place.{Place as KeyedPlace}
 use Rattle.native_vfs.specs.declared.stored.Stored.{Stored}
 use Rattle.native_vfs.proofs.Kept.{nodes-view}
-use Rattle.native_vfs.proofs.Lookups.{insert_same, insert_other}
 use Rattle.native_vfs.proofs.Reasons.{live-dir}
 use Rattle.native_vfs.proofs.Tables.{not_none, key-get, number_at-table, keys-kept, number-kept, distinct-kept, leads-kept}
 
@@ -61,12 +60,12 @@ module _ (nodes : Nodes) (taken : List Bool) (agrees : AgreesPool nodes taken) (
         ∙ get_or-set_same taken place true false (omega (arith, inside, whole))
         ∙ sym (is_some-update (insert nodes number inode) directory change (other + 2)
         ∙ ap (λ n. is_some (get (insert nodes number inode) n)) (let e : other + 2 ≡ number = omega (arith, here, is) in e)
-        ∙ ap is_some (insert_same nodes number inode))
+        ∙ ap is_some (get-insert_same nodes number inode))
     | inr apart ↦
         get_or-set_other taken place other true false apart
         ∙ agrees other below
         ∙ sym (is_some-update (insert nodes number inode) directory change (other + 2)
-        ∙ ap is_some (insert_other nodes number inode (other + 2) (λ e. apart (omega (arith, e, is)))))
+        ∙ ap is_some (get-insert_other nodes number inode (other + 2) (λ e. apart (omega (arith, e, is)))))
   ]
 
 -- The place
@@ -137,7 +136,7 @@ module _ (old reserved inserted : Table) (key : ℕ) (node : Stored) (dir : ℕ)
       → listing_at (nodes_of inserted) (number_of_key inserted dir) ≡ Some listing
   listing-inserted listing none live =
       ap (listing_at (nodes_of inserted)) dir-number ∙ ap (λ nodes. listing_at nodes (number_of_key old dir)) nodes-inserted
-      ∙ ap (in_inode listing_in) (insert_other (nodes_of old) node.number (inode_of node) (number_of_key old dir) away) ∙ live
+      ∙ ap (in_inode listing_in) (get-insert_other (nodes_of old) node.number (inode_of node) (number_of_key old dir) away) ∙ live
     where
       away : number_of_key old dir ≢ node.number
       away e = let h : None ≡ Some listing = sym (ap (in_inode listing_in) (ap (get (nodes_of old)) e ∙ none)) ∙ live in cc

@@ -25,7 +25,7 @@ use Rattle.native_vfs.specs.Steps.{links_in}
 use Rattle.native_vfs.specs.Stored.{CanAdd}
 use Rattle.native_vfs.proofs.LostNames.{some-node, directory-links}
 use Rattle.native_vfs.proofs.RemovalCounts.{taken-entries, taken-blocks}
-use Rattle.native_vfs.proofs.Swaps.{replace-swap}
+use Rattle.file_system_laws.proofs.Swaps.{replace_swap}
 
 -- what no refusal says of a move
 record MayMove (nodes : Nodes) (from to : Place) (moved : ℕ) : Type 0 where
@@ -140,7 +140,7 @@ module _ (nodes : Nodes) (fs : IsFileSystem nodes) (from to : Place) (moved : �
     swap_by : (quiet : (m : ℕ) → names_at nodes old m ≡ 0)
         → replace_name (take_name nodes from.directory from.name now) to (Some old) now ≡ take_name (replace_name nodes to (Some old) now) from.directory from.name now
     swap_by quiet =
-        replace-swap nodes from.directory from.name to now old
+        replace_swap nodes from.directory from.name to now old
         (from_stays nodes tree from.directory from.name moved stands to.directory to.name old under room' has_parent' differ quiet)
 
     prepared_file : is_directory nodes old ≡ false → Prepared (Some old)

@@ -18,7 +18,8 @@ use Rattle.native_vfs.specs.Stored.{Table, nodes_of, keys_of, inode_of, content_
 use Rattle.native_vfs.specs.declared.stored.Stored.{Stored}
 use Rattle.native_vfs.specs.declared.stored.StoredContent.{StoredContent}
 use Rattle.native_vfs.specs.declared.stored.StoredContent.TheVariants as kept
-use Rattle.native_vfs.proofs.Lookups.{alike, insert_same, insert_other, remove_same, remove_other, total_zero}
+use Rattle.file_system_laws.proofs.Lookups.{same_nodes, get-insert_same, get-insert_other, get-remove_same, get-remove_other}
+use Rattle.file_system_laws.proofs.Totals.{total-zero}
 use Rattle.native_vfs.proofs.Tables.{not_none, same_some, same_answer, key-get, node-found, node-there, number-there, nodes-moved, content-leads}
 
 -- A node comes in
@@ -54,25 +55,25 @@ module _ (old new : Table) (key : ℕ) (node : Stored) (free : slab_get old key 
   inserted_leads reference leads = (leads.0, updates.others reference.key (new_key reference.key leads.0 leads.1) ∙ leads.1, leads.2)
 
   inserted_nodes : nodes_of new ≡ insert (nodes_of old) node.number (inode_of node)
-  inserted_nodes = alike _ _ (λ q. elim (cases_eq q node.number) [
+  inserted_nodes = same_nodes _ _ (λ q. elim (cases_eq q node.number) [
     | inl here ↦
         ap (get (nodes_of new)) here ∙ node-there new key node inserted_distinct updates.changed
-        ∙ sym (ap (get (insert (nodes_of old) node.number (inode_of node))) here ∙ insert_same (nodes_of old) node.number (inode_of node))
+        ∙ sym (ap (get (insert (nodes_of old) node.number (inode_of node))) here ∙ get-insert_same (nodes_of old) node.number (inode_of node))
     | inr apart ↦
         same_answer _ _
         (nodes-moved new old q distinct (λ k n at is. at_other k n at (λ here. apart (sym is ∙ ap (λ n. n.number) (at_key k n at here)))))
         (nodes-moved old new q inserted_distinct (λ k n at is. updates.others k (new_key k n at) ∙ at))
-        ∙ sym (insert_other (nodes_of old) node.number (inode_of node) q apart)
+        ∙ sym (get-insert_other (nodes_of old) node.number (inode_of node) q apart)
   ])
 
   inserted_keys : keys_of new ≡ insert (keys_of old) key node.number
-  inserted_keys = alike _ _ (λ q. elim (cases_eq q key) [
+  inserted_keys = same_nodes _ _ (λ q. elim (cases_eq q key) [
     | inl here ↦
         ap (get (keys_of new)) here ∙ key-get new key ∙ ap (option_map (λ n. n.number)) updates.changed
-        ∙ sym (ap (get (insert (keys_of old) key node.number)) here ∙ insert_same (keys_of old) key node.number)
+        ∙ sym (ap (get (insert (keys_of old) key node.number)) here ∙ get-insert_same (keys_of old) key node.number)
     | inr apart ↦
         key-get new q ∙ ap (option_map (λ n. n.number)) (updates.others q apart) ∙ sym (key-get old q)
-        ∙ sym (insert_other (keys_of old) key node.number q apart)
+        ∙ sym (get-insert_other (keys_of old) key node.number q apart)
   ])
 
   pub insertion : ContentLeads old node.content → IsInsertion old new key node
@@ -150,17 +151,17 @@ module _ (old new : Table) (key : ℕ) (node : Stored) (at : slab_get old key �
   stays other second there apart = updates.others other (λ here. apart (ap (λ n. n.number) (same_some second node (sym there ∙ ap (slab_get old) here ∙ at)))) ∙ there
 
   removed_nodes : nodes_of new ≡ remove (nodes_of old) node.number
-  removed_nodes = alike _ _ (λ q. elim (cases_eq q node.number) [
+  removed_nodes = same_nodes _ _ (λ q. elim (cases_eq q node.number) [
     | inl here ↦
         same_answer (get (nodes_of new) q) None
         (λ i found. absurd (none_here q here i found))
         (λ i h. absurd (not_none i (sym h)))
-        ∙ sym (ap (get (remove (nodes_of old) node.number)) here ∙ remove_same (nodes_of old) node.number)
+        ∙ sym (ap (get (remove (nodes_of old) node.number)) here ∙ get-remove_same (nodes_of old) node.number)
     | inr apart ↦
         same_answer _ _
         (nodes-moved new old q distinct (λ k n there is. (was k n there).1))
         (nodes-moved old new q removed_distinct (λ k n there is. stays k n there (λ same. apart (sym is ∙ same))))
-        ∙ sym (remove_other (nodes_of old) node.number q apart)
+        ∙ sym (get-remove_other (nodes_of old) node.number q apart)
   ])
     where
       none_here : (q : ℕ) → q ≡ node.number → (i : Inode) → get (nodes_of new) q ≡ Some i → ⊥
@@ -170,13 +171,13 @@ module _ (old new : Table) (key : ℕ) (node : Stored) (at : slab_get old key �
           w.0 (distinct f.key key f.node node w.1 at (f.has_number ∙ here))
 
   removed_keys : keys_of new ≡ remove (keys_of old) key
-  removed_keys = alike _ _ (λ q. elim (cases_eq q key) [
+  removed_keys = same_nodes _ _ (λ q. elim (cases_eq q key) [
     | inl here ↦
         ap (get (keys_of new)) here ∙ key-get new key ∙ ap (option_map (λ n. n.number)) updates.changed
-        ∙ sym (ap (get (remove (keys_of old) key)) here ∙ remove_same (keys_of old) key)
+        ∙ sym (ap (get (remove (keys_of old) key)) here ∙ get-remove_same (keys_of old) key)
     | inr apart ↦
         key-get new q ∙ ap (option_map (λ n. n.number)) (updates.others q apart) ∙ sym (key-get old q)
-        ∙ sym (remove_other (keys_of old) key q apart)
+        ∙ sym (get-remove_other (keys_of old) key q apart)
   ])
 
   pub removal : IsUnnamed (nodes_of old) node.number → IsRemoval old new key
@@ -190,7 +191,7 @@ module _ (old new : Table) (key : ℕ) (node : Stored) (at : slab_get old key �
         let found = node-there old other second distinct w.1 in
         leads_but old new node.number
         (λ r apart l. (l.0, stays r.key l.0 l.1 (λ same. apart (sym l.2 ∙ same)), l.2)) second.content
-        (total_zero (λ i. names_in (content_entries i.content) node.number) (nodes_of old) second.number (inode_of second) unnamed.names found)
+        (total-zero (λ i. names_in (content_entries i.content) node.number) (nodes_of old) second.number (inode_of second) unnamed.names found)
         (λ h. unnamed.parents second.number (ap (λ o. parent_of (in_inode listing_in o)) found ∙ h))
         (references other second w.1);
     room = λ directory apart room. ap node_has_room (updates.others directory apart) ∙ room;

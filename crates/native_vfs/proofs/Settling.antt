@@ -5,14 +5,13 @@ use Rattle.std.specs.FinMap.{get, remove}
 use Rattle.slab.specs.Slab.{get as slab_get}
 use Rattle.kernel_core.specs.Nodes.{is_unused}
 use Rattle.kernel_core.specs.Totals.{content_blocks, live_blocks}
-use Rattle.file_system_laws.proofs.Lookups.{settled-used, settled-unused}
+use Rattle.file_system_laws.proofs.Lookups.{settled-used, settled-unused, get-remove_same, get-remove_other}
 use Rattle.file_system_laws.proofs.Totals.{total-remove}
 use Rattle.number_pool.specs.Places.{is_taken_at}
 use Rattle.native_vfs.specs.Keyed.{KeepsKeys}
 use Rattle.native_vfs.specs.Steps.{IsRemoval, IsSettled, GivesBack}
 use Rattle.native_vfs.specs.Stored.{Table, nodes_of, keyed_of, inode_of, content_of, number_of_key, HasDistinctNumbers, AgreesPool}
 use Rattle.native_vfs.specs.declared.stored.Stored.{Stored}
-use Rattle.native_vfs.proofs.Lookups.{remove_same, remove_other}
 use Rattle.native_vfs.proofs.Tables.{not_none, same_some, key-found, key-there, node-there, number-there}
 
 -- A node that is used
@@ -66,7 +65,7 @@ module _ (old new : Table) (key : ℕ) (node : Stored) (at : slab_get old key �
   apart_number number live same =
       let none : get (nodes_of new) number ≡ None =
       ap (λ nodes. get nodes number) goes.nodes ∙ ap (λ n. get (remove (nodes_of old) n) number) (number-there old key node at)
-      ∙ ap (get (remove (nodes_of old) node.number)) same ∙ remove_same (nodes_of old) node.number in
+      ∙ ap (get (remove (nodes_of old) node.number)) same ∙ get-remove_same (nodes_of old) node.number in
       let h : false ≡ true = sym (ap is_some none) ∙ live in
       cc
 
@@ -107,10 +106,10 @@ module _ (old new : Table) (key : ℕ) (node : Stored) (at : slab_get old key �
     | inl here ↦
         ap (λ b. cond b false (is_taken_at taken place)) (eq-eqb (place + 2) node.number here)
         ∙ sym (ap (λ nodes. is_some (get nodes (place + 2))) removed_number
-        ∙ ap (λ n. is_some (get (remove (nodes_of old) node.number) n)) here ∙ ap is_some (remove_same (nodes_of old) node.number))
+        ∙ ap (λ n. is_some (get (remove (nodes_of old) node.number) n)) here ∙ ap is_some (get-remove_same (nodes_of old) node.number))
     | inr apart ↦
         ap (λ b. cond b false (is_taken_at taken place)) (ne_eqb (place + 2) node.number apart) ∙ agrees place below
-        ∙ sym (ap (λ nodes. is_some (get nodes (place + 2))) removed_number ∙ ap is_some (remove_other (nodes_of old) node.number (place + 2) apart))
+        ∙ sym (ap (λ nodes. is_some (get nodes (place + 2))) removed_number ∙ ap is_some (get-remove_other (nodes_of old) node.number (place + 2) apart))
   ])
 
   pub removed-blocks : live_blocks (nodes_of new) + content_blocks (content_of node.content) ≡ live_blocks (nodes_of old)

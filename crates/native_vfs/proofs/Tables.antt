@@ -16,7 +16,8 @@ use Rattle.native_vfs.specs.Stored.{Table, nodes_of, keys_of, keyed_of, inode_of
 use Rattle.native_vfs.specs.declared.stored.Stored.{Stored}
 use Rattle.native_vfs.specs.declared.stored.StoredContent.{StoredContent}
 use Rattle.native_vfs.specs.declared.stored.StoredContent.TheVariants as kept
-use Rattle.native_vfs.proofs.Lookups.{find-found, find-there, AreApart, len-apart, alike, insert_same, insert_other, update_found}
+use Rattle.file_system_laws.proofs.Lookups.{same_nodes, get-insert_same, get-insert_other, update-found}
+use Rattle.native_vfs.proofs.Lookups.{find-found, find-there, AreApart, len-apart}
 
 pub not_none : {T : Type 0} (x : T) → Some x ≡ None → ⊥
 not_none x h = cc
@@ -160,7 +161,7 @@ len-nodes table distinct =
 
 module _ (old new : Table) (numbers : KeepsNumbers old new) where
   pub keys-kept : keys_of new ≡ keys_of old
-  keys-kept = alike _ _ (λ key. key-get new key ∙ numbers key ∙ sym (key-get old key))
+  keys-kept = same_nodes _ _ (λ key. key-get new key ∙ numbers key ∙ sym (key-get old key))
 
   -- a node that is kept has one before of the same number
   pub node-before : (key : ℕ) (node : Stored) → slab_get new key ≡ Some node → (before : Stored) × (slab_get old key ≡ Some before) × (before.number ≡ node.number)
@@ -241,7 +242,7 @@ module _ (old new : Table) (key : ℕ) (before after : Stored) (at : slab_get ol
 
   pub updates-nodes : (change : Inode → Inode) → HasDistinctNumbers old → inode_of after ≡ change (inode_of before)
       → nodes_of new ≡ update (nodes_of old) before.number change
-  updates-nodes change distinct changes = alike _ _ each ∙ sym (update_found (nodes_of old) before.number change (inode_of before) (node-there old key before distinct at))
+  updates-nodes change distinct changes = same_nodes _ _ each ∙ sym (update-found (nodes_of old) before.number change (inode_of before) (node-there old key before distinct at))
     where
       distinct_new : HasDistinctNumbers new
       distinct_new = distinct-kept old new updates-numbers distinct
@@ -250,12 +251,12 @@ module _ (old new : Table) (key : ℕ) (before after : Stored) (at : slab_get ol
       each q = elim (cases_eq q before.number) [
         | inl here ↦
             ap (get (nodes_of new)) (here ∙ sym same) ∙ node-there new key after distinct_new updates.changed ∙ ap (λ i. Some i) changes
-            ∙ sym (ap (get (insert (nodes_of old) before.number (change (inode_of before)))) here ∙ insert_same (nodes_of old) before.number (change (inode_of before)))
+            ∙ sym (ap (get (insert (nodes_of old) before.number (change (inode_of before)))) here ∙ get-insert_same (nodes_of old) before.number (change (inode_of before)))
         | inr apart ↦
             same_answer _ _
             (nodes-moved new old q distinct (λ k n there is. sym (updates.others k (λ e. apart (sym is ∙ ap (λ n. n.number) (same_some n after (sym there ∙ ap (slab_get new) e ∙ updates.changed)) ∙ same))) ∙ there))
             (nodes-moved old new q distinct_new (λ k n there is. updates.others k (λ e. apart (sym is ∙ ap (λ n. n.number) (same_some n before (sym there ∙ ap (slab_get old) e ∙ at)))) ∙ there))
-            ∙ sym (insert_other (nodes_of old) before.number (change (inode_of before)) q apart)
+            ∙ sym (get-insert_other (nodes_of old) before.number (change (inode_of before)) q apart)
       ]
 
   -- each reference still leads to its node, where those of the changed node do
@@ -309,9 +310,9 @@ step-with_value table key before after change at distinct same changes leads roo
 
 -- A node that is changed into itself
 insert_again : (nodes : Nodes) (n : ℕ) (i : Inode) → get nodes n ≡ Some i → insert nodes n i ≡ nodes
-insert_again nodes n i found = alike _ _ (λ q. elim (cases_eq q n) [
-  | inl here ↦ ap (get (insert nodes n i)) here ∙ insert_same nodes n i ∙ sym (ap (get nodes) here ∙ found)
-  | inr apart ↦ insert_other nodes n i q apart
+insert_again nodes n i found = same_nodes _ _ (λ q. elim (cases_eq q n) [
+  | inl here ↦ ap (get (insert nodes n i)) here ∙ get-insert_same nodes n i ∙ sym (ap (get nodes) here ∙ found)
+  | inr apart ↦ get-insert_other nodes n i q apart
 ])
 
 -- no node changes where the one at a key is changed into itself
@@ -334,7 +335,7 @@ same-with_value table key before after at distinct same unchanged leads room =
     let here = node-there table key before distinct at in
     record {
       nodes = step.nodes ∙ ap (λ n. update (nodes_of table) n (λ i. i)) (number-there table key before at)
-          ∙ update_found (nodes_of table) before.number (λ i. i) (inode_of before) here
+          ∙ update-found (nodes_of table) before.number (λ i. i) (inode_of before) here
           ∙ insert_again (nodes_of table) before.number (inode_of before) here;
       keys = keys-kept table (with_value table key after) step.numbers;
       numbers = step.numbers;

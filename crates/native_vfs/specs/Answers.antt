@@ -1,16 +1,16 @@
 -- Which answer a call gives, and what it leaves.
-use Rattle.std.specs.Prelude.{◌≡◌, ◌≤◌, ℕ, ⊤, List, take, Option, Some, None, Result, Ok, Err, Bool}
+use Rattle.std.specs.Prelude.{◌≡◌, ◌⊎◌, ◌≤◌, ℕ, ⊤, true, List, [], take, Option, Some, None, Result, Ok, Err, Bool}
 use Rattle.std.specs.FinMap.{get, insert}
 use Rattle.kernel_core.specs.FileContent.{written}
 use Rattle.kernel_core.specs.NameCalls.{IsNewNumber}
 use Rattle.kernel_core.specs.NodeCalls.{with_content}
-use Rattle.kernel_core.specs.Nodes.{Nodes, update}
-use Rattle.kernel_core.specs.PathWalk.{Walks}
+use Rattle.kernel_core.specs.Nodes.{Nodes, update, is_directory}
+use Rattle.kernel_core.specs.PathWalk.{Walks, begins_with_slash}
 use Rattle.kernel_core.specs.declared.error.Errno.{Errno}
 use Rattle.kernel_core.specs.declared.core_error.CoreError.{CoreError}
 use Rattle.kernel_core.specs.declared.core_error.CoreError.TheVariants.{Refused, Stop}
 use Rattle.kernel_core.specs.declared.core_error.Stop.TheVariants.{NoMemory, ReadFault, WriteFault}
-use Rattle.native_vfs.specs.Keyed.{Keyed, place_at, AgreesAt}
+use Rattle.native_vfs.specs.Keyed.{Keyed, place_at, AgreesAt, IsLiveKey, number_at}
 use Rattle.native_vfs.specs.declared.place.Place.{Place as KeyedPlace}
 
 -- A call is refused exactly where there is a reason, and with it. Memory runs out only where there is none.
@@ -26,6 +26,11 @@ abbrev pub IsSureAnswer : {A : Type 0} → Option Errno → Result A CoreError �
 IsSureAnswer refusal (Ok _) = refusal ≡ None
 IsSureAnswer refusal (Err (Refused error)) = refusal ≡ Some error
 IsSureAnswer refusal (Err (Stop stop)) = ⊥
+
+-- Where a walk may start: at a live directory, also a removed one, or, by a path that is empty or begins with a slash, anywhere.
+abbrev pub MayStart : Keyed → ℕ → List ℕ → Type 0
+MayStart system from path =
+    (begins_with_slash path ≡ true) ⊎ ((path ≡ []) ⊎ (IsLiveKey system from × is_directory system.nodes (number_at system from) ≡ true))
 
 -- What the walk of a path answers: the place or the error that the walk ends with. The place agrees with the file system.
 abbrev pub IsWalked : Keyed → ℕ → List ℕ → Bool → Result KeyedPlace CoreError → Type 0

@@ -1,4 +1,5 @@
 pub mod Answers
+pub mod Held
 pub mod Keyed
 pub mod Loading
 pub mod Making

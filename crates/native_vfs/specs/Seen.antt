@@ -3,9 +3,18 @@ use Rattle.std.specs.Borrow.{Bor}
 use Rattle.std.specs.Prelude.{ℕ, List}
 use Rattle.kernel_core.specs.NodeCalls.{status_mode, content_size, content_sectors}
 use Rattle.kernel_core.specs.Nodes.{Inode}
+use Rattle.kernel_core.specs.Queries as queries
 use Rattle.kernel_core.specs.declared.tree.DirEntry.{DirEntry}
 use Rattle.native_vfs.specs.Keyed.{Keyed, number_at}
+use Rattle.native_vfs.specs.declared.place.NodeKind.{NodeKind}
+use Rattle.native_vfs.specs.declared.place.NodeKind.TheVariants.{File, Directory, Link}
 use Rattle.native_vfs.specs.declared.place.Status.{Status}
+
+-- the kind that is told
+abbrev pub kind_told : NodeKind → queries.NodeKind
+kind_told File = queries.FileKind
+kind_told Directory = queries.DirectoryKind
+kind_told Link = queries.LinkKind
 
 abbrev pub status_of : ℕ → Inode → Status
 status_of number inode = record {

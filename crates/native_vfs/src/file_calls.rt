@@ -8,6 +8,7 @@ ghost use Rattle.kernel_core.specs.Nodes.{file_at};
 ghost use Rattle.kernel_core.specs.Totals.{live_blocks};
 ghost use Rattle.kernel_core.specs.ValidTree.{block_limit};
 ghost use Rattle.native_vfs.specs.Answers.{IsAnswer, IsSureAnswer, LeavesWritten};
+ghost use Rattle.native_vfs.specs.Held.{KeepsHeld};
 ghost use Rattle.native_vfs.specs.Keyed.{AreKeys, IsLiveKey, number_at};
 ghost use Rattle.native_vfs.specs.Steps.{IsFileStep, LeavesPart, file_written};
 ghost use Rattle.native_vfs.specs.Stored.{nodes_of, number_of_key, HasDistinctNumbers};
@@ -40,6 +41,7 @@ impl Vfs {
         ensures count { IfSome (file_at self.old.nodes (number_at self.old node)) (λ content. IfOk result (λ n. n ≡ write_length self.old.nodes content at (length bytes.now))) }
         ensures ok { IfOk result (λ n. self.new.nodes ≡ after_write self.old.nodes (number_at self.old node) at (take n bytes.now) now) }
         ensures same { self.new.keys ≡ self.old.keys }
+        ensures held { KeepsHeld self.old self.new }
         ensures err { IfSome (file_at self.old.nodes (number_at self.old node)) (λ content.
             IfErr result (λ e. LeavesWritten e self.old self.new (number_at self.old node) at bytes.now (write_length self.old.nodes content at (length bytes.now)))) }
         ensures valid { IsFileSystem self.new.nodes }
@@ -59,6 +61,7 @@ impl Vfs {
         ensures answer { IsSureAnswer (resize_refusal to) result }
         ensures ok { OnOk result (self.new.nodes ≡ after_resize self.old.nodes (number_at self.old node) to now) }
         ensures same { self.new.keys ≡ self.old.keys }
+        ensures held { KeepsHeld self.old self.new }
         ensures err { OnErr result (self.new ≡ self.old) }
         ensures valid { IsFileSystem self.new.nodes }
         ensures keys { AreKeys self.new }

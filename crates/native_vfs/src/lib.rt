@@ -22,7 +22,8 @@ mod vfs;
 mod walk;
 
 pub use kernel_core::NoMemory;
-pub use place::{Place, Status};
+pub use path::ends_with_slash;
+pub use place::{NodeKind, Place, Status};
 pub use vfs::Vfs;
 
 #[cfg(test)]

@@ -7,6 +7,7 @@ ghost use Rattle.kernel_core.specs.NameCalls as names;
 ghost use Rattle.kernel_core.specs.ValidTree.{greatest_mode};
 ghost use Rattle.number_pool.specs.Places.{AreAllTaken, IsLeastFree};
 ghost use Rattle.native_vfs.specs.Answers.{IsAnswer, Makes};
+ghost use Rattle.native_vfs.specs.Held.{KeepsHeld};
 ghost use Rattle.native_vfs.specs.Keyed.{AreKeys, AgreesAt, IsLiveKey, place_at, number_at};
 ghost use Rattle.native_vfs.specs.Making.{IsMade, IsNamedAgain};
 ghost use Rattle.native_vfs.specs.Steps.{IsSame};
@@ -38,6 +39,7 @@ impl Vfs {
         ensures answer { IsAnswer (names.make_refusal self.old.nodes (place_at self.old at.now)) result }
         ensures made { IfOk result (λ key. Makes self.old self.new key (λ number. names.after_create self.old.nodes (place_at self.old at.now) number mode now)) }
         ensures err { OnErr result (self.new ≡ self.old) }
+        ensures held { KeepsHeld self.old self.new }
         ensures valid { IsFileSystem self.new.nodes }
         ensures keys { AreKeys self.new }
     {
@@ -73,6 +75,7 @@ impl Vfs {
         ensures answer { IsAnswer (names.make_refusal self.old.nodes (place_at self.old at.now)) result }
         ensures made { IfOk result (λ key. Makes self.old self.new key (λ number. names.after_mkdir self.old.nodes (place_at self.old at.now) number mode now)) }
         ensures err { OnErr result (self.new ≡ self.old) }
+        ensures held { KeepsHeld self.old self.new }
         ensures valid { IsFileSystem self.new.nodes }
         ensures keys { AreKeys self.new }
     {
@@ -117,6 +120,7 @@ impl Vfs {
         ensures answer { IsAnswer (names.symlink_refusal self.old.nodes (place_at self.old at.now) target.now) result }
         ensures made { OnOk result ((key : ℕ) × Makes self.old self.new key (λ number. names.after_symlink self.old.nodes (place_at self.old at.now) number target.now now)) }
         ensures err { OnErr result (self.new ≡ self.old) }
+        ensures held { KeepsHeld self.old self.new }
         ensures valid { IsFileSystem self.new.nodes }
         ensures keys { AreKeys self.new }
     {
@@ -148,6 +152,7 @@ impl Vfs {
         ensures named { OnOk result (self.new.nodes ≡ names.after_link self.old.nodes (number_at self.old node) (place_at self.old at.now) now) }
         ensures same { OnOk result (self.new.keys ≡ self.old.keys) }
         ensures err { OnErr result (self.new ≡ self.old) }
+        ensures held { KeepsHeld self.old self.new }
         ensures valid { IsFileSystem self.new.nodes }
         ensures keys { AreKeys self.new }
     {

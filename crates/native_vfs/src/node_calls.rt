@@ -1,9 +1,10 @@
 //! The calls on one node: its holds, its mode and times, and what it is.
-ghost use Rattle.std.specs.Prelude.{◌≡◌, ◌+◌, ◌<◌, ◌≤◌, ◌^◌, IfSome};
+ghost use Rattle.std.specs.Prelude.{◌≡◌, ◌+◌, ◌-◌, ◌<◌, ◌≤◌, ◌^◌, IfSome};
 ghost use Rattle.kernel_core.specs.FileSystem.{IsFileSystem, IsTime};
 ghost use Rattle.kernel_core.specs.NodeCalls.{held, released, with_mode, with_times};
 ghost use Rattle.kernel_core.specs.Nodes.{update};
 ghost use Rattle.kernel_core.specs.ValidTree.{greatest_mode};
+ghost use Rattle.native_vfs.specs.Held.{KeepsHeld, ChangesHeld};
 ghost use Rattle.native_vfs.specs.Keyed.{AreKeys, IsLiveKey, KeepsKeys, number_at, inode_at};
 
 use crate::settle::settle;
@@ -20,6 +21,7 @@ impl Vfs {
         requires few { IfSome (inode_at self.old node) (λ inode. inode.holds + 1 < 2 ^ 32) }
         ensures nodes { self.new.nodes ≡ update self.old.nodes (number_at self.old node) held }
         ensures same { self.new.keys ≡ self.old.keys }
+        ensures held { ChangesHeld self.old self.new (number_at self.old node) (λ holds. holds + 1) }
         ensures valid { IsFileSystem self.new.nodes }
         ensures keys { AreKeys self.new }
     {
@@ -33,6 +35,7 @@ impl Vfs {
         requires held { IfSome (inode_at self.old node) (λ inode. 0 < inode.holds) }
         ensures nodes { self.new.nodes ≡ released self.old.nodes (number_at self.old node) }
         ensures kept { KeepsKeys self.old self.new }
+        ensures held { ChangesHeld self.old self.new (number_at self.old node) (λ holds. holds - 1) }
         ensures valid { IsFileSystem self.new.nodes }
         ensures keys { AreKeys self.new }
     {
@@ -49,6 +52,7 @@ impl Vfs {
         requires time { IsTime now }
         ensures nodes { self.new.nodes ≡ update self.old.nodes (number_at self.old node) (with_mode mode now) }
         ensures same { self.new.keys ≡ self.old.keys }
+        ensures held { KeepsHeld self.old self.new }
         ensures valid { IsFileSystem self.new.nodes }
         ensures keys { AreKeys self.new }
     {
@@ -71,6 +75,7 @@ impl Vfs {
         requires time { IsTime now }
         ensures nodes { self.new.nodes ≡ update self.old.nodes (number_at self.old node) (with_times access modified now) }
         ensures same { self.new.keys ≡ self.old.keys }
+        ensures held { KeepsHeld self.old self.new }
         ensures valid { IsFileSystem self.new.nodes }
         ensures keys { AreKeys self.new }
     {

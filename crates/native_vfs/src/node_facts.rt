@@ -1,15 +1,17 @@
 //! What one node is: its status, its bytes, its target, its parent and its entries.
-ghost use Rattle.std.specs.Prelude.{◌≡◌, ◌<◌, ◌≤◌, ◌^◌, Some, IsSome, IfSome, length, option_map};
+ghost use Rattle.std.specs.Prelude.{◌≡◌, ◌<◌, ◌≤◌, ◌^◌, true, Some, IsSome, IfSome, length, option_map};
+ghost use Rattle.std.specs.FinMap as map;
 ghost use Rattle.kernel_core.specs.FileContent.{readable, read_into};
 ghost use Rattle.kernel_core.specs.FileSystem.{parent_at};
 ghost use Rattle.kernel_core.specs.NodeCalls.{entry_above, type_bits, content_size, content_sectors};
 ghost use Rattle.kernel_core.specs.Nodes.{Inode, file_at, target_at, listing_at, is_directory, entries_in};
-ghost use Rattle.kernel_core.specs.ValidTree.{greatest_mode};
+ghost use Rattle.kernel_core.specs.Queries.{kind_at};
+ghost use Rattle.kernel_core.specs.ValidTree.{greatest_mode, root};
 ghost use Rattle.native_vfs.specs.Keyed.{IsLiveKey, number_at, inode_at};
-ghost use Rattle.native_vfs.specs.Seen.{status_of, shown_entry};
+ghost use Rattle.native_vfs.specs.Seen.{kind_told, status_of, shown_entry};
 ghost use Rattle.native_vfs.specs.Stored.{content_of, inode_of};
 
-use crate::place::Status;
+use crate::place::{NodeKind, Status};
 use crate::stored::{Stored, StoredContent};
 use crate::vfs::Vfs;
 use kernel_core::limits::BLOCK_SIZE;
@@ -33,6 +35,26 @@ const SECTOR_SIZE: usize = 512;
 const SECTORS_PER_BLOCK: u32 = (BLOCK_SIZE / SECTOR_SIZE) as u32;
 
 impl Vfs {
+    /// The key of the root (path_resolution(7)), which always lives. It takes no memory.
+    pub fn root_key(&self) -> usize
+        ensures key { map.get self.now.keys result ≡ Some root }
+        ensures directory { is_directory self.now.nodes root ≡ true }
+    {
+        self.root
+    }
+
+    /// What a node is (inode(7)), of which `node` is the key: a live one of any kind. It takes no memory.
+    pub fn kind(&self, node: usize) -> NodeKind
+        requires live { IsLiveKey self.now node }
+        ensures { kind_at self.now.nodes (number_at self.now node) ≡ Some (kind_told result) }
+    {
+        match &self.table[node].content {
+            StoredContent::File(_) => NodeKind::File,
+            StoredContent::Directory(_) => NodeKind::Directory,
+            StoredContent::Link(_) => NodeKind::Link,
+        }
+    }
+
     /// What stat(2) tells of a node, of which `node` is the key: a live one of any kind. It takes no memory.
     pub fn status(&self, node: usize) -> Status
         requires live { IsLiveKey self.now node }

@@ -114,8 +114,9 @@ pub(crate) fn begins_with_slash(text: &[u8]) -> bool
     matches!(text, [b'/', ..])
 }
 
-/// Whether the text ends with a slash.
-pub(crate) fn ends_with_slash(text: &[u8]) -> bool
+/// Whether the text, a path or the target of a link, ends with a slash (path_resolution(7)). What a call
+/// does with a name that is not there depends on it.
+pub fn ends_with_slash(text: &[u8]) -> bool
     ensures { result ≡ ends_with_slash text.now }
 {
     match text.split_last() {

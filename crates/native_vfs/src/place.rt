@@ -15,6 +15,16 @@ pub struct Place {
     pub node: Option<usize>,
 }
 
+/// What a node is (inode(7)).
+#[derive(Clone, Copy, PartialEq, Eq)]
+pub enum NodeKind {
+    /// A regular file.
+    File,
+    Directory,
+    /// A symbolic link.
+    Link,
+}
+
 /// What stat(2) tells of a node.
 #[derive(Clone, Copy)]
 pub struct Status {

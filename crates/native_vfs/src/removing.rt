@@ -5,6 +5,7 @@ ghost use Rattle.kernel_core.specs.NameCalls as names;
 ghost use Rattle.kernel_core.specs.Nodes.{is_directory};
 ghost use Rattle.kernel_core.specs.Totals.{live_entries};
 ghost use Rattle.native_vfs.specs.Answers.{IsSureAnswer, with_node};
+ghost use Rattle.native_vfs.specs.Held.{KeepsHeld};
 ghost use Rattle.native_vfs.specs.Keyed.{AreKeys, AgreesAt, KeepsKeys, place_at};
 ghost use Rattle.native_vfs.specs.Removals.{IsLoss, IsSound};
 ghost use Rattle.native_vfs.specs.Stored.{nodes_of, keyed_of, number_of_key};
@@ -31,6 +32,7 @@ impl Vfs {
         ensures ok { OnOk result (self.new.nodes ≡ with_node (place_at self.old at.now).node self.old.nodes (λ node. names.after_unlink self.old.nodes (place_at self.old at.now) node now)) }
         ensures kept { OnOk result (KeepsKeys self.old self.new) }
         ensures err { OnErr result (self.new ≡ self.old) }
+        ensures held { KeepsHeld self.old self.new }
         ensures valid { IsFileSystem self.new.nodes }
         ensures keys { AreKeys self.new }
     {
@@ -62,6 +64,7 @@ impl Vfs {
         ensures ok { OnOk result (self.new.nodes ≡ with_node (place_at self.old at.now).node self.old.nodes (λ node. names.after_rmdir self.old.nodes (place_at self.old at.now) node now)) }
         ensures kept { OnOk result (KeepsKeys self.old self.new) }
         ensures err { OnErr result (self.new ≡ self.old) }
+        ensures held { KeepsHeld self.old self.new }
         ensures valid { IsFileSystem self.new.nodes }
         ensures keys { AreKeys self.new }
     {

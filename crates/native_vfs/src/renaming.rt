@@ -7,6 +7,7 @@ ghost use Rattle.kernel_core.specs.Nodes.{listing_at, update};
 ghost use Rattle.kernel_core.specs.Totals.{live_entries};
 ghost use Rattle.kernel_core.specs.ValidTree.{IsName};
 ghost use Rattle.native_vfs.specs.Answers.{IsAnswer, with_node};
+ghost use Rattle.native_vfs.specs.Held.{KeepsHeld};
 ghost use Rattle.native_vfs.specs.Keyed.{AreKeys, AgreesAt, KeepsKeys, place_at, number_at};
 ghost use Rattle.native_vfs.specs.Removals.{IsSound};
 ghost use Rattle.native_vfs.specs.Renames.{entry_moved, MayGive, IsCleared, Becomes};
@@ -32,8 +33,10 @@ impl Vfs {
     /// names of one node are left as they are. It is refused with ENOENT where nothing has the old name;
     /// EBUSY where either name is `.`, `..` or empty; EINVAL where a directory would go into its own
     /// subtree; ENOTDIR, ENOTEMPTY or EISDIR by what is replaced; ENOENT where the new directory was
-    /// removed; and ENOSPC where it has no cookie left. After an error, also for want of memory, nothing has
-    /// changed. `now` is in nanoseconds since the Epoch, within whole seconds of 64 bits.
+    /// removed; and ENOSPC where it has no cookie left. `..` in a removed directory names nothing: as the old
+    /// name it is ENOENT there, and as the new one EBUSY, with a slash behind it too. After an error, also for
+    /// want of memory, nothing has changed. `now` is in nanoseconds since the Epoch, within whole seconds of 64
+    /// bits.
     pub fn rename(&mut self, from: &Place, to: &Place, now: i128) -> Result<(), CoreError>
         requires from { AgreesAt self.old from.now }
         requires to { AgreesAt self.old to.now }
@@ -42,6 +45,7 @@ impl Vfs {
         ensures ok { OnOk result (self.new.nodes ≡ with_node (place_at self.old from.now).node self.old.nodes (λ moved. names.after_rename self.old.nodes (place_at self.old from.now) (place_at self.old to.now) moved now)) }
         ensures kept { OnOk result (KeepsKeys self.old self.new) }
         ensures err { OnErr result (self.new ≡ self.old) }
+        ensures held { KeepsHeld self.old self.new }
         ensures valid { IsFileSystem self.new.nodes }
         ensures keys { AreKeys self.new }
     {

@@ -5,7 +5,7 @@ ghost use Rattle.std.specs.List.{list_any};
 ghost use Rattle.kernel_core.specs.Nodes.{is_directory};
 ghost use Rattle.kernel_core.specs.PathWalk as walking;
 ghost use Rattle.kernel_core.specs.ValidTree as tree;
-ghost use Rattle.native_vfs.specs.Answers.{IsWalked};
+ghost use Rattle.native_vfs.specs.Answers.{IsWalked, MayStart};
 ghost use Rattle.native_vfs.specs.Keyed.{Keyed, IsLiveKey, number_at, inode_at, AgreesAt};
 ghost use Rattle.native_vfs.specs.Stored.{inode_of};
 ghost use Rattle.native_vfs.specs.Walking.{IsSound, named_key, walk_of, steps_left, IsUnderWay, IsFound, Gives, IsCopied};
@@ -46,7 +46,7 @@ impl Vfs {
     /// slash (path_resolution(7)), and tells where its last name stands. A symbolic link in the
     /// last place is followed where `follow` says so, and before a slash always. The path has no
     /// NUL. `from` is the key of a live directory, also of a removed one; where the path begins with
-    /// a slash it may be any number.
+    /// a slash or is empty it may be any number.
     ///
     /// ENOENT: the path is empty, or a component other than the last is not there, or the last one
     /// of a link's target that ends in a slash while the path doesn't. ENAMETOOLONG: a component
@@ -62,9 +62,7 @@ impl Vfs {
     /// This project's own: that ENAMETOOLONG comes before ENOTDIR, that `..` in a removed directory
     /// names nothing, and that a last link before a slash is always followed.
     pub fn walk(&self, from: usize, path: &[u8], follow: bool) -> Result<Place, CoreError>
-        requires start { (walking.begins_with_slash path.now ≡ true)
-            ⊎ (IsLiveKey self.now from
-            × is_directory self.now.nodes (number_at self.now from) ≡ true) }
+        requires start { MayStart self.now from path.now }
         requires plain { list_any (λ byte. byte == 0) path.now ≡ false }
         ensures { IsWalked self.now (number_at self.now from) path.now follow result }
     {
@@ -87,9 +85,8 @@ impl Vfs {
 
     /// The key of the directory where a path begins.
     fn walk_start(&self, from: usize, path: &[u8]) -> usize
-        requires { (walking.begins_with_slash path.now ≡ true)
-            ⊎ (IsLiveKey self.now from
-            × is_directory self.now.nodes (number_at self.now from) ≡ true) }
+        requires some { 1 ≤ length path.now }
+        requires start { MayStart self.now from path.now }
         ensures live { IsLiveKey self.now result }
         ensures number { number_at self.now result
             ≡ (if walking.begins_with_slash path.now then tree.root else number_at self.now from) }
@@ -230,14 +227,6 @@ impl Vfs {
         ensures sound { IsSound self.now result.now.content }
     {
         node(&self.table, key)
-    }
-
-    /// The key of the root.
-    fn root_key(&self) -> usize
-        ensures key { map.get self.now.keys result ≡ Some tree.root }
-        ensures directory { is_directory self.now.nodes tree.root ≡ true }
-    {
-        self.root
     }
 }
 

@@ -1,11 +1,12 @@
-use Rattle.std.proofs.Common.{ℕ, ◌≡◌, ◌+◌, ◌<◌, ◌^◌, Option, Some, None, IfSome, refl, ap, arith}
+use Rattle.std.proofs.Common.{ℕ, ◌≡◌, ◌+◌, ◌<◌, ◌^◌, Option, Some, None, IfSome, refl, ap, arith, is_some}
 use Rattle.kernel_core.specs.NodeCalls.{held}
 use Rattle.kernel_core.specs.Nodes.{Inode}
 use Rattle.file_system_laws.proofs.NodeLaws.{hold_keeps}
 use Rattle.native_vfs.specs.Steps.{holds_in, holds_at}
 use Rattle.native_vfs.specs.Keyed.{Keyed, inode_at}
 use Rattle.native_vfs.specs.Stored.{IsKept, number_of_key, nodes_of, keyed_of, Table}
-use Rattle.native_vfs.proofs.Kept.{live-seen, holds-seen, nodes-stepped, keys-stepped, kept-step, valid-view, are-keys-view}
+use Rattle.native_vfs.proofs.Kept.{live-seen, holds-seen, nodes-stepped, keys-stepped, kept-step, valid-view, are-keys-view, inode-alive}
+use Rattle.native_vfs.proofs.HeldKeys.{held-hold}
 use Rattle.native_vfs.proofs.vfs.Vfs.hold.Goals as goal
 
 few_holds : (o : Option Inode) → IfSome o (λ i. i.holds + 1 < 2 ^ 32) → holds_in o + 1 < 2 ^ 32
@@ -44,3 +45,8 @@ returns-clause-valid c = valid-view _ _ _ _ _ (kept c)
 
 pub returns-clause-keys : goal.returns-clause-keys
 returns-clause-keys c = are-keys-view _ _ _ _ _ (kept c)
+
+pub returns-clause-held : goal.returns-clause-held
+returns-clause-held c =
+    let alive = inode-alive c.self.inside.table c.args.self.now c.self.view_is c.self.invariant.distinct c.args.node c.requires.live in
+    held-hold c.args.self.now (keyed_of c.hold.new.table) c.args.node (ap is_some alive.2) (returns-clause-nodes c) (returns-clause-same c)

@@ -4,11 +4,13 @@ use Rattle.std.proofs.lemmas.Result.{err_from_is_err_and}
 use Rattle.std.proofs.Math.Facts.{to_z-of_z}
 use Rattle.kernel_core.specs.NameCalls as names
 use Rattle.native_vfs.specs.Making.{IsNamedAgain}
-use Rattle.native_vfs.specs.Keyed.{place_at}
+use Rattle.native_vfs.specs.Keyed.{place_at, number_at}
 use Rattle.native_vfs.specs.Stored.{IsKept, nodes_of, keyed_of, number_of_key}
 use Rattle.native_vfs.proofs.Kept.{valid-view, are-keys-view, live-seen}
 use Rattle.native_vfs.proofs.MadeCalls.{agrees-kept, valid-seen, are-keys-seen, view-same, kept-same, none-left}
 use Rattle.native_vfs.proofs.NamedAgain.{link-refusal-seen, kept-named, nodes-named, keys-named}
+use Rattle.file_system_laws.proofs.HeldNodes.{keeps-lost, link_loses}
+use Rattle.native_vfs.proofs.HeldKeys.{held-same, held-same_keys}
 use Rattle.native_vfs.proofs.vfs.Vfs.link.Goals as goal
 
 pub link_refusal-requires-clause-live : goal.link_refusal-requires-clause-live
@@ -85,3 +87,17 @@ returns-in_err-name_again-clause-valid c = valid-view _ _ _ _ _ (same_kept c)
 
 pub returns-in_err-name_again-clause-keys : goal.returns-in_err-name_again-clause-keys
 returns-in_err-name_again-clause-keys c = are-keys-view _ _ _ _ _ (same_kept c)
+
+pub returns-in-Some-clause-held : goal.returns-in-Some-clause-held
+returns-in-Some-clause-held c = held-same c.args.self.now c.args.self.now refl
+
+pub returns-clause-held : goal.returns-clause-held
+returns-clause-held c =
+    held-same_keys c.args.self.now (keyed_of c.name_again.new.table) _ (returns-clause-named c)
+    (keeps-lost _ _ (link_loses c.args.self.now.nodes (place_at c.args.self.now c.args.at.now) (number_at c.args.self.now c.args.node) c.args.now))
+    (returns-clause-same c)
+
+pub returns-in_err-name_again-clause-held : goal.returns-in_err-name_again-clause-held
+returns-in_err-name_again-clause-held c =
+    held-same c.args.self.now (keyed_of c.name_again.new.table)
+    (view-same c.self.inside.table c.name_again.new.table c.in_err-name_again.ensures.same c.args.self.now c.self.view_is)

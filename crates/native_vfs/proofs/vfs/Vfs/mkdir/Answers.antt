@@ -1,4 +1,4 @@
-use Rattle.std.proofs.Common.{◌≡◌, ◌+◌, None, sym, subst, ◌∙◌}
+use Rattle.std.proofs.Common.{◌≡◌, ◌+◌, None, sym, subst, ◌∙◌, refl}
 use Rattle.std.specs.Int.{w128}
 use Rattle.std.proofs.lemmas.Result.{err_from_is_err_and}
 use Rattle.std.proofs.Math.Facts.{to_z-of_z}
@@ -11,6 +11,8 @@ use Rattle.native_vfs.proofs.Kept.{valid-view, are-keys-view}
 use Rattle.native_vfs.proofs.MadeCalls.{refusal-seen, agrees-kept, valid-seen, are-keys-seen, view-same, kept-same, makes-seen, kept-mkdir, made-step, above-live, above-number, above-few, empty-directory, empty-leads, none-left}
 use Rattle.native_vfs.proofs.Reasons.{live-dir}
 use Rattle.native_vfs.proofs.Tables.{number_at-table}
+use Rattle.file_system_laws.proofs.HeldNodes.{mkdir_keeps_holds}
+use Rattle.native_vfs.proofs.HeldKeys.{held-same, held-made}
 use Rattle.native_vfs.proofs.vfs.Vfs.mkdir.Goals as goal
 
 pub returns-in-Some-clause-answer : goal.returns-in-Some-clause-answer
@@ -107,3 +109,16 @@ returns-in_err-key-clause-valid c = valid-view _ _ _ _ _ (same_kept c)
 
 pub returns-in_err-key-clause-keys : goal.returns-in_err-key-clause-keys
 returns-in_err-key-clause-keys c = are-keys-view _ _ _ _ _ (same_kept c)
+
+pub returns-in-Some-clause-held : goal.returns-in-Some-clause-held
+returns-in-Some-clause-held c = held-same c.args.self.now c.args.self.now refl
+
+pub returns-clause-held : goal.returns-clause-held
+returns-clause-held c =
+    held-made c.args.self.now (keyed_of c.add_link.new.table) c.in_ok-key.key _ (returns-clause-made c)
+    (λ number new. mkdir_keeps_holds c.args.self.now.nodes (place_at c.args.self.now c.args.at.now) number new c.args.now c.args.mode)
+
+pub returns-in_err-key-clause-held : goal.returns-in_err-key-clause-held
+returns-in_err-key-clause-held c =
+    held-same c.args.self.now (keyed_of c.make.new.table)
+    (view-same c.self.inside.table c.make.new.table c.in_err-key.ensures.same c.args.self.now c.self.view_is)

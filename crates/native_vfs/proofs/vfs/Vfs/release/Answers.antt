@@ -3,10 +3,11 @@ use Rattle.kernel_core.specs.NodeCalls.{let_go}
 use Rattle.file_system_laws.proofs.Counts.{live_blocks-kept}
 use Rattle.kernel_core.specs.Totals.{live_blocks}
 use Rattle.native_vfs.specs.Steps.{holds_in, holds_at}
-use Rattle.native_vfs.specs.Stored.{nodes_of, number_of_key, IsKept}
+use Rattle.native_vfs.specs.Stored.{nodes_of, number_of_key, IsKept, keyed_of}
 use Rattle.native_vfs.proofs.Kept.{live-seen, inode-alive, holds-seen, pool-stepped, valid-view, are-keys-view}
 use Rattle.native_vfs.proofs.Release.{let_go-unnamed, nodes-released-seen, keys-released, kept-released}
 use Rattle.native_vfs.proofs.Tables.{live-kept}
+use Rattle.native_vfs.proofs.HeldKeys.{held-release}
 use Rattle.native_vfs.proofs.vfs.Vfs.release.Goals as goal
 
 pub let_go-requires-clause-live : goal.let_go-requires-clause-live
@@ -57,3 +58,6 @@ returns-clause-valid c = valid-view _ _ _ _ _ (kept c)
 
 pub returns-clause-keys : goal.returns-clause-keys
 returns-clause-keys c = are-keys-view _ _ _ _ _ (kept c)
+
+pub returns-clause-held : goal.returns-clause-held
+returns-clause-held c = held-release c.args.self.now (keyed_of c.settle.new.table) c.args.node (returns-clause-nodes c) (returns-clause-kept c)

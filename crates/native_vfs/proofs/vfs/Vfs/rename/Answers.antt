@@ -1,4 +1,4 @@
-use Rattle.std.proofs.Common.{◌∙◌, sym, ap, subst}
+use Rattle.std.proofs.Common.{◌∙◌, sym, ap, subst, refl}
 use Rattle.std.specs.Int.{w128}
 use Rattle.std.proofs.lemmas.Result.{err_from_is_err_and}
 use Rattle.std.proofs.Math.Facts.{to_z-of_z}
@@ -7,6 +7,8 @@ use Rattle.native_vfs.specs.Keyed.{Keyed, AgreesAt, place_at, number_at}
 use Rattle.native_vfs.proofs.Ends.{valid-seen, are-keys-seen}
 use Rattle.native_vfs.proofs.Reasons.{live-node}
 use Rattle.native_vfs.proofs.RenameEnds.{seen-both, seen-node, keeps-seen-same, renamed-same, renamed-moved}
+use Rattle.file_system_laws.proofs.HeldNodes.{keeps-lost, rename_loses}
+use Rattle.native_vfs.proofs.HeldKeys.{held-same, held-kept, loses-with_node}
 use Rattle.native_vfs.proofs.vfs.Vfs.rename.Goals as goal
 
 pub returns-in-Some-clause-answer : goal.returns-in-Some-clause-answer
@@ -60,3 +62,19 @@ pub returns-in_err-move_entry-clause-answer : goal.returns-in_err-move_entry-cla
 returns-in_err-move_entry-clause-answer c =
     let p = err_from_is_err_and c.from_residual.result c.from_residual.ensures.1 in
     rw (p.1, p.2) (sym (seen-both c.self.inside.table c.args.self.now c.self.view_is rename_refusal c.args.from.now c.args.to.now) ∙ sym c.rename_refusal.ensures ∙ c.in_default.is)
+
+pub returns-in-Some-clause-held : goal.returns-in-Some-clause-held
+returns-in-Some-clause-held c = held-same c.args.self.now c.args.self.now refl
+
+pub returns-then-stands_for-clause-held : goal.returns-then-stands_for-clause-held
+returns-then-stands_for-clause-held c = held-same c.args.self.now c.args.self.now refl
+
+pub returns-clause-held : goal.returns-clause-held
+returns-clause-held c =
+    held-kept c.args.self.now c.move_entry.new.self _ (returns-clause-ok c)
+    (keeps-lost _ _ (loses-with_node (place_at c.args.self.now c.args.from.now).node c.args.self.now.nodes _
+    (λ moved. rename_loses c.args.self.now.nodes (place_at c.args.self.now c.args.from.now) (place_at c.args.self.now c.args.to.now) moved c.args.now)))
+    c.in_ok-move_entry.ensures.kept
+
+pub returns-in_err-move_entry-clause-held : goal.returns-in_err-move_entry-clause-held
+returns-in_err-move_entry-clause-held c = held-same c.args.self.now c.move_entry.new.self c.in_err-move_entry.ensures.err

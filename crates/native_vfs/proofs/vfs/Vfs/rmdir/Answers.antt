@@ -1,4 +1,4 @@
-use Rattle.std.proofs.Common.{◌-◌, sym, ap, subst, ◌∙◌}
+use Rattle.std.proofs.Common.{◌-◌, sym, ap, subst, ◌∙◌, refl}
 use Rattle.std.specs.Int.{w128}
 use Rattle.std.proofs.Math.Facts.{to_z-of_z}
 use Rattle.kernel_core.specs.NameCalls.{rmdir_refusal, after_rmdir}
@@ -7,6 +7,8 @@ use Rattle.native_vfs.specs.Stored.{nodes_of, keyed_of, number_of_key, IsKept}
 use Rattle.native_vfs.proofs.Ends.{seen-at, valid-seen, are-keys-seen, after-seen, keeps-seen, kept-lost, rmdir-may}
 use Rattle.native_vfs.proofs.Kept.{valid-view, are-keys-view}
 use Rattle.native_vfs.proofs.Stages.{named-node}
+use Rattle.file_system_laws.proofs.HeldNodes.{keeps-lost, rmdir_loses}
+use Rattle.native_vfs.proofs.HeldKeys.{held-same, held-kept, loses-with_node}
 use Rattle.native_vfs.proofs.vfs.Vfs.rmdir.Goals as goal
 
 pub returns-in-Some-clause-answer : goal.returns-in-Some-clause-answer
@@ -62,3 +64,12 @@ returns-clause-valid c = valid-view _ _ _ _ _ (kept c)
 
 pub returns-clause-keys : goal.returns-clause-keys
 returns-clause-keys c = are-keys-view _ _ _ _ _ (kept c)
+
+pub returns-in-Some-clause-held : goal.returns-in-Some-clause-held
+returns-in-Some-clause-held c = held-same c.args.self.now c.args.self.now refl
+
+pub returns-clause-held : goal.returns-clause-held
+returns-clause-held c =
+    held-kept c.args.self.now (keyed_of c.rmdir_at.new.table) _ (returns-clause-ok c)
+    (keeps-lost _ _ (loses-with_node (place_at c.args.self.now c.args.at.now).node c.args.self.now.nodes _ (λ node. rmdir_loses c.args.self.now.nodes (place_at c.args.self.now c.args.at.now) node c.args.now)))
+    (returns-clause-kept c)

@@ -3,8 +3,11 @@ use Rattle.kernel_core.specs.NodeCalls.{with_mode}
 use Rattle.file_system_laws.proofs.NodeLaws.{mode_keeps}
 use Rattle.std.specs.Int.{w128}
 use Rattle.std.proofs.Math.Facts.{to_z-of_z}
-use Rattle.native_vfs.specs.Stored.{IsKept, IsStep, number_of_key, nodes_of}
+use Rattle.native_vfs.specs.Stored.{IsKept, IsStep, number_of_key, nodes_of, keyed_of}
 use Rattle.native_vfs.proofs.Kept.{live-seen, nodes-stepped, keys-stepped, kept-step, valid-view, are-keys-view}
+use Rattle.file_system_laws.proofs.HeldNodes.{keeps-lost, mode_loses}
+use Rattle.native_vfs.proofs.HeldKeys.{held-same_keys}
+use Rattle.native_vfs.specs.Keyed.{number_at}
 use Rattle.native_vfs.proofs.vfs.Vfs.set_mode.Goals as goal
 
 pub set_mode-requires-clause-live : goal.set_mode-requires-clause-live
@@ -33,3 +36,8 @@ returns-clause-valid c = valid-view _ _ _ _ _ (kept c)
 
 pub returns-clause-keys : goal.returns-clause-keys
 returns-clause-keys c = are-keys-view _ _ _ _ _ (kept c)
+
+pub returns-clause-held : goal.returns-clause-held
+returns-clause-held c =
+    held-same_keys c.args.self.now (keyed_of c.set_mode.new.table) _ (returns-clause-nodes c)
+    (keeps-lost _ _ (mode_loses c.args.self.now.nodes (number_at c.args.self.now c.args.node) c.args.mode c.args.now)) (returns-clause-same c)

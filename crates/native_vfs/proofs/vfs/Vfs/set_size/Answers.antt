@@ -9,6 +9,7 @@ use Rattle.native_vfs.specs.Steps.{IsFileStep}
 use Rattle.native_vfs.specs.Stored.{IsKept}
 use Rattle.native_vfs.proofs.FileKept.{kept-resized, nodes-resized, keys-resized, kept-at}
 use Rattle.native_vfs.proofs.Kept.{live-seen, valid-view, are-keys-view}
+use Rattle.native_vfs.proofs.HeldKeys.{held-resized}
 use Rattle.native_vfs.proofs.vfs.Vfs.set_size.Goals as goal
 
 pub resize_file-requires-clause-live : goal.resize_file-requires-clause-live
@@ -40,3 +41,7 @@ returns-clause-valid c = valid-view _ _ _ _ _ (kept c)
 
 pub returns-clause-keys : goal.returns-clause-keys
 returns-clause-keys c = are-keys-view _ _ _ _ _ (kept c)
+
+pub returns-clause-held : goal.returns-clause-held
+returns-clause-held c =
+    held-resized c.self.inside.table c.resize_file.new.table c.args.node c.args.self.now c.self.view_is c.args.to c.args.now c.requires.time c.resize_file.result (ok c) c.resize_file.ensures.err

@@ -4,8 +4,11 @@ use Rattle.kernel_core.specs.NodeCalls.{with_times}
 use Rattle.file_system_laws.proofs.NodeLaws.{times_keep}
 use Rattle.std.specs.Int.{w128}
 use Rattle.std.proofs.Math.Facts.{to_z-of_z}
-use Rattle.native_vfs.specs.Stored.{IsKept, IsStep, number_of_key, nodes_of}
+use Rattle.native_vfs.specs.Stored.{IsKept, IsStep, number_of_key, nodes_of, keyed_of}
 use Rattle.native_vfs.proofs.Kept.{live-seen, nodes-stepped, keys-stepped, kept-step, valid-view, are-keys-view}
+use Rattle.file_system_laws.proofs.HeldNodes.{keeps-lost, times_lose}
+use Rattle.native_vfs.proofs.HeldKeys.{held-same_keys}
+use Rattle.native_vfs.specs.Keyed.{number_at}
 use Rattle.native_vfs.proofs.vfs.Vfs.set_times.Goals as goal
 
 given : (o : Option ℤ) → IfSome o IsTime → (time : ℤ) → o ≡ Some time → IsTime time
@@ -37,3 +40,8 @@ returns-clause-valid c = valid-view _ _ _ _ _ (kept c)
 
 pub returns-clause-keys : goal.returns-clause-keys
 returns-clause-keys c = are-keys-view _ _ _ _ _ (kept c)
+
+pub returns-clause-held : goal.returns-clause-held
+returns-clause-held c =
+    held-same_keys c.args.self.now (keyed_of c.set_times.new.table) _ (returns-clause-nodes c)
+    (keeps-lost _ _ (times_lose c.args.self.now.nodes (number_at c.args.self.now c.args.node) c.args.access c.args.modified c.args.now)) (returns-clause-same c)

@@ -1,13 +1,16 @@
-use Rattle.std.proofs.Common.{◌≡◌, ◌+◌, None, sym, ◌∙◌}
+use Rattle.std.proofs.Common.{◌≡◌, ◌+◌, None, sym, ◌∙◌, refl}
 use Rattle.std.specs.Int.{w128}
 use Rattle.std.proofs.lemmas.Result.{err_from_is_err_and}
 use Rattle.std.proofs.Math.Facts.{to_z-of_z}
 use Rattle.kernel_core.specs.NameCalls as names
+use Rattle.native_vfs.specs.Answers.{Makes}
 use Rattle.native_vfs.specs.Making.{IsMade}
 use Rattle.native_vfs.specs.Keyed.{place_at}
 use Rattle.native_vfs.specs.Stored.{IsKept, nodes_of, keyed_of}
 use Rattle.native_vfs.proofs.Kept.{valid-view, are-keys-view}
 use Rattle.native_vfs.proofs.MadeCalls.{refusal-seen, agrees-kept, valid-seen, are-keys-seen, view-same, kept-same, makes-seen, kept-symlink, none-left}
+use Rattle.file_system_laws.proofs.HeldNodes.{symlink_keeps_holds}
+use Rattle.native_vfs.proofs.HeldKeys.{held-same, held-made}
 use Rattle.native_vfs.proofs.vfs.Vfs.symlink.Goals as goal
 
 pub returns-in-Some-clause-answer : goal.returns-in-Some-clause-answer
@@ -41,12 +44,15 @@ invariant_of-self-2 c = kept c
 pub returns-clause-answer : goal.returns-clause-answer
 returns-clause-answer c = sym (refusal-seen c.self.inside.table c.args.self.now c.self.view_is (λ nodes place. names.symlink_refusal nodes place c.args.target.now) c.args.at.now) ∙ free c
 
+makes : (c : goal.After-self-1)
+    → Makes c.args.self.now (keyed_of c.make_link.new.table) c.in_ok-make_link.field-0
+    (λ number. names.after_symlink c.args.self.now.nodes (place_at c.args.self.now c.args.at.now) number c.args.target.now c.args.now)
+makes c =
+    makes-seen c.self.inside.table c.make_link.new.table c.make_link.new.numbers c.in_ok-make_link.field-0 c.args.at.now
+    (λ nodes place number. names.after_symlink nodes place number c.args.target.now c.args.now) c.args.self.now c.self.view_is (made c)
+
 pub returns-clause-made : goal.returns-clause-made
-returns-clause-made c = (
-  c.in_ok-make_link.field-0,
-  makes-seen c.self.inside.table c.make_link.new.table c.make_link.new.numbers c.in_ok-make_link.field-0 c.args.at.now
-      (λ nodes place number. names.after_symlink nodes place number c.args.target.now c.args.now) c.args.self.now c.self.view_is (made c),
-)
+returns-clause-made c = (c.in_ok-make_link.field-0, makes c)
 
 pub returns-clause-valid : goal.returns-clause-valid
 returns-clause-valid c = valid-view _ _ _ _ _ (kept c)
@@ -78,3 +84,16 @@ returns-in_err-make_link-clause-valid c = valid-view _ _ _ _ _ (same_kept c)
 
 pub returns-in_err-make_link-clause-keys : goal.returns-in_err-make_link-clause-keys
 returns-in_err-make_link-clause-keys c = are-keys-view _ _ _ _ _ (same_kept c)
+
+pub returns-in-Some-clause-held : goal.returns-in-Some-clause-held
+returns-in-Some-clause-held c = held-same c.args.self.now c.args.self.now refl
+
+pub returns-clause-held : goal.returns-clause-held
+returns-clause-held c =
+    held-made c.args.self.now (keyed_of c.make_link.new.table) c.in_ok-make_link.field-0 _ (makes c)
+    (λ number new. symlink_keeps_holds c.args.self.now.nodes (place_at c.args.self.now c.args.at.now) number new c.args.now c.args.target.now)
+
+pub returns-in_err-make_link-clause-held : goal.returns-in_err-make_link-clause-held
+returns-in_err-make_link-clause-held c =
+    held-same c.args.self.now (keyed_of c.make_link.new.table)
+    (view-same c.self.inside.table c.make_link.new.table c.in_err-make_link.ensures.same c.args.self.now c.self.view_is)

@@ -12,6 +12,7 @@ use Rattle.native_vfs.specs.Steps.{IsFileStep, LeavesPart, file_written}
 use Rattle.native_vfs.specs.Stored.{IsKept, nodes_of, keyed_of, number_of_key}
 use Rattle.native_vfs.proofs.FileKept.{IsSomeStep, written-step, kept-file, kept-at, seen-at, file-valid, after-written, leaves-seen}
 use Rattle.native_vfs.proofs.Kept.{live-seen, nodes-stepped, keys-stepped, valid-view, are-keys-view}
+use Rattle.native_vfs.proofs.HeldKeys.{held-step}
 use Rattle.native_vfs.proofs.vfs.Vfs.write.Goals as goal
 
 ok_from : (r : Result ℕ CoreError) (P Q : ℕ → Type 0) → ((n : ℕ) → P n → Q n) → IfOk r P → IfOk r Q
@@ -96,3 +97,6 @@ returns-clause-valid c = valid-view _ _ _ _ _ (kept c)
 
 pub returns-clause-keys : goal.returns-clause-keys
 returns-clause-keys c = are-keys-view _ _ _ _ _ (kept c)
+
+pub returns-clause-held : goal.returns-clause-held
+returns-clause-held c = let s = step c in held-step c.self.inside.table c.write_file.new.table c.args.node c.args.self.now c.self.view_is s.change s.step.step s.only

@@ -1,15 +1,16 @@
--- What stood under the new name goes before the old name is taken, or after: that makes no difference.
-use Rattle.std.proofs.Common.{◌≡◌, ◌≢◌, ◌-◌, ℕ, Bool, true, false, cond, not, ℤ, List, Some, None, is_some, option_map, refl, sym, ap, ◌∙◌, inl, inr, bytes_eq}
+-- Changes of nodes that come in either order. What stood under the new name goes before the old name is taken, or after: that makes no
+-- difference.
+use Rattle.std.proofs.Common.{◌≡◌, ◌≢◌, ◌-◌, ℕ, Bool, true, false, cond, not, ℤ, List, [], ◌∷◌, filter, Some, None, is_some, option_map, refl, sym, ap, ◌∙◌, inl, inr, bytes_eq}
 use Rattle.std.proofs.lemmas.Bool.{cases_eq}
 use Rattle.std.specs.FinMap.{get}
 use Rattle.kernel_core.specs.Nodes.{Nodes, Inode, NodeContent, File, Directory, Link, listing_in, in_inode, is_directory, update, settled, is_unused}
 use Rattle.kernel_core.specs.PathWalk.{Place}
 use Rattle.kernel_core.specs.NameCalls.{without_entry, in_directory, relisted, take_name, one_link_less, unlinked, orphaned, after_unlink, after_rmdir, replace_name}
+use Rattle.kernel_core.specs.declared.tree.DirEntry.{DirEntry}
 use Rattle.file_system_laws.proofs.Lookups.{same_nodes, get-update_other, get-update_same, get-settled_same, get-settled_other, update-update, update_comm}
-use Rattle.file_system_laws.proofs.Renaming.{filter_comm}
 
 -- two changes that come in either order at each node, also where they change one node
-update_swap : (nodes : Nodes) (n m : ℕ) (f g : Inode → Inode) → ((i : Inode) → g (f i) ≡ f (g i)) → update (update nodes n f) m g ≡ update (update nodes m g) n f
+pub update_swap : (nodes : Nodes) (n m : ℕ) (f g : Inode → Inode) → ((i : Inode) → g (f i) ≡ f (g i)) → update (update nodes n f) m g ≡ update (update nodes m g) n f
 update_swap nodes n m f g same = elim (cases_eq n m) [
   | inl here ↦
       let at : update (update nodes n f) n g ≡ update (update nodes n g) n f =
@@ -17,6 +18,24 @@ update_swap nodes n m f g same = elim (cases_eq n m) [
       ap (λ k. update (update nodes n f) k g) (sym here) ∙ at ∙ ap (λ k. update (update nodes k g) n f) here
   | inr other ↦ update_comm nodes n m f g other
 ]
+
+module _ (p q : DirEntry → Bool) where
+  filter_yes : (t : DirEntry → Bool) (x : DirEntry) (xs : List DirEntry) → t x ≡ true → filter t (x ∷ xs) ≡ x ∷ filter t xs
+  filter_yes t x xs e = ap (λ b. cond b (x ∷ filter t xs) (filter t xs)) e
+
+  filter_no : (t : DirEntry → Bool) (x : DirEntry) (xs : List DirEntry) → t x ≡ false → filter t (x ∷ xs) ≡ filter t xs
+  filter_no t x xs e = ap (λ b. cond b (x ∷ filter t xs) (filter t xs)) e
+
+  pub filter_comm : (xs : List DirEntry) → filter p (filter q xs) ≡ filter q (filter p xs)
+  filter_comm [] = refl
+  filter_comm (x ∷ xs) = go (filter_comm xs) (p x) (q x) refl refl
+    where
+      go : filter p (filter q xs) ≡ filter q (filter p xs) → (b c : Bool) → p x ≡ b → q x ≡ c → filter p (filter q (x ∷ xs)) ≡ filter q (filter p (x ∷ xs))
+      go rest true true one two =
+          ap (filter p) (filter_yes q x xs two) ∙ filter_yes p x (filter q xs) one ∙ ap (λ s. x ∷ s) rest ∙ sym (ap (filter q) (filter_yes p x xs one) ∙ filter_yes q x (filter p xs) two)
+      go rest true false one two = ap (filter p) (filter_no q x xs two) ∙ rest ∙ sym (ap (filter q) (filter_yes p x xs one) ∙ filter_no q x (filter p xs) two)
+      go rest false true one two = ap (filter p) (filter_yes q x xs two) ∙ filter_no p x (filter q xs) one ∙ rest ∙ sym (ap (filter q) (filter_no p x xs one))
+      go rest false false one two = ap (filter p) (filter_no q x xs two) ∙ rest ∙ sym (ap (filter q) (filter_no p x xs one))
 
 without_swap : (one two : List ℕ) (content : NodeContent)
     → in_directory (without_entry one) (in_directory (without_entry two) content) ≡ in_directory (without_entry two) (in_directory (without_entry one) content)
@@ -62,8 +81,8 @@ module _ (nodes : Nodes) (from : ℕ) (name : List ℕ) (to : Place) (now : ℤ)
       (λ i. λ j. record i { modified = now; changed = now; links = i.links - 1; content = without_swap to.name name i.content j })
       ∙ ap (λ n. update (settled (update n old orphaned) old) from takes) (sym (update-update nodes to.directory (relisted now (without_entry to.name)) one_link_less))
 
-  pub replace-swap : replace_name (take_name nodes from name now) to (Some old) now ≡ take_name (replace_name nodes to (Some old) now) from name now
-  replace-swap =
+  pub replace_swap : replace_name (take_name nodes from name now) to (Some old) now ≡ take_name (replace_name nodes to (Some old) now) from name now
+  replace_swap =
       ap (λ b. cond b (after_rmdir (take_name nodes from name now) to old now) (after_unlink (take_name nodes from name now) to old now))
       (ap (λ o. is_some (in_inode listing_in o)) (get-update_other nodes from takes old (λ e. other (sym e))))
       ∙ go (is_directory nodes old)
