@@ -1,13 +1,17 @@
 -- The bytes of a signal's frame and what a return reads there, over plain numbers. The layouts of
 -- the frames are this project's own profile.
-use Rattle.std.specs.Prelude.{◌≡◌, ℕ, ◌+◌, ◌-◌, ◌<◌, ◌^◌, ◌==◌, true, List, [], ◌∷◌, ◌++◌, map, take, drop, length, slice_index, bit_and, All, ℤ, pos, if◌then◌else◌}
-use Rattle.layouts.specs.Number.{value_of, low_number}
+use Rattle.std.specs.Prelude.{◌≡◌, ℕ, ◌+◌, ◌-◌, ◌<◌, ◌≤◌, ◌^◌, ◌==◌, true, IsTrue, List, [], ◌∷◌, ◌++◌, map, take, drop, length, slice_index, bit_and, All, ℤ, pos, if◌then◌else◌}
+use Rattle.layouts.specs.Number.{value_of, is_in_range, low_number}
 use Rattle.layouts.specs.Shape.{Shape, record_bytes, record_values}
 use Rattle.layouts.specs.O32.{stack, siginfo, siginfo_fault, sigcontext, frame, rt_frame_of}
 
 -- a number of 32 bits
 abbrev pub IsWord : ℕ → Type 0
 IsWord number = number < 2 ^ 32
+
+-- a number of 32 bits that may be below 0
+abbrev pub IsSignedWord : ℤ → Type 0
+IsSignedWord value = IsTrue (is_in_range true 4 value)
 
 -- what a handler's return puts back into the processor: words
 pub record Context : Type 0 where
@@ -49,6 +53,15 @@ pub record Information : Type 0 where
   pub uid : ℕ
   pub value : ℕ
   pub address : ℕ
+
+pub record IsInformation (info : Information) : Type 0 where
+  pub signo : info.signo ≤ 128
+  pub code : IsSignedWord info.code
+  pub errno : IsSignedWord info.errno
+  pub pid : IsWord info.pid
+  pub uid : IsWord info.uid
+  pub value : IsWord info.value
+  pub address : IsWord info.address
 
 -- a word as a number of 8 bytes that carries its sign on
 abbrev pub sign_extended : ℕ → ℤ

@@ -21,8 +21,8 @@ use Rattle.schedule.specs.declared.statement.Statement.{Statement}
 use Rattle.schedule.specs.declared.statement.Statement.TheVariants as says
 use Rattle.schedule.specs.declared.text.Bounds.{Bounds}
 use Rattle.schedule.specs.Grammar.{setting_fault, event_fault, go_on}
-use Rattle.schedule.specs.Ranges.{IsDueInRange, IsInRange, IsGivenSchedule}
-use Rattle.schedule.specs.Statement.{◌>>=◌, between, keyword_of, deed_of, quantum_said, epoch_said, tty_said, random_said, kill_said, queue_said, deed_said, event_said, row_said, words_said, line_said}
+use Rattle.schedule.specs.Ranges.{between, quantum_range, seconds_range, nanoseconds_range, side_range, time_range, signal_range, value_range, most_bytes, IsWithin, IsDueInRange, IsInRange, IsGivenSchedule}
+use Rattle.schedule.specs.Statement.{◌>>=◌, keyword_of, deed_of, quantum_said, epoch_said, tty_said, random_said, kill_said, queue_said, deed_said, event_said, row_said, words_said, line_said}
 use Rattle.schedule.specs.Text.{words_of, lines_of, is_printed, is_number, is_hexadecimal, are_bytes, bytes_of, number_of, within, both, all_three, number_said, pair_said, triple_said}
 use Rattle.schedule.specs.inside.Draft.{empty, unless, with_statement, with_said, with_line, with_lines, schedule_from}
 use Rattle.schedule.proofs.InTurn.{unless_ok, in_order-whole}
@@ -31,13 +31,9 @@ and_true : (a b : Bool) → (a && b) ≡ true → (a ≡ true) × (b ≡ true)
 and_true true b holds = (refl, holds)
 and_true false b holds = cc
 
--- a number of a range
-abbrev Within : Bounds → ℕ → Type 0
-Within bounds n = (bounds.least ≤ n) × (n ≤ bounds.most)
-
-within-range : (bounds : Bounds) (n v : ℕ) → within bounds n ≡ Ok v → Within bounds v
+within-range : (bounds : Bounds) (n v : ℕ) → within bounds n ≡ Ok v → IsWithin bounds v
 within-range bounds n v said =
-    elim (nat_le bounds.least n && nat_le n bounds.most) as (λ b. (nat_le bounds.least n && nat_le n bounds.most) ≡ b → (if b then Ok n else Err rules.Range) ≡ Ok v → Within bounds v) [
+    elim (nat_le bounds.least n && nat_le n bounds.most) as (λ b. (nat_le bounds.least n && nat_le n bounds.most) ≡ b → (if b then Ok n else Err rules.Range) ≡ Ok v → IsWithin bounds v) [
       | true ↦ λ holds e.
           let parts = and_true (nat_le bounds.least n) (nat_le n bounds.most) holds in
           let low : bounds.least ≤ n = leb-true _ _ parts.0 in
@@ -47,9 +43,9 @@ within-range bounds n v said =
       | false ↦ λ fails e. absurd (cc)
     ] refl said
 
-number_said-range : (bounds : Bounds) (word : List ℕ) (v : ℕ) → number_said bounds word ≡ Ok v → Within bounds v
+number_said-range : (bounds : Bounds) (word : List ℕ) (v : ℕ) → number_said bounds word ≡ Ok v → IsWithin bounds v
 number_said-range bounds word v said =
-    elim (is_number word) as (λ b. (if b then within bounds (number_of word) else Err rules.Form) ≡ Ok v → Within bounds v) [
+    elim (is_number word) as (λ b. (if b then within bounds (number_of word) else Err rules.Form) ≡ Ok v → IsWithin bounds v) [
       | true ↦ λ e. within-range bounds (number_of word) v e
       | false ↦ λ e. absurd (cc)
     ] said
@@ -61,9 +57,9 @@ both-ok (Ok x) (Ok y) v said =
     let same : (x, y) ≡ v = cc in
     (ap (λ (p : ℕ × ℕ). Ok p.0) same, ap (λ (p : ℕ × ℕ). Ok p.1) same)
 
-pair_said-range : (first second : Bounds) (a b : List ℕ) (v : ℕ × ℕ) → pair_said first second a b ≡ Ok v → Within first v.0 × Within second v.1
+pair_said-range : (first second : Bounds) (a b : List ℕ) (v : ℕ × ℕ) → pair_said first second a b ≡ Ok v → IsWithin first v.0 × IsWithin second v.1
 pair_said-range first second a b v said =
-    elim (is_number a && is_number b) as (λ t. (if t then both (within first (number_of a)) (within second (number_of b)) else Err rules.Form) ≡ Ok v → Within first v.0 × Within second v.1) [
+    elim (is_number a && is_number b) as (λ t. (if t then both (within first (number_of a)) (within second (number_of b)) else Err rules.Form) ≡ Ok v → IsWithin first v.0 × IsWithin second v.1) [
       | true ↦ λ e.
           let ok = both-ok (within first (number_of a)) (within second (number_of b)) v e in
           (within-range first (number_of a) v.0 ok.0, within-range second (number_of b) v.1 ok.1)
@@ -78,9 +74,9 @@ all_three-ok (Ok x) (Ok y) (Ok z) v said =
     let same : (x, y, z) ≡ v = cc in
     (ap (λ (p : ℕ × ℕ × ℕ). Ok p.0) same, ap (λ (p : ℕ × ℕ × ℕ). Ok p.1) same, ap (λ (p : ℕ × ℕ × ℕ). Ok p.2) same)
 
-triple_said-range : (first second third : Bounds) (a b c : List ℕ) (v : ℕ × ℕ × ℕ) → triple_said first second third a b c ≡ Ok v → Within first v.0 × Within second v.1 × Within third v.2
+triple_said-range : (first second third : Bounds) (a b c : List ℕ) (v : ℕ × ℕ × ℕ) → triple_said first second third a b c ≡ Ok v → IsWithin first v.0 × IsWithin second v.1 × IsWithin third v.2
 triple_said-range first second third a b c v said =
-    elim (is_number a && is_number b && is_number c) as (λ t. (if t then all_three (within first (number_of a)) (within second (number_of b)) (within third (number_of c)) else Err rules.Form) ≡ Ok v → Within first v.0 × Within second v.1 × Within third v.2) [
+    elim (is_number a && is_number b && is_number c) as (λ t. (if t then all_three (within first (number_of a)) (within second (number_of b)) (within third (number_of c)) else Err rules.Form) ≡ Ok v → IsWithin first v.0 × IsWithin second v.1 × IsWithin third v.2) [
       | true ↦ λ e.
           let ok = all_three-ok (within first (number_of a)) (within second (number_of b)) (within third (number_of c)) v e in
           (within-range first (number_of a) v.0 ok.0, within-range second (number_of b) v.1 ok.1, within-range third (number_of c) v.2 ok.2)
@@ -93,16 +89,15 @@ bind-ok (Ok x) say s said = (x, refl, said)
 bind-ok (Err broken) say s said = absurd (cc)
 
 -- what a line says is in its range
-pub record IsTimeInRange (time : ℕ × ℕ) : Type 0 where
-  pub seconds : time.0 ≤ 2 ^ 40
-  pub nanoseconds : time.1 < 1000000000
+record IsTimeInRange (time : ℕ × ℕ) : Type 0 where
+  seconds : IsWithin seconds_range time.0
+  nanoseconds : IsWithin nanoseconds_range time.1
 
-pub record AreBytesInRange (bytes : List ℕ) : Type 0 where
-  pub some : 1 ≤ length bytes
-  pub few : length bytes ≤ 4096
+record AreBytesInRange (bytes : List ℕ) : Type 0 where
+  count : IsWithin (between 1 most_bytes) (length bytes)
 
 abbrev IsSaidInRange : Statement → Type 0
-IsSaidInRange (says.Quantum n) = (1 ≤ n) × (n ≤ 1000000)
+IsSaidInRange (says.Quantum n) = IsWithin quantum_range n
 IsSaidInRange (says.Epoch s n) = IsTimeInRange (s, n)
 IsSaidInRange (says.Tty size) = Unit {0}
 IsSaidInRange (says.Random bytes) = AreBytesInRange bytes
@@ -112,28 +107,28 @@ quantum_said-range : (words : List (List ℕ)) (s : Statement) → quantum_said 
 quantum_said-range [] s said = absurd (cc)
 quantum_said-range (n ∷ m ∷ more) s said = absurd (cc)
 quantum_said-range (n ∷ []) s said =
-    let ok = bind-ok (number_said (between 1 1000000) n) (λ v. Ok (says.Quantum v)) s said in
+    let ok = bind-ok (number_said quantum_range n) (λ v. Ok (says.Quantum v)) s said in
     let same : says.Quantum ok.0 ≡ s = cc ok.2 in
     let F : Statement → Type 0 = IsSaidInRange in
-    subst F same (number_said-range (between 1 1000000) n ok.0 ok.1)
+    subst F same (number_said-range quantum_range n ok.0 ok.1)
 
 epoch_said-range : (words : List (List ℕ)) (s : Statement) → epoch_said words ≡ Ok s → IsSaidInRange s
 epoch_said-range [] s said = absurd (cc)
 epoch_said-range (n ∷ []) s said = absurd (cc)
 epoch_said-range (n ∷ m ∷ k ∷ more) s said = absurd (cc)
 epoch_said-range (a ∷ b ∷ []) s said =
-    let ok = bind-ok (pair_said (between 0 (2 ^ 40)) (between 0 999999999) a b) (λ v. Ok (says.Epoch v.0 v.1)) s said in
+    let ok = bind-ok (pair_said seconds_range nanoseconds_range a b) (λ v. Ok (says.Epoch v.0 v.1)) s said in
     let same : says.Epoch ok.0.0 ok.0.1 ≡ s = cc ok.2 in
-    let ranges = pair_said-range (between 0 (2 ^ 40)) (between 0 999999999) a b ok.0 ok.1 in
+    let ranges = pair_said-range seconds_range nanoseconds_range a b ok.0 ok.1 in
     let F : Statement → Type 0 = IsSaidInRange in
-    subst F same (record { seconds = ranges.0.1; nanoseconds = omega (arith, ranges.1.1) })
+    subst F same (record { seconds = ranges.0; nanoseconds = ranges.1 })
 
 tty_said-range : (words : List (List ℕ)) (s : Statement) → tty_said words ≡ Ok s → IsSaidInRange s
 tty_said-range [] s said = absurd (cc)
 tty_said-range (n ∷ []) s said = absurd (cc)
 tty_said-range (n ∷ m ∷ k ∷ more) s said = absurd (cc)
 tty_said-range (a ∷ b ∷ []) s said =
-    let ok = bind-ok (pair_said (between 0 65535) (between 0 65535) a b) (λ v. Ok (says.Tty (record { rows = v.0; cols = v.1 }))) s said in
+    let ok = bind-ok (pair_said side_range side_range a b) (λ v. Ok (says.Tty (record { rows = v.0; cols = v.1 }))) s said in
     let same : says.Tty (record { rows = ok.0.0; cols = ok.0.1 }) ≡ s = cc ok.2 in
     let F : Statement → Type 0 = IsSaidInRange in
     subst F same tt
@@ -150,24 +145,24 @@ random_said-range : (words : List (List ℕ)) (s : Statement) → random_said wo
 random_said-range [] s said = absurd (cc)
 random_said-range (n ∷ m ∷ more) s said = absurd (cc)
 random_said-range (hex ∷ []) s said =
-    elim (are_bytes hex) as (λ b. are_bytes hex ≡ b → (if b then (if nat_le (length hex) 8192 then Ok (says.Random (bytes_of hex)) else Err rules.Range) else Err rules.Form) ≡ Ok s → IsSaidInRange s) [
+    elim (are_bytes hex) as (λ b. are_bytes hex ≡ b → (if b then (if nat_le (length hex) (2 * most_bytes) then Ok (says.Random (bytes_of hex)) else Err rules.Range) else Err rules.Form) ≡ Ok s → IsSaidInRange s) [
       | true ↦ λ holds e. few holds e
       | false ↦ λ fails e. absurd (cc)
     ] refl said
   where
-    few : are_bytes hex ≡ true → (if nat_le (length hex) 8192 then Ok (says.Random (bytes_of hex)) else Err rules.Range) ≡ Ok s → IsSaidInRange s
+    few : are_bytes hex ≡ true → (if nat_le (length hex) (2 * most_bytes) then Ok (says.Random (bytes_of hex)) else Err rules.Range) ≡ Ok s → IsSaidInRange s
     few holds told =
-        elim (nat_le (length hex) 8192) as (λ b. nat_le (length hex) 8192 ≡ b → (if b then Ok (says.Random (bytes_of hex)) else Err rules.Range) ≡ Ok s → IsSaidInRange s) [
+        elim (nat_le (length hex) (2 * most_bytes)) as (λ b. nat_le (length hex) (2 * most_bytes) ≡ b → (if b then Ok (says.Random (bytes_of hex)) else Err rules.Range) ≡ Ok s → IsSaidInRange s) [
           | true ↦ λ short e.
               let front = and_true (nat_lt 0 (length hex) && (length hex % 2 == 0)) (list_all is_hexadecimal hex) holds in
               let parts = and_true (nat_lt 0 (length hex)) (length hex % 2 == 0) front.0 in
               let some : 0 < length hex = ltb-true _ _ parts.0 in
               let even : length hex % 2 ≡ 0 = eqb-true _ _ parts.1 in
-              let high : length hex ≤ 8192 = leb-true _ _ short in
+              let high : length hex ≤ 2 * most_bytes = leb-true _ _ short in
               let half = twice-length-bytes_of hex in
               let same : says.Random (bytes_of hex) ≡ s = cc in
               let F : Statement → Type 0 = IsSaidInRange in
-              subst F same (record { some = omega (arith, half.0, half.1); few = omega (arith, half.0, half.1) })
+              subst F same (record { count = record { least = omega (arith, half.0, half.1); most = omega (arith, half.0, half.1) } })
           | false ↦ λ long e. absurd (cc)
         ] refl told
 
@@ -175,22 +170,22 @@ kill_said-range : (t : List ℕ) (words : List (List ℕ)) (s : Statement) → k
 kill_said-range t [] s said = absurd (cc)
 kill_said-range t (n ∷ m ∷ more) s said = absurd (cc)
 kill_said-range t (signal ∷ []) s said =
-    let ok = bind-ok (pair_said (between 0 (2 ^ 60)) (between 1 128) t signal) (λ v. Ok (says.At (record { time = v.0; sig = v.1; value = None }))) s said in
+    let ok = bind-ok (pair_said time_range signal_range t signal) (λ v. Ok (says.At (record { time = v.0; sig = v.1; value = None }))) s said in
     let same : says.At (record { time = ok.0.0; sig = ok.0.1; value = None }) ≡ s = cc ok.2 in
-    let ranges = pair_said-range (between 0 (2 ^ 60)) (between 1 128) t signal ok.0 ok.1 in
+    let ranges = pair_said-range time_range signal_range t signal ok.0 ok.1 in
     let F : Statement → Type 0 = IsSaidInRange in
-    subst F same (record { time = ranges.0.1; first_signal = ranges.1.0; last_signal = ranges.1.1 })
+    subst F same (record { time = ranges.0; signal = ranges.1 })
 
 queue_said-range : (t : List ℕ) (words : List (List ℕ)) (s : Statement) → queue_said t words ≡ Ok s → IsSaidInRange s
 queue_said-range t [] s said = absurd (cc)
 queue_said-range t (n ∷ []) s said = absurd (cc)
 queue_said-range t (n ∷ m ∷ k ∷ more) s said = absurd (cc)
 queue_said-range t (signal ∷ value ∷ []) s said =
-    let ok = bind-ok (triple_said (between 0 (2 ^ 60)) (between 1 128) (between 0 (2 ^ 32 - 1)) t signal value) (λ n. Ok (says.At (record { time = n.0; sig = n.1; value = Some n.2 }))) s said in
+    let ok = bind-ok (triple_said time_range signal_range value_range t signal value) (λ n. Ok (says.At (record { time = n.0; sig = n.1; value = Some n.2 }))) s said in
     let same : says.At (record { time = ok.0.0; sig = ok.0.1; value = Some ok.0.2 }) ≡ s = cc ok.2 in
-    let ranges = triple_said-range (between 0 (2 ^ 60)) (between 1 128) (between 0 (2 ^ 32 - 1)) t signal value ok.0 ok.1 in
+    let ranges = triple_said-range time_range signal_range value_range t signal value ok.0 ok.1 in
     let F : Statement → Type 0 = IsSaidInRange in
-    subst F same (record { time = ranges.0.1; first_signal = ranges.1.0; last_signal = ranges.1.1 })
+    subst F same (record { time = ranges.0; signal = ranges.1 })
 
 deed_said-range : (deed : Option Deed) (t : List ℕ) (words : List (List ℕ)) (s : Statement) → deed_said deed t words ≡ Ok s → IsSaidInRange s
 deed_said-range None t words s said = absurd (cc)
@@ -223,7 +218,7 @@ line_said-range line s said =
 
 -- what is read so far is in its ranges
 record IsDraftInRange (d : Draft) : Type 0 where
-  quantum : IfSome d.quantum (λ n. (1 ≤ n) × (n ≤ 1000000))
+  quantum : IfSome d.quantum (IsWithin quantum_range)
   epoch : IfSome d.epoch IsTimeInRange
   random : IfSome d.random AreBytesInRange
   events : All IsDueInRange d.events
@@ -268,30 +263,26 @@ in_range-lines (text ∷ next ∷ more) d end line ranges told =
     in_range-on (next ∷ more) line end (with_line d text) (λ longer taken. in_range-said d longer text (line_said text) refl ranges taken) (λ longer r t. in_range-lines (next ∷ more) longer end (line + 1) r t) told
 
 -- the settings that stand nowhere have values in their ranges
-quantum_range : (o : Option ℕ) → IfSome o (λ n. (1 ≤ n) × (n ≤ 1000000)) → (1 ≤ unwrap_or o 1000) × (unwrap_or o 1000 ≤ 1000000)
-quantum_range None range = (omega arith, omega arith)
-quantum_range (Some n) range = range
+quantum-in_range : (o : Option ℕ) → IfSome o (IsWithin quantum_range) → IsWithin quantum_range (unwrap_or o 1000)
+quantum-in_range None range = record { least = omega arith; most = omega arith }
+quantum-in_range (Some n) range = range
 
-epoch_range : (o : Option (ℕ × ℕ)) → IfSome o IsTimeInRange → IsTimeInRange (unwrap_or o (0, 0))
-epoch_range None range = record { seconds = omega arith; nanoseconds = omega arith }
-epoch_range (Some time) range = range
+epoch-in_range : (o : Option (ℕ × ℕ)) → IfSome o IsTimeInRange → IsTimeInRange (unwrap_or o (0, 0))
+epoch-in_range None range = record { seconds = record { least = omega arith; most = omega arith }; nanoseconds = record { least = omega arith; most = omega arith } }
+epoch-in_range (Some time) range = range
 
-random_range : (o : Option (List ℕ)) → IfSome o AreBytesInRange → AreBytesInRange (unwrap_or o (0 ∷ []))
-random_range None range = record { some = omega arith; few = omega arith }
-random_range (Some bytes) range = range
+random-in_range : (o : Option (List ℕ)) → IfSome o AreBytesInRange → AreBytesInRange (unwrap_or o (0 ∷ []))
+random-in_range None range = record { count = record { least = omega arith; most = omega arith } }
+random-in_range (Some bytes) range = range
 
 in_range-from : (d : Draft) → IsDraftInRange d → IsInRange (schedule_from d)
 in_range-from d ranges =
-    let quantum = quantum_range d.quantum ranges.quantum in
-    let epoch = epoch_range d.epoch ranges.epoch in
-    let random = random_range d.random ranges.random in
+    let epoch = epoch-in_range d.epoch ranges.epoch in
     record {
-      some_quantum = quantum.0;
-      quantum = quantum.1;
+      quantum = quantum-in_range d.quantum ranges.quantum;
       seconds = epoch.seconds;
       nanoseconds = epoch.nanoseconds;
-      some_bytes = random.some;
-      bytes = random.few;
+      bytes = (random-in_range d.random ranges.random).count;
       events = ranges.events;
     }
 

@@ -1,7 +1,7 @@
 -- What one line of a schedule says, and which of the rules that speak of one line it breaks first:
 -- Ascii, Word, Form, Range. One row a kind of line, each with the ranges of its numbers. This project's
 -- own format.
-use Rattle.std.specs.Prelude.{ℕ, ◌^◌, ◌-◌, nat_le, List, [], ◌∷◌, length, if◌then◌else◌, codes, bytes_eq, Option, None, Some, Result, Ok, Err}
+use Rattle.std.specs.Prelude.{ℕ, ◌*◌, nat_le, List, [], ◌∷◌, length, if◌then◌else◌, codes, bytes_eq, Option, None, Some, Result, Ok, Err}
 use Rattle.std.specs.List.{list_all}
 use Rattle.schedule.specs.declared.refusal.ScheduleRule.{ScheduleRule}
 use Rattle.schedule.specs.declared.refusal.ScheduleRule.TheVariants as rule
@@ -11,7 +11,7 @@ use Rattle.schedule.specs.declared.statement.Keyword.{Keyword}
 use Rattle.schedule.specs.declared.statement.Keyword.TheVariants as key
 use Rattle.schedule.specs.declared.statement.Statement.{Statement}
 use Rattle.schedule.specs.declared.statement.Statement.TheVariants as says
-use Rattle.schedule.specs.declared.text.Bounds.{Bounds}
+use Rattle.schedule.specs.Ranges.{quantum_range, seconds_range, nanoseconds_range, side_range, time_range, signal_range, value_range, most_bytes}
 use Rattle.schedule.specs.Text.{words_of, is_printed, are_bytes, bytes_of, number_said, pair_said, triple_said}
 
 -- the kinds of lines, by their first words
@@ -29,9 +29,6 @@ deed_of word =
     if bytes_eq word (codes "kill") then Some deed.Kill else
     if bytes_eq word (codes "queue") then Some deed.Queue else None
 
-abbrev pub between : ℕ → ℕ → Bounds
-between least most = record { least = least; most = most }
-
 -- what is said of a value that was read
 infixl 10 ◌>>=◌
 abbrev pub ◌>>=◌ : {A B : Type 0} → Result A ScheduleRule → (A → Result B ScheduleRule) → Result B ScheduleRule
@@ -40,38 +37,38 @@ abbrev pub ◌>>=◌ : {A B : Type 0} → Result A ScheduleRule → (A → Resul
 
 -- quantum N: nanoseconds a turn
 abbrev pub quantum_said : List (List ℕ) → Result Statement ScheduleRule
-quantum_said (n ∷ []) = number_said (between 1 1000000) n >>= λ v. Ok (says.Quantum v)
+quantum_said (n ∷ []) = number_said quantum_range n >>= λ v. Ok (says.Quantum v)
 quantum_said words = Err rule.Form
 
 -- epoch S N: seconds, and nanoseconds below a second
 abbrev pub epoch_said : List (List ℕ) → Result Statement ScheduleRule
-epoch_said (s ∷ n ∷ []) = pair_said (between 0 (2 ^ 40)) (between 0 999999999) s n >>= λ v. Ok (says.Epoch v.0 v.1)
+epoch_said (s ∷ n ∷ []) = pair_said seconds_range nanoseconds_range s n >>= λ v. Ok (says.Epoch v.0 v.1)
 epoch_said words = Err rule.Form
 
 -- tty R C: rows and columns of a terminal
 abbrev pub tty_said : List (List ℕ) → Result Statement ScheduleRule
 tty_said (r ∷ c ∷ []) =
-    pair_said (between 0 65535) (between 0 65535) r c >>= λ v. Ok (says.Tty (record { rows = v.0; cols = v.1 }))
+    pair_said side_range side_range r c >>= λ v. Ok (says.Tty (record { rows = v.0; cols = v.1 }))
 tty_said words = Err rule.Form
 
 -- random HEX: 1 to 4096 bytes, two digits each
 abbrev pub random_said : List (List ℕ) → Result Statement ScheduleRule
 random_said (hex ∷ []) =
-    if are_bytes hex then (if nat_le (length hex) 8192 then Ok (says.Random (bytes_of hex)) else Err rule.Range)
+    if are_bytes hex then (if nat_le (length hex) (2 * most_bytes) then Ok (says.Random (bytes_of hex)) else Err rule.Range)
     else Err rule.Form
 random_said words = Err rule.Form
 
 -- at T kill S: the signal of that o32 number comes at that time, in nanoseconds
 abbrev pub kill_said : List ℕ → List (List ℕ) → Result Statement ScheduleRule
 kill_said t (s ∷ []) =
-    pair_said (between 0 (2 ^ 60)) (between 1 128) t s
+    pair_said time_range signal_range t s
     >>= λ v. Ok (says.At (record { time = v.0; sig = v.1; value = None }))
 kill_said t words = Err rule.Form
 
 -- at T queue S V: the same with a value
 abbrev pub queue_said : List ℕ → List (List ℕ) → Result Statement ScheduleRule
 queue_said t (s ∷ v ∷ []) =
-    triple_said (between 0 (2 ^ 60)) (between 1 128) (between 0 (2 ^ 32 - 1)) t s v
+    triple_said time_range signal_range value_range t s v
     >>= λ n. Ok (says.At (record { time = n.0; sig = n.1; value = Some n.2 }))
 queue_said t words = Err rule.Form
 

@@ -141,3 +141,17 @@ fn gives_the_values_of_absent_settings(rt: HostRuntime) -> Result<(), Fail> {
     assert!(rt; schedule.events.is_empty());
     Ok(())
 }
+
+#[test]
+fn tells_the_line_of_the_first_event(rt: HostRuntime) {
+    for (text, line) in [
+        ("", None),
+        ("quantum 1\ntty 1 1\n", None),
+        ("at 0 kill 1\n", Some(1)),
+        ("quantum 1\nrandom 00\nat 0 kill 1\nat 1 kill 1\n", Some(3)),
+        ("quantum at\n", None),
+        ("tty 1 1\nat 0 kill 1", Some(2)),
+    ] {
+        assert_eq!(rt; first_event_line(text.as_bytes()), line, "{text:?}");
+    }
+}
