@@ -38,8 +38,9 @@ pub fn fault(cpu: &mut Cpu, signal: Sig, code: u32, address: u32) -> Stepped
     ensures processor { cpu.new ≡ stopped cpu.old }
     ensures came { result ≡ Stepped.Fault signal code address }
 {
-    cpu.pc = restart(cpu);
-    cpu.slot = None;
+    if let Some(slot) = cpu.slot.take() {
+        cpu.pc = slot.branch;
+    }
     Stepped::Fault {
         sig: signal,
         code,

@@ -1,5 +1,5 @@
 //! Loads and stores over guest memory, and the signals of their refusals.
-ghost use Rattle.std.specs.Prelude.{◌≡◌, ◌%◌, ◌<◌, Some, IfOk, OnOk, OnErr, IsTrue};
+ghost use Rattle.std.specs.Prelude.{◌≡◌, ◌%◌, ◌<◌, ◌||◌, not, if◌then◌else◌, IfOk, OnOk, OnErr, IsTrue};
 ghost use Rattle.guest_space.specs.Access.{first_denied};
 ghost use Rattle.guest_space.specs.Answers.{IsStoreAnswer};
 ghost use Rattle.guest_space.specs.Bytes.{read, written, are_ready};
@@ -207,6 +207,25 @@ fn store_refusal(space: &Space, address: u32) -> Option<Denied>
     Some(Denied { addr: address, why })
 }
 
+/// Writes the word at an aligned address where that is linked, and else tells only whether it may be
+/// stored to.
+#[inline]
+fn write_if(linked: bool, space: &mut Space, address: u32, value: u32) -> Result<(), StoreError>
+    requires { address % 4 ≡ 0 }
+    ensures ok { OnOk result (space.new ≡ (if linked then written space.old address 4 value else space.old)) }
+    ensures err { OnErr result (space.new ≡ space.old) }
+    ensures answer { IsStoreAnswer (first_denied Access.Store space.old.pages address 4)
+        (not linked || are_ready space.old.pages address 4) result }
+{
+    if linked {
+        return space.store(address, 4, value);
+    }
+    match store_refusal(space, address) {
+        Some(denied) => Err(StoreError::Denied(denied)),
+        None => Ok(()),
+    }
+}
+
 /// SC, which clears the link, also where it stores nothing.
 #[inline]
 pub fn store_conditional(
@@ -225,39 +244,11 @@ pub fn store_conditional(
         cpu.link = None;
         return Ok(fault(cpu, Sig::Bus, BAD_ADDRESS, address));
     }
-    if cpu.link == Some(address) {
-        return store_linked(cpu, space, address, register);
-    }
-    cpu.link = None;
-    match store_refusal(space, address) {
-        Some(denied) => Ok(deny(cpu, denied)),
-        None => {
-            cpu.set_operand(register, 0);
-            Ok(go_on(cpu))
-        }
-    }
-}
-
-/// SC at the address that is linked.
-#[inline]
-fn store_linked(
-    cpu: &mut Cpu,
-    space: &mut Space,
-    address: u32,
-    register: u8,
-) -> Result<Stepped, NoMemory>
-    requires aligned { address % 4 ≡ 0 }
-    requires linked { cpu.old.link ≡ Some address }
-    ensures ok { IfOk result (λ came. carried_out cpu.old space.old (Effect.StoreConditional address register)
-        ≡ record { processor = cpu.new; memory = space.new; came = came }) }
-    ensures unchanged_cpu { OnErr result (cpu.new ≡ cpu.old) }
-    ensures unchanged_space { OnErr result (space.new ≡ space.old) }
-    ensures cause { OnErr result (IsTrue (needs_page cpu.old space.old (Effect.StoreConditional address register))) }
-{
-    match space.store(address, 4, cpu.operand(register)) {
+    let linked = cpu.link == Some(address);
+    match write_if(linked, space, address, cpu.operand(register)) {
         Ok(()) => {
             cpu.link = None;
-            cpu.set_operand(register, 1);
+            cpu.set_operand(register, u32::from(linked));
             Ok(go_on(cpu))
         }
         Err(StoreError::Denied(denied)) => {

@@ -841,14 +841,17 @@ fn denied_bytes_have_their_signals_and_addresses(rt: HostRuntime) -> Result<(), 
 
 #[test]
 fn denied_fetches_have_their_signals_and_addresses(rt: HostRuntime) -> Result<(), Fail> {
-    for (pc, sig, address) in [
-        (0x1002, Sig::Bus, 0x1002),
-        (0x3000, Sig::Segv, 0x3000),
-        (0x8000_0000, Sig::Bus, 0x8000_0000),
+    // an unaligned pc, an absent page, the end of user space, and a page without protection
+    for (pc, sig, code, address) in [
+        (0x1002, Sig::Bus, 1, 0x1002),
+        (0x3000, Sig::Segv, 1, 0x3000),
+        (0x8000_0000, Sig::Bus, 1, 0x8000_0000),
+        (0x5004, Sig::Segv, 2, 0x5004),
     ] {
         let (mut cpu, mut space) = machine(rt.alloc(), [0, 0], 0, 0)?;
+        space.map(5, 1, 0).map_err(|_| "no page")?;
         cpu.pc = pc;
-        assert!(rt; fault(&mut cpu, &mut space)? == Some((sig, 1, address)));
+        assert!(rt; fault(&mut cpu, &mut space)? == Some((sig, code, address)));
         assert_eq!(rt; cpu.pc, pc);
     }
     Ok(())
