@@ -11,7 +11,7 @@ use Rattle.std.specs.Cmp.{ranks}
 use Rattle.std.specs.FinMap as map
 use Rattle.std.proofs.lemmas.Map.Keys.{le_from_not_gt, ge_from_not_lt}
 use Rattle.file_blocks.specs.Kept.{NoneFrom, IsFirstFrom}
-use Rattle.file_blocks.proofs.Entries.{lookup-get}
+use Rattle.paged_bytes.proofs.Entries.{lookup-get}
 
 pub in_none : {X : Type 0} {P : Type 0} (o : Option X) → P → IfNone o P
 in_none None p = p

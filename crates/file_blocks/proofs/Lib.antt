@@ -1,9 +1,7 @@
 pub mod ByteLemmas
 pub mod Cuts
 pub mod Ends
-pub mod Entries
 pub mod PieceLemmas
-pub mod Puts
 pub mod Spare
 pub mod WriteSteps
 pub mod Uses

@@ -3,7 +3,13 @@ use Rattle.std.proofs.Common.{◌≡◌, ◌+◌, ◌-◌, ℕ, true, false, con
 use Rattle.std.specs.Cmp.{nat_cmp_total}
 use Rattle.std.specs.FinMap.{get, insert, len, len-insert}
 use Rattle.kernel_core.specs.FileContent.{Blocks, block_or_zeros, zero_block}
-use Rattle.file_blocks.specs.Pieces.{put_at, with_piece, with_kept_piece, taken_by, WritesPiece}
+use Rattle.file_blocks.specs.inside.Pieces.{with_piece, with_kept_piece, taken_by, WritesPiece}
+use Rattle.paged_bytes.specs.Pages.{put_at, zero_page}
+
+-- a page of zeros is a block of zeros
+pub zero_page-block : zero_page ≡ zero_block
+unfolding zero_page zero_block
+zero_page-block = refl
 
 module _ (blocks : Blocks) (index place : ℕ) (piece : List ℕ) where
   kept_go : (o : Option (List ℕ)) → true ≡ is_some o → get blocks index ≡ o

@@ -3,7 +3,7 @@ use Rattle.std.proofs.Common.{◌≡◌, ◌≤◌, ◌<◌, ◌+◌, ◌-◌, �
 use Rattle.std.proofs.lemmas.Bool.Decides.{nat_tests}
 use Rattle.std.specs.FinMap.{get}
 use Rattle.kernel_core.specs.FileContent.{Blocks, absent_blocks, new_blocks, longest_write}
-use Rattle.file_blocks.specs.Pieces.{taken_by}
+use Rattle.file_blocks.specs.inside.Pieces.{taken_by}
 
 absent-same : (blocks : Blocks) {a b m n : ℕ} → a ≡ b → m ≡ n → absent_blocks blocks a m ≡ absent_blocks blocks b n
 absent-same blocks p q = λ i. absent_blocks blocks (p i) (q i)

@@ -6,8 +6,9 @@ use Rattle.std.specs.Ordering.{nat_cmp, eq_by_cmp}
 use Rattle.std.specs.Cmp.{nat_cmp_total}
 use Rattle.std.specs.FinMap.{get, get-insert}
 use Rattle.kernel_core.specs.FileContent.{Blocks, block_or_zeros, with_bytes, longest_write}
-use Rattle.file_blocks.specs.Pieces.{put_at, with_piece, taken_by}
-use Rattle.file_blocks.proofs.Puts.{length-part}
+use Rattle.file_blocks.specs.inside.Pieces.{with_piece, taken_by}
+use Rattle.paged_bytes.specs.Pages.{put_at}
+use Rattle.paged_bytes.proofs.Puts.{length-part}
 use Rattle.file_blocks.proofs.ByteLemmas.{with_bytes-append, with_bytes-piece}
 use Rattle.file_blocks.proofs.Spare.{longest_write-step}
 

@@ -3,9 +3,9 @@ ghost use Rattle.std.specs.Prelude.{◌≡◌, ◌+◌, ◌<◌, ◌≤◌, ◌^
 ghost use Rattle.std.specs.FinMap as map;
 ghost use Rattle.kernel_core.specs.FileContent.{with_zero_tail};
 ghost use Rattle.file_blocks.specs.Kept.{IsFirstFrom, NoneFrom};
-ghost use Rattle.file_blocks.specs.Pieces.{with_kept_piece};
+ghost use Rattle.file_blocks.specs.inside.Pieces.{with_kept_piece};
 
-use crate::block::Block;
+use paged_bytes::PageBytes;
 use std::alloc::{AllocError, Global};
 use std::collections::BTreeMap;
 use std::marker::Model;
@@ -13,7 +13,7 @@ use std::marker::Model;
 /// The kept blocks by their indexes.
 #[derive(Drop)]
 pub(crate) struct BlockStore {
-    blocks: BTreeMap<u32, Block>,
+    blocks: BTreeMap<u32, PageBytes>,
 }
 
 impl Model for BlockStore {
@@ -38,7 +38,7 @@ impl BlockStore {
         }
     }
 
-    pub(crate) fn block(&self, index: u32) -> Option<&Block>
+    pub(crate) fn block(&self, index: u32) -> Option<&PageBytes>
         ensures { option_copied result ≡ map.get self.now index }
     {
         self.blocks.get(&index)
@@ -61,7 +61,7 @@ impl BlockStore {
     }
 
     /// The block of the least index that is not below `from`, where there is one.
-    pub(crate) fn first_from(&self, from: u32) -> Option<(u32, &Block)>
+    pub(crate) fn first_from(&self, from: u32) -> Option<(u32, &PageBytes)>
         ensures found { IfSome result (λ kept. IsFirstFrom self.now from kept.0 kept.1.now) }
         ensures none { IfNone result (NoneFrom self.now from) }
     {
@@ -70,7 +70,7 @@ impl BlockStore {
     }
 
     /// Puts the block at the index, in place of one that is there.
-    pub(crate) fn insert(&mut self, index: u32, block: Block) -> Result<(), AllocError>
+    pub(crate) fn insert(&mut self, index: u32, block: PageBytes) -> Result<(), AllocError>
         ensures ok { OnOk result (self.new ≡ map.insert self.old index block) }
         ensures err { OnErr result (self.new ≡ self.old) }
     {

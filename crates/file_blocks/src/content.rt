@@ -4,10 +4,10 @@ ghost use Rattle.std.specs.FinMap as map;
 ghost use Rattle.kernel_core.specs.FileContent.{no_content, IsContent, IsBlock, kept_blocks, readable, read_into, size_with, written, longest_write, resized, greatest_size};
 ghost use Rattle.file_blocks.specs.Kept.{IsFirstFrom, NoneFrom};
 
-use crate::block::Block;
 use crate::block_store::BlockStore;
 use crate::walk::{cut, read_bytes, write_bytes};
 use kernel_core::NoMemory;
+use paged_bytes::PageBytes;
 use std::alloc::Global;
 use std::marker::Model;
 
@@ -125,7 +125,7 @@ impl Content {
         ensures err { OnErr result (self.new ≡ self.old) }
         ensures valid { IsContent self.new }
     {
-        let mut block = Block::zeros(self.alloc)?;
+        let mut block = PageBytes::zeros(self.alloc)?;
         block.write(0, bytes);
         self.blocks.insert(index, block)?;
         Ok(())
@@ -145,7 +145,7 @@ impl Content {
             return None;
         };
         let (index, block) = blocks.first_from(from)?;
-        Some((index, block.bytes()))
+        Some((index, block.as_slice()))
     }
 
     /// How many of `count` bytes from `at` on lie before the end.

@@ -1,7 +1,6 @@
 //! The content of a regular file: its size, and the blocks of 4096 bytes that it keeps.
 #![tactic(auto)]
 
-mod block;
 mod block_store;
 mod content;
 mod walk;

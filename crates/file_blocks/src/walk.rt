@@ -2,11 +2,11 @@
 ghost use Rattle.std.specs.Prelude.{◌≡◌, ◌+◌, ◌*◌, ◌<◌, ◌≤◌, ◌/◌, ◌%◌, ◌^◌, length, take, nat_lt, IfOk, OnErr, IfErr};
 ghost use Rattle.std.specs.FinMap as map;
 ghost use Rattle.kernel_core.specs.FileContent.{bytes_at, with_bytes, longest_write, cut, block_size, greatest_size};
-ghost use Rattle.file_blocks.specs.Pieces.{WritesPiece};
+ghost use Rattle.file_blocks.specs.inside.Pieces.{WritesPiece};
 
-use crate::block::Block;
 use crate::block_store::BlockStore;
 use kernel_core::limits::BLOCK_SIZE;
+use paged_bytes::{PageBytes, count_in_page, place_in_page};
 use std::alloc::{AllocError, Global};
 
 /// A write that want of memory ended: so many bytes were written before.
@@ -23,22 +23,14 @@ pub(crate) fn index_of(at: u64) -> u32
     (at / BLOCK_SIZE as u64) as u32
 }
 
-/// The place of a byte of the file in its block.
-pub(crate) fn place_of(at: u64) -> usize
-    ensures { result ≡ at % 4096 }
-{
-    (at % BLOCK_SIZE as u64) as usize
-}
-
 /// Reads a piece of bytes that lies in one block.
 fn read_piece(blocks: &BlockStore, at: u64, piece: &mut [u8])
     requires within { at < greatest_size }
     requires room { at % 4096 + length piece.old ≤ 4096 }
     ensures { piece.new ≡ bytes_at blocks.now at (length piece.old) }
 {
-    let place = place_of(at);
     match blocks.block(index_of(at)) {
-        Some(block) => piece.copy_from_slice(&block.bytes()[place..place + piece.len()]),
+        Some(block) => block.read(place_in_page(at), piece),
         None => piece.fill(0),
     }
 }
@@ -51,7 +43,7 @@ pub(crate) fn read_bytes(blocks: &BlockStore, at: u64, buf: &mut [u8])
     let mut done = 0;
     while done < buf.len() {
         let from = at + done as u64;
-        let size = (buf.len() - done).min(BLOCK_SIZE - place_of(from));
+        let size = count_in_page(from, buf.len() - done);
         read_piece(blocks, from, &mut buf[done..done + size]);
         done += size;
     }
@@ -77,7 +69,7 @@ fn write_piece(
     if spare == 0 {
         return Ok(None);
     }
-    let mut block = Block::zeros(alloc)?;
+    let mut block = PageBytes::zeros(alloc)?;
     block.write(place, piece);
     blocks.insert(index, block)?;
     Ok(Some(spare - 1))
@@ -105,10 +97,16 @@ pub(crate) fn write_bytes(
     let mut done = 0;
     while done < bytes.len() {
         let from = at + done as u64;
-        let place = place_of(from);
-        let size = (bytes.len() - done).min(BLOCK_SIZE - place);
+        let size = count_in_page(from, bytes.len() - done);
         let piece = &bytes[done..done + size];
-        match write_piece(blocks, alloc, index_of(from), place, piece, left) {
+        match write_piece(
+            blocks,
+            alloc,
+            index_of(from),
+            place_in_page(from),
+            piece,
+            left,
+        ) {
             Ok(Some(rest)) => left = rest,
             Ok(None) => return Ok(done),
             Err(_) => return Err(Interrupted { count: done }),
@@ -138,7 +136,7 @@ pub(crate) fn cut(blocks: &mut BlockStore, size: u64)
     ensures fewer { map.len blocks.new ≤ map.len blocks.old }
 {
     remove_past(blocks, size);
-    let place = place_of(size);
+    let place = place_in_page(size);
     if place > 0 {
         blocks.clear_from(index_of(size), place);
     }

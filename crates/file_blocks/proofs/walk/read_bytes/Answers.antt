@@ -1,7 +1,7 @@
 use Rattle.std.proofs.Common.{◌≡◌, ◌+◌, ◌++◌, ap, sym, ◌∙◌, arith, length}
 use Rattle.std.proofs.lemmas.Slice.{take-put_mid}
 use Rattle.kernel_core.specs.FileContent.{bytes_at}
-use Rattle.file_blocks.proofs.Puts.{length-part}
+use Rattle.paged_bytes.proofs.Puts.{length-part}
 use Rattle.file_blocks.proofs.ByteLemmas.{bytes_at-append, bytes_at-zero, length-bytes_at}
 use Rattle.file_blocks.proofs.walk.read_bytes.Goals as goal
 
@@ -11,7 +11,7 @@ loop-done-init c = record { within = omega arith; read = sym (bytes_at-zero _ _)
 pub loop-done-preserved : goal.loop-done-preserved
 loop-done-preserved c =
     let done = c.loop-done.done in
-    let size = c.min-size.result in
+    let size = c.count_in_page-size.result in
     let at = c.args.at + done in
     let blocks = c.args.blocks.now in
     let part = length-part c.loop-done.buf done size (omega arith) in

@@ -1,6 +1,6 @@
 use Rattle.std.proofs.Common.{ap, ◌∙◌}
 use Rattle.std.specs.FinMap.{get}
-use Rattle.file_blocks.proofs.Entries.{lookup-get}
+use Rattle.paged_bytes.proofs.Entries.{lookup-get}
 use Rattle.file_blocks.proofs.block_store.BlockStore.block.Goals as goal
 
 pub returns : goal.returns

@@ -3,7 +3,7 @@ use Rattle.std.specs.Option.{option_copied_mut, IsSome}
 use Rattle.std.specs.FinMap.{get, insert, from_entries}
 use Rattle.file_blocks.specs.declared.block_store.BlockStore.TheInside.{Inside}
 use Rattle.kernel_core.specs.FileContent.{with_zero_tail}
-use Rattle.file_blocks.proofs.Entries.{lookup-get, put-insert}
+use Rattle.paged_bytes.proofs.Entries.{lookup-get, put-insert}
 use Rattle.file_blocks.proofs.block_store.BlockStore.clear_from.Goals as goal
 use Rattle.file_blocks.proofs.block_store.BlockStore.clear_from.Goals.{in-Some, in_default}
 

@@ -1,6 +1,6 @@
 use Rattle.std.proofs.Common.{ap, ◌∙◌}
 use Rattle.std.specs.FinMap.{insert}
-use Rattle.file_blocks.proofs.Entries.{put-insert}
+use Rattle.paged_bytes.proofs.Entries.{put-insert}
 use Rattle.file_blocks.proofs.block_store.BlockStore.insert.Goals as goal
 
 pub returns-clause-ok : goal.returns-clause-ok

@@ -3,7 +3,7 @@ use Rattle.std.specs.Option.{IsSome}
 use Rattle.std.specs.FinMap.{get}
 use Rattle.file_blocks.specs.Kept.{NoneFrom}
 use Rattle.file_blocks.proofs.Ends.{in_none, none_kept, none_past}
-use Rattle.file_blocks.proofs.Entries.{lookup-get}
+use Rattle.paged_bytes.proofs.Entries.{lookup-get}
 use Rattle.file_blocks.proofs.block_store.BlockStore.last_index.Goals as goal
 
 pub returns-in_err-last-clause-none : goal.returns-in_err-last-clause-none

@@ -1,6 +1,6 @@
 use Rattle.std.proofs.Common.{ap, ◌∙◌}
 use Rattle.std.specs.FinMap.{len}
-use Rattle.file_blocks.proofs.Entries.{length-len}
+use Rattle.paged_bytes.proofs.Entries.{length-len}
 use Rattle.file_blocks.proofs.block_store.BlockStore.len.Goals as goal
 
 pub returns : goal.returns

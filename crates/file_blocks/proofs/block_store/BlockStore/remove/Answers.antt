@@ -1,6 +1,6 @@
 use Rattle.std.proofs.Common.{ap, ◌∙◌}
 use Rattle.std.specs.FinMap.{remove}
-use Rattle.file_blocks.proofs.Entries.{put-remove}
+use Rattle.paged_bytes.proofs.Entries.{put-remove}
 use Rattle.file_blocks.proofs.block_store.BlockStore.remove.Goals as goal
 
 pub returns : goal.returns

@@ -2,8 +2,8 @@ use Rattle.std.proofs.Common.{ap, sym, ◌∙◌, subst, refl, Option, ℕ, List
 use Rattle.std.specs.Option.{option_copied_mut, IsSome}
 use Rattle.std.specs.FinMap.{get, insert, from_entries}
 use Rattle.file_blocks.specs.declared.block_store.BlockStore.TheInside.{Inside}
-use Rattle.file_blocks.specs.Pieces.{with_kept_piece}
-use Rattle.file_blocks.proofs.Entries.{lookup-get, put-insert}
+use Rattle.file_blocks.specs.inside.Pieces.{with_kept_piece}
+use Rattle.paged_bytes.proofs.Entries.{lookup-get, put-insert}
 use Rattle.file_blocks.proofs.block_store.BlockStore.write.Goals as goal
 use Rattle.file_blocks.proofs.block_store.BlockStore.write.Goals.{in-Some, in-None}
 

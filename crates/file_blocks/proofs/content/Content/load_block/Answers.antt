@@ -2,8 +2,8 @@ use Rattle.std.proofs.Common.{◌≡◌, ◌≤◌, ◌+◌, ap, sym, ◌∙◌,
 use Rattle.std.specs.Cmp.{nat_cmp_total}
 use Rattle.std.specs.FinMap.{get, insert, len, len-insert}
 use Rattle.kernel_core.specs.FileContent.{Blocks, FileContent, IsContent, IsBlock}
-use Rattle.file_blocks.specs.Pieces.{put_at}
-use Rattle.file_blocks.proofs.Puts.{put_at-whole}
+use Rattle.paged_bytes.specs.Pages.{put_at}
+use Rattle.paged_bytes.proofs.Puts.{put_at-whole}
 use Rattle.file_blocks.proofs.Validity.{AreBlocks, insert-valid}
 use Rattle.file_blocks.proofs.content.Content.load_block.Goals as goal
 

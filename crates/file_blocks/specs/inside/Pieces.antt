@@ -1,12 +1,8 @@
--- A piece of bytes that is written into one block. Only the private parts of the crate cite this.
-use Rattle.std.specs.Prelude.{◌≡◌, ℕ, suc, ◌+◌, ◌≤◌, List, [], ◌∷◌, slice_set, Option, Some, None, is_some, if◌then◌else◌}
+-- A piece of bytes that is written into one block.
+use Rattle.std.specs.Prelude.{◌≡◌, ℕ, ◌+◌, ◌≤◌, List, Option, Some, None, is_some, if◌then◌else◌}
 use Rattle.std.specs.FinMap.{get, insert, len}
 use Rattle.kernel_core.specs.FileContent.{Blocks, block_or_zeros}
-
--- the list with the piece from a place on
-abbrev pub put_at : List ℕ → ℕ → List ℕ → List ℕ
-put_at all place [] = all
-put_at all place (byte ∷ piece) = put_at (slice_set all place byte) (suc place) piece
+use Rattle.paged_bytes.specs.Pages.{put_at}
 
 -- the blocks with a piece in one of them, which is kept from then on
 abbrev pub with_piece : Blocks → ℕ → ℕ → List ℕ → Blocks

@@ -9,8 +9,7 @@ use Rattle.std.proofs.Math.ListN.{length-set, length-replicate}
 use Rattle.std.specs.Ordering.{nat_cmp, is_eq, eq_by_cmp}
 use Rattle.std.specs.Cmp.{nat_cmp_total, tied_itself}
 use Rattle.std.specs.FinMap.{FinMap, get, insert, get-insert, same_map, nat_cmp-IsAntisymmetric}
-use Rattle.kernel_core.specs.FileContent.{zero_block}
-use Rattle.file_blocks.specs.Pieces.{put_at}
+use Rattle.paged_bytes.specs.Pages.{put_at, zero_page}
 
 module _ {X : Type 0} where
   -- what is found at the key that was put
@@ -60,12 +59,12 @@ drop-part xs d s =
     ∙ ap (λ t. take s (drop d xs) ++ t) (drop-drop s d xs)
     ∙ ap (λ k. take k (drop d xs) ++ drop (d + s) xs) n
 
--- a piece that takes a whole block of zeros
-pub put_at-whole : (piece : List ℕ) → length piece ≡ 4096 → put_at zero_block 0 piece ≡ piece
-unfolding zero_block
+-- a piece that takes a whole page of zeros
+pub put_at-whole : (piece : List ℕ) → length piece ≡ 4096 → put_at zero_page 0 piece ≡ piece
+unfolding zero_page
 put_at-whole piece long =
     let all : length (replicate {A = ℕ} 4096 0) ≡ 4096 = length-replicate {A = ℕ} 4096 0 in
-    put_at-sets piece zero_block 0
-    ∙ sets-eq piece zero_block 0 (omega arith)
-    ∙ ap (λ s. piece ++ s) (drop_all (0 + length piece) zero_block (omega arith))
+    put_at-sets piece zero_page 0
+    ∙ sets-eq piece zero_page 0 (omega arith)
+    ∙ ap (λ s. piece ++ s) (drop_all (0 + length piece) zero_page (omega arith))
     ∙ append-nil piece

@@ -1,0 +1,3 @@
+pub mod ByteRuns
+pub mod Entries
+pub mod Puts
