@@ -1,13 +1,5 @@
 pub mod Answers
 pub mod Held
 pub mod Keyed
-pub mod Loading
-pub mod Making
-pub mod Removals
-pub mod Renames
-pub mod Saving
 pub mod Seen
-pub mod Steps
-pub mod Stored
-pub mod Texts
-pub mod Walking
+pub mod inside

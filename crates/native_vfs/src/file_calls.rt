@@ -10,8 +10,8 @@ ghost use Rattle.kernel_core.specs.ValidTree.{block_limit};
 ghost use Rattle.native_vfs.specs.Answers.{IsAnswer, IsSureAnswer, LeavesWritten};
 ghost use Rattle.native_vfs.specs.Held.{KeepsHeld};
 ghost use Rattle.native_vfs.specs.Keyed.{AreKeys, IsLiveKey, number_at};
-ghost use Rattle.native_vfs.specs.Steps.{IsFileStep, LeavesPart, file_written};
-ghost use Rattle.native_vfs.specs.Stored.{nodes_of, number_of_key, HasDistinctNumbers};
+ghost use Rattle.native_vfs.specs.inside.Steps.{IsFileStep, LeavesPart, file_written};
+ghost use Rattle.native_vfs.specs.inside.Stored.{nodes_of, number_of_key, HasDistinctNumbers};
 
 use crate::file_steps;
 use crate::stored::Stored;

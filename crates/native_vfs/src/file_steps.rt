@@ -7,8 +7,8 @@ ghost use Rattle.kernel_core.specs.NodeCalls.{modified_at, write_length};
 ghost use Rattle.kernel_core.specs.Nodes.{file_at, file_in};
 ghost use Rattle.kernel_core.specs.Totals.{content_blocks, live_blocks};
 ghost use Rattle.kernel_core.specs.ValidTree.{block_limit};
-ghost use Rattle.native_vfs.specs.Steps.{IsFileStep, IsFileChange, file_written, content_written};
-ghost use Rattle.native_vfs.specs.Stored.{nodes_of, content_of, number_of_key, HasDistinctNumbers};
+ghost use Rattle.native_vfs.specs.inside.Steps.{IsFileStep, IsFileChange, file_written, content_written};
+ghost use Rattle.native_vfs.specs.inside.Stored.{nodes_of, content_of, number_of_key, HasDistinctNumbers};
 
 use crate::stored::{Stored, StoredContent};
 use file_blocks::Content;

@@ -18,6 +18,7 @@ mod seconds;
 mod settle;
 mod steps;
 mod stored;
+mod table;
 mod vfs;
 mod walk;
 

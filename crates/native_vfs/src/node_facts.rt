@@ -9,7 +9,7 @@ ghost use Rattle.kernel_core.specs.Queries.{kind_at};
 ghost use Rattle.kernel_core.specs.ValidTree.{greatest_mode, root};
 ghost use Rattle.native_vfs.specs.Keyed.{IsLiveKey, number_at, inode_at};
 ghost use Rattle.native_vfs.specs.Seen.{kind_told, status_of, shown_entry};
-ghost use Rattle.native_vfs.specs.Stored.{content_of, inode_of};
+ghost use Rattle.native_vfs.specs.inside.Stored.{content_of, inode_of};
 
 use crate::place::{NodeKind, Status};
 use crate::stored::{Stored, StoredContent};

@@ -3,7 +3,7 @@ ghost use Rattle.std.specs.Prelude.{◌≡◌, ◌≤◌, ◌↔◌, [], ◌∷�
 ghost use Rattle.std.specs.List.{list_any, position};
 ghost use Rattle.kernel_core.specs.PathWalk.{components, begins_with_slash, ends_with_slash};
 ghost use Rattle.kernel_core.specs.ValidTree.{is_no_name_byte};
-ghost use Rattle.native_vfs.specs.Texts.{is_nul, is_slash, AreBytes, texts, stacked, IsTrimmed, IsLater, AreTexts};
+ghost use Rattle.native_vfs.specs.inside.Texts.{is_nul, is_slash, AreBytes, texts, stacked, IsTrimmed, IsLater, AreTexts};
 
 use std::alloc::{AllocError, Global};
 use std::marker::Model;
@@ -20,7 +20,7 @@ pub(crate) struct Rest<'a> {
 impl<'a> Model for Rest<'a> {
     ghost use Rattle.std.specs.Prelude.{List, ℕ, ◌++◌};
     ghost use Rattle.kernel_core.specs.PathWalk.{components};
-    ghost use Rattle.native_vfs.specs.Texts.{texts, stacked, AreTexts};
+    ghost use Rattle.native_vfs.specs.inside.Texts.{texts, stacked, AreTexts};
 
     ghost Value = { List (List ℕ) };
 

@@ -7,34 +7,14 @@ ghost use Rattle.kernel_core.specs.Nodes as nodes;
 ghost use Rattle.kernel_core.specs.Totals.{live_entries};
 ghost use Rattle.kernel_core.specs.ValidTree as valid;
 ghost use Rattle.native_vfs.specs.Keyed.{place_at, AgreesAt};
-ghost use Rattle.native_vfs.specs.Stored.{keyed_of, nodes_of, number_of_key, listing_of, HasDistinctNumbers, HasReferences};
+ghost use Rattle.native_vfs.specs.inside.Stored.{keyed_of, nodes_of, number_of_key, HasDistinctNumbers, HasReferences};
 
 use crate::place::Place;
-use crate::steps::node;
-use crate::stored::{ROOT, Stored, StoredContent, StoredDirectory};
+use crate::stored::{ROOT, Stored, StoredContent};
+use crate::table::{directory, is_directory, node, number, stands_for};
 use kernel_core::Errno;
 use kernel_core::limits::{ENTRY_LIMIT, GREATEST_COOKIE, NODE_LIMIT};
 use slab::Slab;
-
-/// The directory at a key, where it is one.
-pub(crate) fn directory(table: &Slab<Stored>, key: usize) -> Option<&StoredDirectory>
-    requires live { IsSome (slab_get table.now key) }
-    requires distinct { HasDistinctNumbers table.now }
-    ensures listing { option_map (λ d. listing_of d.now) result ≡ nodes.listing_at (nodes_of table.now) (number_of_key table.now key) }
-{
-    match &node(table, key).content {
-        StoredContent::Directory(directory) => Some(directory),
-        _ => None,
-    }
-}
-
-pub(crate) fn is_directory(table: &Slab<Stored>, key: usize) -> bool
-    requires live { IsSome (slab_get table.now key) }
-    requires distinct { HasDistinctNumbers table.now }
-    ensures { result ≡ nodes.is_directory (nodes_of table.now) (number_of_key table.now key) }
-{
-    directory(table, key).is_some()
-}
 
 /// Whether the directory was removed.
 pub(crate) fn is_orphan(table: &Slab<Stored>, key: usize) -> bool
@@ -214,19 +194,6 @@ pub(crate) fn rename_refusal(table: &Slab<Stored>, from: &Place, to: &Place) -> 
     move_refusal(table, moved, to)
 }
 
-/// Whether a place's name stands for a node.
-pub(crate) fn stands_for(table: &Slab<Stored>, at: &Place, node: usize) -> bool
-    requires agrees { AgreesAt (keyed_of table.now) at.now }
-    requires live { IsSome (slab_get table.now node) }
-    ensures { result ≡ names.is_node (place_at (keyed_of table.now) at.now).node (number_of_key table.now node) }
-{
-    let own = number(table, node);
-    match at.node {
-        Some(found) => number(table, found) == own,
-        None => false,
-    }
-}
-
 /// Why a node can't go under a new name, which doesn't stand for it yet.
 fn move_refusal(table: &Slab<Stored>, moved: usize, to: &Place) -> Option<Errno>
     requires distinct { HasDistinctNumbers table.now }
@@ -289,14 +256,6 @@ fn file_refusal(table: &Slab<Stored>, key: usize) -> Option<Errno>
     } else {
         None
     }
-}
-
-/// The number of the node at a key.
-pub(crate) fn number(table: &Slab<Stored>, key: usize) -> u64
-    requires live { IsSome (slab_get table.now key) }
-    ensures { result ≡ number_of_key table.now key }
-{
-    node(table, key).number
 }
 
 /// The parent of a directory other than the root.

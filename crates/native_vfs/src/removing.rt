@@ -7,8 +7,8 @@ ghost use Rattle.kernel_core.specs.Totals.{live_entries};
 ghost use Rattle.native_vfs.specs.Answers.{IsSureAnswer, with_node};
 ghost use Rattle.native_vfs.specs.Held.{KeepsHeld};
 ghost use Rattle.native_vfs.specs.Keyed.{AreKeys, AgreesAt, KeepsKeys, place_at};
-ghost use Rattle.native_vfs.specs.Removals.{IsLoss, IsSound};
-ghost use Rattle.native_vfs.specs.Stored.{nodes_of, keyed_of, number_of_key};
+ghost use Rattle.native_vfs.specs.inside.Removals.{IsLoss, IsSound};
+ghost use Rattle.native_vfs.specs.inside.Stored.{nodes_of, keyed_of, number_of_key};
 
 use crate::place::Place;
 use crate::refusals::{rmdir_refusal, unlink_refusal};

@@ -9,18 +9,19 @@ ghost use Rattle.kernel_core.specs.ValidTree.{IsName};
 ghost use Rattle.native_vfs.specs.Answers.{IsAnswer, with_node};
 ghost use Rattle.native_vfs.specs.Held.{KeepsHeld};
 ghost use Rattle.native_vfs.specs.Keyed.{AreKeys, AgreesAt, KeepsKeys, place_at, number_at};
-ghost use Rattle.native_vfs.specs.Removals.{IsSound};
-ghost use Rattle.native_vfs.specs.Renames.{entry_moved, MayGive, IsCleared, Becomes};
-ghost use Rattle.native_vfs.specs.Steps.{IsSame, links_at};
-ghost use Rattle.native_vfs.specs.Stored.{nodes_of, keyed_of, number_of_key, HasDistinctNumbers, HasRoom, CanAdd};
+ghost use Rattle.native_vfs.specs.inside.Removals.{IsSound};
+ghost use Rattle.native_vfs.specs.inside.Renames.{entry_moved, MayGive, IsCleared, Becomes};
+ghost use Rattle.native_vfs.specs.inside.Steps.{IsSame, links_at};
+ghost use Rattle.native_vfs.specs.inside.Stored.{nodes_of, keyed_of, number_of_key, HasDistinctNumbers, HasRoom, CanAdd};
 
 use crate::place::Place;
-use crate::refusals::{is_directory, number, rename_refusal, stands_for};
+use crate::refusals::rename_refusal;
 use crate::removing::{rmdir_at, unlink_at};
 use crate::steps::{
     add_link, add_name, drop_link, mark_changed, reparent, reserve_name, take_name,
 };
 use crate::stored::{Stored, copied};
+use crate::table::{is_directory, number, stands_for};
 use crate::vfs::Vfs;
 use directory_names::NodeRef;
 use kernel_core::{Bytes, CoreError, NoMemory};

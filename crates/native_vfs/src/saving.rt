@@ -5,8 +5,8 @@ ghost use Rattle.kernel_core.specs.FileSystem.{IsTime};
 ghost use Rattle.kernel_core.specs.LoadedTree as tree;
 ghost use Rattle.kernel_core.specs.ValidTree.{IsValidTree, IsReached, numbers};
 ghost use Rattle.directory_names.specs.Names.{plain};
-ghost use Rattle.native_vfs.specs.Saving.{block_of, linked_in, numbered, saved_of, HasTime};
-ghost use Rattle.native_vfs.specs.Stored.{nodes_of, inode_of, content_of, HasDistinctNumbers};
+ghost use Rattle.native_vfs.specs.inside.Saving.{block_of, linked_in, numbered, saved_of, HasTime};
+ghost use Rattle.native_vfs.specs.inside.Stored.{nodes_of, inode_of, content_of, HasDistinctNumbers};
 
 use crate::seconds::whole_seconds;
 use crate::stored::{Stored, StoredContent, copied};

@@ -4,8 +4,8 @@ ghost use Rattle.std.specs.FinMap.{get};
 ghost use Rattle.slab.specs.Slab.{get as slab_get};
 ghost use Rattle.kernel_core.specs.Nodes.{is_unused};
 ghost use Rattle.kernel_core.specs.Totals.{content_blocks, live_blocks};
-ghost use Rattle.native_vfs.specs.Steps.{IsSettled, IsUnnamed, GivesBack};
-ghost use Rattle.native_vfs.specs.Stored.{nodes_of, content_of, number_of_key, HasDistinctNumbers, AgreesPool};
+ghost use Rattle.native_vfs.specs.inside.Steps.{IsSettled, IsUnnamed, GivesBack};
+ghost use Rattle.native_vfs.specs.inside.Stored.{nodes_of, content_of, number_of_key, HasDistinctNumbers, AgreesPool};
 
 use crate::numbers::place_of;
 use crate::steps;

@@ -1,4 +1,4 @@
-//! The steps of which the calls are made: each changes one node of the table, or looks at it.
+//! The steps of which the calls are made: each changes one node of the table.
 ghost use Rattle.std.specs.Prelude.{◌≡◌, ◌+◌, ◌<◌, ◌^◌, Some, None, IsSome, IsOk, OnOk, IfOk, OnErr};
 ghost use Rattle.std.specs.FinMap.{get};
 ghost use Rattle.std.specs.Option.{unwrap_or};
@@ -7,21 +7,13 @@ ghost use Rattle.kernel_core.specs.NameCalls.{changed_at, one_link_more, one_lin
 ghost use Rattle.kernel_core.specs.NodeCalls.{held, let_go, with_mode, with_times};
 ghost use Rattle.kernel_core.specs.Nodes.{listing_at};
 ghost use Rattle.kernel_core.specs.ValidTree.{IsName};
-ghost use Rattle.native_vfs.specs.Steps.{IsSame, IsAddition, IsInsertion, IsRemoval, IsUnnamed, links_at, holds_at};
-ghost use Rattle.native_vfs.specs.Stored.{nodes_of, number_of_key, HasDistinctNumbers, HasRoom, Leads, ContentLeads, IsStep, CanAdd};
+ghost use Rattle.native_vfs.specs.inside.Steps.{IsSame, IsAddition, IsInsertion, IsRemoval, IsUnnamed, links_at, holds_at};
+ghost use Rattle.native_vfs.specs.inside.Stored.{nodes_of, number_of_key, HasDistinctNumbers, HasRoom, Leads, ContentLeads, IsStep, CanAdd};
 
 use crate::stored::{Stored, StoredContent};
 use directory_names::NodeRef;
 use kernel_core::{Bytes, NoMemory};
 use slab::Slab;
-
-/// The node at a key.
-pub(crate) fn node(table: &Slab<Stored>, key: usize) -> &Stored
-    requires live { IsSome (slab_get table.now key) }
-    ensures node { slab_get table.now key ≡ Some result.now }
-{
-    &table[key]
-}
 
 /// Sets the time of the last change.
 pub(crate) fn mark_changed(table: &mut Slab<Stored>, key: usize, now: i128)

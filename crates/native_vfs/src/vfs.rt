@@ -28,7 +28,7 @@ pub struct Vfs {
 
 impl Model for Vfs {
     ghost use Rattle.native_vfs.specs.Keyed.{Keyed, keyed_code};
-    ghost use Rattle.native_vfs.specs.Stored.{keyed_of, IsKept};
+    ghost use Rattle.native_vfs.specs.inside.Stored.{keyed_of, IsKept};
 
     ghost Value = { Keyed };
 

@@ -7,13 +7,13 @@ ghost use Rattle.kernel_core.specs.PathWalk as walking;
 ghost use Rattle.kernel_core.specs.ValidTree as tree;
 ghost use Rattle.native_vfs.specs.Answers.{IsWalked, MayStart};
 ghost use Rattle.native_vfs.specs.Keyed.{Keyed, IsLiveKey, number_at, inode_at, AgreesAt};
-ghost use Rattle.native_vfs.specs.Stored.{inode_of};
-ghost use Rattle.native_vfs.specs.Walking.{IsSound, named_key, walk_of, steps_left, IsUnderWay, IsFound, Gives, IsCopied};
+ghost use Rattle.native_vfs.specs.inside.Stored.{inode_of};
+ghost use Rattle.native_vfs.specs.inside.Walking.{IsSound, named_key, walk_of, steps_left, IsUnderWay, IsFound, Gives, IsCopied};
 
 use crate::path::{Rest, begins_with_slash, ends_with_slash};
 use crate::place::Place;
-use crate::steps::node;
 use crate::stored::{Stored, StoredContent, StoredDirectory, copied};
+use crate::table::node;
 use crate::vfs::Vfs;
 use kernel_core::limits::LONGEST_NAME;
 use kernel_core::{CoreError, Errno};

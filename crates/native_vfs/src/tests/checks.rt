@@ -2,8 +2,10 @@
 ghost use Rattle.std.specs.Prelude.{◌≡◌, IsTrue, IsSome, IfSome, true};
 ghost use Rattle.kernel_core.specs.FileSystem.{parent_at};
 ghost use Rattle.kernel_core.specs.Nodes.{file_at, target_at, is_directory as is_directory_at};
+ghost use Rattle.native_vfs.specs.Answers.{MayStart};
 ghost use Rattle.native_vfs.specs.Keyed.{IsLiveKey, number_at, inode_at};
 
+use crate::path::begins_with_slash;
 use crate::stored::StoredContent;
 use crate::vfs::Vfs;
 
@@ -63,4 +65,17 @@ pub(super) fn holds(vfs: &Vfs, key: usize) -> Option<u32>
         Some(node) => Some(node.holds),
         None => None,
     }
+}
+
+/// Whether a walk of a path may start at a key.
+pub(super) fn may_start(vfs: &Vfs, key: usize, path: &[u8]) -> bool
+    ensures { IsTrue result → MayStart vfs.now key path.now }
+{
+    if path.is_empty() {
+        return true;
+    }
+    if begins_with_slash(path) {
+        return true;
+    }
+    is_directory(vfs, key)
 }

@@ -4,10 +4,9 @@ ghost use Rattle.std.specs.List.{list_any};
 ghost use Rattle.kernel_core.specs.ValidTree.{IsValidTree};
 ghost use Rattle.native_vfs.specs.Keyed.{AgreesAt};
 
-use super::checks::{has_parent, holds, is_directory, is_file, is_link};
+use super::checks::{has_parent, holds, is_directory, is_file, is_link, may_start};
 use super::text::tree_text;
-use crate::path::begins_with_slash;
-use crate::place::{Place, Status};
+use crate::place::{NodeKind, Place, Status};
 use crate::vfs::Vfs;
 use kernel_core::{Bytes, CoreError, DirEntry, Errno, Items, Kind, NoMemory, Node, Tree};
 use std::alloc::{AllocError, Global};
@@ -213,7 +212,7 @@ impl Files {
             return Err("a path without NUL");
         }
         let start = self.start.unwrap_or(0);
-        if !begins_with_slash(path) && !is_directory(&self.vfs, start) {
+        if !may_start(&self.vfs, start, path) {
             return Err("a directory to begin at");
         }
         match self.vfs.walk(start, path, follow) {
@@ -375,6 +374,20 @@ impl Files {
         let now = i128::from(self.clock);
         self.vfs.set_times(key, access, modified, now);
         Ok(())
+    }
+
+    /// The number of the root.
+    pub(super) fn root(&self) -> Answer<u64> {
+        self.number(self.vfs.root_key())
+    }
+
+    /// Whether a node is of this kind.
+    pub(super) fn is_of_kind(&self, node: Which, kind: NodeKind) -> Answer<bool> {
+        let key = self.key(node)?;
+        if holds(&self.vfs, key).is_none() {
+            return Err("a live node");
+        }
+        Ok(self.vfs.kind(key) == kind)
     }
 
     /// What stat(2) tells of a node.

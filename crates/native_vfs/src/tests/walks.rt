@@ -3,6 +3,8 @@
 use super::files::Call::{Create, Hold, Mkdir, Rmdir, Symlink};
 use super::files::Which::{At, Named};
 use super::files::{Answer, Files, Found};
+use crate::path::ends_with_slash;
+use crate::place::NodeKind;
 use std::alloc::Global;
 use std::test::Fail;
 
@@ -83,6 +85,8 @@ fn walks_without_links(rt: HostRuntime) -> Result<(), Fail> {
     for (from, path, wanted) in [
         ("/", "", Err("ENOENT")),
         ("/d", "", Err("ENOENT")),
+        ("/a", "", Err("ENOENT")),
+        ("/a", "/d", at(ROOT, "d", D)),
         ("/", "/", at(ROOT, "", ROOT)),
         ("/d", "///", at(ROOT, "", ROOT)),
         ("/", ".", at(ROOT, ".", ROOT)),
@@ -116,6 +120,19 @@ fn walks_without_links(rt: HostRuntime) -> Result<(), Fail> {
             assert!(rt; right, "{path} from {from}, {follow}");
         }
     }
+    Ok(())
+}
+
+#[test]
+fn tells_the_root_kinds_and_slashes(rt: HostRuntime) -> Result<(), Fail> {
+    let files = planted(rt.alloc())?;
+    assert_eq!(rt; files.root()?, ROOT);
+    assert!(rt; files.is_of_kind(At("/a"), NodeKind::File)?);
+    assert!(rt; files.is_of_kind(At("/d"), NodeKind::Directory)?);
+    assert!(rt; files.is_of_kind(At("/dl"), NodeKind::Link)?);
+    assert!(rt; ends_with_slash(b"d/e/"));
+    assert!(rt; !ends_with_slash(b"d/e"));
+    assert!(rt; !ends_with_slash(b""));
     Ok(())
 }
 

@@ -5,8 +5,8 @@ use Rattle.kernel_core.specs.NodeCalls.{write_length}
 use Rattle.kernel_core.specs.Nodes.{file_at}
 use Rattle.kernel_core.specs.Totals.{spare_blocks}
 use Rattle.file_blocks.proofs.Spare.{longest_write-zero}
-use Rattle.native_vfs.specs.Stored.{nodes_of, number_of_key}
-use Rattle.native_vfs.proofs.Files.{same-file-step}
+use Rattle.native_vfs.specs.inside.Stored.{nodes_of, number_of_key}
+use Rattle.native_vfs.proofs.contents.Files.{same-file-step}
 use Rattle.native_vfs.proofs.file_calls.write_file.Goals as goal
 
 some_all : (o : Option FileContent) (P : FileContent → Type 0) → ((c : FileContent) → P c) → IfSome o P

@@ -7,10 +7,10 @@ use Rattle.kernel_core.specs.Nodes.{Nodes, file_in}
 use Rattle.kernel_core.specs.Totals.{live_blocks, spare_blocks}
 use Rattle.kernel_core.specs.ValidTree.{block_limit}
 use Rattle.file_blocks.proofs.Spare.{longest_write-none}
-use Rattle.native_vfs.specs.Stored.{nodes_of, content_of}
-use Rattle.native_vfs.proofs.Facts.{no-file}
-use Rattle.native_vfs.proofs.Files.{file-there}
-use Rattle.native_vfs.proofs.Room.{length-some}
+use Rattle.native_vfs.specs.inside.Stored.{nodes_of, content_of}
+use Rattle.native_vfs.proofs.tables.Facts.{no-file}
+use Rattle.native_vfs.proofs.contents.Files.{file-there}
+use Rattle.native_vfs.proofs.contents.Room.{length-some}
 use Rattle.native_vfs.proofs.file_steps.is_full.Goals as goal
 
 some_all : (o : Option FileContent) (P : FileContent → Type 0) → ((c : FileContent) → P c) → IfSome o P

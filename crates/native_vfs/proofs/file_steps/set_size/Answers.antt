@@ -5,10 +5,10 @@ use Rattle.slab.specs.Slab.{get as slab_get}
 use Rattle.kernel_core.specs.FileContent.{resized}
 use Rattle.kernel_core.specs.NodeCalls.{modified_at}
 use Rattle.kernel_core.specs.Nodes.{file_at, file_in}
-use Rattle.native_vfs.specs.Steps.{IsFileChange}
-use Rattle.native_vfs.specs.Stored.{Table, nodes_of, content_of, number_of_key, HasDistinctNumbers}
+use Rattle.native_vfs.specs.inside.Steps.{IsFileChange}
+use Rattle.native_vfs.specs.inside.Stored.{Table, nodes_of, content_of, number_of_key, HasDistinctNumbers}
 use Rattle.native_vfs.specs.declared.stored.Stored.{Stored}
-use Rattle.native_vfs.proofs.Files.{file-there, blocks-there, blocks-counted, file-step}
+use Rattle.native_vfs.proofs.contents.Files.{file-there, blocks-there, blocks-counted, file-step}
 use Rattle.native_vfs.proofs.file_steps.set_size.Goals as goal
 
 file : (table : Table) (key : ℕ) (node : Stored) → slab_get table key ≡ Some node → HasDistinctNumbers table → IsSome (file_at (nodes_of table) (number_of_key table key)) → IsSome (file_in (content_of node.content))
@@ -18,15 +18,19 @@ pub resize_node-requires-clause-file : goal.resize_node-requires-clause-file
 resize_node-requires-clause-file c = file c.args.table.now c.args.key c.index_mut-node.result.now c.index_mut-node.ensures.value c.requires.distinct c.requires.file
 
 pub resize_node-requires-clause-kept : goal.resize_node-requires-clause-kept
-resize_node-requires-clause-kept c = let most = blocks-there c.args.table.now c.args.key c.index_mut-node.result.now c.index_mut-node.ensures.value c.requires.distinct in let counted = c.requires.counted in omega (arith, most, counted)
+resize_node-requires-clause-kept c =
+    let most = blocks-there c.args.table.now c.args.key c.index_mut-node.result.now c.index_mut-node.ensures.value
+    c.requires.distinct in let counted = c.requires.counted in omega (arith, most, counted)
 
 pub returns-clause-counted : goal.returns-clause-counted
 returns-clause-counted c =
-    blocks-counted c.args.table.now c.args.key c.index_mut-node.result.now c.index_mut-node.ensures.value c.requires.distinct c.resize_node.new.node c.args.blocks.now c.resize_node.new.blocks c.resize_node.ensures.resized.number c.requires.counted c.resize_node.ensures.counted
+    blocks-counted c.args.table.now c.args.key c.index_mut-node.result.now c.index_mut-node.ensures.value c.requires.distinct c.resize_node.new.node
+    c.args.blocks.now c.resize_node.new.blocks c.resize_node.ensures.resized.number c.requires.counted c.resize_node.ensures.counted
 
 pub returns-clause-step : goal.returns-clause-step
 returns-clause-step c =
-    let counted = blocks-counted c.args.table.now c.args.key c.index_mut-node.result.now c.index_mut-node.ensures.value c.requires.distinct c.resize_node.new.node c.args.blocks.now c.resize_node.new.blocks c.resize_node.ensures.resized.number c.requires.counted c.resize_node.ensures.counted in
+    let counted = blocks-counted c.args.table.now c.args.key c.index_mut-node.result.now c.index_mut-node.ensures.value c.requires.distinct
+    c.resize_node.new.node c.args.blocks.now c.resize_node.new.blocks c.resize_node.ensures.resized.number c.requires.counted c.resize_node.ensures.counted in
     let fewer = c.resize_node.ensures.fewer in
     let before = c.requires.counted in
     let few = c.requires.few in

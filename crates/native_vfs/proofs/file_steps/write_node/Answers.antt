@@ -1,4 +1,4 @@
-use Rattle.native_vfs.proofs.Files.{unwritten}
+use Rattle.native_vfs.proofs.contents.Files.{unwritten}
 use Rattle.native_vfs.proofs.file_steps.write_node.Goals as goal
 
 pub returns-else-count-gt0-clause-ok : goal.returns-else-count-gt0-clause-ok

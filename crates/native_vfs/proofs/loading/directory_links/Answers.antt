@@ -1,9 +1,9 @@
 use Rattle.std.proofs.Common.{◌≡◌, ◌+◌, sym, ap, ◌∙◌}
 use Rattle.kernel_core.specs.Nodes.{is_directory}
-use Rattle.native_vfs.specs.Loading.{HasPlace}
-use Rattle.native_vfs.specs.Stored.{nodes_of}
-use Rattle.native_vfs.proofs.LoadedLists.{at-index}
-use Rattle.native_vfs.proofs.LoadedNodes.{place-number, links-more, links-same}
+use Rattle.native_vfs.specs.inside.Loading.{HasPlace}
+use Rattle.native_vfs.specs.inside.Stored.{nodes_of}
+use Rattle.native_vfs.proofs.trees.LoadedLists.{at-index}
+use Rattle.native_vfs.proofs.trees.LoadedNodes.{place-number, links-more, links-same}
 use Rattle.native_vfs.proofs.loading.directory_links.Goals as goal
 use Rattle.native_vfs.proofs.loading.directory_links.Goals.{then-is_directory, else-is_directory}
 

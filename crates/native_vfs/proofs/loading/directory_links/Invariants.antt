@@ -1,5 +1,5 @@
 use Rattle.std.proofs.Common.{◌≡◌, take}
-use Rattle.native_vfs.specs.Loading.{directory_links}
+use Rattle.native_vfs.specs.inside.Loading.{directory_links}
 use Rattle.native_vfs.proofs.loading.directory_links.Given as goal
 
 -- the entries so far are counted

@@ -1,4 +1,4 @@
-use Rattle.native_vfs.proofs.LoadedNodes.{fill-step}
+use Rattle.native_vfs.proofs.trees.LoadedNodes.{fill-step}
 use Rattle.native_vfs.proofs.loading.fill.Goals as goal
 
 pub returns : goal.returns

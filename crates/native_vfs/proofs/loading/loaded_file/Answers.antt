@@ -1,7 +1,7 @@
 use Rattle.std.proofs.Common.{ap, ◌∙◌, arith}
 use Rattle.kernel_core.specs.FileContent.{FileContent}
 use Rattle.std.specs.FinMap.{insert}
-use Rattle.native_vfs.proofs.LoadedLists.{resized-none, file-next, kept-next}
+use Rattle.native_vfs.proofs.trees.LoadedLists.{resized-none, file-next, kept-next}
 use Rattle.kernel_core.specs.FileContent.{resized}
 use Rattle.native_vfs.proofs.loading.loaded_file.Goals as goal
 

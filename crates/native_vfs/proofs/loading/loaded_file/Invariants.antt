@@ -1,6 +1,6 @@
 use Rattle.std.proofs.Common.{◌≡◌, ◌≤◌, take}
 use Rattle.kernel_core.specs.FileContent.{kept_blocks}
-use Rattle.native_vfs.proofs.LoadedLists.{file_of}
+use Rattle.native_vfs.proofs.trees.LoadedLists.{file_of}
 use Rattle.native_vfs.proofs.loading.loaded_file.Given as goal
 
 -- the blocks so far are kept

@@ -2,8 +2,8 @@ use Rattle.std.proofs.Common.{ap, ◌∙◌}
 use Rattle.std.specs.BTreeMap.{get as tree_get}
 use Rattle.std.specs.Ordering.{nat_cmp}
 use Rattle.directory_names.specs.Names.{find_name}
-use Rattle.native_vfs.specs.Loading.{HasPlace}
-use Rattle.native_vfs.proofs.LoadedLists.{at-index, load-low, load-absent, names-next}
+use Rattle.native_vfs.specs.inside.Loading.{HasPlace}
+use Rattle.native_vfs.proofs.trees.LoadedLists.{at-index, load-low, load-absent, names-next}
 use Rattle.native_vfs.proofs.loading.loaded_names.Goals as goal
 
 pub node_ref-node-requires : goal.node_ref-node-requires

@@ -1,6 +1,6 @@
 use Rattle.std.proofs.Common.{take}
 use Rattle.directory_names.specs.Names.{AreNames}
-use Rattle.native_vfs.specs.Loading.{AreLoadedNames}
+use Rattle.native_vfs.specs.inside.Loading.{AreLoadedNames}
 use Rattle.native_vfs.proofs.loading.loaded_names.Given as goal
 
 -- the entries so far are there

@@ -1,9 +1,9 @@
 use Rattle.std.proofs.Common.{◌+◌, take, drop, sym, subst, ◌∙◌, All, List}
 use Rattle.kernel_core.specs.declared.tree.DirEntry.{DirEntry}
-use Rattle.native_vfs.specs.Loading.{AreNamed, HasPlace, directory_links, loaded_listing, filled}
-use Rattle.native_vfs.specs.Steps.{IsAddition}
-use Rattle.native_vfs.proofs.LoadedNodes.{place-number}
-use Rattle.native_vfs.proofs.LoadedDirectories.{no_dir, named-none, named-plain, named-directory, told-parent, some-parent, entries-found}
+use Rattle.native_vfs.specs.inside.Loading.{AreNamed, HasPlace, directory_links, loaded_listing, filled}
+use Rattle.native_vfs.specs.inside.Steps.{IsAddition}
+use Rattle.native_vfs.proofs.trees.LoadedNodes.{place-number}
+use Rattle.native_vfs.proofs.trees.LoadedDirectories.{no_dir, named-none, named-plain, named-directory, told-parent, some-parent, entries-found}
 use Rattle.native_vfs.proofs.loading.name_nodes.Goals as goal
 use Rattle.native_vfs.proofs.loading.name_nodes.Goals.{in-Dir+in_ok-name_entries, in_default}
 

@@ -1,5 +1,5 @@
 use Rattle.std.proofs.Common.{take, drop}
-use Rattle.native_vfs.specs.Loading.{AreNamed}
+use Rattle.native_vfs.specs.inside.Loading.{AreNamed}
 use Rattle.native_vfs.proofs.loading.name_nodes.Given as goal
 
 -- the nodes so far have their entries

@@ -1,7 +1,7 @@
 use Rattle.std.proofs.Common.{◌+◌, ◌<◌, length, sym, subst}
 use Rattle.kernel_core.specs.ValidTree.{names_in}
-use Rattle.native_vfs.specs.Loading.{Notes, times_at}
-use Rattle.native_vfs.proofs.LoadedLists.{few-names, namings-next}
+use Rattle.native_vfs.specs.inside.Loading.{Notes, times_at}
+use Rattle.native_vfs.proofs.trees.LoadedLists.{few-names, namings-next}
 use Rattle.native_vfs.proofs.loading.namings.Goals as goal
 
 pub note_names-requires : goal.note_names-requires

@@ -1,5 +1,5 @@
 use Rattle.std.proofs.Common.{take}
-use Rattle.native_vfs.specs.Loading.{AreNamings}
+use Rattle.native_vfs.specs.inside.Loading.{AreNamings}
 use Rattle.native_vfs.proofs.loading.namings.Given as goal
 
 -- the names of the nodes so far are noted

@@ -1,6 +1,6 @@
 use Rattle.std.proofs.Common.{take}
 use Rattle.kernel_core.specs.ValidTree.{names_in}
-use Rattle.native_vfs.specs.Loading.{Notes}
+use Rattle.native_vfs.specs.inside.Loading.{Notes}
 use Rattle.native_vfs.proofs.loading.note_names.Given as goal
 
 -- the entries so far are noted

@@ -1,8 +1,8 @@
 use Rattle.std.proofs.Common.{ap, ◌∙◌}
 use Rattle.std.specs.FinMap.{get}
-use Rattle.native_vfs.specs.Loading.{bare_inode}
-use Rattle.native_vfs.specs.Stored.{nodes_of}
-use Rattle.native_vfs.proofs.LoadedNodes.{placed-none, placed-new, placed-next}
+use Rattle.native_vfs.specs.inside.Loading.{bare_inode}
+use Rattle.native_vfs.specs.inside.Stored.{nodes_of}
+use Rattle.native_vfs.proofs.trees.LoadedNodes.{placed-none, placed-new, placed-next}
 use Rattle.native_vfs.proofs.loading.place_nodes.Goals as goal
 
 pub loop-node-init : goal.loop-node-init

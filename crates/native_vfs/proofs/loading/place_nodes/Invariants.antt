@@ -1,5 +1,5 @@
 use Rattle.std.proofs.Common.{take}
-use Rattle.native_vfs.specs.Loading.{ArePlaced}
+use Rattle.native_vfs.specs.inside.Loading.{ArePlaced}
 use Rattle.native_vfs.proofs.loading.place_nodes.Given as goal
 
 -- the nodes so far are in the table

@@ -1,6 +1,6 @@
 use Rattle.std.proofs.Common.{subst}
 use Rattle.std.proofs.lemmas.List.{take_all}
-use Rattle.native_vfs.proofs.LoadedNumbers.{AreTaken, taken-none, taken-all}
+use Rattle.native_vfs.proofs.trees.LoadedNumbers.{AreTaken, taken-none, taken-all}
 use Rattle.native_vfs.proofs.loading.taken_numbers.Goals as goal
 
 pub loop-node-init : goal.loop-node-init

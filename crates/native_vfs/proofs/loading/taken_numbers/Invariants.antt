@@ -1,5 +1,5 @@
 use Rattle.std.proofs.Common.{take}
-use Rattle.native_vfs.proofs.LoadedNumbers.{AreTaken}
+use Rattle.native_vfs.proofs.trees.LoadedNumbers.{AreTaken}
 use Rattle.native_vfs.proofs.loading.taken_numbers.Given as goal
 
 -- the numbers of the nodes so far are taken

@@ -2,13 +2,13 @@ use Rattle.std.proofs.Common.{refl, sym, ap, subst, ◌∙◌, is_some}
 use Rattle.std.specs.Int.{w128}
 use Rattle.std.proofs.Math.Facts.{to_z-of_z}
 use Rattle.kernel_core.specs.NameCalls as names
-use Rattle.native_vfs.proofs.Reasons.{live-dir}
-use Rattle.native_vfs.proofs.Tables.{distinct-kept, content-leads, leads-kept}
+use Rattle.native_vfs.proofs.tables.Reasons.{live-dir}
+use Rattle.native_vfs.proofs.tables.Tables.{distinct-kept, content-leads, leads-kept}
 use Rattle.kernel_core.specs.ValidTree.{IsName}
-use Rattle.native_vfs.specs.Making.{IsMade}
-use Rattle.native_vfs.specs.Stored.{nodes_of, keyed_of, content_of}
+use Rattle.native_vfs.specs.inside.Making.{IsMade}
+use Rattle.native_vfs.specs.inside.Stored.{nodes_of, keyed_of, content_of}
 use Rattle.native_vfs.specs.Keyed.{place_at}
-use Rattle.native_vfs.proofs.MadeNodes.{not-all_taken, few-nodes, listing-dir, same-same, right-name, can-insert, new-number, on-err, made}
+use Rattle.native_vfs.proofs.additions.MadeNodes.{not-all_taken, few-nodes, listing-dir, same-same, right-name, can-insert, new-number, on-err, made}
 use Rattle.native_vfs.proofs.making.make.Goals as goal
 
 pub free_place-place-requires : goal.free_place-place-requires
@@ -53,5 +53,6 @@ returns-clause-made c =
     (names.new_inode c.args.node.mode c.args.node.links (content_of c.args.node.content) c.args.now) c.args.now))
     (sym c.take.ensures.taken)
     (made c.args.table.now c.reserve_name.new.table c.insert.new.table c.in_ok-key.key _ c.args.at.now.dir (live-dir c.args.table.now c.args.at.now c.requires.agrees) c.reserve_name.ensures.same
-    (rw (to_z-of_z {w = w128} {z = c.args.now} c.ranges.now) at c.in_ok-key.ensures.ok) c.add_name.new.table c.args.now c.args.at.now refl c.in_ok-name.name (c.in_ok-name.ensures ∙ c.as_slice.ensures) (rw (to_z-of_z {w = w128} {z = c.args.now} c.ranges.now) at c.add_name.ensures.step) c.args.numbers.now
+    (rw (to_z-of_z {w = w128} {z = c.args.now} c.ranges.now) at c.in_ok-key.ensures.ok) c.add_name.new.table c.args.now c.args.at.now refl
+    c.in_ok-name.name (c.in_ok-name.ensures ∙ c.as_slice.ensures) (rw (to_z-of_z {w = w128} {z = c.args.now} c.ranges.now) at c.add_name.ensures.step) c.args.numbers.now
     c.free_place-place.result c.requires.distinct c.requires.pool c.free_place-place.ensures.whole c.free_place-place.ensures.least c.number_of-number.ensures)

@@ -3,11 +3,11 @@ use Rattle.std.specs.Int.{w128}
 use Rattle.std.proofs.Math.Facts.{to_z-of_z}
 use Rattle.kernel_core.specs.ValidTree.{IsName}
 use Rattle.native_vfs.specs.Keyed.{place_at}
-use Rattle.native_vfs.specs.Stored.{nodes_of, keyed_of, number_of_key}
-use Rattle.native_vfs.proofs.MadeNodes.{listing-dir, right-name}
-use Rattle.native_vfs.proofs.NamedAgain.{link-free, few-links, can-again, named-again}
-use Rattle.native_vfs.proofs.Reasons.{live-dir}
-use Rattle.native_vfs.proofs.Tables.{distinct-kept}
+use Rattle.native_vfs.specs.inside.Stored.{nodes_of, keyed_of, number_of_key}
+use Rattle.native_vfs.proofs.additions.MadeNodes.{listing-dir, right-name}
+use Rattle.native_vfs.proofs.additions.NamedAgain.{link-free, few-links, can-again, named-again}
+use Rattle.native_vfs.proofs.tables.Reasons.{live-dir}
+use Rattle.native_vfs.proofs.tables.Tables.{distinct-kept}
 use Rattle.native_vfs.proofs.making.name_again.Goals as goal
 
 pub reserve_name-requires-clause-live : goal.reserve_name-requires-clause-live
@@ -29,7 +29,9 @@ add_name-requires-clause-distinct c =
 
 pub add_name-requires-clause-name : goal.add_name-requires-clause-name
 add_name-requires-clause-name c =
-    subst IsName (sym (c.in_ok-name.ensures ∙ c.as_slice.ensures)) (right-name c.args.table.now c.args.at.now c.requires.agrees _ (link-free (nodes_of c.args.table.now) (number_of_key c.args.table.now c.args.node) (place_at (keyed_of c.args.table.now) c.args.at.now) c.requires.free))
+    subst IsName (sym (c.in_ok-name.ensures ∙ c.as_slice.ensures))
+    (right-name c.args.table.now c.args.at.now c.requires.agrees _
+    (link-free (nodes_of c.args.table.now) (number_of_key c.args.table.now c.args.node) (place_at (keyed_of c.args.table.now) c.args.at.now) c.requires.free))
 
 pub add_name-requires-clause-can : goal.add_name-requires-clause-can
 add_name-requires-clause-can c =

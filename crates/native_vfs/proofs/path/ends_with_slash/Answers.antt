@@ -1,7 +1,7 @@
 use Rattle.std.proofs.Common.{ap, sym, ◌∙◌}
 use Rattle.std.proofs.lemmas.List.{nil_from_length}
 use Rattle.kernel_core.specs.PathWalk.{ends_with_slash}
-use Rattle.native_vfs.proofs.Components.{ends-last, ends-none}
+use Rattle.native_vfs.proofs.walks.Components.{ends-last, ends-none}
 use Rattle.native_vfs.proofs.path.ends_with_slash.Goals as goal
 
 pub returns-in-Some : goal.returns-in-Some

@@ -1,6 +1,6 @@
 use Rattle.std.proofs.Common.{sym}
-use Rattle.native_vfs.specs.Texts.{texts}
-use Rattle.native_vfs.proofs.TextLemmas.{is-empty, left-later, interrupted}
+use Rattle.native_vfs.specs.inside.Texts.{texts}
+use Rattle.native_vfs.proofs.walks.TextLemmas.{is-empty, left-later, interrupted}
 use Rattle.native_vfs.proofs.path.interrupt.Goals as goal
 
 pub returns-then-is_empty-clause-ok : goal.returns-then-is_empty-clause-ok

@@ -2,8 +2,8 @@ use Rattle.std.proofs.Common.{◌≡◌, ap, subst, sym, ◌∙◌, ◌++◌, �
 use Rattle.std.specs.Prelude.{MatchOption}
 use Rattle.std.proofs.lemmas.List.{nil_from_length}
 use Rattle.kernel_core.specs.PathWalk.{components}
-use Rattle.native_vfs.specs.Texts.{texts, stacked, AreTexts}
-use Rattle.native_vfs.proofs.TextLemmas.{is-empty, resumed-same, resumed-valid}
+use Rattle.native_vfs.specs.inside.Texts.{texts, stacked, AreTexts}
+use Rattle.native_vfs.proofs.walks.TextLemmas.{is-empty, resumed-same, resumed-valid}
 use Rattle.native_vfs.proofs.path.resume.Goals as goal
 
 pub returns-clause-same : goal.returns-clause-same

@@ -2,8 +2,8 @@ use Rattle.std.proofs.Common.{ap, subst, sym, ◌∙◌, ◌∷◌, take, drop, 
 use Rattle.std.specs.List.{list_any, position_or_len}
 use Rattle.kernel_core.specs.PathWalk.{components}
 use Rattle.kernel_core.specs.ValidTree.{is_no_name_byte}
-use Rattle.native_vfs.specs.Texts.{is_nul, is_slash, AreBytes}
-use Rattle.native_vfs.proofs.Components.{components-first, name-plain, drop-plain, end-is, position-within, take-bytes}
+use Rattle.native_vfs.specs.inside.Texts.{is_nul, is_slash, AreBytes}
+use Rattle.native_vfs.proofs.walks.Components.{components-first, name-plain, drop-plain, end-is, position-within, take-bytes}
 use Rattle.native_vfs.proofs.path.split_name.Goals as goal
 
 pub split_at-requires : goal.split_at-requires

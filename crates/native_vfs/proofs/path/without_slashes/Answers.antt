@@ -2,8 +2,8 @@ use Rattle.std.proofs.Common.{◌≡◌, ◌≤◌, ◌-◌, ℕ, List, [], ◌�
 use Rattle.std.specs.List.{list_any}
 use Rattle.std.proofs.lemmas.List.{take_all}
 use Rattle.kernel_core.specs.PathWalk.{components}
-use Rattle.native_vfs.specs.Texts.{is_nul}
-use Rattle.native_vfs.proofs.Components.{components-slash, rest-plain}
+use Rattle.native_vfs.specs.inside.Texts.{is_nul}
+use Rattle.native_vfs.proofs.walks.Components.{components-slash, rest-plain}
 use Rattle.native_vfs.proofs.path.without_slashes.Goals as goal
 
 slash-first : (rest : List ℕ) → 1 ≤ length rest → get_or rest 0 0 ≡ 47 → rest ≡ 47 ∷ take (length rest - 1) (drop 1 rest)

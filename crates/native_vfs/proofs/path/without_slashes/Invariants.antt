@@ -1,7 +1,7 @@
 use Rattle.std.proofs.Common.{◌≡◌, false, length}
 use Rattle.std.specs.List.{list_any}
 use Rattle.kernel_core.specs.PathWalk.{components}
-use Rattle.native_vfs.specs.Texts.{is_nul}
+use Rattle.native_vfs.specs.inside.Texts.{is_nul}
 use Rattle.native_vfs.proofs.path.without_slashes.Given as goal
 
 abbrev pub invariant-loop-rest : goal.invariant-loop-rest

@@ -2,9 +2,9 @@ use Rattle.std.proofs.Common.{◌≡◌, Bool, false, not, Bor, Option, Some, No
 use Rattle.std.specs.Prelude.{option_map, MatchOption}
 use Rattle.kernel_core.specs.NameCalls.{is_empty_list}
 use Rattle.kernel_core.specs.Nodes.{Listing, entries_in}
-use Rattle.native_vfs.specs.Stored.{listing_of}
+use Rattle.native_vfs.specs.inside.Stored.{listing_of}
 use Rattle.native_vfs.specs.declared.stored.StoredDirectory.{StoredDirectory}
-use Rattle.native_vfs.proofs.Reasons.{entries-there}
+use Rattle.native_vfs.proofs.tables.Reasons.{entries-there}
 use Rattle.native_vfs.proofs.refusals.has_entries.Goals as goal
 
 -- what is said of the directory where there is one

@@ -1,8 +1,8 @@
 use Rattle.std.proofs.Common.{◌≡◌, ◌∙◌, ◌+◌, ◌-◌, zero, eqb, sym, ap, arith}
 use Rattle.kernel_core.specs.NameCalls.{is_below}
-use Rattle.native_vfs.specs.Stored.{nodes_of, number_of_key}
-use Rattle.native_vfs.proofs.RemovalReasons.{below-end, below-here, below-none, below-up}
-use Rattle.native_vfs.proofs.Tables.{len-nodes}
+use Rattle.native_vfs.specs.inside.Stored.{nodes_of, number_of_key}
+use Rattle.native_vfs.proofs.removals.RemovalReasons.{below-end, below-here, below-none, below-up}
+use Rattle.native_vfs.proofs.tables.Tables.{len-nodes}
 use Rattle.native_vfs.proofs.refusals.is_in_subtree.Goals as goal
 
 pub loop-step-init : goal.loop-step-init

@@ -1,7 +1,7 @@
 use Rattle.std.proofs.Common.{◌≡◌, ◌-◌, IsSome}
 use Rattle.slab.specs.Slab.{get as slab_get}
 use Rattle.kernel_core.specs.NameCalls.{is_below, is_in_subtree}
-use Rattle.native_vfs.specs.Stored.{nodes_of, number_of_key}
+use Rattle.native_vfs.specs.inside.Stored.{nodes_of, number_of_key}
 use Rattle.native_vfs.proofs.refusals.is_in_subtree.Given as goal
 
 abbrev pub invariant-loop-step : goal.invariant-loop-step

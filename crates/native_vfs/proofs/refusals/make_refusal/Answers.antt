@@ -1,8 +1,8 @@
 use Rattle.std.proofs.Common.{ap, ◌∙◌}
 use Rattle.kernel_core.specs.NameCalls.{name_refusal}
 use Rattle.native_vfs.specs.Keyed.{place_at}
-use Rattle.native_vfs.specs.Stored.{keyed_of, nodes_of}
-use Rattle.native_vfs.proofs.Reasons.{full-nodes, full-entries}
+use Rattle.native_vfs.specs.inside.Stored.{keyed_of, nodes_of}
+use Rattle.native_vfs.proofs.tables.Reasons.{full-nodes, full-entries}
 use Rattle.native_vfs.proofs.refusals.make_refusal.Goals as goal
 use Rattle.native_vfs.proofs.refusals.make_refusal.Goals.{then-len, else-len}
 

@@ -1,6 +1,6 @@
 use Rattle.std.proofs.Common.{◌∙◌, Some, None, true, false, refl, sym}
-use Rattle.native_vfs.proofs.Reasons.{live-dir, live-node}
-use Rattle.native_vfs.proofs.RemovalReasons.{move-refused, stays-outside, stays-file, goes-inside, replaces-some, replaces-none}
+use Rattle.native_vfs.proofs.tables.Reasons.{live-dir, live-node}
+use Rattle.native_vfs.proofs.removals.RemovalReasons.{move-refused, stays-outside, stays-file, goes-inside, replaces-some, replaces-none}
 use Rattle.native_vfs.proofs.refusals.move_refusal.Goals as goal
 use Rattle.native_vfs.proofs.refusals.move_refusal.Goals.{else-is_directory-via-then-is_directory+else-is_in_subtree, else-is_directory-via-else-is_directory, in-Some+in_default-replace_refusal, in_default}
 

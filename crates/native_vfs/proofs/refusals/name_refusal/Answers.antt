@@ -1,5 +1,5 @@
 use Rattle.std.proofs.Common.{true, false, refl, sym, ap, ◌∙◌}
-use Rattle.native_vfs.proofs.Reasons.{live-dir, name-refused, in_order, is_full, no_room}
+use Rattle.native_vfs.proofs.tables.Reasons.{live-dir, name-refused, in_order, is_full, no_room}
 use Rattle.native_vfs.proofs.refusals.name_refusal.Goals as goal
 use Rattle.native_vfs.proofs.refusals.name_refusal.Goals.{then-full-via-then-full, then-full-via-else-full+then-lacks_cookie}
 

@@ -1,5 +1,5 @@
 use Rattle.std.proofs.Common.{rules}
-use Rattle.native_vfs.proofs.RemovalReasons.{parent-kept, no-parent}
+use Rattle.native_vfs.proofs.removals.RemovalReasons.{parent-kept, no-parent}
 use Rattle.native_vfs.proofs.refusals.parent_below_root.Goals as goal
 
 pub returns-in-Directory-clause-parent : goal.returns-in-Directory-clause-parent

@@ -1,7 +1,7 @@
 use Rattle.std.proofs.Common.{◌∙◌, true, false, refl, sym, ap}
 use Rattle.kernel_core.specs.NameCalls.{is_no_entry}
-use Rattle.native_vfs.proofs.Reasons.{live-node}
-use Rattle.native_vfs.proofs.RemovalReasons.{rename-refused, both-proper}
+use Rattle.native_vfs.proofs.tables.Reasons.{live-node}
+use Rattle.native_vfs.proofs.removals.RemovalReasons.{rename-refused, both-proper}
 use Rattle.native_vfs.proofs.refusals.rename_refusal.Goals as goal
 
 pub stands_for-requires-clause-live : goal.stands_for-requires-clause-live

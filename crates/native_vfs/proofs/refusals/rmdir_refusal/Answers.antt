@@ -1,9 +1,9 @@
 use Rattle.std.proofs.Common.{ℕ, List, length, eqb, ◌∙◌, refl, sym, ap, true, false, codes}
 use Rattle.std.proofs.lemmas.Bool.{eq-eqb, ne_eqb}
 use Rattle.kernel_core.specs.ValidTree.{root}
-use Rattle.native_vfs.specs.Stored.{number_of_key}
-use Rattle.native_vfs.proofs.Reasons.{live-node}
-use Rattle.native_vfs.proofs.RemovalReasons.{same-test, empty-length, rmdir-refused}
+use Rattle.native_vfs.specs.inside.Stored.{number_of_key}
+use Rattle.native_vfs.proofs.tables.Reasons.{live-node}
+use Rattle.native_vfs.proofs.removals.RemovalReasons.{same-test, empty-length, rmdir-refused}
 use Rattle.native_vfs.proofs.refusals.rmdir_refusal.Goals as goal
 
 pub number-requires : goal.number-requires

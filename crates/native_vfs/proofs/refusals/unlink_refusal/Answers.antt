@@ -1,8 +1,8 @@
 use Rattle.std.proofs.Common.{◌∙◌, sym, ap}
 use Rattle.kernel_core.specs.NameCalls.{unlink_of}
-use Rattle.native_vfs.specs.Stored.{nodes_of}
-use Rattle.native_vfs.proofs.Reasons.{live-node}
-use Rattle.native_vfs.proofs.Stages.{named-node}
+use Rattle.native_vfs.specs.inside.Stored.{nodes_of}
+use Rattle.native_vfs.proofs.tables.Reasons.{live-node}
+use Rattle.native_vfs.proofs.removals.Stages.{named-node}
 use Rattle.native_vfs.proofs.refusals.unlink_refusal.Goals as goal
 
 pub file_refusal-requires-clause-live : goal.file_refusal-requires-clause-live

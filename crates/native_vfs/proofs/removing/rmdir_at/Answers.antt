@@ -1,9 +1,9 @@
 use Rattle.std.specs.Int.{w128}
 use Rattle.std.proofs.Math.Facts.{to_z-of_z}
 use Rattle.kernel_core.specs.NameCalls.{relisted, without_entry, one_link_less}
-use Rattle.native_vfs.proofs.Losses.{taken-changed, directory-has-links, directory-changed, directory-unnamed, directory-blocks, directory-nodes, directory-sound, directory-less}
-use Rattle.native_vfs.proofs.Reasons.{live-dir, live-node}
-use Rattle.native_vfs.proofs.Stages.{at-time, one-more, changed-distinct, changed-live, changed-pool, loss-settled}
+use Rattle.native_vfs.proofs.removals.Losses.{taken-changed, directory-has-links, directory-changed, directory-unnamed, directory-blocks, directory-nodes, directory-sound, directory-less}
+use Rattle.native_vfs.proofs.tables.Reasons.{live-dir, live-node}
+use Rattle.native_vfs.proofs.removals.Stages.{at-time, one-more, changed-distinct, changed-live, changed-pool, loss-settled}
 use Rattle.native_vfs.proofs.removing.rmdir_at.Goals as goal
 
 pub take_name-requires-clause-live : goal.take_name-requires-clause-live
@@ -11,14 +11,16 @@ take_name-requires-clause-live c = live-dir c.args.table.now c.args.at.now c.req
 
 pub drop_link-requires-clause-live : goal.drop_link-requires-clause-live
 drop_link-requires-clause-live c =
-    changed-live c.args.table.now c.take_name.new.table (taken-changed c.args.table.now c.args.numbers.now c.args.blocks.now c.requires.sound c.args.at.now c.requires.agrees c.args.node c.requires.node c.args.now c.requires.time
+    changed-live c.args.table.now c.take_name.new.table (taken-changed c.args.table.now c.args.numbers.now c.args.blocks.now c.requires.sound
+    c.args.at.now c.requires.agrees c.args.node c.requires.node c.args.now c.requires.time
     c.take_name.new.table c.as_slice.result.now c.as_slice.ensures (at-time c.args.table.now c.take_name.new.table c.args.at.now.dir (λ time. relisted time (without_entry c.as_slice.result.now)) _ c.args.now
     (to_z-of_z {w = w128} {z = c.args.now} c.ranges.now) c.take_name.ensures.step)) c.args.at.now.dir
     (live-dir c.args.table.now c.args.at.now c.requires.agrees)
 
 pub drop_link-requires-clause-distinct : goal.drop_link-requires-clause-distinct
 drop_link-requires-clause-distinct c =
-    changed-distinct c.args.table.now c.take_name.new.table (taken-changed c.args.table.now c.args.numbers.now c.args.blocks.now c.requires.sound c.args.at.now c.requires.agrees c.args.node c.requires.node c.args.now c.requires.time
+    changed-distinct c.args.table.now c.take_name.new.table (taken-changed c.args.table.now c.args.numbers.now c.args.blocks.now c.requires.sound
+    c.args.at.now c.requires.agrees c.args.node c.requires.node c.args.now c.requires.time
     c.take_name.new.table c.as_slice.result.now c.as_slice.ensures (at-time c.args.table.now c.take_name.new.table c.args.at.now.dir (λ time. relisted time (without_entry c.as_slice.result.now)) _ c.args.now
     (to_z-of_z {w = w128} {z = c.args.now} c.ranges.now) c.take_name.ensures.step)) c.requires.sound.distinct
 
@@ -31,20 +33,25 @@ drop_link-requires-clause-some c =
 
 pub orphan-requires-clause-live : goal.orphan-requires-clause-live
 orphan-requires-clause-live c =
-    changed-live c.args.table.now c.drop_link.new.table (one-more c.args.table.now c.take_name.new.table c.drop_link.new.table c.args.at.now.dir one_link_less (taken-changed c.args.table.now c.args.numbers.now c.args.blocks.now c.requires.sound c.args.at.now c.requires.agrees c.args.node c.requires.node c.args.now c.requires.time
+    changed-live c.args.table.now c.drop_link.new.table (one-more c.args.table.now c.take_name.new.table c.drop_link.new.table c.args.at.now.dir
+    one_link_less (taken-changed c.args.table.now c.args.numbers.now c.args.blocks.now c.requires.sound c.args.at.now c.requires.agrees c.args.node
+    c.requires.node c.args.now c.requires.time
     c.take_name.new.table c.as_slice.result.now c.as_slice.ensures (at-time c.args.table.now c.take_name.new.table c.args.at.now.dir (λ time. relisted time (without_entry c.as_slice.result.now)) _ c.args.now
     (to_z-of_z {w = w128} {z = c.args.now} c.ranges.now) c.take_name.ensures.step)) c.drop_link.ensures.step) c.args.node
     (live-node c.args.table.now c.args.at.now c.args.node c.requires.agrees c.requires.node)
 
 pub orphan-requires-clause-distinct : goal.orphan-requires-clause-distinct
 orphan-requires-clause-distinct c =
-    changed-distinct c.args.table.now c.drop_link.new.table (one-more c.args.table.now c.take_name.new.table c.drop_link.new.table c.args.at.now.dir one_link_less (taken-changed c.args.table.now c.args.numbers.now c.args.blocks.now c.requires.sound c.args.at.now c.requires.agrees c.args.node c.requires.node c.args.now c.requires.time
+    changed-distinct c.args.table.now c.drop_link.new.table (one-more c.args.table.now c.take_name.new.table c.drop_link.new.table c.args.at.now.dir
+    one_link_less (taken-changed c.args.table.now c.args.numbers.now c.args.blocks.now c.requires.sound c.args.at.now c.requires.agrees c.args.node
+    c.requires.node c.args.now c.requires.time
     c.take_name.new.table c.as_slice.result.now c.as_slice.ensures (at-time c.args.table.now c.take_name.new.table c.args.at.now.dir (λ time. relisted time (without_entry c.as_slice.result.now)) _ c.args.now
     (to_z-of_z {w = w128} {z = c.args.now} c.ranges.now) c.take_name.ensures.step)) c.drop_link.ensures.step) c.requires.sound.distinct
 
 pub settle-requires-clause-live : goal.settle-requires-clause-live
 settle-requires-clause-live c =
-    changed-live c.args.table.now c.orphan.new.table (directory-changed c.args.table.now c.args.numbers.now c.args.blocks.now c.requires.sound c.args.at.now c.requires.agrees c.args.node c.requires.node c.args.now c.requires.time
+    changed-live c.args.table.now c.orphan.new.table (directory-changed c.args.table.now c.args.numbers.now c.args.blocks.now c.requires.sound
+    c.args.at.now c.requires.agrees c.args.node c.requires.node c.args.now c.requires.time
     c.take_name.new.table c.as_slice.result.now c.as_slice.ensures (at-time c.args.table.now c.take_name.new.table c.args.at.now.dir (λ time. relisted time (without_entry c.as_slice.result.now)) _ c.args.now
     (to_z-of_z {w = w128} {z = c.args.now} c.ranges.now) c.take_name.ensures.step)
     c.requires.entry c.requires.directory c.requires.empty c.drop_link.new.table c.orphan.new.table c.drop_link.ensures.step c.orphan.ensures.step) c.args.node
@@ -52,7 +59,8 @@ settle-requires-clause-live c =
 
 pub settle-requires-clause-distinct : goal.settle-requires-clause-distinct
 settle-requires-clause-distinct c =
-    changed-distinct c.args.table.now c.orphan.new.table (directory-changed c.args.table.now c.args.numbers.now c.args.blocks.now c.requires.sound c.args.at.now c.requires.agrees c.args.node c.requires.node c.args.now c.requires.time
+    changed-distinct c.args.table.now c.orphan.new.table (directory-changed c.args.table.now c.args.numbers.now c.args.blocks.now c.requires.sound
+    c.args.at.now c.requires.agrees c.args.node c.requires.node c.args.now c.requires.time
     c.take_name.new.table c.as_slice.result.now c.as_slice.ensures (at-time c.args.table.now c.take_name.new.table c.args.at.now.dir (λ time. relisted time (without_entry c.as_slice.result.now)) _ c.args.now
     (to_z-of_z {w = w128} {z = c.args.now} c.ranges.now) c.take_name.ensures.step)
     c.requires.entry c.requires.directory c.requires.empty c.drop_link.new.table c.orphan.new.table c.drop_link.ensures.step c.orphan.ensures.step) c.requires.sound.distinct
@@ -66,7 +74,8 @@ settle-requires-clause-unnamed c =
 
 pub settle-requires-clause-pool : goal.settle-requires-clause-pool
 settle-requires-clause-pool c =
-    changed-pool c.args.table.now c.orphan.new.table (directory-changed c.args.table.now c.args.numbers.now c.args.blocks.now c.requires.sound c.args.at.now c.requires.agrees c.args.node c.requires.node c.args.now c.requires.time
+    changed-pool c.args.table.now c.orphan.new.table (directory-changed c.args.table.now c.args.numbers.now c.args.blocks.now c.requires.sound
+    c.args.at.now c.requires.agrees c.args.node c.requires.node c.args.now c.requires.time
     c.take_name.new.table c.as_slice.result.now c.as_slice.ensures (at-time c.args.table.now c.take_name.new.table c.args.at.now.dir (λ time. relisted time (without_entry c.as_slice.result.now)) _ c.args.now
     (to_z-of_z {w = w128} {z = c.args.now} c.ranges.now) c.take_name.ensures.step)
     c.requires.entry c.requires.directory c.requires.empty c.drop_link.new.table c.orphan.new.table c.drop_link.ensures.step c.orphan.ensures.step) c.args.numbers.now c.requires.sound.pool
@@ -97,7 +106,8 @@ returns-clause-sound c =
 
 pub returns-clause-loss : goal.returns-clause-loss
 returns-clause-loss c =
-    loss-settled c.args.table.now c.orphan.new.table (directory-changed c.args.table.now c.args.numbers.now c.args.blocks.now c.requires.sound c.args.at.now c.requires.agrees c.args.node c.requires.node c.args.now c.requires.time
+    loss-settled c.args.table.now c.orphan.new.table (directory-changed c.args.table.now c.args.numbers.now c.args.blocks.now c.requires.sound
+    c.args.at.now c.requires.agrees c.args.node c.requires.node c.args.now c.requires.time
     c.take_name.new.table c.as_slice.result.now c.as_slice.ensures (at-time c.args.table.now c.take_name.new.table c.args.at.now.dir (λ time. relisted time (without_entry c.as_slice.result.now)) _ c.args.now
     (to_z-of_z {w = w128} {z = c.args.now} c.ranges.now) c.take_name.ensures.step)
     c.requires.entry c.requires.directory c.requires.empty c.drop_link.new.table c.orphan.new.table c.drop_link.ensures.step c.orphan.ensures.step) c.args.node

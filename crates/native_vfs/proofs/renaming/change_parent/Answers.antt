@@ -1,5 +1,5 @@
 use Rattle.std.proofs.Common.{◌∙◌, sym}
-use Rattle.native_vfs.proofs.Renames.{linked-distinct, parent-becomes, parent-few}
+use Rattle.native_vfs.proofs.renames.Renames.{linked-distinct, parent-becomes, parent-few}
 use Rattle.native_vfs.proofs.renaming.change_parent.Goals as goal
 
 pub add_link-requires-clause-few : goal.add_link-requires-clause-few

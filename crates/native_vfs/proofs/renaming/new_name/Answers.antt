@@ -1,5 +1,5 @@
-use Rattle.native_vfs.proofs.Reasons.{live-dir}
-use Rattle.native_vfs.proofs.Stages.{placed-listing}
+use Rattle.native_vfs.proofs.tables.Reasons.{live-dir}
+use Rattle.native_vfs.proofs.removals.Stages.{placed-listing}
 use Rattle.native_vfs.proofs.renaming.new_name.Goals as goal
 
 pub reserve_name-requires-clause-live : goal.reserve_name-requires-clause-live

@@ -1,5 +1,5 @@
 use Rattle.std.proofs.Common.{subst, ◌∙◌}
-use Rattle.native_vfs.proofs.SavedNodes.{IsReadFrom, read-none, read-other, read-more, read-all}
+use Rattle.native_vfs.proofs.trees.SavedNodes.{IsReadFrom, read-none, read-other, read-more, read-all}
 use Rattle.native_vfs.proofs.saving.linked_nodes.Goals as goal
 
 pub loop-key-init : goal.loop-key-init

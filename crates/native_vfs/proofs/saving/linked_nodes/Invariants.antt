@@ -1,4 +1,4 @@
-use Rattle.native_vfs.proofs.SavedNodes.{IsReadFrom}
+use Rattle.native_vfs.proofs.trees.SavedNodes.{IsReadFrom}
 use Rattle.native_vfs.proofs.saving.linked_nodes.Given as goal
 
 -- the map has the nodes with a link that are read, and the rest of the table is left

@@ -2,8 +2,8 @@ use Rattle.std.proofs.Common.{◌+◌, List, [], ◌∷◌, ◌++◌, map, sym, 
 use Rattle.std.specs.FinMap.{entries}
 use Rattle.kernel_core.specs.declared.tree.Block.{Block}
 use Rattle.file_blocks.proofs.Uses.{kept_below}
-use Rattle.native_vfs.specs.Saving.{block_of}
-use Rattle.native_vfs.proofs.SavedLists.{blocks-none, blocks-next, blocks-all}
+use Rattle.native_vfs.specs.inside.Saving.{block_of}
+use Rattle.native_vfs.proofs.trees.SavedLists.{blocks-none, blocks-next, blocks-all}
 use Rattle.native_vfs.proofs.saving.saved_blocks.Goals as goal
 
 pub loop-index-init : goal.loop-index-init

@@ -1,7 +1,7 @@
 use Rattle.std.proofs.Common.{◌≡◌, ◌-◌, map}
 use Rattle.std.specs.FinMap.{entries}
 use Rattle.file_blocks.proofs.Uses.{kept_below}
-use Rattle.native_vfs.specs.Saving.{block_of}
+use Rattle.native_vfs.specs.inside.Saving.{block_of}
 use Rattle.native_vfs.proofs.saving.saved_blocks.Given as goal
 
 -- the blocks below the index are read

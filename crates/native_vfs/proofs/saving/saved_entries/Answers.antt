@@ -3,7 +3,7 @@ use Rattle.std.specs.Prelude.{option_map}
 use Rattle.std.proofs.lemmas.List.{append-nil}
 use Rattle.kernel_core.specs.declared.tree.DirEntry.{DirEntry}
 use Rattle.directory_names.specs.Names.{plain, shown}
-use Rattle.native_vfs.proofs.SavedLists.{above, above-zero, above-next, none_above, entries-next}
+use Rattle.native_vfs.proofs.trees.SavedLists.{above, above-zero, above-next, none_above, entries-next}
 use Rattle.native_vfs.proofs.saving.saved_entries.Goals as goal
 
 pub loop-entry-init : goal.loop-entry-init

@@ -1,6 +1,6 @@
 use Rattle.std.proofs.Common.{◌≡◌, ◌++◌, map, length}
 use Rattle.directory_names.specs.Names.{AreNames, plain}
-use Rattle.native_vfs.proofs.SavedLists.{above}
+use Rattle.native_vfs.proofs.trees.SavedLists.{above}
 use Rattle.native_vfs.proofs.saving.saved_entries.Given as goal
 
 -- what is read and what lies above the cookie are all

@@ -1,8 +1,8 @@
 use Rattle.std.proofs.Common.{List, [], ◌∷◌, ◌++◌, map, ap, ◌∙◌}
 use Rattle.std.proofs.lemmas.List.Elements.{All-rest}
 use Rattle.kernel_core.specs.declared.tree.Node.{Node}
-use Rattle.native_vfs.specs.Saving.{saved_of, HasTime}
-use Rattle.native_vfs.proofs.SavedNodes.{saved-next}
+use Rattle.native_vfs.specs.inside.Saving.{saved_of, HasTime}
+use Rattle.native_vfs.proofs.trees.SavedNodes.{saved-next}
 use Rattle.native_vfs.proofs.saving.saved_nodes.Goals as goal
 
 pub loop-number-preserved : goal.loop-number-preserved

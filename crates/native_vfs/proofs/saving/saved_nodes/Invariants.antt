@@ -1,5 +1,5 @@
 use Rattle.std.proofs.Common.{◌≡◌, ◌++◌, map, All}
-use Rattle.native_vfs.specs.Saving.{saved_of, HasTime}
+use Rattle.native_vfs.specs.inside.Saving.{saved_of, HasTime}
 use Rattle.native_vfs.proofs.saving.saved_nodes.Given as goal
 
 -- the nodes so far and those that are left are all

@@ -2,9 +2,9 @@ use Rattle.std.proofs.Common.{◌≡◌, ◌≤◌, ℕ, Some, true, ◌∙◌, 
 use Rattle.slab.specs.Slab.{get as slab_get}
 use Rattle.std.specs.FinMap.{get}
 use Rattle.kernel_core.specs.Nodes.{is_unused}
-use Rattle.native_vfs.specs.Stored.{Table, nodes_of, number_of_key, HasDistinctNumbers}
+use Rattle.native_vfs.specs.inside.Stored.{Table, nodes_of, number_of_key, HasDistinctNumbers}
 use Rattle.native_vfs.specs.declared.stored.Stored.{Stored}
-use Rattle.native_vfs.proofs.Settling.{used-settled, unused-there, linked-used, held-used, free-unused, removed-settled, removed-pool, removed-blocks}
+use Rattle.native_vfs.proofs.removals.Settling.{used-settled, unused-there, linked-used, held-used, free-unused, removed-settled, removed-pool, removed-blocks}
 use Rattle.native_vfs.proofs.settle.settle.Goals as goal
 use Rattle.native_vfs.proofs.settle.settle.Goals.{then-node-gt0-via-then-node-gt0, then-node-gt0-via-else-node-gt0+then-node-gt0-2}
 

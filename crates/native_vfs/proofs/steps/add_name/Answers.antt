@@ -1,13 +1,17 @@
 use Rattle.std.specs.Int.{w128}
 use Rattle.std.proofs.Math.Facts.{to_z-of_z}
-use Rattle.native_vfs.proofs.Changes.{add-step, can-cookie, can-absent}
+use Rattle.native_vfs.proofs.tables.Changes.{add-step, can-cookie, can-absent}
 use Rattle.native_vfs.proofs.steps.add_name.Goals as goal
 
 pub add-requires-clause-cookie : goal.add-requires-clause-cookie
-add-requires-clause-cookie c = can-cookie c.args.table.now c.args.dir c.index_mut-stored.result.now c.index_mut-stored.ensures.value c.requires.distinct c.in-Directory.directory c.in-Directory.is c.args.name c.requires.can
+add-requires-clause-cookie c =
+    can-cookie c.args.table.now c.args.dir c.index_mut-stored.result.now c.index_mut-stored.ensures.value c.requires.distinct
+    c.in-Directory.directory c.in-Directory.is c.args.name c.requires.can
 
 pub add-requires-clause-absent : goal.add-requires-clause-absent
-add-requires-clause-absent c = can-absent c.args.table.now c.args.dir c.index_mut-stored.result.now c.index_mut-stored.ensures.value c.requires.distinct c.in-Directory.directory c.in-Directory.is c.args.name c.requires.can
+add-requires-clause-absent c =
+    can-absent c.args.table.now c.args.dir c.index_mut-stored.result.now c.index_mut-stored.ensures.value c.requires.distinct
+    c.in-Directory.directory c.in-Directory.is c.args.name c.requires.can
 
 pub returns-in-Directory : goal.returns-in-Directory
 returns-in-Directory c =

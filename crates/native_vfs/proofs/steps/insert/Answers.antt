@@ -1,6 +1,6 @@
 use Rattle.std.proofs.Common.{sym, ap}
-use Rattle.native_vfs.proofs.MadeNodes.{on-err}
-use Rattle.native_vfs.proofs.Moves.{insertion, same-slots}
+use Rattle.native_vfs.proofs.additions.MadeNodes.{on-err}
+use Rattle.native_vfs.proofs.tables.Moves.{insertion, same-slots}
 use Rattle.native_vfs.proofs.steps.insert.Goals as goal
 
 pub returns-clause-ok : goal.returns-clause-ok

@@ -1,5 +1,5 @@
 use Rattle.std.proofs.Common.{rules, arith, refl}
-use Rattle.native_vfs.proofs.Tables.{holds-there, step-with_value}
+use Rattle.native_vfs.proofs.tables.Tables.{holds-there, step-with_value}
 use Rattle.native_vfs.proofs.steps.let_go.Goals as goal
 
 pub overflow_sub-node : goal.overflow_sub-node

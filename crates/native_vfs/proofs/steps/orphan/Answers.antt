@@ -1,4 +1,4 @@
-use Rattle.native_vfs.proofs.Changes.{orphan-step, orphan-none}
+use Rattle.native_vfs.proofs.tables.Changes.{orphan-step, orphan-none}
 use Rattle.native_vfs.proofs.steps.orphan.Goals as goal
 
 pub returns-in-Directory : goal.returns-in-Directory

@@ -1,8 +1,8 @@
 use Rattle.std.proofs.Common.{subst}
-use Rattle.native_vfs.specs.Steps.{IsUnnamed}
-use Rattle.native_vfs.specs.Stored.{nodes_of}
-use Rattle.native_vfs.proofs.Moves.{removal}
-use Rattle.native_vfs.proofs.Tables.{number-there}
+use Rattle.native_vfs.specs.inside.Steps.{IsUnnamed}
+use Rattle.native_vfs.specs.inside.Stored.{nodes_of}
+use Rattle.native_vfs.proofs.tables.Moves.{removal}
+use Rattle.native_vfs.proofs.tables.Tables.{number-there}
 use Rattle.native_vfs.proofs.steps.remove.Goals as goal
 
 pub returns : goal.returns

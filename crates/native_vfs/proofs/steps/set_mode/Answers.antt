@@ -1,5 +1,5 @@
 use Rattle.std.proofs.Common.{rules, refl}
-use Rattle.native_vfs.proofs.Tables.{step-with_value}
+use Rattle.native_vfs.proofs.tables.Tables.{step-with_value}
 use Rattle.native_vfs.proofs.steps.set_mode.Goals as goal
 
 pub returns : goal.returns

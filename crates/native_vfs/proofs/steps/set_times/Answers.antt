@@ -2,9 +2,9 @@ use Rattle.std.proofs.Common.{◌≡◌, ap, ◌∙◌}
 use Rattle.std.specs.Int.{w128}
 use Rattle.std.specs.Option.{unwrap_or}
 use Rattle.std.proofs.Math.Facts.{to_z-of_z}
-use Rattle.native_vfs.specs.Stored.{inode_of}
+use Rattle.native_vfs.specs.inside.Stored.{inode_of}
 use Rattle.native_vfs.specs.declared.stored.Stored.{Stored}
-use Rattle.native_vfs.proofs.Tables.{step-with_value}
+use Rattle.native_vfs.proofs.tables.Tables.{step-with_value}
 use Rattle.native_vfs.proofs.steps.set_times.Goals as goal
 
 pub returns : goal.returns

@@ -1,6 +1,6 @@
 use Rattle.std.proofs.Common.{sym, ◌∙◌}
-use Rattle.native_vfs.specs.Texts.{texts}
-use Rattle.native_vfs.proofs.TextLemmas.{is-empty, empty-is, left-none, none-left}
+use Rattle.native_vfs.specs.inside.Texts.{texts}
+use Rattle.native_vfs.proofs.walks.TextLemmas.{is-empty, empty-is, left-none, none-left}
 use Rattle.native_vfs.proofs.path.Rest.is_empty.Goals as goal
 
 pub returns : goal.returns

@@ -1,8 +1,8 @@
 use Rattle.std.proofs.Common.{ap, ◌∙◌, ◌++◌}
 use Rattle.std.proofs.lemmas.List.{append-nil}
 use Rattle.kernel_core.specs.PathWalk.{components}
-use Rattle.native_vfs.specs.Texts.{texts, stacked}
-use Rattle.native_vfs.proofs.TextLemmas.{stacked-none}
+use Rattle.native_vfs.specs.inside.Texts.{texts, stacked}
+use Rattle.native_vfs.proofs.walks.TextLemmas.{stacked-none}
 use Rattle.native_vfs.proofs.path.Rest.new.Goals as goal
 
 pub returns : goal.returns

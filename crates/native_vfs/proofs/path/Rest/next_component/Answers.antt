@@ -1,6 +1,6 @@
 use Rattle.std.proofs.Common.{sym, ◌∙◌}
-use Rattle.native_vfs.specs.Texts.{texts}
-use Rattle.native_vfs.proofs.TextLemmas.{is-empty, left-none}
+use Rattle.native_vfs.specs.inside.Texts.{texts}
+use Rattle.native_vfs.proofs.walks.TextLemmas.{is-empty, left-none}
 use Rattle.native_vfs.proofs.path.Rest.next_component.Goals as goal
 
 pub returns-then-is_empty-clause-taken : goal.returns-then-is_empty-clause-taken

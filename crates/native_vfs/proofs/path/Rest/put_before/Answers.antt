@@ -1,6 +1,6 @@
 use Rattle.std.proofs.Common.{ap, sym, ◌∙◌, ◌++◌}
 use Rattle.kernel_core.specs.PathWalk.{components}
-use Rattle.native_vfs.proofs.TextLemmas.{is-empty, components-none}
+use Rattle.native_vfs.proofs.walks.TextLemmas.{is-empty, components-none}
 use Rattle.native_vfs.proofs.path.Rest.put_before.Goals as goal
 
 pub returns-then-is_empty : goal.returns-then-is_empty

@@ -1,6 +1,6 @@
 use Rattle.std.proofs.Common.{sym, ap, ◌∙◌}
 use Rattle.std.specs.Prelude.{option_copied}
-use Rattle.native_vfs.proofs.Looked as looked
+use Rattle.native_vfs.proofs.tables.Looked as looked
 use Rattle.native_vfs.proofs.tests.checks.holds.Goals as goal
 
 pub returns-in-Some-clause-live : goal.returns-in-Some-clause-live

@@ -1,6 +1,6 @@
 use Rattle.std.proofs.Common.{◌≡◌, sym, subst, rules, ◌∷◌, []}
 use Rattle.kernel_core.specs.ValidTree.{IsValidTree}
-use Rattle.native_vfs.proofs.SmallTrees.{empty_root, empty_tree_valid}
+use Rattle.native_vfs.proofs.trees.SmallTrees.{empty_root, empty_tree_valid}
 use Rattle.native_vfs.proofs.tests.files.empty_tree.Goals as goal
 
 pub returns : goal.returns

@@ -1,6 +1,6 @@
 use Rattle.std.proofs.Common.{◌≡◌, sym, subst, rules}
 use Rattle.kernel_core.specs.ValidTree.{IsValidTree}
-use Rattle.native_vfs.proofs.SmallTrees.{two_nodes, tree_of_file_valid}
+use Rattle.native_vfs.proofs.trees.SmallTrees.{two_nodes, tree_of_file_valid}
 use Rattle.native_vfs.proofs.tests.files.tree_of_file.Goals as goal
 
 pub returns : goal.returns

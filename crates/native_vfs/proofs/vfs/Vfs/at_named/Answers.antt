@@ -2,7 +2,7 @@ use Rattle.std.proofs.Common.{subst, sym, ◌+◌}
 use Rattle.std.specs.Prelude.{option_map}
 use Rattle.kernel_core.specs.PathWalk as walking
 use Rattle.native_vfs.specs.Keyed.{number_at}
-use Rattle.native_vfs.specs.Walking.{Gives, walk_of, steps_left}
+use Rattle.native_vfs.specs.inside.Walking.{Gives, walk_of, steps_left}
 use Rattle.native_vfs.proofs.vfs.Vfs.at_named.Goals as goal
 
 pub returns-in_default : goal.returns-in_default

@@ -5,9 +5,9 @@ use Rattle.std.proofs.lemmas.Bool.{false≢true}
 use Rattle.kernel_core.specs.PathWalk as walking
 use Rattle.kernel_core.specs.ValidTree.{root}
 use Rattle.native_vfs.specs.Keyed.{number_at}
-use Rattle.native_vfs.specs.Walking.{walk_of, steps_left, IsUnderWay}
+use Rattle.native_vfs.specs.inside.Walking.{walk_of, steps_left, IsUnderWay}
 use Rattle.native_vfs.specs.declared.walk.Walk.{Walk}
-use Rattle.native_vfs.proofs.StepLemmas.{follow-goes, follow-way, follow-left}
+use Rattle.native_vfs.proofs.walks.StepLemmas.{follow-goes, follow-way, follow-left}
 use Rattle.native_vfs.proofs.vfs.Vfs.follow_link.Goals as goal
 use Rattle.native_vfs.proofs.vfs.Vfs.follow_link.Goals.{then-begins_with_slash, else-begins_with_slash}
 

@@ -2,11 +2,11 @@ use Rattle.std.proofs.Common.{ℕ, ◌≡◌, ◌+◌, ◌<◌, ◌^◌, Option,
 use Rattle.kernel_core.specs.NodeCalls.{held}
 use Rattle.kernel_core.specs.Nodes.{Inode}
 use Rattle.file_system_laws.proofs.NodeLaws.{hold_keeps}
-use Rattle.native_vfs.specs.Steps.{holds_in, holds_at}
+use Rattle.native_vfs.specs.inside.Steps.{holds_in, holds_at}
 use Rattle.native_vfs.specs.Keyed.{Keyed, inode_at}
-use Rattle.native_vfs.specs.Stored.{IsKept, number_of_key, nodes_of, keyed_of, Table}
-use Rattle.native_vfs.proofs.Kept.{live-seen, holds-seen, nodes-stepped, keys-stepped, kept-step, valid-view, are-keys-view, inode-alive}
-use Rattle.native_vfs.proofs.HeldKeys.{held-hold}
+use Rattle.native_vfs.specs.inside.Stored.{IsKept, number_of_key, nodes_of, keyed_of, Table}
+use Rattle.native_vfs.proofs.tables.Kept.{live-seen, holds-seen, nodes-stepped, keys-stepped, kept-step, valid-view, are-keys-view, inode-alive}
+use Rattle.native_vfs.proofs.tables.HeldKeys.{held-hold}
 use Rattle.native_vfs.proofs.vfs.Vfs.hold.Goals as goal
 
 few_holds : (o : Option Inode) → IfSome o (λ i. i.holds + 1 < 2 ^ 32) → holds_in o + 1 < 2 ^ 32
@@ -28,7 +28,8 @@ hold-requires-clause-few c = few c.self.inside.table c.args.self.now c.args.node
 kept : (c : goal.After-hold) → IsKept c.hold.new.table c.self.inside.numbers c.self.inside.entries c.self.inside.blocks c.self.inside.root
 kept c =
     kept-step c.self.inside.table c.hold.new.table c.args.node held c.hold.ensures.step c.self.inside.numbers c.self.inside.entries c.self.inside.blocks c.self.inside.root c.self.invariant
-    (hold_keeps (nodes_of c.self.inside.table) (number_of_key c.self.inside.table c.args.node) c.self.invariant.system (λ i found. let e = ap holds_in found in let h = few c.self.inside.table c.args.self.now c.args.node c.self.view_is c.requires.few in omega (arith, e, h)))
+    (hold_keeps (nodes_of c.self.inside.table) (number_of_key c.self.inside.table c.args.node) c.self.invariant.system
+    (λ i found. let e = ap holds_in found in let h = few c.self.inside.table c.args.self.now c.args.node c.self.view_is c.requires.few in omega (arith, e, h)))
     (λ i. refl)
 
 pub invariant_of-self : goal.invariant_of-self

@@ -3,10 +3,10 @@ use Rattle.std.specs.Prelude.{option_map}
 use Rattle.slab.specs.Slab.{get as slab_get}
 use Rattle.kernel_core.specs.Queries.{kind_of, kind_at}
 use Rattle.native_vfs.specs.Keyed.{Keyed, number_at}
-use Rattle.native_vfs.specs.Stored.{Table, HasDistinctNumbers, content_of, keyed_of}
+use Rattle.native_vfs.specs.inside.Stored.{Table, HasDistinctNumbers, content_of, keyed_of}
 use Rattle.native_vfs.specs.declared.stored.Stored.{Stored}
 use Rattle.native_vfs.specs.declared.stored.StoredContent.{StoredContent}
-use Rattle.native_vfs.proofs.Kept.{live-seen, inode-live}
+use Rattle.native_vfs.proofs.tables.Kept.{live-seen, inode-live}
 use Rattle.native_vfs.proofs.vfs.Vfs.kind.Goals as goal
 
 -- the kind of the node at a key

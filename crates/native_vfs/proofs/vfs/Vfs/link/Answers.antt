@@ -3,14 +3,14 @@ use Rattle.std.specs.Int.{w128}
 use Rattle.std.proofs.lemmas.Result.{err_from_is_err_and}
 use Rattle.std.proofs.Math.Facts.{to_z-of_z}
 use Rattle.kernel_core.specs.NameCalls as names
-use Rattle.native_vfs.specs.Making.{IsNamedAgain}
+use Rattle.native_vfs.specs.inside.Making.{IsNamedAgain}
 use Rattle.native_vfs.specs.Keyed.{place_at, number_at}
-use Rattle.native_vfs.specs.Stored.{IsKept, nodes_of, keyed_of, number_of_key}
-use Rattle.native_vfs.proofs.Kept.{valid-view, are-keys-view, live-seen}
-use Rattle.native_vfs.proofs.MadeCalls.{agrees-kept, valid-seen, are-keys-seen, view-same, kept-same, none-left}
-use Rattle.native_vfs.proofs.NamedAgain.{link-refusal-seen, kept-named, nodes-named, keys-named}
+use Rattle.native_vfs.specs.inside.Stored.{IsKept, nodes_of, keyed_of, number_of_key}
+use Rattle.native_vfs.proofs.tables.Kept.{valid-view, are-keys-view, live-seen}
+use Rattle.native_vfs.proofs.additions.MadeCalls.{agrees-kept, valid-seen, are-keys-seen, view-same, kept-same, none-left}
+use Rattle.native_vfs.proofs.additions.NamedAgain.{link-refusal-seen, kept-named, nodes-named, keys-named}
 use Rattle.file_system_laws.proofs.HeldNodes.{keeps-lost, link_loses}
-use Rattle.native_vfs.proofs.HeldKeys.{held-same, held-same_keys}
+use Rattle.native_vfs.proofs.tables.HeldKeys.{held-same, held-same_keys}
 use Rattle.native_vfs.proofs.vfs.Vfs.link.Goals as goal
 
 pub link_refusal-requires-clause-live : goal.link_refusal-requires-clause-live

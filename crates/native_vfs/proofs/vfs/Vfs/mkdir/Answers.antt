@@ -4,15 +4,15 @@ use Rattle.std.proofs.lemmas.Result.{err_from_is_err_and}
 use Rattle.std.proofs.Math.Facts.{to_z-of_z}
 use Rattle.kernel_core.specs.NameCalls as names
 use Rattle.kernel_core.specs.Nodes.{NodeContent}
-use Rattle.native_vfs.specs.Making.{IsMade}
+use Rattle.native_vfs.specs.inside.Making.{IsMade}
 use Rattle.native_vfs.specs.Keyed.{place_at, number_at}
-use Rattle.native_vfs.specs.Stored.{IsKept, nodes_of, keyed_of}
-use Rattle.native_vfs.proofs.Kept.{valid-view, are-keys-view}
-use Rattle.native_vfs.proofs.MadeCalls.{refusal-seen, agrees-kept, valid-seen, are-keys-seen, view-same, kept-same, makes-seen, kept-mkdir, made-step, above-live, above-number, above-few, empty-directory, empty-leads, none-left}
-use Rattle.native_vfs.proofs.Reasons.{live-dir}
-use Rattle.native_vfs.proofs.Tables.{number_at-table}
+use Rattle.native_vfs.specs.inside.Stored.{IsKept, nodes_of, keyed_of}
+use Rattle.native_vfs.proofs.tables.Kept.{valid-view, are-keys-view}
+use Rattle.native_vfs.proofs.additions.MadeCalls.{refusal-seen, agrees-kept, valid-seen, are-keys-seen, view-same, kept-same, makes-seen, kept-mkdir, made-step, above-live, above-number, above-few, empty-directory, empty-leads, none-left}
+use Rattle.native_vfs.proofs.tables.Reasons.{live-dir}
+use Rattle.native_vfs.proofs.tables.Tables.{number_at-table}
 use Rattle.file_system_laws.proofs.HeldNodes.{mkdir_keeps_holds}
-use Rattle.native_vfs.proofs.HeldKeys.{held-same, held-made}
+use Rattle.native_vfs.proofs.tables.HeldKeys.{held-same, held-made}
 use Rattle.native_vfs.proofs.vfs.Vfs.mkdir.Goals as goal
 
 pub returns-in-Some-clause-answer : goal.returns-in-Some-clause-answer
@@ -48,7 +48,8 @@ free : (c : goal.After-self-1) → names.make_refusal (nodes_of c.self.inside.ta
 free c = sym c.make_refusal.ensures ∙ none-left c.make_refusal.result c.in_default.not-Some
 
 made : (c : goal.After-self-1)
-    → IsMade c.self.inside.table c.add_link.new.table c.make.new.numbers c.in_ok-key.key (λ number. names.after_mkdir (nodes_of c.self.inside.table) (place_at (keyed_of c.self.inside.table) c.args.at.now) number c.args.mode c.args.now)
+    → IsMade c.self.inside.table c.add_link.new.table c.make.new.numbers c.in_ok-key.key
+    (λ number. names.after_mkdir (nodes_of c.self.inside.table) (place_at (keyed_of c.self.inside.table) c.args.at.now) number c.args.mode c.args.now)
 made c =
     made-step c.self.inside.table c.make.new.table c.make.new.numbers c.in_ok-key.key
     (λ number. names.after_make (nodes_of c.self.inside.table) (place_at (keyed_of c.self.inside.table) c.args.at.now) number

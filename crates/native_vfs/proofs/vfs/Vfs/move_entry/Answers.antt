@@ -1,181 +1,177 @@
-use Rattle.std.proofs.Common.{◌∙◌, sym, ap, subst}
+use Rattle.std.proofs.Common.{◌≡◌, ◌∙◌, sym, ap, subst}
 use Rattle.std.specs.Int.{w128}
 use Rattle.std.specs.Prelude.{option_map}
 use Rattle.std.proofs.Math.Facts.{to_z-of_z}
 use Rattle.kernel_core.specs.Nodes.{listing_at}
 use Rattle.kernel_core.specs.NameCalls.{replace_name, take_name}
 use Rattle.native_vfs.specs.Keyed.{place_at, number_at}
-use Rattle.native_vfs.specs.Renames.{entry_moved, Becomes}
-use Rattle.native_vfs.specs.Stored.{nodes_of, keyed_of, number_of_key, CanAdd, IsKept}
-use Rattle.native_vfs.proofs.Kept.{valid-view, are-keys-view}
-use Rattle.native_vfs.proofs.MovedEntries.{same-view, same-kept, sound-of, agrees-from, agrees-to, entry-gives, entry-from, entry-moved-live, entry-some, entry-few, entry-can, entry-nodes, entry-kept, entry-keeps, after-error}
-use Rattle.native_vfs.proofs.Reasons.{live-dir, live-node}
+use Rattle.native_vfs.specs.inside.Renames.{entry_moved, Becomes}
+use Rattle.native_vfs.specs.inside.Stored.{nodes_of, keyed_of, number_of_key, CanAdd, IsKept}
+use Rattle.native_vfs.proofs.tables.Kept.{valid-view, are-keys-view}
+use Rattle.native_vfs.proofs.renames.MovedEntries.{IsRenaming, renaming-same, same-view, same-kept, sound-of, agrees-to, entry-gives, entry-from, entry-to, entry-moved-live, entry-some, entry-few, entry-can, entry-nodes, entry-kept, entry-keeps, after-error}
 use Rattle.native_vfs.proofs.vfs.Vfs.move_entry.Goals as goal
 
+-- memory runs out for the name: the table has the nodes that it had
+
 pub invariant_of-self : goal.invariant_of-self
-invariant_of-self c = same-kept c.self.inside.table c.new_name.new.table c.new_name.ensures.same c.self.inside.numbers c.self.inside.entries c.self.inside.blocks c.self.inside.root c.self.invariant
+invariant_of-self c =
+    same-kept c.self.inside.table c.new_name.new.table c.new_name.ensures.same c.self.inside.numbers c.self.inside.entries c.self.inside.blocks c.self.inside.root c.self.invariant
 
 pub returns-in_err-name-clause-err : goal.returns-in_err-name-clause-err
 returns-in_err-name-clause-err c = after-error c.from_residual.result _ (same-view c.self.inside.table c.new_name.new.table c.new_name.ensures.same ∙ c.self.view_is)
 
 pub returns-in_err-name-clause-valid : goal.returns-in_err-name-clause-valid
-returns-in_err-name-clause-valid c = valid-view c.new_name.new.table c.self.inside.numbers c.self.inside.entries c.self.inside.blocks c.self.inside.root (same-kept c.self.inside.table c.new_name.new.table c.new_name.ensures.same c.self.inside.numbers c.self.inside.entries c.self.inside.blocks c.self.inside.root c.self.invariant)
+returns-in_err-name-clause-valid c =
+    valid-view _ _ _ _ _
+    (same-kept c.self.inside.table c.new_name.new.table c.new_name.ensures.same c.self.inside.numbers c.self.inside.entries c.self.inside.blocks c.self.inside.root c.self.invariant)
 
 pub returns-in_err-name-clause-keys : goal.returns-in_err-name-clause-keys
-returns-in_err-name-clause-keys c = are-keys-view c.new_name.new.table c.self.inside.numbers c.self.inside.entries c.self.inside.blocks c.self.inside.root (same-kept c.self.inside.table c.new_name.new.table c.new_name.ensures.same c.self.inside.numbers c.self.inside.entries c.self.inside.blocks c.self.inside.root c.self.invariant)
+returns-in_err-name-clause-keys c =
+    are-keys-view _ _ _ _ _
+    (same-kept c.self.inside.table c.new_name.new.table c.new_name.ensures.same c.self.inside.numbers c.self.inside.entries c.self.inside.blocks c.self.inside.root c.self.invariant)
+
+-- what stood under the new name is cleared away
+
+begins : (c : goal.After-clear-arg-4-1) → IsRenaming c.new_name.new.table c.args.self.now c.args.from.now c.args.to.now c.args.moved c.args.now
+begins c =
+    renaming-same c.self.inside.table c.new_name.new.table c.new_name.ensures.same
+    c.self.inside.numbers c.self.inside.entries c.self.inside.blocks c.self.inside.root c.self.invariant
+    c.args.self.now c.args.from.now c.args.to.now c.args.moved c.args.now (record {
+      view = c.self.view_is;
+      system_is = c.self.invariant.system;
+      from_agrees = c.requires.from;
+      to_agrees = c.requires.to;
+      node = c.requires.node;
+      other = c.requires.other;
+      allowed = c.requires.allowed;
+      time = c.requires.time;
+    })
 
 pub clear-requires-clause-sound : goal.clear-requires-clause-sound
-clear-requires-clause-sound c = sound-of c.new_name.new.table c.self.inside.numbers c.self.inside.entries c.self.inside.blocks c.self.inside.root (same-kept c.self.inside.table c.new_name.new.table c.new_name.ensures.same c.self.inside.numbers c.self.inside.entries c.self.inside.blocks c.self.inside.root c.self.invariant)
+clear-requires-clause-sound c =
+    sound-of c.new_name.new.table c.self.inside.numbers c.self.inside.entries c.self.inside.blocks c.self.inside.root
+    (same-kept c.self.inside.table c.new_name.new.table c.new_name.ensures.same c.self.inside.numbers c.self.inside.entries c.self.inside.blocks c.self.inside.root c.self.invariant)
 
 pub clear-requires-clause-agrees : goal.clear-requires-clause-agrees
-clear-requires-clause-agrees c =
-    agrees-to c.new_name.new.table c.args.self.now (same-view c.self.inside.table c.new_name.new.table c.new_name.ensures.same ∙ c.self.view_is)
-    (same-kept c.self.inside.table c.new_name.new.table c.new_name.ensures.same c.self.inside.numbers c.self.inside.entries c.self.inside.blocks c.self.inside.root c.self.invariant).system
-    c.args.from.now c.args.to.now c.requires.from c.requires.to c.args.moved c.requires.node c.requires.other c.requires.allowed c.args.now c.requires.time
+clear-requires-clause-agrees c = agrees-to c.new_name.new.table c.args.self.now c.args.from.now c.args.to.now c.args.moved c.args.now (begins c)
 
 pub clear-requires-clause-gives : goal.clear-requires-clause-gives
-clear-requires-clause-gives c =
-    entry-gives c.new_name.new.table c.args.self.now (same-view c.self.inside.table c.new_name.new.table c.new_name.ensures.same ∙ c.self.view_is)
-    (same-kept c.self.inside.table c.new_name.new.table c.new_name.ensures.same c.self.inside.numbers c.self.inside.entries c.self.inside.blocks c.self.inside.root c.self.invariant).system
-    c.args.from.now c.args.to.now c.requires.from c.requires.to c.args.moved c.requires.node c.requires.other c.requires.allowed c.args.now c.requires.time
+clear-requires-clause-gives c = entry-gives c.new_name.new.table c.args.self.now c.args.from.now c.args.to.now c.args.moved c.args.now (begins c)
+
+-- the name moves
+
+goes_on : (c : goal.After-move_name-arg-1) → IsRenaming c.new_name.new.table c.args.self.now c.args.from.now c.args.to.now c.args.moved c.args.now
+goes_on c =
+    renaming-same c.self.inside.table c.new_name.new.table c.new_name.ensures.same
+    c.self.inside.numbers c.self.inside.entries c.self.inside.blocks c.self.inside.root c.self.invariant
+    c.args.self.now c.args.from.now c.args.to.now c.args.moved c.args.now (record {
+      view = c.self.view_is;
+      system_is = c.self.invariant.system;
+      from_agrees = c.requires.from;
+      to_agrees = c.requires.to;
+      node = c.requires.node;
+      other = c.requires.other;
+      allowed = c.requires.allowed;
+      time = c.requires.time;
+    })
+
+cleared : (c : goal.After-move_name-arg-1)
+    → nodes_of c.clear.new.table
+    ≡ replace_name (nodes_of c.new_name.new.table) (place_at (keyed_of c.new_name.new.table) c.args.to.now)
+    (option_map (number_at (keyed_of c.new_name.new.table)) c.args.to.now.node) c.args.now
+cleared c =
+    c.clear.ensures.nodes
+    ∙ ap (replace_name (nodes_of c.new_name.new.table) (place_at (keyed_of c.new_name.new.table) c.args.to.now)
+    (option_map (number_at (keyed_of c.new_name.new.table)) c.args.to.now.node)) (to_z-of_z {w = w128} {z = c.args.now} c.ranges.now)
 
 pub move_name-requires-clause-from : goal.move_name-requires-clause-from
 move_name-requires-clause-from c =
-    entry-from c.new_name.new.table c.args.self.now (same-view c.self.inside.table c.new_name.new.table c.new_name.ensures.same ∙ c.self.view_is)
-    (same-kept c.self.inside.table c.new_name.new.table c.new_name.ensures.same c.self.inside.numbers c.self.inside.entries c.self.inside.blocks c.self.inside.root c.self.invariant).system
-    c.args.from.now c.args.to.now c.requires.from c.requires.to c.args.moved c.requires.node c.requires.other c.requires.allowed c.args.now c.requires.time
-    c.clear.new.table (c.clear.ensures.nodes ∙ ap (replace_name (nodes_of c.new_name.new.table) (place_at (keyed_of c.new_name.new.table) c.args.to.now) (option_map (number_at (keyed_of c.new_name.new.table)) c.args.to.now.node)) (to_z-of_z {w = w128} {z = c.args.now} c.ranges.now)) c.clear.ensures.cleared
-    (live-dir c.new_name.new.table c.args.from.now (agrees-from c.new_name.new.table c.args.self.now (same-view c.self.inside.table c.new_name.new.table c.new_name.ensures.same ∙ c.self.view_is)
-    (same-kept c.self.inside.table c.new_name.new.table c.new_name.ensures.same c.self.inside.numbers c.self.inside.entries c.self.inside.blocks c.self.inside.root c.self.invariant).system
-    c.args.from.now c.args.to.now c.requires.from c.requires.to c.args.moved c.requires.node c.requires.other c.requires.allowed c.args.now c.requires.time))
-    (live-dir c.new_name.new.table c.args.to.now (agrees-to c.new_name.new.table c.args.self.now (same-view c.self.inside.table c.new_name.new.table c.new_name.ensures.same ∙ c.self.view_is)
-    (same-kept c.self.inside.table c.new_name.new.table c.new_name.ensures.same c.self.inside.numbers c.self.inside.entries c.self.inside.blocks c.self.inside.root c.self.invariant).system
-    c.args.from.now c.args.to.now c.requires.from c.requires.to c.args.moved c.requires.node c.requires.other c.requires.allowed c.args.now c.requires.time))
-    (live-node c.new_name.new.table c.args.from.now c.args.moved (agrees-from c.new_name.new.table c.args.self.now (same-view c.self.inside.table c.new_name.new.table c.new_name.ensures.same ∙ c.self.view_is)
-    (same-kept c.self.inside.table c.new_name.new.table c.new_name.ensures.same c.self.inside.numbers c.self.inside.entries c.self.inside.blocks c.self.inside.root c.self.invariant).system
-    c.args.from.now c.args.to.now c.requires.from c.requires.to c.args.moved c.requires.node c.requires.other c.requires.allowed c.args.now c.requires.time) c.requires.node)
+    entry-from c.new_name.new.table c.args.self.now c.args.from.now c.args.to.now c.args.moved c.args.now (goes_on c)
+    c.clear.new.table (cleared c) c.clear.ensures.cleared
 
 pub move_name-requires-clause-moved : goal.move_name-requires-clause-moved
 move_name-requires-clause-moved c =
-    entry-moved-live c.new_name.new.table c.args.self.now (same-view c.self.inside.table c.new_name.new.table c.new_name.ensures.same ∙ c.self.view_is)
-    (same-kept c.self.inside.table c.new_name.new.table c.new_name.ensures.same c.self.inside.numbers c.self.inside.entries c.self.inside.blocks c.self.inside.root c.self.invariant).system
-    c.args.from.now c.args.to.now c.requires.from c.requires.to c.args.moved c.requires.node c.requires.other c.requires.allowed c.args.now c.requires.time
-    c.clear.new.table (c.clear.ensures.nodes ∙ ap (replace_name (nodes_of c.new_name.new.table) (place_at (keyed_of c.new_name.new.table) c.args.to.now) (option_map (number_at (keyed_of c.new_name.new.table)) c.args.to.now.node)) (to_z-of_z {w = w128} {z = c.args.now} c.ranges.now)) c.clear.ensures.cleared
-    (live-dir c.new_name.new.table c.args.from.now (agrees-from c.new_name.new.table c.args.self.now (same-view c.self.inside.table c.new_name.new.table c.new_name.ensures.same ∙ c.self.view_is)
-    (same-kept c.self.inside.table c.new_name.new.table c.new_name.ensures.same c.self.inside.numbers c.self.inside.entries c.self.inside.blocks c.self.inside.root c.self.invariant).system
-    c.args.from.now c.args.to.now c.requires.from c.requires.to c.args.moved c.requires.node c.requires.other c.requires.allowed c.args.now c.requires.time))
-    (live-dir c.new_name.new.table c.args.to.now (agrees-to c.new_name.new.table c.args.self.now (same-view c.self.inside.table c.new_name.new.table c.new_name.ensures.same ∙ c.self.view_is)
-    (same-kept c.self.inside.table c.new_name.new.table c.new_name.ensures.same c.self.inside.numbers c.self.inside.entries c.self.inside.blocks c.self.inside.root c.self.invariant).system
-    c.args.from.now c.args.to.now c.requires.from c.requires.to c.args.moved c.requires.node c.requires.other c.requires.allowed c.args.now c.requires.time))
-    (live-node c.new_name.new.table c.args.from.now c.args.moved (agrees-from c.new_name.new.table c.args.self.now (same-view c.self.inside.table c.new_name.new.table c.new_name.ensures.same ∙ c.self.view_is)
-    (same-kept c.self.inside.table c.new_name.new.table c.new_name.ensures.same c.self.inside.numbers c.self.inside.entries c.self.inside.blocks c.self.inside.root c.self.invariant).system
-    c.args.from.now c.args.to.now c.requires.from c.requires.to c.args.moved c.requires.node c.requires.other c.requires.allowed c.args.now c.requires.time) c.requires.node)
+    entry-moved-live c.new_name.new.table c.args.self.now c.args.from.now c.args.to.now c.args.moved c.args.now (goes_on c)
+    c.clear.new.table (cleared c) c.clear.ensures.cleared
 
 pub move_name-requires-clause-some : goal.move_name-requires-clause-some
 move_name-requires-clause-some c =
-    entry-some c.new_name.new.table c.args.self.now (same-view c.self.inside.table c.new_name.new.table c.new_name.ensures.same ∙ c.self.view_is)
-    (same-kept c.self.inside.table c.new_name.new.table c.new_name.ensures.same c.self.inside.numbers c.self.inside.entries c.self.inside.blocks c.self.inside.root c.self.invariant).system
-    c.args.from.now c.args.to.now c.requires.from c.requires.to c.args.moved c.requires.node c.requires.other c.requires.allowed c.args.now c.requires.time
-    c.clear.new.table (c.clear.ensures.nodes ∙ ap (replace_name (nodes_of c.new_name.new.table) (place_at (keyed_of c.new_name.new.table) c.args.to.now) (option_map (number_at (keyed_of c.new_name.new.table)) c.args.to.now.node)) (to_z-of_z {w = w128} {z = c.args.now} c.ranges.now)) c.clear.ensures.cleared
-    (live-dir c.new_name.new.table c.args.from.now (agrees-from c.new_name.new.table c.args.self.now (same-view c.self.inside.table c.new_name.new.table c.new_name.ensures.same ∙ c.self.view_is)
-    (same-kept c.self.inside.table c.new_name.new.table c.new_name.ensures.same c.self.inside.numbers c.self.inside.entries c.self.inside.blocks c.self.inside.root c.self.invariant).system
-    c.args.from.now c.args.to.now c.requires.from c.requires.to c.args.moved c.requires.node c.requires.other c.requires.allowed c.args.now c.requires.time))
-    (live-dir c.new_name.new.table c.args.to.now (agrees-to c.new_name.new.table c.args.self.now (same-view c.self.inside.table c.new_name.new.table c.new_name.ensures.same ∙ c.self.view_is)
-    (same-kept c.self.inside.table c.new_name.new.table c.new_name.ensures.same c.self.inside.numbers c.self.inside.entries c.self.inside.blocks c.self.inside.root c.self.invariant).system
-    c.args.from.now c.args.to.now c.requires.from c.requires.to c.args.moved c.requires.node c.requires.other c.requires.allowed c.args.now c.requires.time))
-    (live-node c.new_name.new.table c.args.from.now c.args.moved (agrees-from c.new_name.new.table c.args.self.now (same-view c.self.inside.table c.new_name.new.table c.new_name.ensures.same ∙ c.self.view_is)
-    (same-kept c.self.inside.table c.new_name.new.table c.new_name.ensures.same c.self.inside.numbers c.self.inside.entries c.self.inside.blocks c.self.inside.root c.self.invariant).system
-    c.args.from.now c.args.to.now c.requires.from c.requires.to c.args.moved c.requires.node c.requires.other c.requires.allowed c.args.now c.requires.time) c.requires.node)
+    entry-some c.new_name.new.table c.args.self.now c.args.from.now c.args.to.now c.args.moved c.args.now (goes_on c)
+    c.clear.new.table (cleared c) c.clear.ensures.cleared
 
 pub move_name-requires-clause-few : goal.move_name-requires-clause-few
 move_name-requires-clause-few c =
-    entry-few c.new_name.new.table c.args.self.now (same-view c.self.inside.table c.new_name.new.table c.new_name.ensures.same ∙ c.self.view_is)
-    (same-kept c.self.inside.table c.new_name.new.table c.new_name.ensures.same c.self.inside.numbers c.self.inside.entries c.self.inside.blocks c.self.inside.root c.self.invariant).system
-    c.args.from.now c.args.to.now c.requires.from c.requires.to c.args.moved c.requires.node c.requires.other c.requires.allowed c.args.now c.requires.time
-    c.clear.new.table (c.clear.ensures.nodes ∙ ap (replace_name (nodes_of c.new_name.new.table) (place_at (keyed_of c.new_name.new.table) c.args.to.now) (option_map (number_at (keyed_of c.new_name.new.table)) c.args.to.now.node)) (to_z-of_z {w = w128} {z = c.args.now} c.ranges.now)) c.clear.ensures.cleared
-    (live-dir c.new_name.new.table c.args.from.now (agrees-from c.new_name.new.table c.args.self.now (same-view c.self.inside.table c.new_name.new.table c.new_name.ensures.same ∙ c.self.view_is)
-    (same-kept c.self.inside.table c.new_name.new.table c.new_name.ensures.same c.self.inside.numbers c.self.inside.entries c.self.inside.blocks c.self.inside.root c.self.invariant).system
-    c.args.from.now c.args.to.now c.requires.from c.requires.to c.args.moved c.requires.node c.requires.other c.requires.allowed c.args.now c.requires.time))
-    (live-dir c.new_name.new.table c.args.to.now (agrees-to c.new_name.new.table c.args.self.now (same-view c.self.inside.table c.new_name.new.table c.new_name.ensures.same ∙ c.self.view_is)
-    (same-kept c.self.inside.table c.new_name.new.table c.new_name.ensures.same c.self.inside.numbers c.self.inside.entries c.self.inside.blocks c.self.inside.root c.self.invariant).system
-    c.args.from.now c.args.to.now c.requires.from c.requires.to c.args.moved c.requires.node c.requires.other c.requires.allowed c.args.now c.requires.time))
-    (live-node c.new_name.new.table c.args.from.now c.args.moved (agrees-from c.new_name.new.table c.args.self.now (same-view c.self.inside.table c.new_name.new.table c.new_name.ensures.same ∙ c.self.view_is)
-    (same-kept c.self.inside.table c.new_name.new.table c.new_name.ensures.same c.self.inside.numbers c.self.inside.entries c.self.inside.blocks c.self.inside.root c.self.invariant).system
-    c.args.from.now c.args.to.now c.requires.from c.requires.to c.args.moved c.requires.node c.requires.other c.requires.allowed c.args.now c.requires.time) c.requires.node)
+    entry-few c.new_name.new.table c.args.self.now c.args.from.now c.args.to.now c.args.moved c.args.now (goes_on c)
+    c.clear.new.table (cleared c) c.clear.ensures.cleared
 
 pub move_name-requires-clause-can : goal.move_name-requires-clause-can
 move_name-requires-clause-can c =
-    subst (λ time. CanAdd (listing_at (take_name (nodes_of c.clear.new.table) (number_of_key c.clear.new.table c.args.from.now.dir) c.args.from.now.name time) (number_of_key c.clear.new.table c.args.to.now.dir)) c.in_ok-name.name)
+    subst
+    (λ time. CanAdd (listing_at (take_name (nodes_of c.clear.new.table) (number_of_key c.clear.new.table c.args.from.now.dir) c.args.from.now.name time)
+    (number_of_key c.clear.new.table c.args.to.now.dir)) c.in_ok-name.name)
     (sym (to_z-of_z {w = w128} {z = c.args.now} c.ranges.now))
-    (entry-can c.new_name.new.table c.args.self.now (same-view c.self.inside.table c.new_name.new.table c.new_name.ensures.same ∙ c.self.view_is)
-    (same-kept c.self.inside.table c.new_name.new.table c.new_name.ensures.same c.self.inside.numbers c.self.inside.entries c.self.inside.blocks c.self.inside.root c.self.invariant).system
-    c.args.from.now c.args.to.now c.requires.from c.requires.to c.args.moved c.requires.node c.requires.other c.requires.allowed c.args.now c.requires.time
-    c.clear.new.table (c.clear.ensures.nodes ∙ ap (replace_name (nodes_of c.new_name.new.table) (place_at (keyed_of c.new_name.new.table) c.args.to.now) (option_map (number_at (keyed_of c.new_name.new.table)) c.args.to.now.node)) (to_z-of_z {w = w128} {z = c.args.now} c.ranges.now)) c.clear.ensures.cleared
-    (live-dir c.new_name.new.table c.args.from.now (agrees-from c.new_name.new.table c.args.self.now (same-view c.self.inside.table c.new_name.new.table c.new_name.ensures.same ∙ c.self.view_is)
-    (same-kept c.self.inside.table c.new_name.new.table c.new_name.ensures.same c.self.inside.numbers c.self.inside.entries c.self.inside.blocks c.self.inside.root c.self.invariant).system
-    c.args.from.now c.args.to.now c.requires.from c.requires.to c.args.moved c.requires.node c.requires.other c.requires.allowed c.args.now c.requires.time))
-    (live-dir c.new_name.new.table c.args.to.now (agrees-to c.new_name.new.table c.args.self.now (same-view c.self.inside.table c.new_name.new.table c.new_name.ensures.same ∙ c.self.view_is)
-    (same-kept c.self.inside.table c.new_name.new.table c.new_name.ensures.same c.self.inside.numbers c.self.inside.entries c.self.inside.blocks c.self.inside.root c.self.invariant).system
-    c.args.from.now c.args.to.now c.requires.from c.requires.to c.args.moved c.requires.node c.requires.other c.requires.allowed c.args.now c.requires.time))
-    (live-node c.new_name.new.table c.args.from.now c.args.moved (agrees-from c.new_name.new.table c.args.self.now (same-view c.self.inside.table c.new_name.new.table c.new_name.ensures.same ∙ c.self.view_is)
-    (same-kept c.self.inside.table c.new_name.new.table c.new_name.ensures.same c.self.inside.numbers c.self.inside.entries c.self.inside.blocks c.self.inside.root c.self.invariant).system
-    c.args.from.now c.args.to.now c.requires.from c.requires.to c.args.moved c.requires.node c.requires.other c.requires.allowed c.args.now c.requires.time) c.requires.node)
-    c.in_ok-name.name c.in_ok-name.ensures.name)
+    (entry-can c.new_name.new.table c.args.self.now c.args.from.now c.args.to.now c.args.moved c.args.now (goes_on c)
+    c.clear.new.table (cleared c) c.clear.ensures.cleared c.in_ok-name.name c.in_ok-name.ensures.name)
+
+-- after it
+
+ends : (c : goal.After-move_name) → IsRenaming c.new_name.new.table c.args.self.now c.args.from.now c.args.to.now c.args.moved c.args.now
+ends c =
+    renaming-same c.self.inside.table c.new_name.new.table c.new_name.ensures.same
+    c.self.inside.numbers c.self.inside.entries c.self.inside.blocks c.self.inside.root c.self.invariant
+    c.args.self.now c.args.from.now c.args.to.now c.args.moved c.args.now (record {
+      view = c.self.view_is;
+      system_is = c.self.invariant.system;
+      from_agrees = c.requires.from;
+      to_agrees = c.requires.to;
+      node = c.requires.node;
+      other = c.requires.other;
+      allowed = c.requires.allowed;
+      time = c.requires.time;
+    })
+
+clear_before : (c : goal.After-move_name)
+    → nodes_of c.clear.new.table
+    ≡ replace_name (nodes_of c.new_name.new.table) (place_at (keyed_of c.new_name.new.table) c.args.to.now)
+    (option_map (number_at (keyed_of c.new_name.new.table)) c.args.to.now.node) c.args.now
+clear_before c =
+    c.clear.ensures.nodes
+    ∙ ap (replace_name (nodes_of c.new_name.new.table) (place_at (keyed_of c.new_name.new.table) c.args.to.now)
+    (option_map (number_at (keyed_of c.new_name.new.table)) c.args.to.now.node)) (to_z-of_z {w = w128} {z = c.args.now} c.ranges.now)
+
+becomes : (c : goal.After-move_name)
+    → Becomes c.clear.new.table c.move_name.new.table
+    (entry_moved (nodes_of c.clear.new.table) (number_of_key c.clear.new.table c.args.from.now.dir) c.args.from.now.name
+    (number_of_key c.clear.new.table c.args.moved) (number_of_key c.clear.new.table c.args.to.now.dir) c.in_ok-name.name c.args.now)
+becomes c =
+    subst
+    (λ time. Becomes c.clear.new.table c.move_name.new.table
+    (entry_moved (nodes_of c.clear.new.table) (number_of_key c.clear.new.table c.args.from.now.dir) c.args.from.now.name
+    (number_of_key c.clear.new.table c.args.moved) (number_of_key c.clear.new.table c.args.to.now.dir) c.in_ok-name.name time))
+    (to_z-of_z {w = w128} {z = c.args.now} c.ranges.now) c.move_name.ensures.becomes
 
 kept : (c : goal.After-move_name) → IsKept c.move_name.new.table c.clear.new.numbers c.clear.new.entries c.clear.new.blocks c.self.inside.root
 kept c =
-    entry-kept c.new_name.new.table c.args.self.now (same-view c.self.inside.table c.new_name.new.table c.new_name.ensures.same ∙ c.self.view_is)
-    (same-kept c.self.inside.table c.new_name.new.table c.new_name.ensures.same c.self.inside.numbers c.self.inside.entries c.self.inside.blocks c.self.inside.root c.self.invariant).system
-    c.args.from.now c.args.to.now c.requires.from c.requires.to c.args.moved c.requires.node c.requires.other c.requires.allowed c.args.now c.requires.time
-    c.clear.new.table (c.clear.ensures.nodes ∙ ap (replace_name (nodes_of c.new_name.new.table) (place_at (keyed_of c.new_name.new.table) c.args.to.now) (option_map (number_at (keyed_of c.new_name.new.table)) c.args.to.now.node)) (to_z-of_z {w = w128} {z = c.args.now} c.ranges.now)) c.clear.ensures.cleared
-    (live-dir c.new_name.new.table c.args.from.now (agrees-from c.new_name.new.table c.args.self.now (same-view c.self.inside.table c.new_name.new.table c.new_name.ensures.same ∙ c.self.view_is)
-    (same-kept c.self.inside.table c.new_name.new.table c.new_name.ensures.same c.self.inside.numbers c.self.inside.entries c.self.inside.blocks c.self.inside.root c.self.invariant).system
-    c.args.from.now c.args.to.now c.requires.from c.requires.to c.args.moved c.requires.node c.requires.other c.requires.allowed c.args.now c.requires.time))
-    (live-dir c.new_name.new.table c.args.to.now (agrees-to c.new_name.new.table c.args.self.now (same-view c.self.inside.table c.new_name.new.table c.new_name.ensures.same ∙ c.self.view_is)
-    (same-kept c.self.inside.table c.new_name.new.table c.new_name.ensures.same c.self.inside.numbers c.self.inside.entries c.self.inside.blocks c.self.inside.root c.self.invariant).system
-    c.args.from.now c.args.to.now c.requires.from c.requires.to c.args.moved c.requires.node c.requires.other c.requires.allowed c.args.now c.requires.time))
-    (live-node c.new_name.new.table c.args.from.now c.args.moved (agrees-from c.new_name.new.table c.args.self.now (same-view c.self.inside.table c.new_name.new.table c.new_name.ensures.same ∙ c.self.view_is)
-    (same-kept c.self.inside.table c.new_name.new.table c.new_name.ensures.same c.self.inside.numbers c.self.inside.entries c.self.inside.blocks c.self.inside.root c.self.invariant).system
-    c.args.from.now c.args.to.now c.requires.from c.requires.to c.args.moved c.requires.node c.requires.other c.requires.allowed c.args.now c.requires.time) c.requires.node)
-    c.move_name.new.table c.in_ok-name.name c.in_ok-name.ensures.name (subst (λ time. Becomes c.clear.new.table c.move_name.new.table (entry_moved (nodes_of c.clear.new.table) (number_of_key c.clear.new.table c.args.from.now.dir) c.args.from.now.name (number_of_key c.clear.new.table c.args.moved) (number_of_key c.clear.new.table c.args.to.now.dir) c.in_ok-name.name time)) (to_z-of_z {w = w128} {z = c.args.now} c.ranges.now) c.move_name.ensures.becomes)
-    c.clear.new.numbers c.clear.new.entries c.clear.new.blocks c.self.inside.root c.clear.ensures.sound c.clear.ensures.counted (same-kept c.self.inside.table c.new_name.new.table c.new_name.ensures.same c.self.inside.numbers c.self.inside.entries c.self.inside.blocks c.self.inside.root c.self.invariant).top
+    entry-kept c.new_name.new.table c.args.self.now c.args.from.now c.args.to.now c.args.moved c.args.now (ends c)
+    c.clear.new.table (clear_before c) c.clear.ensures.cleared
+    c.move_name.new.table c.in_ok-name.name c.in_ok-name.ensures.name (becomes c)
+    c.clear.new.numbers c.clear.new.entries c.clear.new.blocks c.self.inside.root c.clear.ensures.sound c.clear.ensures.counted
+    (same-kept c.self.inside.table c.new_name.new.table c.new_name.ensures.same c.self.inside.numbers c.self.inside.entries c.self.inside.blocks c.self.inside.root c.self.invariant).top
 
 pub invariant_of-self-2 : goal.invariant_of-self-2
 invariant_of-self-2 c = kept c
 
 pub returns-clause-ok : goal.returns-clause-ok
 returns-clause-ok c =
-    entry-nodes c.new_name.new.table c.args.self.now (same-view c.self.inside.table c.new_name.new.table c.new_name.ensures.same ∙ c.self.view_is)
-    (same-kept c.self.inside.table c.new_name.new.table c.new_name.ensures.same c.self.inside.numbers c.self.inside.entries c.self.inside.blocks c.self.inside.root c.self.invariant).system
-    c.args.from.now c.args.to.now c.requires.from c.requires.to c.args.moved c.requires.node c.requires.other c.requires.allowed c.args.now c.requires.time
-    c.clear.new.table (c.clear.ensures.nodes ∙ ap (replace_name (nodes_of c.new_name.new.table) (place_at (keyed_of c.new_name.new.table) c.args.to.now) (option_map (number_at (keyed_of c.new_name.new.table)) c.args.to.now.node)) (to_z-of_z {w = w128} {z = c.args.now} c.ranges.now)) c.clear.ensures.cleared
-    (live-dir c.new_name.new.table c.args.from.now (agrees-from c.new_name.new.table c.args.self.now (same-view c.self.inside.table c.new_name.new.table c.new_name.ensures.same ∙ c.self.view_is)
-    (same-kept c.self.inside.table c.new_name.new.table c.new_name.ensures.same c.self.inside.numbers c.self.inside.entries c.self.inside.blocks c.self.inside.root c.self.invariant).system
-    c.args.from.now c.args.to.now c.requires.from c.requires.to c.args.moved c.requires.node c.requires.other c.requires.allowed c.args.now c.requires.time))
-    (live-dir c.new_name.new.table c.args.to.now (agrees-to c.new_name.new.table c.args.self.now (same-view c.self.inside.table c.new_name.new.table c.new_name.ensures.same ∙ c.self.view_is)
-    (same-kept c.self.inside.table c.new_name.new.table c.new_name.ensures.same c.self.inside.numbers c.self.inside.entries c.self.inside.blocks c.self.inside.root c.self.invariant).system
-    c.args.from.now c.args.to.now c.requires.from c.requires.to c.args.moved c.requires.node c.requires.other c.requires.allowed c.args.now c.requires.time))
-    (live-node c.new_name.new.table c.args.from.now c.args.moved (agrees-from c.new_name.new.table c.args.self.now (same-view c.self.inside.table c.new_name.new.table c.new_name.ensures.same ∙ c.self.view_is)
-    (same-kept c.self.inside.table c.new_name.new.table c.new_name.ensures.same c.self.inside.numbers c.self.inside.entries c.self.inside.blocks c.self.inside.root c.self.invariant).system
-    c.args.from.now c.args.to.now c.requires.from c.requires.to c.args.moved c.requires.node c.requires.other c.requires.allowed c.args.now c.requires.time) c.requires.node)
-    c.move_name.new.table c.in_ok-name.name c.in_ok-name.ensures.name (subst (λ time. Becomes c.clear.new.table c.move_name.new.table (entry_moved (nodes_of c.clear.new.table) (number_of_key c.clear.new.table c.args.from.now.dir) c.args.from.now.name (number_of_key c.clear.new.table c.args.moved) (number_of_key c.clear.new.table c.args.to.now.dir) c.in_ok-name.name time)) (to_z-of_z {w = w128} {z = c.args.now} c.ranges.now) c.move_name.ensures.becomes)
+    entry-nodes c.new_name.new.table c.args.self.now c.args.from.now c.args.to.now c.args.moved c.args.now (ends c)
+    c.clear.new.table (clear_before c) c.clear.ensures.cleared
+    c.move_name.new.table c.in_ok-name.name c.in_ok-name.ensures.name (becomes c)
 
 pub returns-clause-kept : goal.returns-clause-kept
 returns-clause-kept c =
-    entry-keeps c.new_name.new.table c.args.self.now (same-view c.self.inside.table c.new_name.new.table c.new_name.ensures.same ∙ c.self.view_is)
-    (same-kept c.self.inside.table c.new_name.new.table c.new_name.ensures.same c.self.inside.numbers c.self.inside.entries c.self.inside.blocks c.self.inside.root c.self.invariant).system
-    c.args.from.now c.args.to.now c.requires.from c.requires.to c.args.moved c.requires.node c.requires.other c.requires.allowed c.args.now c.requires.time
-    c.clear.new.table (c.clear.ensures.nodes ∙ ap (replace_name (nodes_of c.new_name.new.table) (place_at (keyed_of c.new_name.new.table) c.args.to.now) (option_map (number_at (keyed_of c.new_name.new.table)) c.args.to.now.node)) (to_z-of_z {w = w128} {z = c.args.now} c.ranges.now)) c.clear.ensures.cleared
-    (live-dir c.new_name.new.table c.args.from.now (agrees-from c.new_name.new.table c.args.self.now (same-view c.self.inside.table c.new_name.new.table c.new_name.ensures.same ∙ c.self.view_is)
-    (same-kept c.self.inside.table c.new_name.new.table c.new_name.ensures.same c.self.inside.numbers c.self.inside.entries c.self.inside.blocks c.self.inside.root c.self.invariant).system
-    c.args.from.now c.args.to.now c.requires.from c.requires.to c.args.moved c.requires.node c.requires.other c.requires.allowed c.args.now c.requires.time))
-    (live-dir c.new_name.new.table c.args.to.now (agrees-to c.new_name.new.table c.args.self.now (same-view c.self.inside.table c.new_name.new.table c.new_name.ensures.same ∙ c.self.view_is)
-    (same-kept c.self.inside.table c.new_name.new.table c.new_name.ensures.same c.self.inside.numbers c.self.inside.entries c.self.inside.blocks c.self.inside.root c.self.invariant).system
-    c.args.from.now c.args.to.now c.requires.from c.requires.to c.args.moved c.requires.node c.requires.other c.requires.allowed c.args.now c.requires.time))
-    (live-node c.new_name.new.table c.args.from.now c.args.moved (agrees-from c.new_name.new.table c.args.self.now (same-view c.self.inside.table c.new_name.new.table c.new_name.ensures.same ∙ c.self.view_is)
-    (same-kept c.self.inside.table c.new_name.new.table c.new_name.ensures.same c.self.inside.numbers c.self.inside.entries c.self.inside.blocks c.self.inside.root c.self.invariant).system
-    c.args.from.now c.args.to.now c.requires.from c.requires.to c.args.moved c.requires.node c.requires.other c.requires.allowed c.args.now c.requires.time) c.requires.node)
-    c.move_name.new.table c.in_ok-name.name c.in_ok-name.ensures.name (subst (λ time. Becomes c.clear.new.table c.move_name.new.table (entry_moved (nodes_of c.clear.new.table) (number_of_key c.clear.new.table c.args.from.now.dir) c.args.from.now.name (number_of_key c.clear.new.table c.args.moved) (number_of_key c.clear.new.table c.args.to.now.dir) c.in_ok-name.name time)) (to_z-of_z {w = w128} {z = c.args.now} c.ranges.now) c.move_name.ensures.becomes)
+    entry-keeps c.new_name.new.table c.args.self.now c.args.from.now c.args.to.now c.args.moved c.args.now (ends c)
+    c.clear.new.table (clear_before c) c.clear.ensures.cleared
+    c.move_name.new.table c.in_ok-name.name c.in_ok-name.ensures.name (becomes c)
     c.clear.ensures.sound.distinct
 
 pub returns-clause-valid : goal.returns-clause-valid

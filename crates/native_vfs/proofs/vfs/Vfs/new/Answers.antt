@@ -5,12 +5,12 @@ use Rattle.kernel_core.specs.ValidTree.{IsValidTree}
 use Rattle.kernel_core.specs.declared.tree.Node.{Node}
 use Rattle.kernel_core.specs.declared.tree.Tree.{Tree}
 use Rattle.file_system_laws.proofs.Loading.{loaded_is_file_system}
-use Rattle.native_vfs.specs.Loading.{tree_of}
-use Rattle.native_vfs.specs.Stored.{keyed_of}
-use Rattle.native_vfs.proofs.Kept.{nodes-view}
-use Rattle.native_vfs.proofs.Tables.{AreKeys-table}
-use Rattle.native_vfs.proofs.LoadedDirectories.{root-place}
-use Rattle.native_vfs.proofs.LoadedSystem.{nodes-loaded, kept-loaded}
+use Rattle.native_vfs.specs.inside.Loading.{tree_of}
+use Rattle.native_vfs.specs.inside.Stored.{keyed_of}
+use Rattle.native_vfs.proofs.tables.Kept.{nodes-view}
+use Rattle.native_vfs.proofs.tables.Tables.{AreKeys-table}
+use Rattle.native_vfs.proofs.trees.LoadedDirectories.{root-place}
+use Rattle.native_vfs.proofs.trees.LoadedSystem.{nodes-loaded, kept-loaded}
 use Rattle.native_vfs.proofs.vfs.Vfs.new.Goals as goal
 
 valid_slice : (tree : Tree) (nodes : List Node) → nodes ≡ tree.nodes → IsValidTree tree → IsValidTree (tree_of nodes)

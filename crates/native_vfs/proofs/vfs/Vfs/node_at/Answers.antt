@@ -1,5 +1,5 @@
-use Rattle.native_vfs.proofs.Kept.{live-seen, inode-live}
-use Rattle.native_vfs.proofs.WalkLemmas.{node-sound}
+use Rattle.native_vfs.proofs.tables.Kept.{live-seen, inode-live}
+use Rattle.native_vfs.proofs.walks.WalkLemmas.{node-sound}
 use Rattle.native_vfs.proofs.vfs.Vfs.node_at.Goals as goal
 
 pub node-requires : goal.node-requires

@@ -2,12 +2,12 @@ use Rattle.std.proofs.Common.{◌≡◌, ◌<◌, IfSome, refl, sym, ap, subst, 
 use Rattle.kernel_core.specs.NodeCalls.{let_go}
 use Rattle.file_system_laws.proofs.Counts.{live_blocks-kept}
 use Rattle.kernel_core.specs.Totals.{live_blocks}
-use Rattle.native_vfs.specs.Steps.{holds_in, holds_at}
-use Rattle.native_vfs.specs.Stored.{nodes_of, number_of_key, IsKept, keyed_of}
-use Rattle.native_vfs.proofs.Kept.{live-seen, inode-alive, holds-seen, pool-stepped, valid-view, are-keys-view}
-use Rattle.native_vfs.proofs.Release.{let_go-unnamed, nodes-released-seen, keys-released, kept-released}
-use Rattle.native_vfs.proofs.Tables.{live-kept}
-use Rattle.native_vfs.proofs.HeldKeys.{held-release}
+use Rattle.native_vfs.specs.inside.Steps.{holds_in, holds_at}
+use Rattle.native_vfs.specs.inside.Stored.{nodes_of, number_of_key, IsKept, keyed_of}
+use Rattle.native_vfs.proofs.tables.Kept.{live-seen, inode-alive, holds-seen, pool-stepped, valid-view, are-keys-view}
+use Rattle.native_vfs.proofs.removals.Release.{let_go-unnamed, nodes-released-seen, keys-released, kept-released}
+use Rattle.native_vfs.proofs.tables.Tables.{live-kept}
+use Rattle.native_vfs.proofs.tables.HeldKeys.{held-release}
 use Rattle.native_vfs.proofs.vfs.Vfs.release.Goals as goal
 
 pub let_go-requires-clause-live : goal.let_go-requires-clause-live

@@ -4,11 +4,11 @@ use Rattle.std.proofs.lemmas.Result.{err_from_is_err_and}
 use Rattle.std.proofs.Math.Facts.{to_z-of_z}
 use Rattle.kernel_core.specs.NameCalls.{rename_refusal, after_move}
 use Rattle.native_vfs.specs.Keyed.{Keyed, AgreesAt, place_at, number_at}
-use Rattle.native_vfs.proofs.Ends.{valid-seen, are-keys-seen}
-use Rattle.native_vfs.proofs.Reasons.{live-node}
-use Rattle.native_vfs.proofs.RenameEnds.{seen-both, seen-node, keeps-seen-same, renamed-same, renamed-moved}
+use Rattle.native_vfs.proofs.removals.Ends.{valid-seen, are-keys-seen}
+use Rattle.native_vfs.proofs.tables.Reasons.{live-node}
+use Rattle.native_vfs.proofs.renames.RenameEnds.{seen-both, seen-node, keeps-seen-same, renamed-same, renamed-moved}
 use Rattle.file_system_laws.proofs.HeldNodes.{keeps-lost, rename_loses}
-use Rattle.native_vfs.proofs.HeldKeys.{held-same, held-kept, loses-with_node}
+use Rattle.native_vfs.proofs.tables.HeldKeys.{held-same, held-kept, loses-with_node}
 use Rattle.native_vfs.proofs.vfs.Vfs.rename.Goals as goal
 
 pub returns-in-Some-clause-answer : goal.returns-in-Some-clause-answer

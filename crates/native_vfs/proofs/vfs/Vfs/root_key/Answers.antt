@@ -1,5 +1,5 @@
 use Rattle.kernel_core.specs.ValidTree.{root}
-use Rattle.native_vfs.proofs.WalkLemmas.{leads-to, root-directory}
+use Rattle.native_vfs.proofs.walks.WalkLemmas.{leads-to, root-directory}
 use Rattle.native_vfs.proofs.vfs.Vfs.root_key.Goals as goal
 
 pub returns-clause-key : goal.returns-clause-key

@@ -3,10 +3,10 @@ use Rattle.kernel_core.specs.NodeCalls.{with_mode}
 use Rattle.file_system_laws.proofs.NodeLaws.{mode_keeps}
 use Rattle.std.specs.Int.{w128}
 use Rattle.std.proofs.Math.Facts.{to_z-of_z}
-use Rattle.native_vfs.specs.Stored.{IsKept, IsStep, number_of_key, nodes_of, keyed_of}
-use Rattle.native_vfs.proofs.Kept.{live-seen, nodes-stepped, keys-stepped, kept-step, valid-view, are-keys-view}
+use Rattle.native_vfs.specs.inside.Stored.{IsKept, IsStep, number_of_key, nodes_of, keyed_of}
+use Rattle.native_vfs.proofs.tables.Kept.{live-seen, nodes-stepped, keys-stepped, kept-step, valid-view, are-keys-view}
 use Rattle.file_system_laws.proofs.HeldNodes.{keeps-lost, mode_loses}
-use Rattle.native_vfs.proofs.HeldKeys.{held-same_keys}
+use Rattle.native_vfs.proofs.tables.HeldKeys.{held-same_keys}
 use Rattle.native_vfs.specs.Keyed.{number_at}
 use Rattle.native_vfs.proofs.vfs.Vfs.set_mode.Goals as goal
 

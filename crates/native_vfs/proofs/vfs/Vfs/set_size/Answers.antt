@@ -5,11 +5,11 @@ use Rattle.std.proofs.Math.Facts.{to_z-of_z}
 use Rattle.kernel_core.specs.FileContent.{resized}
 use Rattle.kernel_core.specs.NodeCalls.{modified_at}
 use Rattle.kernel_core.specs.Nodes.{file_at}
-use Rattle.native_vfs.specs.Steps.{IsFileStep}
-use Rattle.native_vfs.specs.Stored.{IsKept}
-use Rattle.native_vfs.proofs.FileKept.{kept-resized, nodes-resized, keys-resized, kept-at}
-use Rattle.native_vfs.proofs.Kept.{live-seen, valid-view, are-keys-view}
-use Rattle.native_vfs.proofs.HeldKeys.{held-resized}
+use Rattle.native_vfs.specs.inside.Steps.{IsFileStep}
+use Rattle.native_vfs.specs.inside.Stored.{IsKept}
+use Rattle.native_vfs.proofs.contents.FileKept.{kept-resized, nodes-resized, keys-resized, kept-at}
+use Rattle.native_vfs.proofs.tables.Kept.{live-seen, valid-view, are-keys-view}
+use Rattle.native_vfs.proofs.tables.HeldKeys.{held-resized}
 use Rattle.native_vfs.proofs.vfs.Vfs.set_size.Goals as goal
 
 pub resize_file-requires-clause-live : goal.resize_file-requires-clause-live
@@ -24,7 +24,8 @@ ok c = subst (λ t. OnOk c.resize_file.result (IsFileStep c.self.inside.table c.
 
 kept : (c : goal.After-resize_file) → IsKept c.resize_file.new.table c.self.inside.numbers c.self.inside.entries c.resize_file.new.blocks c.self.inside.root
 kept c =
-    kept-resized c.self.inside.table c.resize_file.new.table c.args.node c.args.to c.args.now c.resize_file.result (ok c) c.resize_file.ensures.err c.self.inside.numbers c.self.inside.entries c.self.inside.blocks c.resize_file.new.blocks c.self.inside.root c.self.invariant
+    kept-resized c.self.inside.table c.resize_file.new.table c.args.node c.args.to c.args.now c.resize_file.result
+    (ok c) c.resize_file.ensures.err c.self.inside.numbers c.self.inside.entries c.self.inside.blocks c.resize_file.new.blocks c.self.inside.root c.self.invariant
     (kept-at c.self.inside.table c.args.self.now c.self.view_is c.args.node (λ nodes n. IsSome (file_at nodes n)) c.requires.file) c.requires.time c.resize_file.ensures.counted
 
 pub invariant_of-self : goal.invariant_of-self

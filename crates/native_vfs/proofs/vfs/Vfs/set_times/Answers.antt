@@ -4,10 +4,10 @@ use Rattle.kernel_core.specs.NodeCalls.{with_times}
 use Rattle.file_system_laws.proofs.NodeLaws.{times_keep}
 use Rattle.std.specs.Int.{w128}
 use Rattle.std.proofs.Math.Facts.{to_z-of_z}
-use Rattle.native_vfs.specs.Stored.{IsKept, IsStep, number_of_key, nodes_of, keyed_of}
-use Rattle.native_vfs.proofs.Kept.{live-seen, nodes-stepped, keys-stepped, kept-step, valid-view, are-keys-view}
+use Rattle.native_vfs.specs.inside.Stored.{IsKept, IsStep, number_of_key, nodes_of, keyed_of}
+use Rattle.native_vfs.proofs.tables.Kept.{live-seen, nodes-stepped, keys-stepped, kept-step, valid-view, are-keys-view}
 use Rattle.file_system_laws.proofs.HeldNodes.{keeps-lost, times_lose}
-use Rattle.native_vfs.proofs.HeldKeys.{held-same_keys}
+use Rattle.native_vfs.proofs.tables.HeldKeys.{held-same_keys}
 use Rattle.native_vfs.specs.Keyed.{number_at}
 use Rattle.native_vfs.proofs.vfs.Vfs.set_times.Goals as goal
 
@@ -22,8 +22,10 @@ step c = subst (λ t. IsStep c.self.inside.table c.set_times.new.table c.args.no
 
 kept : (c : goal.After-set_times) → IsKept c.set_times.new.table c.self.inside.numbers c.self.inside.entries c.self.inside.blocks c.self.inside.root
 kept c =
-    kept-step c.self.inside.table c.set_times.new.table c.args.node (with_times c.args.access c.args.modified c.args.now) (step c) c.self.inside.numbers c.self.inside.entries c.self.inside.blocks c.self.inside.root c.self.invariant
-    (times_keep (nodes_of c.self.inside.table) (number_of_key c.self.inside.table c.args.node) c.self.invariant.system c.args.access c.args.modified c.args.now (given c.args.access c.requires.access) (given c.args.modified c.requires.modified) c.requires.time)
+    kept-step c.self.inside.table c.set_times.new.table c.args.node (with_times c.args.access c.args.modified c.args.now)
+    (step c) c.self.inside.numbers c.self.inside.entries c.self.inside.blocks c.self.inside.root c.self.invariant
+    (times_keep (nodes_of c.self.inside.table) (number_of_key c.self.inside.table c.args.node) c.self.invariant.system c.args.access c.args.modified
+    c.args.now (given c.args.access c.requires.access) (given c.args.modified c.requires.modified) c.requires.time)
     (λ i. refl)
 
 pub invariant_of-self : goal.invariant_of-self

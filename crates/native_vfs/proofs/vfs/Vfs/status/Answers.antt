@@ -1,8 +1,8 @@
 use Rattle.std.proofs.Common.{sym, ap, ◌∙◌}
 use Rattle.native_vfs.specs.Seen.{status_of}
-use Rattle.native_vfs.specs.Stored.{inode_of}
-use Rattle.native_vfs.proofs.Facts.{mode-small, blocks-few, sectors-few, number-live}
-use Rattle.native_vfs.proofs.Kept.{live-seen, inode-live}
+use Rattle.native_vfs.specs.inside.Stored.{inode_of}
+use Rattle.native_vfs.proofs.tables.Facts.{mode-small, blocks-few, sectors-few, number-live}
+use Rattle.native_vfs.proofs.tables.Kept.{live-seen, inode-live}
 use Rattle.native_vfs.proofs.vfs.Vfs.status.Goals as goal
 
 pub index-stored-requires : goal.index-stored-requires
@@ -12,7 +12,9 @@ pub describe-requires-clause-mode : goal.describe-requires-clause-mode
 describe-requires-clause-mode c = mode-small c.self.inside.table c.args.self.now c.self.view_is c.self.invariant.distinct c.args.node c.index-stored.result.now c.index-stored.ensures c.self.invariant.system
 
 pub describe-requires-clause-few : goal.describe-requires-clause-few
-describe-requires-clause-few c = sectors-few c.index-stored.result.now.content (blocks-few c.self.inside.table c.args.self.now c.self.view_is c.self.invariant.distinct c.args.node c.index-stored.result.now c.index-stored.ensures c.self.invariant.system)
+describe-requires-clause-few c =
+    sectors-few c.index-stored.result.now.content (blocks-few c.self.inside.table c.args.self.now c.self.view_is c.self.invariant.distinct
+    c.args.node c.index-stored.result.now c.index-stored.ensures c.self.invariant.system)
 
 pub returns : goal.returns
 returns c =

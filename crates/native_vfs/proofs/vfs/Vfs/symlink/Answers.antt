@@ -4,13 +4,13 @@ use Rattle.std.proofs.lemmas.Result.{err_from_is_err_and}
 use Rattle.std.proofs.Math.Facts.{to_z-of_z}
 use Rattle.kernel_core.specs.NameCalls as names
 use Rattle.native_vfs.specs.Answers.{Makes}
-use Rattle.native_vfs.specs.Making.{IsMade}
+use Rattle.native_vfs.specs.inside.Making.{IsMade}
 use Rattle.native_vfs.specs.Keyed.{place_at}
-use Rattle.native_vfs.specs.Stored.{IsKept, nodes_of, keyed_of}
-use Rattle.native_vfs.proofs.Kept.{valid-view, are-keys-view}
-use Rattle.native_vfs.proofs.MadeCalls.{refusal-seen, agrees-kept, valid-seen, are-keys-seen, view-same, kept-same, makes-seen, kept-symlink, none-left}
+use Rattle.native_vfs.specs.inside.Stored.{IsKept, nodes_of, keyed_of}
+use Rattle.native_vfs.proofs.tables.Kept.{valid-view, are-keys-view}
+use Rattle.native_vfs.proofs.additions.MadeCalls.{refusal-seen, agrees-kept, valid-seen, are-keys-seen, view-same, kept-same, makes-seen, kept-symlink, none-left}
 use Rattle.file_system_laws.proofs.HeldNodes.{symlink_keeps_holds}
-use Rattle.native_vfs.proofs.HeldKeys.{held-same, held-made}
+use Rattle.native_vfs.proofs.tables.HeldKeys.{held-same, held-made}
 use Rattle.native_vfs.proofs.vfs.Vfs.symlink.Goals as goal
 
 pub returns-in-Some-clause-answer : goal.returns-in-Some-clause-answer

@@ -3,9 +3,9 @@ use Rattle.kernel_core.specs.LoadedTree.{saved}
 use Rattle.kernel_core.specs.ValidTree.{IsValidTree, IsReached, numbers}
 use Rattle.kernel_core.specs.declared.tree.Tree.{Tree}
 use Rattle.file_system_laws.proofs.Saving.{saved_valid, saved_iff_reached}
-use Rattle.native_vfs.specs.Stored.{nodes_of}
-use Rattle.native_vfs.proofs.Kept.{nodes-seen}
-use Rattle.native_vfs.proofs.SavedNodes.{have-times, saved-is}
+use Rattle.native_vfs.specs.inside.Stored.{nodes_of}
+use Rattle.native_vfs.proofs.tables.Kept.{nodes-seen}
+use Rattle.native_vfs.proofs.trees.SavedNodes.{have-times, saved-is}
 use Rattle.native_vfs.proofs.vfs.Vfs.tree.Goals as goal
 
 pub saved_nodes-requires : goal.saved_nodes-requires

@@ -3,12 +3,12 @@ use Rattle.std.specs.Int.{w128}
 use Rattle.std.proofs.Math.Facts.{to_z-of_z}
 use Rattle.kernel_core.specs.NameCalls.{unlink_refusal, after_unlink}
 use Rattle.native_vfs.specs.Keyed.{AgreesAt, place_at}
-use Rattle.native_vfs.specs.Stored.{nodes_of, keyed_of, number_of_key, IsKept}
-use Rattle.native_vfs.proofs.Ends.{seen-at, valid-seen, are-keys-seen, after-seen, keeps-seen, kept-lost, unlink-plain}
-use Rattle.native_vfs.proofs.Kept.{valid-view, are-keys-view}
-use Rattle.native_vfs.proofs.Stages.{named-node}
+use Rattle.native_vfs.specs.inside.Stored.{nodes_of, keyed_of, number_of_key, IsKept}
+use Rattle.native_vfs.proofs.removals.Ends.{seen-at, valid-seen, are-keys-seen, after-seen, keeps-seen, kept-lost, unlink-plain}
+use Rattle.native_vfs.proofs.tables.Kept.{valid-view, are-keys-view}
+use Rattle.native_vfs.proofs.removals.Stages.{named-node}
 use Rattle.file_system_laws.proofs.HeldNodes.{keeps-lost, unlink_loses}
-use Rattle.native_vfs.proofs.HeldKeys.{held-same, held-kept, loses-with_node}
+use Rattle.native_vfs.proofs.tables.HeldKeys.{held-same, held-kept, loses-with_node}
 use Rattle.native_vfs.proofs.vfs.Vfs.unlink.Goals as goal
 
 pub returns-in-Some-clause-answer : goal.returns-in-Some-clause-answer

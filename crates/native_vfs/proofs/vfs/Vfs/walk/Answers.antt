@@ -1,8 +1,8 @@
 use Rattle.std.proofs.lemmas.Result.{err_from_is_err_and}
 use Rattle.native_vfs.specs.Keyed.{number_at}
-use Rattle.native_vfs.specs.Walking.{steps_left}
-use Rattle.native_vfs.proofs.TextLemmas.{is-empty}
-use Rattle.native_vfs.proofs.WalkLemmas.{walk-empty, one-step, walked-found, walked-error}
+use Rattle.native_vfs.specs.inside.Walking.{steps_left}
+use Rattle.native_vfs.proofs.walks.TextLemmas.{is-empty}
+use Rattle.native_vfs.proofs.walks.WalkLemmas.{walk-empty, one-step, walked-found, walked-error}
 use Rattle.native_vfs.proofs.vfs.Vfs.walk.Goals as goal
 
 pub returns-then-is_empty : goal.returns-then-is_empty

@@ -2,7 +2,7 @@ use Rattle.std.proofs.Common.{ℕ, Result}
 use Rattle.kernel_core.specs.PathWalk as walking
 use Rattle.kernel_core.specs.declared.error.Errno.{Errno}
 use Rattle.native_vfs.specs.Keyed.{number_at}
-use Rattle.native_vfs.specs.Walking.{walk_of, steps_left, IsUnderWay}
+use Rattle.native_vfs.specs.inside.Walking.{walk_of, steps_left, IsUnderWay}
 use Rattle.native_vfs.proofs.vfs.Vfs.walk.Given as goal
 
 abbrev pub invariant-loop-walk : goal.invariant-loop-walk

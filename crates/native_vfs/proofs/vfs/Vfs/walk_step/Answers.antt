@@ -1,7 +1,7 @@
 use Rattle.std.proofs.Common.{sym}
-use Rattle.native_vfs.specs.Walking.{steps_left}
-use Rattle.native_vfs.proofs.WalkLemmas.{step-none}
-use Rattle.native_vfs.proofs.StepLemmas.{found-here, found-named, step-long, step-no_directory, step-named, step-left, gives-same}
+use Rattle.native_vfs.specs.inside.Walking.{steps_left}
+use Rattle.native_vfs.proofs.walks.WalkLemmas.{step-none}
+use Rattle.native_vfs.proofs.walks.StepLemmas.{found-here, found-named, step-long, step-no_directory, step-named, step-left, gives-same}
 use Rattle.native_vfs.proofs.vfs.Vfs.walk_step.Goals as goal
 
 pub returns-in_default : goal.returns-in_default

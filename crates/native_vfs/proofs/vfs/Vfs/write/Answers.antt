@@ -8,11 +8,11 @@ use Rattle.kernel_core.specs.Nodes.{Nodes, file_at}
 use Rattle.kernel_core.specs.declared.core_error.CoreError.{CoreError}
 use Rattle.native_vfs.specs.Answers.{IsAnswer, LeavesWritten}
 use Rattle.native_vfs.specs.Keyed.{number_at}
-use Rattle.native_vfs.specs.Steps.{IsFileStep, LeavesPart, file_written}
-use Rattle.native_vfs.specs.Stored.{IsKept, nodes_of, keyed_of, number_of_key}
-use Rattle.native_vfs.proofs.FileKept.{IsSomeStep, written-step, kept-file, kept-at, seen-at, file-valid, after-written, leaves-seen}
-use Rattle.native_vfs.proofs.Kept.{live-seen, nodes-stepped, keys-stepped, valid-view, are-keys-view}
-use Rattle.native_vfs.proofs.HeldKeys.{held-step}
+use Rattle.native_vfs.specs.inside.Steps.{IsFileStep, LeavesPart, file_written}
+use Rattle.native_vfs.specs.inside.Stored.{IsKept, nodes_of, keyed_of, number_of_key}
+use Rattle.native_vfs.proofs.contents.FileKept.{IsSomeStep, written-step, kept-file, kept-at, seen-at, file-valid, after-written, leaves-seen}
+use Rattle.native_vfs.proofs.tables.Kept.{live-seen, nodes-stepped, keys-stepped, valid-view, are-keys-view}
+use Rattle.native_vfs.proofs.tables.HeldKeys.{held-step}
 use Rattle.native_vfs.proofs.vfs.Vfs.write.Goals as goal
 
 ok_from : (r : Result ℕ CoreError) (P Q : ℕ → Type 0) → ((n : ℕ) → P n → Q n) → IfOk r P → IfOk r Q
@@ -44,7 +44,9 @@ step : (c : goal.After-write_file) → IsSomeStep c.self.inside.table c.write_fi
 step c =
     written-step c.self.inside.table c.write_file.new.table c.args.node c.args.at c.args.bytes.now c.args.now
     (λ content. write_length (nodes_of c.self.inside.table) content c.args.at (length c.args.bytes.now)) c.requires.time
-    (file_at (nodes_of c.self.inside.table) (number_of_key c.self.inside.table c.args.node)) (kept-at c.self.inside.table c.args.self.now c.self.view_is c.args.node (λ nodes n. IsSome (file_at nodes n)) c.requires.file) c.write_file.result (ok c) c.write_file.ensures.err
+    (file_at (nodes_of c.self.inside.table) (number_of_key c.self.inside.table c.args.node))
+    (kept-at c.self.inside.table c.args.self.now c.self.view_is c.args.node (λ nodes n. IsSome (file_at nodes n)) c.requires.file)
+    c.write_file.result (ok c) c.write_file.ensures.err
 
 kept : (c : goal.After-write_file) → IsKept c.write_file.new.table c.self.inside.numbers c.self.inside.entries c.write_file.new.blocks c.self.inside.root
 kept c =

@@ -1,0 +1,3 @@
+pub mod MadeCalls
+pub mod MadeNodes
+pub mod NamedAgain

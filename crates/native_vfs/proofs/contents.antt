@@ -1,0 +1,3 @@
+pub mod FileKept
+pub mod Files
+pub mod Room

@@ -1,0 +1,9 @@
+pub mod Ends
+pub mod Losses
+pub mod LostNames
+pub mod Release
+pub mod RemovalCounts
+pub mod RemovalReasons
+pub mod Settling
+pub mod Stages
+pub mod Unnamed

@@ -1,0 +1,10 @@
+pub mod Changes
+pub mod Facts
+pub mod HeldKeys
+pub mod Kept
+pub mod Looked
+pub mod Lookups
+pub mod Moves
+pub mod Names
+pub mod Reasons
+pub mod Tables

@@ -1,0 +1,5 @@
+pub mod Components
+pub mod NameLemmas
+pub mod StepLemmas
+pub mod TextLemmas
+pub mod WalkLemmas

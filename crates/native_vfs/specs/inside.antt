@@ -1,0 +1,9 @@
+pub mod Loading
+pub mod Making
+pub mod Removals
+pub mod Renames
+pub mod Saving
+pub mod Steps
+pub mod Stored
+pub mod Texts
+pub mod Walking
