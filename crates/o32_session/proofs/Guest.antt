@@ -3,7 +3,7 @@ use Rattle.std.proofs.Common.{◌≡◌, ℕ, ◌+◌, List, [], ◌∷◌, Bool
 use Rattle.std.specs.List.{position, position_from}
 use Rattle.std.proofs.lemmas.Iterator.Adapters.{position_from-zero}
 use Rattle.o32_session.specs.Words.{Line, Reading, WrongAt, has_nul, read_guest, texts}
-use Rattle.o32_session.specs.Reader.{guest_reading}
+use Rattle.o32_session.specs.inside.Reader.{guest_reading}
 
 -- a word holds a NUL
 abbrev holds : {A : Type 0} → String A → Bool

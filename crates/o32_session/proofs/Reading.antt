@@ -1,8 +1,8 @@
 -- Going over the words one by one reads what the grammar says.
 use Rattle.std.proofs.Common.{◌≡◌, ℕ, ◌+◌, ◌<◌, List, [], ◌∷◌, ◌++◌, length, get_or, drop, Bool, true, false, cond, Option, Some, None, is_some, String, string_bytes, codes, arith, refl, sym, ap, ◌∙◌}
 use Rattle.std.specs.Str.{bytes_eq}
-use Rattle.o32_session.specs.Words.{Place, ImageOption, BudgetOption, SaveOption, EnvOption, ProgramName, NoOption, place_of, is_file_name, budget_of, is_setting, Options, line_of, Reading, WrongAt, read_guest, read_last, with_budget, read_pair, read_options, read_line, no_options, texts}
-use Rattle.o32_session.specs.Steps.{Expected, Option_or_program, Image_value, Budget_value, Save_value, Goes_on, Is_wrong, step_at_option, step_at_budget, after_step, read_from}
+use Rattle.o32_session.specs.Words.{Role, ImageOption, BudgetOption, SaveOption, EnvOption, ProgramName, NoOption, role_of, is_file_name, budget_of, is_setting, Options, line_of, Reading, WrongAt, read_guest, read_last, with_budget, read_pair, read_options, read_line, no_options, texts}
+use Rattle.o32_session.specs.inside.Steps.{Expected, Option_or_program, Image_value, Budget_value, Save_value, Goes_on, Is_wrong, step_at_option, step_at_budget, after_step, read_from}
 
 -- an option whose value is missing
 value_last : (at : ℕ) (options : Options) (guest : Reading) (value : Expected) (twice : Bool) →
@@ -11,9 +11,9 @@ value_last : (at : ℕ) (options : Options) (guest : Reading) (value : Expected)
 value_last at options guest value true = refl
 value_last at options guest value false = refl
 
-last : (at : ℕ) (options : Options) (place : Place) →
-    after_step at (read_guest (line_of options at) (at + 1) []) (λ next read. read_from (at + 1) next read []) (step_at_option options place)
-    ≡ read_last at options place
+last : (at : ℕ) (options : Options) (role : Role) →
+    after_step at (read_guest (line_of options at) (at + 1) []) (λ next read. read_from (at + 1) next read []) (step_at_option options role)
+    ≡ read_last at options role
 last at options ImageOption = value_last at options (read_guest (line_of options at) (at + 1) []) Image_value (is_some options.image)
 last at options BudgetOption = value_last at options (read_guest (line_of options at) (at + 1) []) Budget_value (is_some options.budget)
 last at options SaveOption = value_last at options (read_guest (line_of options at) (at + 1) []) Save_value (is_some options.save)
@@ -63,10 +63,10 @@ save_pair at options value rest guest false after =
     kept_value at (record options { save = Some (at + 1) }) rest (read_guest (line_of options (at + 1)) (at + 1 + 1) rest)
     (is_file_name value) after
 
-pair : (at : ℕ) (options : Options) (place : Place) (value : List ℕ) (rest : List (List ℕ)) → GoesOn at rest →
+pair : (at : ℕ) (options : Options) (role : Role) (value : List ℕ) (rest : List (List ℕ)) → GoesOn at rest →
     after_step at (read_guest (line_of options at) (at + 1) (value ∷ rest)) (λ next read. read_from (at + 1) next read (value ∷ rest))
-    (step_at_option options place)
-    ≡ read_pair at options place value (read_guest (line_of options at) (at + 1) (value ∷ rest)) (λ next. read_options (at + 1 + 1) next rest)
+    (step_at_option options role)
+    ≡ read_pair at options role value (read_guest (line_of options at) (at + 1) (value ∷ rest)) (λ next. read_options (at + 1 + 1) next rest)
 pair at options ImageOption value rest after =
     image_pair at options value rest (read_guest (line_of options at) (at + 1) (value ∷ rest)) (is_some options.image) after
 pair at options BudgetOption value rest after =
@@ -82,9 +82,9 @@ pair at options NoOption value rest after = refl
 pub same_reading : (words : List (List ℕ)) (at : ℕ) (options : Options) →
     read_from at Option_or_program options words ≡ read_options at options words
 same_reading [] at options = refl
-same_reading (word ∷ []) at options = last at options (place_of word)
+same_reading (word ∷ []) at options = last at options (role_of word)
 same_reading (word ∷ value ∷ rest) at options =
-    pair at options (place_of word) value rest (record { same = λ next. same_reading rest (at + 1 + 1) next })
+    pair at options (role_of word) value rest (record { same = λ next. same_reading rest (at + 1 + 1) next })
 
 -- a line that begins with `run` is read from its second word on
 pub run_words : {A : Type 0} (words : List (String A)) (first : String A) → 0 < length words → first ≡ get_or words 0 first →

@@ -10,7 +10,7 @@ use Rattle.elf_image.specs.declared.load_plan.Plan.{Plan}
 use Rattle.start_stack.specs.Stack.{start_size}
 use Rattle.o32_session.specs.Machine.{Machine}
 use Rattle.o32_session.specs.Words.{Line, Reading, Asks, WrongAt}
-use Rattle.o32_session.specs.Asked.{Asked, Refuse, Run, Names, names_of, Found, Absent, Long, Bytes, IsOpened, AsksOf, AsksUnless, AsksFor, arguments_of, asked_of_plan, first_machine}
+use Rattle.o32_session.specs.Asked.{Asked, Refuse, Run, Names, names_of, Found, Absent, Long, Bytes, IsOpened, AsksOf, AsksUnless, AsksFor, arguments_of, asked_of_plan, first_machine, start_limit}
 use Rattle.o32_session.specs.Saved.{Stored, StandsOrBegins, SavesTree, SavesTreeInPart}
 use Rattle.o32_session.specs.SavedFile.{IsFinalText, StandsOrHasPart, IsFileAfter, SavesTo, SavesReading}
 use Rattle.o32_session.specs.Session.{Seen, Answers, IsEarly, no_names, AnswersReading}
@@ -86,7 +86,7 @@ plan_tree : (args : List (List ℕ)) (line : Line) (plan : Plan) (opened : Resul
 plan_tree args line plan (Err refusal) tree machine budget is = absurd cc
 plan_tree args line plan (Ok held) tree machine budget is =
     ap (λ t. let r : Result Tree Refusal = Ok t in r)
-    (fits_tree args line plan held tree machine budget (nat_lt 131072 (start_size args line.environment)) is)
+    (fits_tree args line plan held tree machine budget (nat_lt start_limit (start_size args line.environment)) is)
 
 unless_tree : (args : List (List ℕ)) (line : Line) (names : Names) (told : Option Files) (bytes : List ℕ) (failure : Option ElfRefusal)
     (tree : Tree) (machine : Machine) (budget : ℕ) → AsksUnless args line names told bytes failure (Run machine budget tree) →

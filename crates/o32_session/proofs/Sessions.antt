@@ -14,14 +14,14 @@ use Rattle.fs_image.specs.declared.refusal.ImageRefusal.{ImageRefusal}
 use Rattle.elf_image.specs.Loading.{plan_of}
 use Rattle.elf_image.specs.declared.load_plan.Plan.{Plan}
 use Rattle.start_stack.specs.Stack.{start_size}
-use Rattle.o32_session.specs.Answers.{end_of_stop}
+use Rattle.o32_session.specs.inside.Ends.{end_of_stop}
 use Rattle.o32_session.specs.Machine.{Machine}
 use Rattle.o32_session.specs.Run.{IsOverAt, output_at}
-use Rattle.o32_session.specs.Prepared.{RefusesSo, EndsWithoutRun, IsPrepared, turned_reading}
-use Rattle.o32_session.specs.Runs.{RanSo, EndsOnlyIfRose, IsSavedSo, end_of_save, EndsSo, RanIntoAnswer}
+use Rattle.o32_session.specs.inside.Prepared.{RefusesSo, EndsWithoutRun, IsPrepared, turned_reading}
+use Rattle.o32_session.specs.inside.Runs.{RanSo, EndsOnlyIfRose, IsSavedSo, end_of_save, EndsSo, RanIntoAnswer}
 use Rattle.o32_session.specs.declared.answer.Answer.{Answer}
 use Rattle.o32_session.specs.Words.{Line, Reading, Asks, WrongAt, read_words, word_at}
-use Rattle.o32_session.specs.Asked.{Asked, Refuse, Run, Names, names_of, Found, Bytes, found_at, IsOpened, IsOpenedBy, AsksOf, AsksUnless, AsksFor, arguments_of, asked_of_plan, asked_of_tree, first_machine, empty_tree, image_limit}
+use Rattle.o32_session.specs.Asked.{Asked, Refuse, Run, Names, names_of, Found, Bytes, found_at, IsOpened, IsOpenedBy, AsksOf, AsksUnless, AsksFor, arguments_of, asked_of_plan, asked_of_tree, first_machine, empty_tree, image_limit, start_limit}
 use Rattle.o32_session.specs.Saved.{Stored, after_turned, turned_by}
 use Rattle.o32_session.specs.Session.{Seen, DoesNothing, Answers, IsEarly, no_names, AnswersReading, AsksForRun, HasImage, IsRunEnd}
 use Rattle.o32_session.specs.declared.answer.Refusal.{Refusal}
@@ -30,13 +30,11 @@ use Rattle.o32_session.specs.declared.answer.Finish.{Finish}
 use Rattle.o32_session.specs.declared.answer.Finish.TheVariants as finishes
 use Rattle.o32_session.specs.declared.answer.End.{End}
 use Rattle.o32_session.specs.declared.answer.End.TheVariants.{Exited, Killed, Budget, Refused, ReadFault, WriteFault, NoMemory}
-use Rattle.o32_session.specs.declared.machine.Stop.{Stop}
-use Rattle.o32_session.specs.declared.machine.Stop.TheVariants as stops
+use Rattle.kernel_core.specs.declared.core_error.Stop.{Stop}
+use Rattle.kernel_core.specs.declared.core_error.Stop.TheVariants as stops
 use Rattle.o32_session.specs.declared.not_run.NotRun.{NotRun}
 use Rattle.o32_session.specs.declared.not_run.NotRun.TheVariants as reasons
 use Rattle.o32_session.specs.declared.prepare.Ready.{Ready}
-use Rattle.o32_session.specs.declared.run.RunEnd.{RunEnd}
-use Rattle.o32_session.specs.declared.run.RunEnd.TheVariants.{Finished, Stopped}
 
 -- nothing was turned away
 none_turned : (store : Stored) → after_turned store [] ≡ store
@@ -131,25 +129,26 @@ over_so machine budget tree names old out faults store turns finish (Err device.
 
 -- the run stopped early
 stopped_so : (machine : Machine) (budget : ℕ) (tree : Tree) (names : Names) (old : Seen) (out : Option (List ℕ)) (faults : ℕ)
-    (store : Stored) (turns : ℕ) (stop : Stop) → RanSo machine budget turns (Stopped stop) old.out out →
-    EndsOnlyIfRose (Stopped stop) old.out_faults faults → store ≡ old.store →
+    (store : Stored) (turns : ℕ) (stop : Stop) → RanSo machine budget turns (Err stop) old.out out →
+    EndsOnlyIfRose (Err stop) old.out_faults faults → store ≡ old.store →
     Answers (Run machine budget tree) names old (above old out faults store) turns (end_of_stop stop)
 stopped_so machine budget tree names old out faults store turns stops.WriteFault so cause stands = inl (
   record { goes_on = so.0; to_out = so.1.0; to_err = GainsText-nothing old.err; stands = stands },
   cause,
   so.1.1,
 )
+stopped_so machine budget tree names old out faults store turns stops.ReadFault so cause stands = absurd cause
 stopped_so machine budget tree names old out faults store turns stops.NoMemory so cause stands =
     inl (record { goes_on = so.0; to_out = so.1.0; to_err = GainsText-nothing old.err; stands = stands })
 
 ran_so : (machine : Machine) (budget : ℕ) (tree : Tree) (names : Names) (old : Seen) (out : Option (List ℕ)) (faults : ℕ)
-    (store : Stored) (turns : ℕ) (run : RunEnd) (end : End) → RanSo machine budget turns run old.out out →
+    (store : Stored) (turns : ℕ) (run : Result Finish Stop) (end : End) → RanSo machine budget turns run old.out out →
     EndsOnlyIfRose run old.out_faults faults → EndsSo names.save tree run end old.store store →
     Answers (Run machine budget tree) names old (above old out faults store) turns end
-ran_so machine budget tree names old out faults store turns (Finished finish) end so cause ends =
+ran_so machine budget tree names old out faults store turns (Ok finish) end so cause ends =
     subst (λ e. Answers (Run machine budget tree) names old (above old out faults store) turns e) (sym ends.1)
     (over_so machine budget tree names old out faults store turns finish ends.0 so.0 so.1 ends.2)
-ran_so machine budget tree names old out faults store turns (Stopped stop) end so cause ends =
+ran_so machine budget tree names old out faults store turns (Err stop) end so cause ends =
     subst (λ e. Answers (Run machine budget tree) names old (above old out faults store) turns e) (sym ends.0)
     (stopped_so machine budget tree names old out faults store turns stop so cause ends.1)
 
@@ -214,11 +213,11 @@ early_end machine budget turns WriteFault early read = absurd early
 early_end machine budget turns NoMemory early read = inl refl
 
 -- the arguments fit
-fits_run : (args : List (List ℕ)) (line : Line) (plan : Plan) (tree : Tree) → start_size args line.environment ≤ 131072 →
+fits_run : (args : List (List ℕ)) (line : Line) (plan : Plan) (tree : Tree) → start_size args line.environment ≤ start_limit →
     asked_of_tree args line plan tree ≡ Run (first_machine plan args line.environment) line.budget tree
 fits_run args line plan tree fits =
     ap (λ (b : Bool). cond b (Refuse Start) (Run (first_machine plan args line.environment) line.budget tree))
-    (le-ltb 131072 (start_size args line.environment) fits)
+    (le-ltb start_limit (start_size args line.environment) fits)
 
 -- what is asked for is the run
 asks_run : (words : List (List ℕ)) (told : Option Files) (machine : Machine) (budget : ℕ) (run : AsksForRun words told machine budget)

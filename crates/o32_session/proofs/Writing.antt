@@ -7,9 +7,9 @@ use Rattle.guest_space.specs.Memory.{Memory, Pages}
 use Rattle.mips_exec.specs.Processor.{Processor}
 use Rattle.kernel_core.specs.declared.error.Errno.TheVariants.{EBADF, EFAULT}
 use Rattle.o32_session.specs.Calls.{Value, Error, gives, moves, write_of, greatest_transfer}
-use Rattle.o32_session.specs.Turns.{StopsOnlyWriting}
-use Rattle.o32_session.specs.declared.machine.Stop.{Stop}
-use Rattle.o32_session.specs.declared.machine.Stop.TheVariants.{WriteFault, NoMemory}
+use Rattle.o32_session.specs.inside.Turns.{StopsOnlyIfRose, StopsOnlyWriting}
+use Rattle.kernel_core.specs.declared.core_error.Stop.{Stop}
+use Rattle.kernel_core.specs.declared.core_error.Stop.TheVariants.{WriteFault, ReadFault, NoMemory}
 
 some_bytes : (pages : Pages) (a n : ℕ) → (n ≡ 0 → ⊥) → bytes_at pages a n ≡ [] → ⊥
 unfolding bytes_at
@@ -33,7 +33,9 @@ some_output p m descriptor buffer count out some empty =
     (ne_eqb (readable_prefix m.pages buffer (min count greatest_transfer)) 0 some))
     ∙ empty)
 
-pub stops_writing : {T : Type 0} (result : Result T Stop) (output : List ℕ) → output ≢ [] → StopsOnlyWriting result output
-stops_writing (Ok value) output some = tt
-stops_writing (Err WriteFault) output some = some
-stops_writing (Err NoMemory) output some = tt
+-- a put that failed stops a turn that writes
+pub stops_writing : (S T : Type 0) (error : Stop) (before now : ℕ) (output : List ℕ) →
+    StopsOnlyIfRose {T = S} (Err error) before now → output ≢ [] → StopsOnlyWriting {T = T} (Err error) output
+stops_writing S T WriteFault before now output cause some = some
+stops_writing S T ReadFault before now output cause some = absurd cause
+stops_writing S T NoMemory before now output cause some = tt

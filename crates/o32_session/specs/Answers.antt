@@ -2,28 +2,6 @@
 use Rattle.std.specs.Prelude.{ℕ, ◌+◌, min}
 use Rattle.o32_session.specs.declared.answer.End.{End}
 use Rattle.o32_session.specs.declared.answer.End.TheVariants as ends
-use Rattle.o32_session.specs.declared.answer.ProcessEnd.{ProcessEnd}
-use Rattle.o32_session.specs.declared.answer.ProcessEnd.TheVariants as process
-use Rattle.o32_session.specs.declared.machine.Stop.{Stop}
-use Rattle.o32_session.specs.declared.machine.Stop.TheVariants as stops
-use Rattle.o32_session.specs.declared.answer.Finish.{Finish}
-use Rattle.o32_session.specs.declared.answer.Finish.TheVariants.{Exited, Killed, Budget}
-
--- the finish of a run whose process ended so
-abbrev pub finish_of : ProcessEnd → Finish
-finish_of (process.Exited status) = Exited status
-finish_of (process.Killed signal) = Killed signal
-
--- the end of a run that is over so
-abbrev pub end_of : Finish → End
-end_of (Exited status) = ends.Exited status
-end_of (Killed signal) = ends.Killed signal
-end_of Budget = ends.Budget
-
--- the end of a session whose run stopped early
-abbrev pub end_of_stop : Stop → End
-end_of_stop stops.WriteFault = ends.WriteFault
-end_of_stop stops.NoMemory = ends.NoMemory
 
 abbrev pub status_of : End → ℕ
 status_of (ends.Exited status) = status

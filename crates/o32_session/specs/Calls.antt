@@ -8,6 +8,51 @@ use Rattle.guest_space.specs.Access.{readable_prefix}
 use Rattle.guest_space.specs.Bytes.{bytes_at}
 use Rattle.mips_exec.specs.Processor.{Processor, register, with_register}
 
+-- The registers of a call (System V ABI, MIPS supplement; syscall(2)): its number, and on return its result or its error's
+-- number; its first three arguments; and whether it failed
+abbrev pub v0 : ℕ
+v0 = 2
+
+abbrev pub a0 : ℕ
+a0 = 4
+
+abbrev pub a1 : ℕ
+a1 = 5
+
+abbrev pub a2 : ℕ
+a2 = 6
+
+abbrev pub a3 : ℕ
+a3 = 7
+
+-- The numbers of the calls (asm/unistd.h of MIPS Linux, o32)
+abbrev pub exit_number : ℕ
+exit_number = 4001
+
+abbrev pub write_number : ℕ
+write_number = 4004
+
+abbrev pub set_tid_address_number : ℕ
+set_tid_address_number = 4252
+
+abbrev pub set_thread_area_number : ℕ
+set_thread_area_number = 4283
+
+abbrev pub set_robust_list_number : ℕ
+set_robust_list_number = 4309
+
+-- the descriptor of standard output (stdout(3))
+abbrev pub standard_output : ℕ
+standard_output = 1
+
+-- the number of the process, which is that of its thread (this project's own)
+abbrev pub process_number : ℕ
+process_number = 100
+
+-- the size of the head of a robust list (linux/futex.h)
+abbrev pub robust_list_size : ℕ
+robust_list_size = 12
+
 -- what a call comes to
 pub data Outcome : Type 0 where
   Value : ℕ → Outcome
@@ -37,20 +82,20 @@ moves processor memory buffer count moved =
 -- write: descriptor 1 is standard output, and no other is open. The longest readable prefix of the bytes is moved.
 abbrev pub write_of : Processor → Memory → ℕ → ℕ → ℕ → Called
 write_of processor memory descriptor buffer count =
-    if descriptor == 1
+    if descriptor == standard_output
     then moves processor memory buffer count (readable_prefix memory.pages buffer (min count greatest_transfer))
     else gives processor (Error EBADF)
 
 -- the calls by their numbers; any other number is no call
 abbrev pub call_of : Processor → Memory → ℕ → Called
 call_of processor memory number =
-    if number == 4001 then gives processor (Exit (register processor 4 % 256))
-    else (if number == 4004 then write_of processor memory (register processor 4) (register processor 5) (register processor 6)
-    else (if number == 4252 then gives processor (Value 100)
-    else (if number == 4283 then gives (record processor { thread_pointer = register processor 4 }) (Value 0)
-    else (if number == 4309 then gives processor (if register processor 5 == 12 then Value 0 else Error EINVAL)
+    if number == exit_number then gives processor (Exit (register processor a0 % 256))
+    else (if number == write_number then write_of processor memory (register processor a0) (register processor a1) (register processor a2)
+    else (if number == set_tid_address_number then gives processor (Value process_number)
+    else (if number == set_thread_area_number then gives (record processor { thread_pointer = register processor a0 }) (Value 0)
+    else (if number == set_robust_list_number then gives processor (if register processor a1 == robust_list_size then Value 0 else Error EINVAL)
     else gives processor (Error ENOSYS)))))
 
 -- the processor with the result of a call that returns in $v0 and $a3
 abbrev pub with_result : Processor → ℕ → ℕ → Processor
-with_result processor value failed = with_register (with_register processor 2 value) 7 failed
+with_result processor value failed = with_register (with_register processor v0 value) a3 failed

@@ -8,9 +8,9 @@ use Rattle.mips_exec.specs.Processor.{Processor, register}
 use Rattle.mips_exec.specs.Step.{step_of}
 use Rattle.mips_exec.specs.declared.Stepped.{Stepped}
 use Rattle.mips_exec.specs.declared.Stepped.TheVariants.{Next, Syscall, Fault}
-use Rattle.o32_session.specs.Calls.{Called, call_of, Outcome, Value, Error, Exit, with_result}
-use Rattle.o32_session.specs.declared.answer.ProcessEnd.{ProcessEnd}
-use Rattle.o32_session.specs.declared.answer.ProcessEnd.TheVariants.{Exited, Killed}
+use Rattle.o32_session.specs.Calls.{Called, call_of, Outcome, Value, Error, Exit, with_result, v0}
+use Rattle.o32_session.specs.declared.answer.Finish.{Finish}
+use Rattle.o32_session.specs.declared.answer.Finish.TheVariants.{Exited, Killed}
 
 -- the processor, its memory, and the signal of the fault that the last turn met
 pub record Machine : Type 0 where
@@ -22,7 +22,7 @@ pub record Machine : Type 0 where
 pub record Turn : Type 0 where
   pub machine : Machine
   pub output : List ℕ
-  pub over : Option ProcessEnd
+  pub over : Option Finish
 
 abbrev pub goes_on : Processor → Memory → Option Sig → List ℕ → Turn
 goes_on processor memory fault output = record {
@@ -31,7 +31,7 @@ goes_on processor memory fault output = record {
   over = None;
 }
 
-abbrev pub ends : Processor → Memory → Option Sig → ProcessEnd → Turn
+abbrev pub ends : Processor → Memory → Option Sig → Finish → Turn
 ends processor memory fault end = record {
   machine = record { processor = processor; memory = memory; fault = fault };
   output = [];
@@ -50,7 +50,7 @@ after_call memory called = after_outcome called.processor memory called.output c
 -- What one step of the processor comes to: a fault is kept for the next turn.
 abbrev pub after_step : Processor → Memory → Stepped → Turn
 after_step processor memory Next = goes_on processor memory None []
-after_step processor memory Syscall = after_call memory (call_of processor memory (register processor 2))
+after_step processor memory Syscall = after_call memory (call_of processor memory (register processor v0))
 after_step processor memory (Fault sig code addr) = goes_on processor memory (Some sig) []
 
 -- The fault of the turn before kills the process, since it has no signal handler; else one instruction is carried out.

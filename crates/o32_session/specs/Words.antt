@@ -46,22 +46,22 @@ abbrev pub is_file_name : List ℕ → Bool
 is_file_name [] = false
 is_file_name (first ∷ rest) = not (has_nul (first ∷ rest))
 
--- what a word is in the place of an option
-pub data Place : Type 0 where
-  ImageOption : Place
-  BudgetOption : Place
-  SaveOption : Place
-  EnvOption : Place
-  ProgramName : Place
-  NoOption : Place
+-- the role of a word in the place of an option
+pub data Role : Type 0 where
+  ImageOption : Role
+  BudgetOption : Role
+  SaveOption : Role
+  EnvOption : Role
+  ProgramName : Role
+  NoOption : Role
 
 -- PROGRAM isn't empty and doesn't start with `-`
 abbrev pub is_program : List ℕ → Bool
 is_program [] = false
 is_program (first ∷ rest) = not (first == 45) && not (has_nul (first ∷ rest))
 
-abbrev pub place_of : List ℕ → Place
-place_of word =
+abbrev pub role_of : List ℕ → Role
+role_of word =
     if bytes_eq word (codes "--image") then ImageOption
     else (if bytes_eq word (codes "--budget") then BudgetOption
     else (if bytes_eq word (codes "--save") then SaveOption
@@ -111,7 +111,7 @@ line_of options program = record {
 }
 
 -- the last word of all
-abbrev pub read_last : ℕ → Options → Place → Reading
+abbrev pub read_last : ℕ → Options → Role → Reading
 read_last at options ImageOption = if is_some options.image then WrongAt at else WrongAt (at + 1)
 read_last at options BudgetOption = if is_some options.budget then WrongAt at else WrongAt (at + 1)
 read_last at options SaveOption = if is_some options.save then WrongAt at else WrongAt (at + 1)
@@ -126,7 +126,7 @@ with_budget at options (Some n) go_on = go_on (record options { budget = Some n 
 -- A word with another after it, one case for each form of the line: `--image`, `--budget` or `--save` and its value, each
 -- at most once; `--env` and its value; PROGRAM with the guest's words. Any other word is wrong, and so is a value that is
 -- none, at its own index. After a value the reading goes on.
-abbrev pub read_pair : ℕ → Options → Place → List ℕ → Reading → (Options → Reading) → Reading
+abbrev pub read_pair : ℕ → Options → Role → List ℕ → Reading → (Options → Reading) → Reading
 read_pair at options ImageOption value guest go_on =
     if is_some options.image then WrongAt at
     else (if is_file_name value then go_on (record options { image = Some (at + 1) }) else WrongAt (at + 1))
@@ -145,9 +145,9 @@ read_pair at options NoOption value guest go_on = WrongAt at
 -- the words from index `at` on, where an option or PROGRAM stands
 abbrev pub read_options : ℕ → Options → List (List ℕ) → Reading
 read_options at options [] = WrongAt at
-read_options at options (word ∷ []) = read_last at options (place_of word)
+read_options at options (word ∷ []) = read_last at options (role_of word)
 read_options at options (word ∷ value ∷ rest) =
-    read_pair at options (place_of word) value (read_guest (line_of options at) (at + 1) (value ∷ rest))
+    read_pair at options (role_of word) value (read_guest (line_of options at) (at + 1) (value ∷ rest))
     (λ next. read_options (at + 1 + 1) next rest)
 
 -- `run`, and the rest of the line

@@ -1,20 +1,12 @@
 //! What a session answers.
 ghost use Rattle.std.specs.Prelude.{◌≡◌, Some};
 ghost use Rattle.o32_session.specs.Lines.{text_of};
-ghost use Rattle.o32_session.specs.Answers.{status_of, end_of, finish_of};
+ghost use Rattle.o32_session.specs.Answers.{status_of};
+ghost use Rattle.o32_session.specs.inside.Ends.{end_of};
 
 use elf_image::ElfRefusal;
 use fs_image::ImageRefusal;
 use std::fmt;
-
-/// How a process ends by itself, as a wait for it tells (wait(2)).
-#[derive(Clone, Copy, PartialEq, Eq)]
-pub(crate) enum ProcessEnd {
-    /// It exited with this status, the low 8 bits of what it gave.
-    Exited(u8),
-    /// A signal killed it: its o32 number, 1 to 128.
-    Killed(u8),
-}
 
 /// How a run is over: as its process (wait(2)), or by the budget, which is this project's own.
 #[derive(Clone, Copy, PartialEq, Eq)]
@@ -94,17 +86,6 @@ impl fmt::Display for Refusal {
                 write!(f, "o32run: image rule {rule} at {at}")
             }
             Refusal::Start => write!(f, "o32run: arguments too long"),
-        }
-    }
-}
-
-impl From<ProcessEnd> for Finish {
-    ghost from_gives = { λ end finish. finish ≡ finish_of end };
-
-    fn from(end: ProcessEnd) -> Finish {
-        match end {
-            ProcessEnd::Exited(status) => Finish::Exited(status),
-            ProcessEnd::Killed(signal) => Finish::Killed(signal),
         }
     }
 }

@@ -1,7 +1,7 @@
 //! The tree of files that a run begins with.
 ghost use Rattle.std.specs.Prelude.{◌≡◌, ◌≤◌, IfOk, Some, option_map};
 ghost use Rattle.o32_session.specs.Asked.{empty_tree};
-ghost use Rattle.o32_session.specs.Prepared.{IsRead, IsTree, ReasonOnlyIfRose, turned_with, turned_if};
+ghost use Rattle.o32_session.specs.inside.Prepared.{IsRead, IsTree, ReasonOnlyIfRose, turned_with, turned_if};
 ghost use Rattle.o32_session.specs.Saved.{stored_of, after_turned};
 ghost use Rattle.o32_session.specs.Words.{texts, word_at};
 

@@ -1,6 +1,6 @@
 //! The files that a session loads whole.
 ghost use Rattle.std.specs.Prelude.{◌≡◌, ◌≤◌};
-ghost use Rattle.o32_session.specs.Prepared.{number_of, limit_of, IsLoaded, ReasonOnlyIfRose, turned_at, turned_if};
+ghost use Rattle.o32_session.specs.inside.Prepared.{number_of, limit_of, IsLoaded, ReasonOnlyIfRose, turned_at, turned_if};
 ghost use Rattle.o32_session.specs.Saved.{stored_of, after_turned};
 
 use crate::not_run::NotRun;

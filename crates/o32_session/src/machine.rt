@@ -1,21 +1,21 @@
 //! The machine that a run turns, and its system calls.
-ghost use Rattle.std.specs.Prelude.{◌≡◌, ◌≢◌, ◌≤◌, ◌==◌, if◌then◌else◌, IfOk, OnErr, None, []};
-ghost use Rattle.outside.specs.Output.{GainsBetween};
+ghost use Rattle.std.specs.Prelude.{◌≡◌, ◌≢◌, ◌≤◌, ◌==◌, if◌then◌else◌, IfOk, OnOk, OnErr, None, []};
+ghost use Rattle.outside.specs.Output.{GainsText, GainsBetween};
 ghost use Rattle.guest_space.specs.Access.{first_denied};
 ghost use Rattle.guest_space.specs.Bytes.{bytes_at};
 ghost use Rattle.guest_space.specs.declared.access.Access.TheVariants.{Load};
 ghost use Rattle.kernel_core.specs.declared.error.Errno.TheVariants.{EFAULT};
-ghost use Rattle.o32_session.specs.Calls.{call_of, with_result, Value, Error};
+ghost use Rattle.o32_session.specs.Calls.{call_of, with_result, write_number, Value, Error};
 ghost use Rattle.o32_session.specs.Machine.{turn_of, after_outcome};
-ghost use Rattle.o32_session.specs.Turns.{TurnIs, OutcomeIs, WriteIs, StopsOnlyIfRose, StopsOnlyWriting, outcome_seen, over_of, called, write_of_machine};
+ghost use Rattle.o32_session.specs.inside.Turns.{TurnIs, OutcomeIs, WriteIs, StopsOnlyIfRose, StopsOnlyWriting, outcome_seen, over_of, called, write_of_machine};
 
-use crate::answer::ProcessEnd;
+use crate::answer::Finish;
 use guest_space::Space;
-use kernel_core::{Errno, NoMemory, Sig};
+use kernel_core::{Errno, NoMemory, Sig, Stop};
 use mips_exec::{Cpu, Stepped, step};
 use number_tables::O32Number;
 use outside::{DevError, Sink};
-use std::alloc::{AllocError, Global};
+use std::alloc::Global;
 use std::marker::Model;
 
 // The registers that a system call uses (System V ABI, MIPS supplement; syscall(2)).
@@ -52,6 +52,9 @@ const SET_THREAD_AREA: u32 = 4283;
 /// set_robust_list(2).
 const SET_ROBUST_LIST: u32 = 4309;
 
+/// The descriptor of standard output (stdout(3)).
+const STANDARD_OUTPUT: u32 = 1;
+
 /// The process's own number, which is its thread's. (The number is this project's own.)
 const PROCESS: u32 = 100;
 
@@ -66,17 +69,8 @@ const GREATEST_TRANSFER: u32 = 0x7FFF_F000;
 pub(crate) enum Turn {
     /// The run goes on.
     Went,
-    /// The process ended so.
-    Ended(ProcessEnd),
-}
-
-/// Why a turn was not finished.
-#[derive(Clone, Copy)]
-pub(crate) enum Stop {
-    /// Standard output failed, and its count of faults rose.
-    WriteFault,
-    /// Memory ran out.
-    NoMemory,
+    /// The process ended so: it exited or was killed.
+    Ended(Finish),
 }
 
 /// What a system call comes to.
@@ -107,39 +101,6 @@ impl Model for Machine {
     ghost view = { λ m. record { processor = m.cpu; memory = m.space; fault = m.fault } };
 }
 
-impl From<AllocError> for Stop {
-    ghost use Rattle.o32_session.specs.declared.machine.Stop.TheVariants.{NoMemory};
-
-    ghost from_gives = { λ _ e. e ≡ NoMemory };
-
-    fn from(_error: AllocError) -> Stop {
-        Stop::NoMemory
-    }
-}
-
-impl From<NoMemory> for Stop {
-    ghost use Rattle.o32_session.specs.declared.machine.Stop.TheVariants as stops;
-
-    ghost from_gives = { λ _ stop. stop ≡ stops.NoMemory };
-
-    fn from(_error: NoMemory) -> Stop {
-        Stop::NoMemory
-    }
-}
-
-impl From<DevError> for Stop {
-    ghost use Rattle.o32_session.specs.Turns.{stop_of};
-
-    ghost from_gives = { λ error stop. stop ≡ stop_of error };
-
-    fn from(error: DevError) -> Stop {
-        match error {
-            DevError::Failed => Stop::WriteFault,
-            DevError::NoMemory => Stop::NoMemory,
-        }
-    }
-}
-
 impl Machine {
     /// A machine at its first instruction.
     pub(crate) fn new(cpu: Cpu, space: Space) -> Machine
@@ -167,7 +128,7 @@ impl Machine {
         ensures later { O.faults out.old ≤ O.faults out.new }
     {
         if let Some(signal) = self.fault {
-            return Ok(Turn::Ended(ProcessEnd::Killed(signal.to_o32() as u8)));
+            return Ok(Turn::Ended(Finish::Killed(signal.to_o32() as u8)));
         }
         match step(&mut self.cpu, &mut self.space)? {
             Stepped::Next => Ok(Turn::Went),
@@ -197,7 +158,7 @@ impl Machine {
 
     /// A call that moves no bytes.
     fn small_call(&mut self, number: u32) -> Outcome
-        requires { number ≢ 4004 }
+        requires { number ≢ write_number }
         ensures { OutcomeIs (call_of self.old.processor self.old.memory number) result self.old self.new }
     {
         match number {
@@ -222,7 +183,7 @@ impl Machine {
         match outcome {
             Outcome::Value(value) => self.set_result(value, false),
             Outcome::Error(error) => self.set_result(error.to_o32(), true),
-            Outcome::Exit(status) => return Turn::Ended(ProcessEnd::Exited(status)),
+            Outcome::Exit(status) => return Turn::Ended(Finish::Exited(status)),
         }
         Turn::Went
     }
@@ -244,7 +205,7 @@ impl Machine {
         ensures cause { StopsOnlyIfRose result (O.faults out.old) (O.faults out.new) }
         ensures later { O.faults out.old ≤ O.faults out.new }
     {
-        if self.cpu.register(A0) != 1 {
+        if self.cpu.register(A0) != STANDARD_OUTPUT {
             return Ok(Outcome::Error(Errno::EBADF));
         }
         let buffer = self.cpu.register(A1);
@@ -254,8 +215,22 @@ impl Machine {
             return Ok(none_moved(count));
         }
         let bytes = readable_bytes(alloc, &self.space, buffer, moved)?;
-        out.put(&bytes)?;
+        put_bytes(&bytes, out)?;
         Ok(Outcome::Value(moved))
+    }
+}
+
+/// Puts bytes to standard output.
+fn put_bytes<O: Sink>(bytes: &[u8], out: &mut O) -> Result<(), Stop>
+    ensures wrote { OnOk result (GainsText (O.written out.old) (O.written out.new) bytes.now) }
+    ensures part { OnErr result (GainsBetween (O.written out.old) (O.written out.new) [] bytes.now) }
+    ensures cause { StopsOnlyIfRose result (O.faults out.old) (O.faults out.new) }
+    ensures later { O.faults out.old ≤ O.faults out.new }
+{
+    match out.put(bytes) {
+        Ok(()) => Ok(()),
+        Err(DevError::Failed) => Err(Stop::WriteFault),
+        Err(DevError::NoMemory) => Err(Stop::NoMemory),
     }
 }
 
@@ -276,7 +251,7 @@ fn readable_bytes(
     space: &Space,
     address: u32,
     count: u32,
-) -> Result<Vec<u8>, AllocError>
+) -> Result<Vec<u8>, NoMemory>
     requires { first_denied Load space.now.pages address count ≡ None }
     ensures { IfOk result (λ bytes. bytes.items ≡ bytes_at space.now.pages address count) }
 {

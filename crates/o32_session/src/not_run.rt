@@ -1,6 +1,6 @@
 //! Why nothing is run.
 ghost use Rattle.std.specs.Prelude.{◌≡◌};
-ghost use Rattle.o32_session.specs.Prepared.{of_words, of_load, of_elf, of_image, of_start};
+ghost use Rattle.o32_session.specs.inside.Prepared.{of_words, of_load, of_elf, of_image, of_start};
 
 use crate::answer::Refusal;
 use crate::words::WordsError;

@@ -5,9 +5,9 @@ ghost use Rattle.elf_image.specs.Loading.{plan_of};
 ghost use Rattle.elf_image.specs.Loading as plans;
 ghost use Rattle.kernel_core.specs.ValidTree as trees;
 ghost use Rattle.o32_session.specs.Words.{texts, read_words};
-ghost use Rattle.o32_session.specs.Reader.{line_seen};
+ghost use Rattle.o32_session.specs.inside.Reader.{line_seen};
 ghost use Rattle.o32_session.specs.Asked.{asked_of_tree, names_of, Run};
-ghost use Rattle.o32_session.specs.Prepared.{IsElfReason, IsPlanned, IsStartReason, IsPrepared, IsPreparedLine, ReasonOnlyIfRose, turned_at, turned_if, turned_reading};
+ghost use Rattle.o32_session.specs.inside.Prepared.{IsElfReason, IsPlanned, IsStartReason, IsPrepared, IsPreparedLine, ReasonOnlyIfRose, turned_at, turned_if, turned_reading};
 ghost use Rattle.o32_session.specs.Saved.{stored_of, after_turned, turned_by};
 ghost use Rattle.o32_session.specs.declared.load.SessionFile.TheVariants as which;
 

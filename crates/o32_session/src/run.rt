@@ -1,26 +1,18 @@
 //! A whole run, turn by turn.
 ghost use Rattle.std.specs.Prelude.{◌≤◌};
-ghost use Rattle.o32_session.specs.Runs.{RanSo, EndsOnlyIfRose};
+ghost use Rattle.o32_session.specs.inside.Runs.{RanSo, EndsOnlyIfRose};
 
 use crate::answer::Finish;
-use crate::machine::{Machine, Stop, Turn};
+use crate::machine::{Machine, Turn};
+use kernel_core::Stop;
 use outside::Sink;
 use std::alloc::Global;
-
-/// How a run ended.
-#[derive(Clone, Copy)]
-pub(crate) enum RunEnd {
-    /// The run is over so.
-    Finished(Finish),
-    /// The run stopped early, in the turn after those that are counted.
-    Stopped(Stop),
-}
 
 /// What a run came to.
 #[derive(Clone, Copy)]
 pub(crate) struct Ran {
-    /// How it ended.
-    pub end: RunEnd,
+    /// How the run was over, or why it stopped early, in the turn after those that are counted.
+    pub end: Result<Finish, Stop>,
     /// The turns that were finished.
     pub turns: u64,
 }
@@ -36,20 +28,20 @@ pub(crate) fn run<O: Sink>(alloc: Global, mut machine: Machine, budget: u64, out
             Ok(Turn::Went) => {}
             Ok(Turn::Ended(end)) => {
                 return Ran {
-                    end: RunEnd::Finished(Finish::from(end)),
+                    end: Ok(end),
                     turns: turns + 1,
                 };
             }
             Err(stop) => {
                 return Ran {
-                    end: RunEnd::Stopped(stop),
+                    end: Err(stop),
                     turns,
                 };
             }
         }
     }
     Ran {
-        end: RunEnd::Finished(Finish::Budget),
+        end: Ok(Finish::Budget),
         turns: budget,
     }
 }

@@ -3,7 +3,7 @@ ghost use Rattle.std.specs.Prelude.{◌≡◌, ◌≤◌, OnOk, OnErr, option_ma
 ghost use Rattle.kernel_core.specs.ValidTree.{IsValidTree};
 ghost use Rattle.fs_image.specs.Text.{text_of};
 ghost use Rattle.outside.specs.Causes.{FailsOnlyIfRose};
-ghost use Rattle.o32_session.specs.Runs.{IsSavedSo};
+ghost use Rattle.o32_session.specs.inside.Runs.{IsSavedSo};
 ghost use Rattle.o32_session.specs.Saved.{stored_of, SavesText, SavesPart};
 ghost use Rattle.o32_session.specs.Words.{texts, word_at};
 

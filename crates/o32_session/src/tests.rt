@@ -720,6 +720,53 @@ fn stops_where_the_save_fails(rt: HostRuntime) -> Result<(), Fail> {
 }
 
 #[test]
+fn stops_where_standard_error_fails(rt: HostRuntime) -> Result<(), Fail> {
+    let alloc = rt.alloc();
+    let mut store = MemStore::new(alloc, Vec::new(alloc), Vec::new(alloc));
+    let mut dev = Devices {
+        input: SureSource::new(Vec::new(alloc)),
+        out: SureSink::new(alloc),
+        err: MemSink::new(alloc, [1].to_vec(alloc)?),
+    };
+    let answer = session(alloc, &[], &mut store, &mut dev);
+    let wanted = Answer {
+        status: 119,
+        end: End::WriteFault,
+        turns: 0,
+    };
+    assert!(rt; answer == wanted);
+    assert_eq!(rt; dev.err.bytes().len(), 0);
+    assert_eq!(rt; dev.out.bytes().len(), 0);
+    Ok(())
+}
+
+#[test]
+fn write_of_no_byte_makes_no_put(rt: HostRuntime) -> Result<(), Fail> {
+    let alloc = rt.alloc();
+    // A write of no byte, one of one byte in the eighth turn, and standard output fails at the first put.
+    let words = [
+        SET_V0 | WRITE,
+        SET_A0 | 1,
+        SET_A1_HIGH | 0x40,
+        SET_A2,
+        SYSCALL,
+        SET_V0 | WRITE,
+        SET_A2 | 1,
+        SYSCALL,
+    ];
+    let program = executable(alloc, &words, 0x100, b"")?;
+    let run = session_of(alloc, &["run", "p"], program, &[1])?;
+    let wanted = Answer {
+        status: 119,
+        end: End::WriteFault,
+        turns: 7,
+    };
+    assert!(rt; run.answer == wanted);
+    assert_eq!(rt; run.out.len(), 0);
+    Ok(())
+}
+
+#[test]
 fn stops_where_standard_output_fails(rt: HostRuntime) -> Result<(), Fail> {
     let run = saving_session(rt.alloc(), &[1], &[])?;
     let answer = Answer {

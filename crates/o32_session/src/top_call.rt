@@ -4,11 +4,12 @@ ghost use Rattle.outside.specs.Causes.{FailsOnlyIfRose};
 ghost use Rattle.outside.specs.Count.{Rose};
 ghost use Rattle.outside.specs.Output.{GainsText, GainsBetween};
 ghost use Rattle.outside.specs.Streams.{NoCountFell};
-ghost use Rattle.o32_session.specs.Answers.{status_of, end_of_stop};
+ghost use Rattle.o32_session.specs.Answers.{status_of};
+ghost use Rattle.o32_session.specs.inside.Ends.{end_of_stop};
 ghost use Rattle.o32_session.specs.Lines.{line_of};
 ghost use Rattle.o32_session.specs.Machine.{Machine};
-ghost use Rattle.o32_session.specs.Prepared.{RefusesSo, EndsWithoutRun};
-ghost use Rattle.o32_session.specs.Runs.{RanIntoAnswer, end_of_save};
+ghost use Rattle.o32_session.specs.inside.Prepared.{RefusesSo, EndsWithoutRun};
+ghost use Rattle.o32_session.specs.inside.Runs.{RanIntoAnswer, end_of_save};
 ghost use Rattle.o32_session.specs.Session.{AnswersWords, AsksForRun, IsRunEnd, seen_of};
 ghost use Rattle.o32_session.specs.Saved.{stored_of};
 ghost use Rattle.o32_session.specs.SavedFile.{SavesWords};
@@ -16,11 +17,11 @@ ghost use Rattle.o32_session.specs.Words.{texts, word_at};
 ghost use Rattle.kernel_core.specs.ValidTree.{IsValidTree};
 
 use crate::answer::{Answer, End, Finish, Refusal};
-use crate::machine::Stop;
 use crate::not_run::NotRun;
 use crate::prepare::{Ready, prepare};
-use crate::run::{RunEnd, run};
+use crate::run::run;
 use crate::save::save_final;
+use kernel_core::Stop;
 use outside::{DevError, Devices, Sink, Source, Store};
 use std::alloc::Global;
 
@@ -30,6 +31,7 @@ impl From<Stop> for End {
     fn from(stop: Stop) -> End {
         match stop {
             Stop::WriteFault => End::WriteFault,
+            Stop::ReadFault => End::ReadFault,
             Stop::NoMemory => End::NoMemory,
         }
     }
@@ -170,11 +172,11 @@ fn run_ready<F: Store, O: Sink>(
 {
     let ran = run(alloc, ready.machine, ready.budget, out);
     match ran.end {
-        RunEnd::Finished(finish) => {
+        Ok(finish) => {
             let saved = save_final(alloc, words, ready.save, &ready.tree, files);
             Answer::new(end_after_save(finish, saved), ran.turns)
         }
-        RunEnd::Stopped(stop) => Answer::new(End::from(stop), ran.turns),
+        Err(stop) => Answer::new(End::from(stop), ran.turns),
     }
 }
 

@@ -6,10 +6,10 @@ ghost use Rattle.std.specs.List.{list_any, list_all, position};
 ghost use Rattle.std.specs.String.{string_bytes};
 ghost use Rattle.std.specs.Char.{is_ascii_digit};
 ghost use Rattle.o32_session.specs.Words.{texts, read_words, read_line, read_guest, budget_of, is_setting, is_program, is_file_name, is_plain_number, has_nul, no_options, Line, line_of, Asks, word_at, later_of_equal, equal_to_saved, equal_name};
-ghost use Rattle.o32_session.specs.Steps.{read_from, step_of, step_at_option, step_at_setting, Option_or_program};
+ghost use Rattle.o32_session.specs.inside.Steps.{read_from, step_of, step_at_option, step_at_setting, Option_or_program};
 ghost use Rattle.o32_session.specs.declared.words.Expected.TheVariants.{OptionOrProgram};
 ghost use Rattle.o32_session.specs.declared.words.Step.TheVariants.{GoesOn, IsWrong};
-ghost use Rattle.o32_session.specs.Reader.{IsPlace, place_seen, guest_reading, options_seen, line_seen, IsReason};
+ghost use Rattle.o32_session.specs.inside.Reader.{IsRole, role_seen, guest_reading, options_seen, line_seen, IsReason};
 
 use std::alloc::{AllocError, AllocFailed, Global};
 
@@ -63,8 +63,8 @@ pub(crate) const DEFAULT_BUDGET: u64 = 1_000_000_000;
 /// The greatest budget.
 const GREATEST_BUDGET: u64 = 1_000_000_000_000;
 
-/// What a word is in the place of an option.
-enum Place {
+/// The role of a word in the place of an option.
+enum Role {
     Image,
     Budget,
     Save,
@@ -142,21 +142,21 @@ fn budget(word: &str) -> Option<u64>
     (turns <= GREATEST_BUDGET).then_some(turns)
 }
 
-fn place_at(word: &str) -> Place
-    ensures { IsPlace word.now result }
+fn role_of(word: &str) -> Role
+    ensures { IsRole word.now result }
 {
     if word == "--image" {
-        Place::Image
+        Role::Image
     } else if word == "--budget" {
-        Place::Budget
+        Role::Budget
     } else if word == "--save" {
-        Place::Save
+        Role::Save
     } else if word == "--env" {
-        Place::Environment
+        Role::Environment
     } else if is_program_word(word) {
-        Place::Program
+        Role::Program
     } else {
-        Place::Unknown
+        Role::Unknown
     }
 }
 
@@ -196,7 +196,7 @@ fn keep<T: Copy>(place: &mut Option<T>, value: Option<T>) -> Step
 }
 
 impl Options {
-    ghost use Rattle.o32_session.specs.Reader.{expected_seen, StepIs};
+    ghost use Rattle.o32_session.specs.inside.Reader.{expected_seen, StepIs};
 
     fn new(alloc: Global) -> Self
         ensures { options_seen result ≡ no_options }
@@ -220,7 +220,7 @@ impl Options {
         ensures { IfOk result (λ step. StepIs (step_of at (expected_seen expected) (options_seen self.old) word.now) step self.old self.new) }
     {
         match expected {
-            Expected::OptionOrProgram => Ok(self.step_at_option(place_at(word))),
+            Expected::OptionOrProgram => Ok(self.step_at_option(role_of(word))),
             Expected::ImageValue => Ok(keep(&mut self.image, file_name(at, word))),
             Expected::BudgetValue => Ok(keep(&mut self.budget, budget(word))),
             Expected::SaveValue => Ok(keep(&mut self.save, file_name(at, word))),
@@ -228,19 +228,19 @@ impl Options {
         }
     }
 
-    fn step_at_option(&self, place: Place) -> Step
-        ensures { StepIs (step_at_option (options_seen self.now) (place_seen place)) result self.now self.now }
+    fn step_at_option(&self, role: Role) -> Step
+        ensures { StepIs (step_at_option (options_seen self.now) (role_seen role)) result self.now self.now }
     {
-        match place {
-            Place::Image if self.image.is_some() => Step::IsWrong,
-            Place::Image => Step::GoesOn(Expected::ImageValue),
-            Place::Budget if self.budget.is_some() => Step::IsWrong,
-            Place::Budget => Step::GoesOn(Expected::BudgetValue),
-            Place::Save if self.save.is_some() => Step::IsWrong,
-            Place::Save => Step::GoesOn(Expected::SaveValue),
-            Place::Environment => Step::GoesOn(Expected::EnvironmentValue),
-            Place::Program => Step::IsProgram,
-            Place::Unknown => Step::IsWrong,
+        match role {
+            Role::Image if self.image.is_some() => Step::IsWrong,
+            Role::Image => Step::GoesOn(Expected::ImageValue),
+            Role::Budget if self.budget.is_some() => Step::IsWrong,
+            Role::Budget => Step::GoesOn(Expected::BudgetValue),
+            Role::Save if self.save.is_some() => Step::IsWrong,
+            Role::Save => Step::GoesOn(Expected::SaveValue),
+            Role::Environment => Step::GoesOn(Expected::EnvironmentValue),
+            Role::Program => Step::IsProgram,
+            Role::Unknown => Step::IsWrong,
         }
     }
 

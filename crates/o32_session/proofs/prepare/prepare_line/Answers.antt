@@ -1,9 +1,9 @@
 use Rattle.std.proofs.Common.{◌≡◌, Ok, Err, ap, subst}
 use Rattle.std.proofs.lemmas.Result.{err_from_is_err_and}
 use Rattle.o32_session.specs.Words.{texts}
-use Rattle.o32_session.specs.Reader.{line_seen}
+use Rattle.o32_session.specs.inside.Reader.{line_seen}
 use Rattle.o32_session.specs.Asked.{names_of}
-use Rattle.o32_session.specs.Prepared.{IsPlanned, IsTree}
+use Rattle.o32_session.specs.inside.Prepared.{IsPlanned, IsTree}
 use Rattle.o32_session.specs.Saved.{Stored}
 use Rattle.o32_session.proofs.Preparing.{prepared, unplanned_line}
 use Rattle.o32_session.proofs.prepare.prepare_line.Goals as goal

@@ -1,7 +1,7 @@
 use Rattle.std.proofs.Common.{◌≡◌, ◌+◌, ◌≤◌, ◌<◌, Some, ap, arith, sym, ◌∙◌, refl, subst}
 use Rattle.outside.proofs.OutputLemmas.{GainsText-nothing}
 use Rattle.o32_session.specs.Machine.{turn_of}
-use Rattle.o32_session.specs.Turns.{over_of}
+use Rattle.o32_session.specs.inside.Turns.{over_of}
 use Rattle.o32_session.specs.Run.{State, state_at, EndsIn, IsOverAt}
 use Rattle.o32_session.proofs.RunLemmas.{after_turn, ends_next, over_so, gained_next, gained_part, stops_writing}
 use Rattle.o32_session.proofs.run.run.Goals as goal
@@ -17,8 +17,7 @@ returns-in-Ok-Ended-clause-run g c =
     let within : c.loop-turns.turns + 1 ≤ c.args.budget = omega arith in
     let ends : EndsIn c.args.machine (c.loop-turns.turns + 1) c.in-Ok-Ended.end =
     ends_next c.args.machine c.loop-turns.machine c.loop-turns.turns c.in-Ok-Ended.end before.same before.running over in (
-      subst (λ finish. IsOverAt c.args.machine c.args.budget (c.loop-turns.turns + 1) finish) (sym c.from.ensures)
-          (over_so c.args.machine c.args.budget (c.loop-turns.turns + 1) c.in-Ok-Ended.end within ends),
+      over_so c.args.machine c.loop-turns.machine c.args.budget (c.loop-turns.turns + 1) c.in-Ok-Ended.end over within ends,
       gained_next c.args.machine c.loop-turns.machine c.loop-turns.turns _ _ _ before.same before.running before.gained
           c.in-Ok-Ended.ensures.turn.wrote,
     )

@@ -1,5 +1,5 @@
 use Rattle.std.proofs.Common.{◌+◌, option_map, ap, sym, ◌∙◌}
-use Rattle.o32_session.specs.Reader.{guest_reading}
+use Rattle.o32_session.specs.inside.Reader.{guest_reading}
 use Rattle.o32_session.proofs.Guest.{guest_words}
 use Rattle.o32_session.proofs.words.guest_error.Goals as goal
 

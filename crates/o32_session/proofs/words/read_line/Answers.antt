@@ -2,7 +2,7 @@ use Rattle.std.proofs.Common.{◌≡◌, ◌<◌, length, IfOk, IfErr, subst, sy
 use Rattle.std.specs.Str.{bytes_eq}
 use Rattle.std.specs.String.{string_bytes}
 use Rattle.o32_session.specs.Words.{Asks, Reading}
-use Rattle.o32_session.specs.Reader.{line_seen, IsReason}
+use Rattle.o32_session.specs.inside.Reader.{line_seen, IsReason}
 use Rattle.o32_session.proofs.Reading.{run_words}
 use Rattle.o32_session.proofs.words.read_line.Goals as goal
 

@@ -1,7 +1,7 @@
 use Rattle.std.proofs.Common.{◌≡◌, ◌+◌, length, drop}
 use Rattle.o32_session.specs.Words.{texts, no_options}
-use Rattle.o32_session.specs.Steps.{read_from, Option_or_program}
-use Rattle.o32_session.specs.Reader.{expected_seen, options_seen}
+use Rattle.o32_session.specs.inside.Steps.{read_from, Option_or_program}
+use Rattle.o32_session.specs.inside.Reader.{expected_seen, options_seen}
 use Rattle.o32_session.proofs.words.read_options.Given as goal
 
 abbrev pub invariant-loop-rest : goal.invariant-loop-rest

@@ -1,11 +1,11 @@
 -- How the values of the reader of words stand for the definitions of `Words`.
 use Rattle.std.specs.Prelude.{ℕ, ◌≡◌, ⊤, List, Option, Some, None}
-use Rattle.o32_session.specs.Words.{place_of, ImageOption, BudgetOption, SaveOption, EnvOption, ProgramName, NoOption, Line, Reading, Asks, WrongAt, texts}
-use Rattle.o32_session.specs.Steps.{Option_or_program, Image_value, Budget_value, Save_value, Env_value, Goes_on, Is_program, Is_wrong}
+use Rattle.o32_session.specs.Words.{role_of, ImageOption, BudgetOption, SaveOption, EnvOption, ProgramName, NoOption, Line, Reading, Asks, WrongAt, texts}
+use Rattle.o32_session.specs.inside.Steps.{Option_or_program, Image_value, Budget_value, Save_value, Env_value, Goes_on, Is_program, Is_wrong}
 use Rattle.o32_session.specs.Words as Words
-use Rattle.o32_session.specs.Steps as Steps
-use Rattle.o32_session.specs.declared.words.Place.{Place}
-use Rattle.o32_session.specs.declared.words.Place.TheVariants.{Image, Budget, Save, Environment, Program, Unknown}
+use Rattle.o32_session.specs.inside.Steps as Steps
+use Rattle.o32_session.specs.declared.words.Role.{Role}
+use Rattle.o32_session.specs.declared.words.Role.TheVariants.{Image, Budget, Save, Environment, Program, Unknown}
 use Rattle.o32_session.specs.declared.words.Expected.{Expected}
 use Rattle.o32_session.specs.declared.words.Expected.TheVariants.{OptionOrProgram, ImageValue, BudgetValue, SaveValue, EnvironmentValue}
 use Rattle.o32_session.specs.declared.words.Step.{Step}
@@ -15,16 +15,16 @@ use Rattle.o32_session.specs.declared.words.RunLine.{RunLine}
 use Rattle.o32_session.specs.declared.words.WordsError.{WordsError}
 use Rattle.o32_session.specs.declared.words.WordsError.TheVariants.{Usage, NoMemory}
 
-abbrev pub place_seen : Place → Words.Place
-place_seen Image = ImageOption
-place_seen Budget = BudgetOption
-place_seen Save = SaveOption
-place_seen Environment = EnvOption
-place_seen Program = ProgramName
-place_seen Unknown = NoOption
+abbrev pub role_seen : Role → Words.Role
+role_seen Image = ImageOption
+role_seen Budget = BudgetOption
+role_seen Save = SaveOption
+role_seen Environment = EnvOption
+role_seen Program = ProgramName
+role_seen Unknown = NoOption
 
-abbrev pub IsPlace : List ℕ → Place → Type 0
-IsPlace word place = place_seen place ≡ place_of word
+abbrev pub IsRole : List ℕ → Role → Type 0
+IsRole word role = role_seen role ≡ role_of word
 
 abbrev pub expected_seen : Expected → Steps.Expected
 expected_seen OptionOrProgram = Option_or_program

@@ -8,36 +8,37 @@ use Rattle.kernel_core.specs.declared.tree.Tree.{Tree}
 use Rattle.o32_session.specs.Machine.{Machine, turn_of}
 use Rattle.o32_session.specs.Run.{IsOverAt, GoesOnAt, output_at, state_at}
 use Rattle.o32_session.specs.Saved.{Stored, SavesTree, SavesTreeInPart}
-use Rattle.o32_session.specs.declared.machine.Stop.{Stop}
-use Rattle.o32_session.specs.declared.machine.Stop.TheVariants.{WriteFault, NoMemory}
-use Rattle.o32_session.specs.Answers.{end_of, end_of_stop, status_of}
+use Rattle.kernel_core.specs.declared.core_error.Stop.{Stop}
+use Rattle.kernel_core.specs.declared.core_error.Stop.TheVariants.{WriteFault, ReadFault, NoMemory}
+use Rattle.o32_session.specs.Answers.{status_of}
+use Rattle.o32_session.specs.inside.Ends.{end_of, end_of_stop}
 use Rattle.o32_session.specs.declared.answer.Answer.{Answer}
 use Rattle.o32_session.specs.declared.answer.End.{End}
 use Rattle.o32_session.specs.declared.answer.End.TheVariants as ends
 use Rattle.o32_session.specs.declared.answer.Finish.{Finish}
-use Rattle.o32_session.specs.declared.run.RunEnd.{RunEnd}
-use Rattle.o32_session.specs.declared.run.RunEnd.TheVariants.{Finished, Stopped}
 
 -- a run stops so only in a turn that writes, where it stops for a write fault
 abbrev pub StopsWriting : Machine → Stop → Type 0
 StopsWriting machine WriteFault = (turn_of machine).output ≢ []
+StopsWriting machine ReadFault = ⊥
 StopsWriting machine NoMemory = ⊤
 
 -- A run that is over wrote its whole output; one that stopped early wrote that of the turns finished, and a part of
 -- the next turn's.
-abbrev pub RanSo : Machine → ℕ → ℕ → RunEnd → Option (List ℕ) → Option (List ℕ) → Type 0
-RanSo machine budget turns (Finished finish) old new =
+abbrev pub RanSo : Machine → ℕ → ℕ → Result Finish Stop → Option (List ℕ) → Option (List ℕ) → Type 0
+RanSo machine budget turns (Ok finish) old new =
     IsOverAt machine budget turns finish × GainsText old new (output_at machine turns)
-RanSo machine budget turns (Stopped stop) old new =
+RanSo machine budget turns (Err stop) old new =
     GoesOnAt machine budget turns
     × (GainsBetween old new (output_at machine turns) (output_at machine (turns + 1))
     × StopsWriting (state_at machine turns).machine stop)
 
 -- a write fault comes only where the count rose
-abbrev pub EndsOnlyIfRose : RunEnd → ℕ → ℕ → Type 0
-EndsOnlyIfRose (Finished finish) before now = ⊤
-EndsOnlyIfRose (Stopped WriteFault) before now = Rose before now
-EndsOnlyIfRose (Stopped NoMemory) before now = ⊤
+abbrev pub EndsOnlyIfRose : Result Finish Stop → ℕ → ℕ → Type 0
+EndsOnlyIfRose (Ok finish) before now = ⊤
+EndsOnlyIfRose (Err WriteFault) before now = Rose before now
+EndsOnlyIfRose (Err ReadFault) before now = ⊥
+EndsOnlyIfRose (Err NoMemory) before now = ⊤
 
 -- the final tree was saved where a file is named for it, or at most a part of it, with the cause of a fault
 abbrev pub IsSavedSo : Option (List ℕ) → Tree → Result (Unit {0}) DevError → Stored → Stored → Type 0
@@ -52,15 +53,15 @@ end_of_save finish (Err device.Failed) = ends.WriteFault
 end_of_save finish (Err device.NoMemory) = ends.NoMemory
 
 -- what follows the end of a run: a save, or nothing
-abbrev pub EndsSo : Option (List ℕ) → Tree → RunEnd → End → Stored → Stored → Type 0
-EndsSo name tree (Finished finish) end old new =
+abbrev pub EndsSo : Option (List ℕ) → Tree → Result Finish Stop → End → Stored → Stored → Type 0
+EndsSo name tree (Ok finish) end old new =
     (saved : Result (Unit {0}) DevError) × (end ≡ end_of_save finish saved) × IsSavedSo name tree saved old new
-EndsSo name tree (Stopped stop) end old new = (end ≡ end_of_stop stop) × (new ≡ old)
+EndsSo name tree (Err stop) end old new = (end ≡ end_of_stop stop) × (new ≡ old)
 
 -- the answer of a run, with its output before and after, and the count of faults of that
 pub record RanIntoAnswer (machine : Machine) (budget : ℕ) (tree : Tree) (name : Option (List ℕ)) (answer : Answer)
     (old_out new_out : Option (List ℕ)) (old_faults new_faults : ℕ) (old new : Stored) : Type 0 where
-  pub end : RunEnd
+  pub end : Result Finish Stop
   pub ran : RanSo machine budget answer.turns end old_out new_out
   pub cause : EndsOnlyIfRose end old_faults new_faults
   pub ends : EndsSo name tree end answer.end old new

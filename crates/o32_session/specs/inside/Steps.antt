@@ -1,6 +1,6 @@
 -- How the reader goes over the words one by one. Only the private parts of the crate cite this.
 use Rattle.std.specs.Prelude.{ℕ, ◌+◌, List, [], ◌∷◌, ◌++◌, if◌then◌else◌, is_some, Option, Some, None}
-use Rattle.o32_session.specs.Words.{Place, ImageOption, BudgetOption, SaveOption, EnvOption, ProgramName, NoOption, place_of, is_file_name, budget_of, is_setting, Options, line_of, Reading, WrongAt, read_guest}
+use Rattle.o32_session.specs.Words.{Role, ImageOption, BudgetOption, SaveOption, EnvOption, ProgramName, NoOption, role_of, is_file_name, budget_of, is_setting, Options, line_of, Reading, WrongAt, read_guest}
 
 -- what is looked for next: an option or PROGRAM, or the value of the option before
 pub data Expected : Type 0 where
@@ -17,7 +17,7 @@ pub data Step : Type 0 where
   Is_wrong : Step
 
 -- a word in the place of an option: all but `--env` stand at most once
-abbrev pub step_at_option : Options → Place → Step
+abbrev pub step_at_option : Options → Role → Step
 step_at_option options ImageOption = if is_some options.image then Is_wrong else Goes_on Image_value options
 step_at_option options BudgetOption = if is_some options.budget then Is_wrong else Goes_on Budget_value options
 step_at_option options SaveOption = if is_some options.save then Is_wrong else Goes_on Save_value options
@@ -46,7 +46,7 @@ step_at_setting options word =
 
 -- the word of index `at`
 abbrev pub step_of : ℕ → Expected → Options → List ℕ → Step
-step_of at Option_or_program options word = step_at_option options (place_of word)
+step_of at Option_or_program options word = step_at_option options (role_of word)
 step_of at Image_value options word = step_at_image at options word
 step_of at Budget_value options word = step_at_budget options (budget_of word)
 step_of at Save_value options word = step_at_save at options word
