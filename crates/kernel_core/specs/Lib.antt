@@ -1,11 +1,17 @@
+pub mod Bits
 pub mod FileContent
 pub mod FileSystem
 pub mod LoadedTree
+pub mod MapSet
 pub mod NameCalls
 pub mod NodeCalls
 pub mod Nodes
+pub mod OpenSet
 pub mod PathWalk
+pub mod PollSet
 pub mod Queries
 pub mod RealTime
+pub mod SaSet
 pub mod Totals
 pub mod ValidTree
+pub mod inside

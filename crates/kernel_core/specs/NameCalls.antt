@@ -226,8 +226,8 @@ rename_of nodes from to (Some moved) =
     if is_no_entry from.name || is_no_entry to.name then Some EBUSY
     else (if is_node to.node moved then None else move_refusal nodes to moved)
 
--- Renaming `.`, `..` and the root, also as the new name, is EBUSY, and the empty name of another directory too (own); a directory
--- into its own subtree EINVAL; a file onto a directory EISDIR, also one that it lies in (own). Two names of one node
+-- Renaming `.`, `..` and the root, also as the new name, is EBUSY, and the empty name of another directory too (own); so is a new
+-- name `..` in a removed directory, where it names nothing, with a slash behind it too. A directory into its own subtree is EINVAL; a file onto a directory EISDIR, also one that it lies in (own). Two names of one node
 -- are left as they are. One entry is taken and one added, so the limit of entries plays no part.
 abbrev pub rename_refusal : Nodes → Place → Place → Option Errno
 rename_refusal nodes from to = rename_of nodes from to from.node

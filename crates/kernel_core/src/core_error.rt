@@ -66,3 +66,19 @@ impl From<AllocError> for CoreError {
         CoreError::from(NoMemory)
     }
 }
+
+impl From<Stop> for CoreError {
+    ghost from_gives = { λ stop error. error ≡ errors.Stop stop };
+
+    fn from(stop: Stop) -> CoreError {
+        CoreError::Stop(stop)
+    }
+}
+
+impl From<Errno> for CoreError {
+    ghost from_gives = { λ errno error. error ≡ errors.Refused errno };
+
+    fn from(errno: Errno) -> CoreError {
+        CoreError::Refused(errno)
+    }
+}

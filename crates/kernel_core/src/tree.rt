@@ -1,5 +1,8 @@
 //! A file tree as plain data: what an image holds, and what a kernel is begun with and gives back.
 
+ghost use Rattle.std.specs.Prelude.{◌≡◌};
+ghost use Rattle.kernel_core.specs.ValidTree.{entries_of, blocks_of};
+
 use crate::byte_list::Bytes;
 use crate::items::Items;
 
@@ -31,6 +34,28 @@ pub enum Kind {
     Dir { entries: Items<DirEntry> },
     /// A symbolic link with its target, of 1 to 4095 bytes without NUL.
     Link { target: Bytes },
+}
+
+impl Kind {
+    /// The entries of a directory, and none of another kind.
+    pub fn entries(&self) -> &[DirEntry]
+        ensures { result.now ≡ entries_of self.now }
+    {
+        match self {
+            Kind::Dir { entries } => entries.as_slice(),
+            Kind::File { .. } | Kind::Link { .. } => &[],
+        }
+    }
+
+    /// The blocks of a file, and none of another kind.
+    pub fn blocks(&self) -> &[Block]
+        ensures { result.now ≡ blocks_of self.now }
+    {
+        match self {
+            Kind::File { blocks, .. } => blocks.as_slice(),
+            Kind::Dir { .. } | Kind::Link { .. } => &[],
+        }
+    }
 }
 
 /// A block of a file that is kept.

@@ -4,12 +4,12 @@ use Rattle.kernel_core.specs.LoadedTree.{loaded}
 use Rattle.kernel_core.specs.NodeCalls.{held}
 use Rattle.kernel_core.specs.Nodes.{update}
 use Rattle.kernel_core.specs.ValidTree.{root}
-use Rattle.kernel_core.specs.declared.flags.Access.TheVariants as accesses
+use Rattle.kernel_core.specs.declared.open_flags.Access.TheVariants as accesses
 use Rattle.kernel_core.specs.declared.resource.Resource.TheVariants as resources
 use Rattle.kernel_core.specs.declared.tree.Tree.{Tree}
 use Rattle.kernel_model.specs.Clock.{second, unarmed}
 use Rattle.kernel_model.specs.Descriptions.{no_flags}
-use Rattle.kernel_model.specs.Shared.{Access, OpenFlags}
+use Rattle.kernel_model.specs.Shared.{Access, OpenSet}
 use Rattle.kernel_model.specs.SignalRows.{no_action, no_stack}
 use Rattle.kernel_model.specs.SignalSets.{signal_count, no_signals}
 use Rattle.kernel_model.specs.State.{Kernel, Files, Flow, Descriptors, Signals}

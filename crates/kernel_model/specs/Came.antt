@@ -2,7 +2,7 @@
 use Rattle.std.specs.Prelude.{ℕ, Bool, Option, Some, None, Result, Ok, Err, if◌then◌else◌, List, []}
 use Rattle.kernel_model.specs.Shared.{Errno}
 use Rattle.kernel_core.specs.declared.error.Errno.TheVariants.{EBADF, EFAULT}
-use Rattle.kernel_model.specs.declared.wake.Wake.{Wake}
+use Rattle.kernel_model.specs.Shared.{Wake}
 
 -- a row is done with a value, refused with an error, or waits
 pub data Came (V : Type 0) : Type 0 where

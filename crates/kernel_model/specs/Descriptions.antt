@@ -2,8 +2,8 @@
 use Rattle.std.specs.Prelude.{ℕ, Bool, true, false, Option, Some, None, is_some, option_map, if◌then◌else◌}
 use Rattle.std.specs.FinMap.{get}
 use Rattle.kernel_core.specs.Nodes.{Nodes, NodeContent, Listing, listing_at}
-use Rattle.kernel_core.specs.declared.flags.Access.TheVariants as accesses
-use Rattle.kernel_model.specs.Shared.{Access, OpenFlags}
+use Rattle.kernel_core.specs.declared.open_flags.Access.TheVariants as accesses
+use Rattle.kernel_model.specs.Shared.{Access, OpenSet}
 use Rattle.kernel_model.specs.State.{Files}
 use Rattle.kernel_model.specs.Table.{description_at}
 use Rattle.kernel_model.specs.declared.descriptor.Description.{Description}
@@ -43,7 +43,7 @@ writable files fd = if_writes (opened files fd)
 
 -- Flags
 
-abbrev pub no_flags : Access → OpenFlags
+abbrev pub no_flags : Access → OpenSet
 no_flags access = record {
   access = access;
   append = false;
@@ -61,10 +61,10 @@ no_flags access = record {
 }
 
 -- the flags that a description keeps, which F_GETFL shows
-abbrev pub kept_flags : OpenFlags → OpenFlags
+abbrev pub kept_flags : OpenSet → OpenSet
 kept_flags flags = record flags { creat = false; excl = false; noctty = false; trunc = false; cloexec = false }
 
-abbrev pub description_of : Object → OpenFlags → Description
+abbrev pub description_of : Object → OpenSet → Description
 description_of object flags = record { object = object; position = 0; flags = kept_flags flags }
 
 -- Objects

@@ -2,11 +2,11 @@
 use Rattle.std.specs.Prelude.{ℕ, ◌+◌, ℤ, Bool, true, false, not, ◌==◌, List, Option, Some, None, is_none, nat_le, if◌then◌else◌}
 use Rattle.kernel_core.specs.NodeCalls.{released}
 use Rattle.kernel_core.specs.declared.error.Errno.TheVariants.{EBADF, EINVAL, EMFILE, ENOTTY}
-use Rattle.kernel_core.specs.declared.flags.Access.TheVariants as accesses
+use Rattle.kernel_core.specs.declared.open_flags.Access.TheVariants as accesses
 use Rattle.kernel_model.specs.Came.{Did, Given, done, refused, refused_if, with_given, with_some}
 use Rattle.kernel_model.specs.Descriptions.{opened, no_flags, description_of}
 use Rattle.kernel_model.specs.Pipes.{pipe_at, new_pipe, with_pipe, without_readers, without_writers}
-use Rattle.kernel_model.specs.Shared.{OpenFlags}
+use Rattle.kernel_model.specs.Shared.{OpenSet}
 use Rattle.kernel_model.specs.State.{Files}
 use Rattle.kernel_model.specs.Table.{descriptor_limit, slot, cloexec_at, lowest_free, new_place, inserted, closed, last_description, shared, with_description, with_cloexec}
 use Rattle.kernel_model.specs.declared.descriptor.Description.{Description}
@@ -85,7 +85,7 @@ pub record Ends : Type 0 where
 abbrev pub ends : ℕ → ℕ → Ends
 ends read write = record { read = read; write = write }
 
-abbrev pub end_flags : PipeFlags → OpenFlags → OpenFlags
+abbrev pub end_flags : PipeFlags → OpenSet → OpenSet
 end_flags flags of_end = record of_end { nonblock = flags.nonblock }
 
 abbrev pub after_pipe : Files → PipeFlags → ℕ → Ends → Files
@@ -114,10 +114,10 @@ set_close_on_exec files fd cloexec =
     with_some files EBADF (opened files fd) (λ _. done (record files { table = with_cloexec files.table fd cloexec }) tt)
 
 -- F_GETFL of fcntl(2): the access mode and the flags that the description keeps
-unfoldable pub status_flags : Files → ℕ → Did Files OpenFlags
+unfoldable pub status_flags : Files → ℕ → Did Files OpenSet
 status_flags files fd = with_some files EBADF (opened files fd) (λ description. done files description.flags)
 
-abbrev pub with_flags : Files → ℕ → Description → OpenFlags → Files
+abbrev pub with_flags : Files → ℕ → Description → OpenSet → Files
 with_flags files fd description flags = record files { table = with_description files.table fd (record description { flags = flags }) }
 
 -- F_SETFL of fcntl(2) changes these two flags alone

@@ -7,7 +7,7 @@ use Rattle.kernel_model.specs.Table.{slot, with_slot}
 use Rattle.kernel_model.specs.declared.stream.Stream.{Stream}
 use Rattle.kernel_model.specs.declared.stream.Stream.TheVariants as streams
 use Rattle.kernel_model.specs.declared.stream.Moved.{Moved}
-use Rattle.kernel_model.specs.declared.wake.Wake.{Wake}
+use Rattle.kernel_model.specs.Shared.{Wake}
 
 -- the most bytes that a pipe holds
 abbrev pub pipe_size : ℕ

@@ -7,7 +7,7 @@ use Rattle.kernel_model.specs.Came.{Did, Given, done, refused, refused_if, with_
 use Rattle.kernel_model.specs.Clock.{second, microsecond, deadline, waits_until, length_of, checked_or_none}
 use Rattle.kernel_model.specs.Descriptions.{opened, reads, writes}
 use Rattle.kernel_model.specs.Pipes.{pipe_at, room, whole_write}
-use Rattle.kernel_model.specs.Shared.{PollBits}
+use Rattle.kernel_model.specs.Shared.{PollSet}
 use Rattle.kernel_model.specs.SignalRows.{set_size}
 use Rattle.kernel_model.specs.SignalSets.{SignalSet}
 use Rattle.kernel_model.specs.State.{Kernel, Files, Pipe}
@@ -18,7 +18,7 @@ use Rattle.kernel_model.specs.declared.time.TimeVal.{TimeVal}
 
 -- Readiness
 
-abbrev pub no_events : PollBits
+abbrev pub no_events : PollSet
 no_events = record {
   input = false;
   pri = false;
@@ -33,32 +33,32 @@ no_events = record {
 }
 
 -- ready for reading, for writing
-abbrev pub ready_for : Bool → Bool → PollBits
+abbrev pub ready_for : Bool → Bool → PollSet
 ready_for reading writing = record no_events { input = reading; rdnorm = reading; output = writing; wrnorm = writing }
 
 -- a read end: ready with bytes, and hung up without writers
-abbrev pub read_end_ready : Option Pipe → PollBits
+abbrev pub read_end_ready : Option Pipe → PollSet
 read_end_ready None = no_events
 read_end_ready (Some pipe) = record (ready_for (not (length pipe.bytes == 0)) false) { hup = not pipe.writers }
 
 -- a write end: ready with readers and room for a write that goes whole, and in error without readers
-abbrev pub write_end_ready : Option Pipe → PollBits
+abbrev pub write_end_ready : Option Pipe → PollSet
 write_end_ready None = no_events
 write_end_ready (Some pipe) = record (ready_for false (pipe.readers && nat_le whole_write (room pipe))) { err = not pipe.readers }
 
 -- a stream is ready as its access mode says, and a node both ways
-abbrev pub object_ready : Files → Description → Object → PollBits
+abbrev pub object_ready : Files → Description → Object → PollSet
 object_ready files description (objects.Stream stream) = ready_for (reads description.flags.access) (writes description.flags.access)
 object_ready files description (objects.ReadEnd pipe) = read_end_ready (pipe_at files.flow pipe)
 object_ready files description (objects.WriteEnd pipe) = write_end_ready (pipe_at files.flow pipe)
 object_ready files description (objects.Node node) = ready_for true true
 
-abbrev pub ready_of : Files → Option Description → PollBits
+abbrev pub ready_of : Files → Option Description → PollSet
 ready_of files None = record no_events { nval = true }
 ready_of files (Some description) = object_ready files description description.object
 
 -- what a descriptor is ready for
-unfoldable pub ready : Files → ℕ → PollBits
+unfoldable pub ready : Files → ℕ → PollSet
 ready files fd = ready_of files (opened files fd)
 
 -- poll
@@ -66,10 +66,10 @@ ready files fd = ready_of files (opened files fd)
 -- an entry: a descriptor, which is none where its number is negative, and the events that are asked for
 pub record PollEntry : Type 0 where
   pub fd : Option ℕ
-  pub events : PollBits
+  pub events : PollSet
 
 -- those of the events that are there that are asked for; error, hang-up and a closed descriptor are told unasked
-abbrev pub told : PollBits → PollBits → PollBits
+abbrev pub told : PollSet → PollSet → PollSet
 told asked there = record {
   input = asked.input && there.input;
   pri = asked.pri && there.pri;
@@ -83,17 +83,17 @@ told asked there = record {
   wrband = asked.wrband && there.wrband;
 }
 
-abbrev pub is_any : PollBits → Bool
+abbrev pub is_any : PollSet → Bool
 is_any events =
     events.input || events.pri || events.output || events.err || events.hup || events.nval || events.rdnorm || events.rdband
     || events.wrnorm || events.wrband
 
 -- what is told of an entry; one that is skipped is told nothing
-abbrev pub told_at : Files → PollBits → Option ℕ → PollBits
+abbrev pub told_at : Files → PollSet → Option ℕ → PollSet
 told_at files asked None = no_events
 told_at files asked (Some fd) = told asked (ready files fd)
 
-abbrev pub returned : Files → List PollEntry → List PollBits
+abbrev pub returned : Files → List PollEntry → List PollSet
 returned files entries = map (λ e. told_at files e.events e.fd) entries
 
 abbrev pub entry_limit : ℕ
@@ -101,12 +101,12 @@ entry_limit = 1024
 
 -- The events of each entry, at once where there are any; else it waits, and gives them when the time is over. `wait` is how long, or
 -- without end, or what was wrong with the time or the mask.
-abbrev pub poll_ready : Kernel → Option ℕ → List PollBits → Did Kernel (List PollBits)
+abbrev pub poll_ready : Kernel → Option ℕ → List PollSet → Did Kernel (List PollSet)
 poll_ready kernel wait events =
     if list_any is_any events then done kernel events else waits_until kernel (deadline kernel wait) (done kernel events)
 
 -- poll(2), ppoll(2)
-unfoldable pub poll : Kernel → Given (Option ℕ) → ℕ → Given (List PollEntry) → Did Kernel (List PollBits)
+unfoldable pub poll : Kernel → Given (Option ℕ) → ℕ → Given (List PollEntry) → Did Kernel (List PollSet)
 poll kernel wait count entries =
     with_given kernel wait (λ wait.
     refused_if (nat_lt entry_limit count) EINVAL kernel (
@@ -127,10 +127,10 @@ names_closed files fds = list_any (λ fd. is_none (opened files fd)) fds
 abbrev pub names_any_closed : Files → Sets → Bool
 names_any_closed files sets = names_closed files sets.read || names_closed files sets.write || names_closed files sets.except
 
-abbrev pub is_read_ready : PollBits → Bool
+abbrev pub is_read_ready : PollSet → Bool
 is_read_ready events = events.input || events.hup || events.err
 
-abbrev pub is_write_ready : PollBits → Bool
+abbrev pub is_write_ready : PollSet → Bool
 is_write_ready events = events.output || events.err
 
 -- there are no exceptions

@@ -9,12 +9,10 @@ mod signal;
 mod stream;
 mod terminal;
 mod time;
-mod wake;
 
 pub use descriptor::{Description, Descriptor, Object};
 pub use limit::Limit;
-pub use signal::{Action, Info, Post, SigStack};
+pub use signal::{Action, Post, SigStack};
 pub use stream::{Moved, PipeEnds, Stream};
 pub use terminal::{Terminal, TerminalCharacters, TerminalSettings, Winsize};
 pub use time::{TimeSpec, TimeVal, TimerValue};
-pub use wake::Wake;

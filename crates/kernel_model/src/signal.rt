@@ -4,7 +4,7 @@
 //! `kernel_core` names them: the first word holds those of the first 32, its lowest bit that of HUP.
 //! (The form is this project's own.)
 
-use kernel_core::{SaFlags, Sig};
+use kernel_core::SaFlags;
 
 /// What is done when a signal is delivered.
 #[derive(Clone, Copy)]
@@ -25,18 +25,6 @@ pub struct SigStack {
     pub size: u64,
     /// 0, SS_ONSTACK (1) or SS_DISABLE (2).
     pub flags: u32,
-}
-
-/// What comes with a posted signal (siginfo_t of sigaction(2)).
-#[derive(Clone, Copy)]
-pub struct Info {
-    pub sig: Sig,
-    pub code: i32,
-    pub errno: i32,
-    pub pid: u32,
-    pub uid: u32,
-    pub value: u32,
-    pub addr: u32,
 }
 
 /// What became of a posted signal.

@@ -1,0 +1,4 @@
+pub mod EventBits
+pub mod MapBits
+pub mod OpenBits
+pub mod SaBits
