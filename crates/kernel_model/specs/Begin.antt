@@ -55,8 +55,8 @@ abbrev pub first_table : Descriptors Description
 first_table = record {
   fds = Some (stream_descriptor 0) ∷ Some (stream_descriptor 1) ∷ Some (stream_descriptor 2) ∷ free_places 1021;
   live =
-    Some (stream_description streams.Input accesses.Read) ∷ Some (stream_description streams.Out accesses.Write)
-    ∷ Some (stream_description streams.Err accesses.Write) ∷ free_places 1021;
+      Some (stream_description streams.Input accesses.Read) ∷ Some (stream_description streams.Out accesses.Write)
+      ∷ Some (stream_description streams.Err accesses.Write) ∷ free_places 1021;
 }
 
 abbrev pub first_flow : Flow
@@ -66,8 +66,23 @@ first_flow = record { pipes = free_places descriptor_limit; moved = record { tak
 
 abbrev pub no_characters : TerminalCharacters
 no_characters = record {
-  intr = 0; quit = 0; erase = 0; kill = 0; min = 0; time = 0; eol2 = 0; swtc = 0; start = 0; stop = 0; susp = 0; reprint = 0; discard = 0;
-  werase = 0; lnext = 0; eof = 0; eol = 0;
+  intr = 0;
+  quit = 0;
+  erase = 0;
+  kill = 0;
+  min = 0;
+  time = 0;
+  eol2 = 0;
+  swtc = 0;
+  start = 0;
+  stop = 0;
+  susp = 0;
+  reprint = 0;
+  discard = 0;
+  werase = 0;
+  lnext = 0;
+  eof = 0;
+  eol = 0;
 }
 
 abbrev pub no_settings : TerminalSettings

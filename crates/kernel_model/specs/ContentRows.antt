@@ -3,12 +3,12 @@ use Rattle.std.specs.Prelude.{ℕ, zero, suc, ◌+◌, ◌-◌, ◌==◌, ◌||�
 use Rattle.std.specs.FinMap.{get}
 use Rattle.kernel_core.specs.FileContent.{FileContent, greatest_size}
 use Rattle.kernel_core.specs.NodeCalls.{status_mode, content_size, content_sectors}
-use Rattle.kernel_core.specs.Nodes.{Nodes, Inode, Listing, NodeContent, File, Directory, Link, file_at}
+use Rattle.kernel_core.specs.Nodes.{Nodes, Inode, listing_at, NodeContent, File, Directory, Link, file_at}
 use Rattle.kernel_core.specs.Queries.{NodeKind, FileKind, DirectoryKind, LinkKind, kind_at}
 use Rattle.kernel_core.specs.declared.tree.DirEntry.{DirEntry}
 use Rattle.kernel_core.specs.declared.error.Errno.TheVariants.{EBADF, EFAULT, EINVAL, ENOENT, ENOTDIR, ENOTTY, EOVERFLOW, ESPIPE}
 use Rattle.kernel_model.specs.Came.{Did, Given, done, refused, refused_if, refused_by, with_given, with_some}
-use Rattle.kernel_model.specs.Descriptions.{opened, node_of, is_stream, content_at, open_listing, open_directory}
+use Rattle.kernel_model.specs.Descriptions.{opened, node_of, is_stream, content_at}
 use Rattle.kernel_model.specs.Pipes.{pipe_at}
 use Rattle.kernel_model.specs.Shared.{Errno}
 use Rattle.kernel_model.specs.State.{Files, Pipe}
@@ -195,8 +195,8 @@ give_entries files fd description records size room entries =
 unfoldable pub entries : Files → ℕ → Records → ℕ → ℕ → Did Files (List Entry)
 entries files fd records size room =
     with_some files EBADF (opened files fd) (λ description.
-    with_some files ENOTDIR (open_directory files.nodes description.object) (λ directory.
-    with_some files ENOTDIR (open_listing files.nodes description.object) (λ listing.
+    with_some files ENOTDIR (node_of description.object) (λ directory.
+    with_some files ENOTDIR (listing_at files.nodes directory) (λ listing.
     with_some files ENOENT listing.parent (λ parent.
     give_entries files fd description records size room
     (filter (λ e. nat_lt description.position e.cookie) (all_entries files.nodes directory parent listing.entries))))))

@@ -1,7 +1,7 @@
 -- What a description may be used for, and what its object is (open(2), fcntl(2)).
 use Rattle.std.specs.Prelude.{ℕ, Bool, true, false, Option, Some, None, is_some, option_map, if◌then◌else◌}
 use Rattle.std.specs.FinMap.{get}
-use Rattle.kernel_core.specs.Nodes.{Nodes, NodeContent, Listing, listing_at}
+use Rattle.kernel_core.specs.Nodes.{Nodes, NodeContent, listing_at}
 use Rattle.kernel_core.specs.declared.open_flags.Access.TheVariants as accesses
 use Rattle.kernel_model.specs.Shared.{Access, OpenSet}
 use Rattle.kernel_model.specs.State.{Files}
@@ -82,17 +82,9 @@ is_stream (objects.ReadEnd pipe) = false
 is_stream (objects.WriteEnd pipe) = false
 is_stream (objects.Node node) = false
 
-abbrev pub in_node : {A : Type 0} → (Nodes → ℕ → Option A) → Nodes → Option ℕ → Option A
-in_node look nodes None = None
-in_node look nodes (Some node) = look nodes node
-
 -- the content of a node, where it lives
 abbrev pub content_at : Nodes → ℕ → Option NodeContent
 content_at nodes node = option_map (λ i. i.content) (get nodes node)
-
--- the directory that is open
-abbrev pub open_listing : Nodes → Object → Option Listing
-open_listing nodes object = in_node listing_at nodes (node_of object)
 
 -- the number of a directory that is open
 abbrev pub if_directory : Nodes → Option ℕ → Option ℕ

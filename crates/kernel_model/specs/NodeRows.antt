@@ -3,6 +3,7 @@
 use Rattle.std.specs.Prelude.{ℕ, zero, suc, ◌+◌, ◌%◌, ◌==◌, ℤ, pos, ◌+ℤ◌, ◌*ℤ◌, nat_abs, int_lt, Bool, true, false, ◌&&◌, ◌||◌, not, List, [], ◌∷◌, ◌++◌, length, find, Option, Some, None, is_none, is_some, option_map, Result, Ok, Err, nat_lt, nat_le, bit_and, if◌then◌else◌}
 use Rattle.std.specs.FinMap.{get, len}
 use Rattle.kernel_core.specs.FileSystem.{parent_at}
+use Rattle.kernel_core.specs.NameCalls.{is_empty_list}
 use Rattle.kernel_core.specs.NodeCalls.{with_mode, with_times, held, released, resize_refusal, after_resize}
 use Rattle.kernel_core.specs.Nodes.{Nodes, Inode, NodeContent, File, Directory, Link, Listing, listing_at, file_at, is_directory, entries_in, update}
 use Rattle.kernel_core.specs.ValidTree.{root}
@@ -35,16 +36,12 @@ status_by_path files base path flags =
     with_some files ENOENT (status_at files.nodes node) (λ status.
     done files status))
 
-abbrev pub is_empty_path : List ℕ → Bool
-is_empty_path [] = true
-is_empty_path (byte ∷ bytes) = false
-
 -- fstatat(2), of which stat(2) and lstat(2) are forms. `flags` is none where there are others, which is looked at before the path.
 unfoldable pub status_at_path : Files → Base → Given (List ℕ) → Option StatusFlags → Did Files Status
 status_at_path files base path flags =
     with_some files EINVAL flags (λ flags.
     with_given files path (λ path.
-    if flags.empty && is_empty_path path then status_of_base files base else status_by_path files base path flags))
+    if flags.empty && is_empty_list path then status_of_base files base else status_by_path files base path flags))
 
 -- Access
 

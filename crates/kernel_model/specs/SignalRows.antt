@@ -2,6 +2,7 @@
 -- sigtimedwait(2), sigsuspend(2), sigaltstack(2).
 use Rattle.std.specs.Prelude.{ℕ, ◌+◌, ◌*◌, ◌<◌, ◌==◌, ℤ, pos, negsuc, neg_ℤ, int_lt, Bool, true, false, ◌&&◌, ◌||◌, not, List, [], ◌∷◌, ◌++◌, length, drop, find, sum_by, slice_index_or, slice_set, slice_range, Option, Some, None, is_some, nat_lt, nat_le, if◌then◌else◌}
 use Rattle.std.specs.List.{list_any}
+use Rattle.kernel_core.specs.NameCalls.{is_empty_list}
 use Rattle.kernel_core.specs.declared.error.Errno.TheVariants.{EAGAIN, EINVAL, ENOMEM, EPERM, EPIPE, ESRCH}
 use Rattle.kernel_core.specs.declared.mask.MaskChange.{MaskChange}
 use Rattle.kernel_core.specs.declared.mask.MaskChange.TheVariants as changes
@@ -68,12 +69,8 @@ action_at signals signal = slice_index_or signals.actions (place signal) no_acti
 abbrev pub pending_at : Signals → Sig → List Info
 pending_at signals signal = slice_index_or signals.pending (place signal) []
 
-abbrev pub is_some_list : {A : Type 0} → List A → Bool
-is_some_list [] = false
-is_some_list (first ∷ rest) = true
-
 abbrev pub pends : Signals → Sig → Bool
-pends signals signal = is_some_list (pending_at signals signal)
+pends signals signal = not (is_empty_list (pending_at signals signal))
 
 abbrev pub with_pending : Signals → Sig → List Info → Signals
 with_pending signals signal infos = record signals { pending = slice_set signals.pending (place signal) infos }
@@ -88,7 +85,7 @@ queue_limit = 1024
 -- the set of the signals that pend, from the lists at their places
 abbrev pub bits_of : List (List Info) → ℕ
 bits_of [] = 0
-bits_of (infos ∷ rest) = (if is_some_list infos then 1 else 0) + 2 * bits_of rest
+bits_of (infos ∷ rest) = (if is_empty_list infos then 0 else 1) + 2 * bits_of rest
 
 abbrev pub pending_set : Signals → SignalSet
 pending_set signals = words (λ k. bits_of (slice_range signals.pending (32 * k) (32 * k + 32)))

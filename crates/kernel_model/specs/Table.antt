@@ -1,6 +1,5 @@
 -- Descriptors and the descriptions that they lead to (open(2), dup(2), close(2)).
-use Rattle.std.specs.Prelude.{ℕ, ◌+◌, Bool, true, false, ◌==◌, List, length, drop, position, slice_get, slice_set, Option, Some, None, is_some, is_none, option_map, option_and_then, unwrap_or, if◌then◌else◌}
-use Rattle.std.specs.Option.{option_flatten}
+use Rattle.std.specs.Prelude.{ℕ, ◌+◌, Bool, true, false, ◌==◌, List, length, drop, position, slice_index_or, slice_set, Option, Some, None, is_some, is_none, option_map, option_and_then, unwrap_or, if◌then◌else◌}
 use Rattle.std.specs.List.{list_any}
 use Rattle.kernel_model.specs.State.{Descriptors}
 use Rattle.kernel_model.specs.declared.descriptor.Descriptor.{Descriptor}
@@ -12,7 +11,7 @@ descriptor_limit = 1024
 -- Looking up
 
 abbrev pub slot : {A : Type 0} → List (Option A) → ℕ → Option A
-slot slots number = option_flatten (slice_get slots number)
+slot slots number = slice_index_or slots number None
 
 abbrev pub number_at : {A : Type 0} → Descriptors A → ℕ → Option ℕ
 number_at table fd = option_map (λ d. d.number) (slot table.fds fd)

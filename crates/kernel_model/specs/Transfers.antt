@@ -1,10 +1,7 @@
 -- Reading and writing (read(2), write(2), readv(2), writev(2), pread(2), pwrite(2)).
 --
--- `asked` is how many bytes the program names, or what was wrong with its vector; `room` is how many bytes from the first on can be
--- stored, and `bytes` are those that can be loaded. `left` is what is left of the input.
---
--- A stream's `take` gives as many bytes as there are, up to the number wanted, and the end of the input gives 0. A real stream may give
--- fewer; then these rows say nothing of the content.
+-- `asked` is how many bytes the program names, or what was wrong with its vector. Of these, `room` is how many from the first on can be
+-- stored, and `bytes` are those from the first on that can be loaded. `left` is what is left of the input.
 use Rattle.std.specs.Prelude.{ℕ, ◌+◌, ◌-◌, ◌==◌, min, ℤ, pos, Bool, false, List, [], length, take, drop, Option, Some, None, nat_le, nat_abs, int_lt, if◌then◌else◌}
 use Rattle.kernel_core.specs.FileContent.{FileContent, readable as readable_count, bytes_at}
 use Rattle.kernel_core.specs.NodeCalls.{write_length, write_refusal, after_write}
@@ -58,6 +55,8 @@ moved_to files fd description position =
 
 -- `most` is how many bytes are read at most, at least 1
 
+-- the input gives as many bytes as it has, up to the number wanted. A real stream may give fewer of them at a time; of what comes then
+-- no row says anything.
 abbrev pub take_input : Files → List ℕ → ℕ → Did Reading (List ℕ)
 take_input files left most =
     done (reading (drop most left) (record files { flow = more_taken files.flow (min most (length left)) })) (take most left)
