@@ -4,7 +4,7 @@ use Rattle.std.specs.List.{AllByRecursion}
 use Rattle.std.proofs.lemmas.Bool.{true≢false}
 use Rattle.std.proofs.lemmas.Bool.Decides.{nat_tests}
 use Rattle.elf_image.specs.Span.{Span, overlaps, page_span, touch, count_below, pages_touched}
-use Rattle.elf_image.specs.Taken.{entry_spans, AreApart, SameSpans}
+use Rattle.elf_image.specs.inside.Taken.{entry_spans, AreApart, SameSpans}
 
 -- one number more
 count-suc : (test : ℕ → Bool) (n : ℕ) → count_below test (suc n) ≡ count_below test n + cond (test n) 1 0

@@ -6,7 +6,7 @@ use Rattle.std.specs.BTreeMap.{insert_entry}
 use Rattle.std.proofs.lemmas.Bool.Decides.{nat_tests}
 use Rattle.std.proofs.lemmas.List.{map-append, drop_more, take_more}
 use Rattle.elf_image.specs.Span.{Span, overlaps, pages_touched}
-use Rattle.elf_image.specs.Taken.{entry_spans, AreApart, SameSpans}
+use Rattle.elf_image.specs.inside.Taken.{entry_spans, AreApart, SameSpans}
 use Rattle.elf_image.specs.Fields.{span_of}
 use Rattle.elf_image.specs.Rules.{first_broken, load_rules, loads_rules, whole_rules, IsCause}
 use Rattle.elf_image.specs.declared.program_header.ProgramHeader.{ProgramHeader}

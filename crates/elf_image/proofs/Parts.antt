@@ -11,7 +11,7 @@ use Rattle.std.proofs.lemmas.Bool.Decides.{nat_tests}
 use Rattle.std.proofs.lemmas.Bool.{true≢false}
 use Rattle.std.proofs.lemmas.List.Folds.{list_any-append}
 use Rattle.elf_image.specs.Span.{Span, overlaps}
-use Rattle.elf_image.specs.Taken.{entry_spans, AreApart, SameSpans}
+use Rattle.elf_image.specs.inside.Taken.{entry_spans, AreApart, SameSpans}
 
 -- the entries that begin before a place, as `range` finds them
 abbrev pub before_end : ℕ → List (ℕ × ℕ) → List (ℕ × ℕ)

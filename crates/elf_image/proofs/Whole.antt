@@ -6,7 +6,8 @@ use Rattle.std.proofs.lemmas.Bool.Decides.{nat_tests}
 use Rattle.std.proofs.lemmas.List.{append-nil, get_or-map, length-map, get_or-take, length-take, length-take-le}
 use Rattle.std.proofs.lemmas.List.Folds.{list_any_at}
 use Rattle.elf_image.specs.Span.{Span, overlaps, pages_touched}
-use Rattle.elf_image.specs.Fields.{program_headers, is_load, loads, span_of, AreInside}
+use Rattle.elf_image.specs.Fields.{program_headers, is_load, loads, span_of}
+use Rattle.elf_image.specs.inside.Header.{AreInside}
 use Rattle.elf_image.specs.Rules.{first_broken, header_rules, load_rules, loads_rules, whole_rules, rules, first_failure}
 use Rattle.elf_image.specs.Loading.{protection_of, segment_of, segment_span, plan_of, IsValidSegment, IsValidPlan}
 use Rattle.elf_image.specs.declared.program_header.ProgramHeader.{ProgramHeader}

@@ -1,6 +1,6 @@
 -- An ELF-32 file's fields: System V gABI, "ELF Header" (Elf32_Ehdr) and "Program Header" (Elf32_Phdr).
 -- A field is named by its offset and its width. Numbers are stored high byte first (ELFDATA2MSB).
-use Rattle.std.specs.Prelude.{ℕ, zero, suc, ◌+◌, ◌*◌, ◌^◌, ◌<◌, ◌≤◌, All, length, Bool, ◌&&◌, ◌==◌, List, [], ◌∷◌, nat_lt, drop}
+use Rattle.std.specs.Prelude.{ℕ, zero, suc, ◌+◌, Bool, ◌&&◌, ◌==◌, List, [], ◌∷◌, nat_lt, drop}
 use Rattle.std.specs.List.{filter}
 use Rattle.byteorder.specs.Endian.{big_number}
 use Rattle.elf_image.specs.Span.{Span}
@@ -74,12 +74,3 @@ loads bytes = filter is_load (program_headers bytes)
 -- the memory that a header asks for
 abbrev pub span_of : ProgramHeader → Span
 span_of h = record { start = h.vaddr; end = h.vaddr + h.memsz }
-
--- a file that has its header, and its program header table where there is one
-abbrev pub HasHeader : List ℕ → Type 0
-HasHeader bytes = (52 ≤ length bytes) × (0 < e_phnum bytes → e_phoff bytes + 32 * e_phnum bytes ≤ length bytes)
-
--- headers whose bytes can be loaded from a file of so many bytes
-pub record AreInside (size : ℕ) (hs : List ProgramHeader) : Type 0 where
-  pub inside : All (λ h. 0 < h.filesz → h.offset + h.filesz ≤ size) hs
-  pub below : All (λ h. h.vaddr + h.filesz < 2 ^ 32) hs

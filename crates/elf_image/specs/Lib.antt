@@ -3,4 +3,4 @@ pub mod Loading
 pub mod Refusal
 pub mod Rules
 pub mod Span
-pub mod Taken
+pub mod inside

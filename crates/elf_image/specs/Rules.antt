@@ -1,6 +1,6 @@
 -- Which files are refused, and by which rule. The values are those of the System V gABI and its MIPS supplement; that these
 -- rules are tried in this order, the limits of addresses and the limit of pages are this project's own.
-use Rattle.std.specs.Prelude.{◌≡◌, ℕ, ◌+◌, ◌*◌, ◌%◌, Bool, true, false, not, ◌&&◌, ◌||◌, ◌==◌, List, [], ◌∷◌, ◌++◌, Option, Some, None, Result, Ok, Err, nat_lt, length, map, if◌then◌else◌, bit_and, slice_index}
+use Rattle.std.specs.Prelude.{◌≡◌, ℕ, ◌+◌, ◌*◌, ◌%◌, Bool, true, false, not, ◌&&◌, ◌||◌, ◌==◌, List, [], ◌∷◌, ◌++◌, Option, Some, None, nat_lt, length, map, if◌then◌else◌, bit_and, slice_index}
 use Rattle.std.specs.List.{list_any}
 use Rattle.elf_image.specs.Span.{Span, overlaps, pages_touched}
 use Rattle.elf_image.specs.Fields.{e_magic, e_type, e_machine, e_version, e_phoff, e_flags, e_phentsize, e_phnum, program_headers, loads, span_of}
@@ -71,8 +71,3 @@ first_failure bytes = first_broken (rules bytes)
 abbrev pub IsCause : Option ElfRefusal → ElfError → Type 0
 IsCause failure (Refused r) = failure ≡ Some r
 IsCause failure NoMemory = Unit {0}
-
--- what a check of rules answers: Ok where none is broken, else the first that is, unless memory runs out
-abbrev pub Judges : {X : Type 0} → Option ElfRefusal → Result X ElfError → Type 0
-Judges failure (Ok x) = failure ≡ None
-Judges failure (Err e) = IsCause failure e

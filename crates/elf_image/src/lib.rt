@@ -14,7 +14,7 @@ mod taken;
 #[cfg(test)]
 mod tests;
 
-pub use load_plan::{Plan, Segment, Segments};
+pub use load_plan::{Plan, Segment};
 pub use parsing::parse;
 pub use program_header::ProgramHeader;
 pub use refusal::{ElfError, ElfRefusal};

@@ -3,30 +3,26 @@ ghost use Rattle.std.specs.Prelude.{◌≡◌, ◌+◌, ◌<◌, ◌≤◌, ◌^
 ghost use Rattle.std.specs.List.{find};
 ghost use Rattle.elf_image.specs.Loading.{protection_of, segment_of, holds, address_by};
 
-use crate::load_plan::{Segment, Segments};
+use crate::load_plan::Segment;
 use crate::program_header::ProgramHeader;
-use kernel_core::Bytes;
+use kernel_core::address_space::{PROT_EXEC, PROT_READ, PROT_WRITE};
+use kernel_core::{Bytes, Items};
 use std::alloc::{AllocError, Global};
 
+/// PF_X, PF_W and PF_R of p_flags: execute, write and read.
 const PF_X: u32 = 1;
 
 const PF_W: u32 = 2;
 
 const PF_R: u32 = 4;
 
-const PROT_READ: u32 = 1;
-
-const PROT_WRITE: u32 = 2;
-
-const PROT_EXEC: u32 = 4;
-
 fn protection(flags: u32) -> u8
     ensures { result ≡ protection_of flags }
 {
-    let read = flags / PF_R % 2;
-    let write = flags / PF_W % 2;
-    let execute = flags / PF_X % 2;
-    (PROT_READ * read + PROT_WRITE * write + PROT_EXEC * execute) as u8
+    let read = (flags / PF_R % 2) as u8;
+    let write = (flags / PF_W % 2) as u8;
+    let execute = (flags / PF_X % 2) as u8;
+    PROT_READ * read + PROT_WRITE * write + PROT_EXEC * execute
 }
 
 /// The bytes that a header has in the file.
@@ -59,7 +55,7 @@ pub fn segments(
     alloc: Global,
     bytes: &[u8],
     loads: &[ProgramHeader],
-) -> Result<Segments, AllocError>
+) -> Result<Items<Segment>, AllocError>
     requires { All (λ h. 0 < h.filesz → h.offset + h.filesz ≤ length bytes.now) loads.now }
     ensures { IfOk result (λ s. s ≡ map (segment_of bytes.now) loads.now) }
 {
@@ -67,7 +63,7 @@ pub fn segments(
     for load in loads {
         items.push(segment(alloc, bytes, load)?)?;
     }
-    Ok(Segments::from(items))
+    Ok(Items::from(items))
 }
 
 /// The address in memory of the `size` bytes at a place of the file: by the first header whose

@@ -1,7 +1,9 @@
 //! From a file's bytes to its plan.
 ghost use Rattle.std.specs.Prelude.{◌≡◌, ◌≤◌, None, Some, IfOk, IfErr, length};
-ghost use Rattle.elf_image.specs.Fields.{loads as loads_of_file, AreInside, HasHeader};
-ghost use Rattle.elf_image.specs.Rules.{first_broken, header_rules, first_failure, IsCause, Judges};
+ghost use Rattle.elf_image.specs.Fields.{loads as loads_of_file};
+ghost use Rattle.elf_image.specs.inside.Header.{AreInside, HasHeader};
+ghost use Rattle.elf_image.specs.Rules.{first_broken, header_rules, first_failure, IsCause};
+ghost use Rattle.elf_image.specs.inside.Judges.{Judges};
 ghost use Rattle.elf_image.specs.Loading.{plan_of, IsValidPlan};
 
 use crate::fields::{ENTRY, TABLE_COUNT, TABLE_PLACE, half_at, word_at};

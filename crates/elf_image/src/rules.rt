@@ -1,8 +1,10 @@
 //! The rules that a file is judged by.
 ghost use Rattle.std.specs.Prelude.{◌≡◌, ◌<◌, [], ◌++◌, map, All, IfNone, IfOk};
-ghost use Rattle.elf_image.specs.Rules.{first_broken, header_rules, load_rules, loads_rules, whole_rules, Judges};
-ghost use Rattle.elf_image.specs.Taken.{entry_spans, AreApart, SameSpans};
-ghost use Rattle.elf_image.specs.Fields.{span_of, HasHeader};
+ghost use Rattle.elf_image.specs.Rules.{first_broken, header_rules, load_rules, loads_rules, whole_rules};
+ghost use Rattle.elf_image.specs.inside.Judges.{Judges};
+ghost use Rattle.elf_image.specs.inside.Taken.{entry_spans, AreApart, SameSpans};
+ghost use Rattle.elf_image.specs.Fields.{span_of};
+ghost use Rattle.elf_image.specs.inside.Header.{HasHeader};
 
 use crate::fields::{
     CLASS, FLAGS, HEADER_SIZE, IDENT_VERSION, MACHINE, ORDER, TABLE_COUNT, TABLE_PLACE,
@@ -10,12 +12,15 @@ use crate::fields::{
 };
 use crate::program_header::ProgramHeader;
 use crate::refusal::{ElfError, ElfRefusal};
-use crate::taken::{PAGE_SIZE, meets, page_count};
+use crate::taken::{meets, page_count};
+use kernel_core::address_space::PAGE_SIZE;
 use std::alloc::Global;
 use std::collections::BTreeMap;
 
+/// The first four bytes of an ELF file: 0x7F, then `ELF`.
 const MAGIC: u32 = 0x7F45_4C46;
 
+/// Values of e_ident, e_version, e_type and e_machine (System V gABI).
 const ELFCLASS32: u8 = 1;
 
 const ELFDATA2MSB: u8 = 2;
@@ -31,10 +36,13 @@ const EM_MIPS: u16 = 8;
 /// EF_MIPS_ABI2, EF_MIPS_MICROMIPS and EF_MIPS_ARCH_ASE_M16.
 const REFUSED_FLAGS: u32 = 0x0600_0020;
 
+/// The lowest address that a segment may have (this project's own).
 const LOWEST_ADDRESS: u32 = 0x1000;
 
+/// Where the stack begins, and segments end (this project's own).
 const STACK_BOTTOM: u64 = 0x7F7F_0000;
 
+/// How many pages all segments may touch (this project's own).
 const MOST_PAGES: u32 = 120_000;
 
 /// The first rule of the file's header that is broken.

@@ -1,14 +1,17 @@
 //! The program header table.
 ghost use Rattle.std.specs.Prelude.{◌≡◌, ◌+◌, ◌*◌, ◌<◌, ◌≤◌, ◌==◌, length, IfOk, filter};
 ghost use Rattle.std.specs.List.{list_any};
-ghost use Rattle.elf_image.specs.Fields.{header_at, headers_at, program_headers, is_load, HasHeader};
+ghost use Rattle.elf_image.specs.Fields.{header_at, headers_at, program_headers, is_load};
+ghost use Rattle.elf_image.specs.inside.Header.{HasHeader};
 
 use crate::fields::{TABLE_COUNT, TABLE_PLACE, half_at, word_at};
 use crate::program_header::ProgramHeader;
 use std::alloc::{AllocError, Global};
 
+/// The bytes of a program header (Elf32_Phdr).
 const HEADER_SIZE: usize = 32;
 
+/// PT_LOAD and PT_INTERP of p_type.
 const PT_LOAD: u32 = 1;
 
 const PT_INTERP: u32 = 3;

@@ -2,12 +2,10 @@
 ghost use Rattle.std.specs.Prelude.{◌≡◌, ◌<◌, ◌≤◌};
 ghost use Rattle.std.specs.List.{list_any, AllByRecursion};
 ghost use Rattle.elf_image.specs.Span.{Span, overlaps, pages_touched};
-ghost use Rattle.elf_image.specs.Taken.{entry_spans, AreApart};
+ghost use Rattle.elf_image.specs.inside.Taken.{entry_spans, AreApart};
 
+use kernel_core::address_space::PAGE_SIZE;
 use std::collections::BTreeMap;
-
-/// The bytes of a page.
-pub const PAGE_SIZE: u32 = 4096;
 
 /// Whether the bytes from `start` up to `end` have one in common with what is taken. Only the last
 /// part that begins before `end` is looked at: the parts before it end before it.

@@ -8,6 +8,10 @@ ghost use Rattle.start_stack.specs.FirstMemory.{with_pages, with_protected};
 
 use crate::error::StartError;
 use guest_space::{Access, MapError, Space, StoreError};
+use kernel_core::address_space::{PROT_READ, PROT_WRITE};
+
+/// The protection of pages that are being filled.
+const READ_WRITE: u8 = PROT_READ + PROT_WRITE;
 
 /// Maps pages of zeros that may be read and written.
 pub(crate) fn map_pages(space: &mut Space, first: u32, count: u32) -> Result<(), StartError>
@@ -16,7 +20,7 @@ pub(crate) fn map_pages(space: &mut Space, first: u32, count: u32) -> Result<(),
     ensures ok { OnOk result (space.new ≡ with_pages space.old first count) }
     ensures memory { result ≢ Err StartError.TooLong }
 {
-    match space.map(first, count, 3) {
+    match space.map(first, count, READ_WRITE) {
         Ok(()) => Ok(()),
         Err(MapError::NoMemory) => Err(StartError::NoMemory),
         Err(MapError::Full | MapError::NoPlace) => unreachable!(),

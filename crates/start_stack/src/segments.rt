@@ -9,13 +9,14 @@ use crate::error::StartError;
 use crate::pages::{map_pages, protect_page, write_bytes};
 use elf_image::Segment;
 use guest_space::Space;
+use kernel_core::address_space::PAGE_SIZE;
 use std::alloc::{AllocError, Global};
 
 /// The number of the first page that the segment touches.
 fn first_page(segment: &Segment) -> u32
     ensures { result ≡ first_page segment.now }
 {
-    segment.vaddr / 4096
+    segment.vaddr / PAGE_SIZE
 }
 
 /// The number of the page behind the last one that the segment touches.
@@ -25,7 +26,7 @@ fn end_page(segment: &Segment) -> u32
     ensures low { first_page segment.now < result }
     ensures high { result ≤ 0x7F7F0 }
 {
-    (segment.vaddr + segment.memsz + 4095) / 4096
+    (segment.vaddr + segment.memsz + (PAGE_SIZE - 1)) / PAGE_SIZE
 }
 
 /// The number of the page behind the highest segment, 0 where there is none.

@@ -7,14 +7,13 @@ use crate::error::StartError;
 use crate::pages::{map_pages, protect_page, write_bytes};
 use crate::stack_text::StackText;
 use guest_space::Space;
-
-/// The stack's first page, at 0x7F7F0000, and how many pages it has (this project's own).
-const STACK_PAGE: u32 = 0x7F7F0;
-
-const STACK_PAGES: u32 = 2048;
+use kernel_core::address_space::{PROT_EXEC, PROT_READ, STACK_PAGE, STACK_PAGES};
 
 /// The page of the signal trampolines (this project's own).
 const TRAMPOLINE_PAGE: u32 = 0x7FFF4;
+
+/// Its protection: the trampolines are read and executed.
+const READ_EXECUTE: u8 = PROT_READ + PROT_EXEC;
 
 /// Maps the stack and writes its text.
 pub(crate) fn map_stack(space: &mut Space, text: &StackText) -> Result<(), StartError>
@@ -39,6 +38,6 @@ pub(crate) fn map_trampolines(space: &mut Space) -> Result<(), StartError>
     map_pages(space, TRAMPOLINE_PAGE, 1)?;
     write_bytes(space, 0x7FFF_4000, &[0x24, 0x02, 0x10, 0x17, 0, 0, 0, 0x0C])?;
     write_bytes(space, 0x7FFF_4010, &[0x24, 0x02, 0x10, 0x61, 0, 0, 0, 0x0C])?;
-    protect_page(space, TRAMPOLINE_PAGE, 5);
+    protect_page(space, TRAMPOLINE_PAGE, READ_EXECUTE);
     Ok(())
 }

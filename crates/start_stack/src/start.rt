@@ -10,6 +10,7 @@ use crate::stack::{map_stack, map_trampolines};
 use crate::stack_text::StackText;
 use elf_image::Plan;
 use guest_space::Space;
+use kernel_core::address_space::PAGE_SIZE;
 use mips_exec::Cpu;
 use std::alloc::Global;
 
@@ -50,7 +51,7 @@ pub fn build(
     load_segments(alloc, &mut space, segments)?;
     map_stack(&mut space, &text)?;
     map_trampolines(&mut space)?;
-    space.set_break(top_page(segments) * 4096);
+    space.set_break(top_page(segments) * PAGE_SIZE);
     let mut cpu = Cpu::new(plan.entry);
     cpu.set_register(STACK_POINTER, text.stack_pointer);
     Ok(Start { space, cpu })

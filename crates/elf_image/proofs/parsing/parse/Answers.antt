@@ -1,5 +1,5 @@
 use Rattle.std.proofs.Common.{List, sym, subst, ◌∙◌, length}
-use Rattle.elf_image.specs.Fields.{AreInside}
+use Rattle.elf_image.specs.inside.Header.{AreInside}
 use Rattle.elf_image.specs.Loading.{IsValidPlan}
 use Rattle.elf_image.specs.declared.program_header.ProgramHeader.{ProgramHeader}
 use Rattle.elf_image.proofs.Whole.{are-inside, valid}

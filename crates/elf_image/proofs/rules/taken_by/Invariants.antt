@@ -1,5 +1,5 @@
 use Rattle.std.proofs.Common.{◌≡◌, [], map, take}
-use Rattle.elf_image.specs.Taken.{AreApart, SameSpans}
+use Rattle.elf_image.specs.inside.Taken.{AreApart, SameSpans}
 use Rattle.elf_image.specs.Fields.{span_of}
 use Rattle.elf_image.specs.Rules.{first_broken, loads_rules}
 use Rattle.elf_image.proofs.Judging.{rules_from}

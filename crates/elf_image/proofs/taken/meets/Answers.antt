@@ -1,6 +1,6 @@
 use Rattle.std.proofs.Common.{ℕ, nat_lt, sym, ap, ◌∙◌, subst}
 use Rattle.std.specs.List.{list_any}
-use Rattle.elf_image.specs.Taken.{AreApart}
+use Rattle.elf_image.specs.inside.Taken.{AreApart}
 use Rattle.elf_image.proofs.Parts.{meets-filter, reach-last, apart-filter}
 use Rattle.elf_image.proofs.taken.meets.Goals as goal
 

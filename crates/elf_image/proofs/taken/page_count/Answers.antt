@@ -1,5 +1,5 @@
 use Rattle.std.proofs.Common.{◌≡◌, ◌∷◌, ap, subst, arith}
-use Rattle.elf_image.specs.Taken.{entry_spans, AreApart}
+use Rattle.elf_image.specs.inside.Taken.{entry_spans, AreApart}
 use Rattle.elf_image.proofs.Counting.{pages_from, near-after, near-start, pages-none, pages-all, pages-le}
 use Rattle.elf_image.proofs.taken.page_count.Goals as goal
 

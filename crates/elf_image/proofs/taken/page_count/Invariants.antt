@@ -1,5 +1,5 @@
 use Rattle.std.proofs.Common.{◌≡◌, ◌+◌, ◌≤◌, length}
-use Rattle.elf_image.specs.Taken.{AreApart}
+use Rattle.elf_image.specs.inside.Taken.{AreApart}
 use Rattle.elf_image.proofs.Counting.{Near, pages_from}
 use Rattle.elf_image.proofs.taken.page_count.Given as goal
 
