@@ -24,7 +24,7 @@ pub use o32::{
     O32_SIGINFO_FAULT, O32_STACK, O32_STAT, O32_STAT64, O32_TERMIOS, O32_TIMESPEC, O32_TIMEVAL,
     O32_UTSNAME, O32_WINSIZE, O32Structure, o32_layout,
 };
-pub use record::{get_record, put_record, record_reads_back};
+pub use record::{a_record_reads_back, get_record, put_record};
 pub use termios::{native_characters, o32_characters};
 pub use utsname::{UtsnameText, put_text};
 

@@ -1,7 +1,7 @@
 //! Reading and writing all fields of a structure at once.
-ghost use Rattle.std.specs.Prelude.{◌≡◌, ◌≤◌, All, IsTrue, length, replicate};
+ghost use Rattle.std.specs.Prelude.{◌≡◌, ◌≤◌, List, ℤ, All, IsTrue, length, replicate};
 ghost use Rattle.layouts.specs.Shape as spec;
-ghost use Rattle.layouts.specs.Shape.{shape, IsSound, record_fit, record_bytes, record_values, after_put_record};
+ghost use Rattle.layouts.specs.Shape.{Shape, shape, IsSound, record_fit, record_bytes, record_values, after_put_record};
 
 use crate::field::{Field, Fit, Layout, get, is_in_range, write_value};
 
@@ -33,15 +33,11 @@ pub fn get_record(layout: &Layout, bytes: &[u8], values: &mut [i128])
     }
 }
 
-/// What a record's bytes say is the record. This law costs nothing and does nothing.
-pub fn record_reads_back(layout: &Layout, values: &[i128])
-    requires sound { IsSound (shape layout.now) }
-    requires one_each { length values.now ≡ length layout.now.fields.now }
-    requires in_range { IsTrue (spec.are_in_range layout.now.fields.now values.now) }
-    ensures { record_values (shape layout.now) (record_bytes (shape layout.now) values.now) ≡ values.now }
-{
-    let _ = (layout, values);
-}
+/// What the bytes of a record say is the record, where each value is in its field's range.
+pub fn a_record_reads_back()
+    ensures { (shape : Shape) (values : List ℤ) → IsSound shape → length values ≡ length shape.fields
+        → IsTrue (spec.are_in_range shape.fields values) → record_values shape (record_bytes shape values) ≡ values }
+{}
 
 /// Whether each value is in its field's range.
 fn are_in_range(fields: &[Field], values: &[i128]) -> bool

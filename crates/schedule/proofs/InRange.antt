@@ -39,7 +39,7 @@ within-range bounds n v said =
           let low : bounds.least ≤ n = leb-true _ _ parts.0 in
           let high : n ≤ bounds.most = leb-true _ _ parts.1 in
           let same : n ≡ v = cc in
-          (omega arith, omega arith)
+          record { least = omega arith; most = omega arith }
       | false ↦ λ fails e. absurd (cc)
     ] refl said
 
