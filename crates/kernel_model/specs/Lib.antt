@@ -5,6 +5,7 @@ pub mod Clock
 pub mod ContentRows
 pub mod DescriptorRows
 pub mod Descriptions
+pub mod Laws
 pub mod Modes
 pub mod NameRows
 pub mod NodeRows

@@ -1,5 +1,6 @@
 -- Pipes (pipe(7)) and the three streams: what a read takes and a write puts, and the numbers of bytes moved.
 use Rattle.std.specs.Prelude.{ℕ, ◌+◌, ◌-◌, ◌^◌, ◌==◌, min, Bool, true, false, not, ◌||◌, List, [], ◌∷◌, ◌++◌, length, take, drop, replicate, Option, Some, None, nat_le, if◌then◌else◌}
+use Rattle.kernel_core.specs.NameCalls.{is_empty_list}
 use Rattle.kernel_core.specs.declared.error.Errno.TheVariants.{EAGAIN, EBADF, EPIPE}
 use Rattle.kernel_model.specs.Came.{Came, Done, Refused, Waits}
 use Rattle.kernel_model.specs.State.{Flow, Pipe}
@@ -22,46 +23,64 @@ room pipe = pipe_size - length pipe.bytes
 
 -- One pipe
 
--- a pipe after a transfer, and what that came to
+-- the pipe after a transfer, which is none where it stays as it is, and what the transfer came to
 pub record PipeStep (V : Type 0) : Type 0 where
-  pub pipe : Pipe
+  pub pipe : Option Pipe
   pub came : Came V
+
+abbrev pub stays : {V : Type 0} → Came V → PipeStep V
+stays came = record { pipe = None; came = came }
+
+abbrev pub becomes : {V : Type 0} → Pipe → Came V → PipeStep V
+becomes pipe came = record { pipe = Some pipe; came = came }
+
+-- a wait without end, after so many bytes were put
+abbrev pub waits_after : {V : Type 0} → ℕ → Came V
+waits_after count = Waits (record { done = count; until = None })
 
 -- A read of at most so many bytes, at least 1: what is there first. With nothing there it is at the end where there are no writers, and
 -- else waits, or is EAGAIN for a description that does not wait.
 abbrev pub read_pipe : Pipe → Bool → ℕ → PipeStep (List ℕ)
 read_pipe pipe nonblock most =
-    if not (length pipe.bytes == 0) then record { pipe = record pipe { bytes = drop most pipe.bytes }; came = Done (take most pipe.bytes) }
-    else (if not pipe.writers then record { pipe = pipe; came = Done [] }
-    else (if nonblock then record { pipe = pipe; came = Refused EAGAIN }
-    else record { pipe = pipe; came = Waits (record { done = 0; until = None }) }))
+    if not (is_empty_list pipe.bytes) then becomes (record pipe { bytes = drop most pipe.bytes }) (Done (take most pipe.bytes))
+    else (if not pipe.writers then stays (Done [])
+    else (if nonblock then stays (Refused EAGAIN)
+    else stays (waits_after 0)))
 
--- as many bytes as there is room for are put
+-- these bytes are put behind those that are there
 abbrev pub put : Pipe → List ℕ → Pipe
-put pipe bytes = record pipe { bytes = pipe.bytes ++ take (room pipe) bytes }
+put pipe bytes = record pipe { bytes = pipe.bytes ++ bytes }
 
--- how many of these bytes are put
-abbrev pub put_count : Pipe → List ℕ → ℕ
-put_count pipe bytes = min (length bytes) (room pipe)
+-- how many of these bytes are put where there is no room for all: none of those that go whole, and of more as many as there is room for
+abbrev pub part_length : Pipe → List ℕ → ℕ
+part_length pipe bytes = if nat_le (length bytes) whole_write then 0 else room pipe
 
--- not all of these bytes can be put: a write that goes whole puts none, and a longer one those for which there is room
+-- the first so many of these bytes are put, at least 1; the rest waits, or is left for a description that does not wait
+abbrev pub write_some : Pipe → Bool → List ℕ → ℕ → PipeStep ℕ
+write_some pipe nonblock bytes count = becomes (put pipe (take count bytes)) (if nonblock then Done count else waits_after count)
+
+abbrev pub write_none : Bool → PipeStep ℕ
+write_none nonblock = stays (if nonblock then Refused EAGAIN else waits_after 0)
+
 abbrev pub write_part : Pipe → Bool → List ℕ → ℕ → PipeStep ℕ
-write_part pipe nonblock bytes count =
-    if not nonblock then record { pipe = put pipe (take count bytes); came = Waits (record { done = count; until = None }) }
-    else (if count == 0 then record { pipe = pipe; came = Refused EAGAIN }
-    else record { pipe = put pipe (take count bytes); came = Done count })
+write_part pipe nonblock bytes count = if count == 0 then write_none nonblock else write_some pipe nonblock bytes count
 
 -- A write of at least 1 byte. EPIPE where there are no readers.
 abbrev pub write_pipe : Pipe → Bool → List ℕ → PipeStep ℕ
 write_pipe pipe nonblock bytes =
-    if not pipe.readers then record { pipe = pipe; came = Refused EPIPE }
-    else (if nat_le (length bytes) (room pipe) then record { pipe = put pipe bytes; came = Done (length bytes) }
-    else write_part pipe nonblock bytes (if nat_le (length bytes) whole_write then 0 else put_count pipe bytes))
+    if not pipe.readers then stays (Refused EPIPE)
+    else (if nat_le (length bytes) (room pipe) then becomes (put pipe bytes) (Done (length bytes))
+    else write_part pipe nonblock bytes (part_length pipe bytes))
 
 -- All pipes
 
 abbrev pub pipe_at : Flow → ℕ → Option Pipe
 pipe_at flow number = slot flow.pipes number
+
+-- the pipes after a transfer at one of them
+abbrev pub after_step : Flow → ℕ → Option Pipe → Flow
+after_step flow number None = flow
+after_step flow number (Some pipe) = record flow { pipes = with_slot flow.pipes number (Some pipe) }
 
 -- a pipe without an open end goes
 abbrev pub kept_pipe : Pipe → Option Pipe

@@ -9,7 +9,7 @@ use Rattle.kernel_core.specs.Nodes.{NodeContent, File, Directory, Link, file_at}
 use Rattle.kernel_core.specs.declared.error.Errno.TheVariants.{EBADF, EFAULT, EFBIG, EINVAL, EISDIR, ESPIPE}
 use Rattle.kernel_model.specs.Came.{Did, Given, done, refused, refused_if, refused_by, with_given, with_some, widened}
 use Rattle.kernel_model.specs.Descriptions.{readable, writable, node_of, content_at}
-use Rattle.kernel_model.specs.Pipes.{PipeStep, read_pipe, write_pipe, pipe_at, with_pipe, Sent, nothing, sent_to, more_taken, more_sent}
+use Rattle.kernel_model.specs.Pipes.{PipeStep, read_pipe, write_pipe, pipe_at, after_step, Sent, nothing, sent_to, more_taken, more_sent}
 use Rattle.kernel_model.specs.State.{Files, Pipe}
 use Rattle.kernel_model.specs.Table.{with_description}
 use Rattle.kernel_model.specs.declared.descriptor.Description.{Description}
@@ -62,7 +62,7 @@ take_input files left most =
     done (reading (drop most left) (record files { flow = more_taken files.flow (min most (length left)) })) (take most left)
 
 abbrev pub after_pipe_read : Files → ℕ → PipeStep (List ℕ) → Did Files (List ℕ)
-after_pipe_read files number step = record { state = record files { flow = with_pipe files.flow number step.pipe }; came = step.came }
+after_pipe_read files number step = record { state = record files { flow = after_step files.flow number step.pipe }; came = step.came }
 
 abbrev pub read_end : Files → Description → ℕ → ℕ → Option Pipe → Did Files (List ℕ)
 read_end files description number most None = refused files EBADF
@@ -156,7 +156,7 @@ write_node files limit now fd description node bytes =
     (λ files position. moved_to files fd description position) (file_at files.nodes node)
 
 abbrev pub after_pipe_write : Files → ℕ → PipeStep ℕ → Did Files ℕ
-after_pipe_write files number step = record { state = record files { flow = with_pipe files.flow number step.pipe }; came = step.came }
+after_pipe_write files number step = record { state = record files { flow = after_step files.flow number step.pipe }; came = step.came }
 
 abbrev pub write_end : Files → Description → ℕ → List ℕ → Option Pipe → Did Files ℕ
 write_end files description number bytes None = refused files EBADF

@@ -4,6 +4,7 @@
 #![tactic(auto)]
 
 mod descriptor;
+pub mod laws;
 mod limit;
 mod signal;
 mod stream;

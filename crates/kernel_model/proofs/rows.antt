@@ -1,0 +1,3 @@
+pub mod Small
+pub mod Descriptors
+pub mod Transfers

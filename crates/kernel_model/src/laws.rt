@@ -1,0 +1,5 @@
+//! Laws over the definitions, each the contract of a function that does nothing. (The rules are this
+//! project's own.)
+
+pub mod clocks;
+pub mod least_numbers;
