@@ -9,6 +9,7 @@ ghost use Rattle.mips_code.specs.Words.{is_in_range};
 mod decoder;
 mod fields;
 mod insn;
+mod mnemonic;
 mod parts;
 #[cfg(test)]
 mod tests;

@@ -13,11 +13,13 @@ pub fn go_on(cpu: &mut Cpu) -> Stepped
     ensures processor { cpu.new ≡ advanced cpu.old }
     ensures came { result ≡ Stepped.Next }
 {
-    cpu.pc = match cpu.slot {
-        None => cpu.pc.wrapping_add(4),
-        Some(slot) => slot.target,
-    };
-    cpu.slot = None;
+    match cpu.slot {
+        None => cpu.pc = cpu.pc.wrapping_add(4),
+        Some(slot) => {
+            cpu.pc = slot.target;
+            cpu.slot = None;
+        }
+    }
     Stepped::Next
 }
 
