@@ -107,7 +107,7 @@ impl End {
     /// the budget is done, 125 where nothing was run, 122 and 119 for faults, and 121 for want of memory. The numbers are
     /// this project's own, after those of a shell and of timeout(1).
     pub fn status(self) -> u8
-        ensures { result ≡ status_of self }
+        ensures status { result ≡ status_of self }
     {
         match self {
             End::Exited(status) => status,

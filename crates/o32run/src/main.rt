@@ -1,28 +1,24 @@
 //! The emulator's program: one session over the real arguments, files and streams.
 #![tactic(auto)]
 
-use o32_session::session;
+mod program;
+#[cfg(test)]
+mod tests;
+mod words;
+
 use outside::{Devices, DirStore, StdSink, StdSource};
-use std::process::ExitCode;
-use std::{env, io};
+use program::{Ended, run_program};
+use std::io::{Stderr, Stdin, Stdout};
 
-/// The words after the program's own name.
-fn words(rt: &HostRuntime) -> io::Result<Vec<String>> {
-    let mut words = Vec::new(rt.alloc());
-    for word in env::args(rt)?.skip(1) {
-        words.push(word)?;
-    }
-    Ok(words)
-}
+/// The streams of a run: those of the process.
+type Streams = Devices<StdSource<Stdin>, StdSink<Stdout>, StdSink<Stderr>>;
 
-fn main(rt: HostRuntime) -> io::Result<ExitCode> {
-    let words = words(&rt)?;
-    let mut files = DirStore::new(rt.alloc(), rt.clone()?);
-    let mut dev = Devices {
+fn main(rt: HostRuntime) -> Ended {
+    let mut files = DirStore::new(rt.alloc(), rt);
+    let mut streams: Streams = Devices {
         input: StdSource::new(rt.stdin()),
         out: StdSink::new(rt.stdout()),
         err: StdSink::new(rt.stderr()),
     };
-    let answer = session(rt.alloc(), &words, &mut files, &mut dev);
-    Ok(ExitCode::from(answer.status))
+    run_program(rt.alloc(), &rt, &mut files, &mut streams)
 }

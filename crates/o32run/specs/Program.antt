@@ -1,0 +1,13 @@
+-- How the program ends. This project's own.
+use Rattle.std.specs.Prelude.{ℕ, ◌≡◌, List}
+use Rattle.o32_session.specs.Answers.{status_of}
+use Rattle.o32_session.specs.Session.{Seen, AnswersWords}
+use Rattle.o32_session.specs.declared.answer.End.{End}
+
+-- A session of these words was carried out, with what its answer says of outputs and files, and the status is that of its
+-- end.
+pub record EndsAs (words : List (List ℕ)) (old new : Seen) (status : ℕ) : Type 0 where
+  pub turns : ℕ
+  pub end : End
+  pub answered : AnswersWords words old new turns end
+  pub ended : status ≡ status_of end
