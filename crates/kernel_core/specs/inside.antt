@@ -1,3 +1,4 @@
+pub mod BitLaws
 pub mod EventBits
 pub mod MapBits
 pub mod OpenBits

@@ -1,7 +1,8 @@
 -- The bits in which `MapFlags` are kept.
 use Rattle.std.specs.Prelude.{◌≡◌, ℕ, ◌+◌, ◌*◌, ◌/◌, ◌%◌, ◌<◌}
 use Rattle.std.proofs.Common.{arith, sym, ◌∙◌, ap}
-use Rattle.kernel_core.specs.Bits.{one_if, one_if-has, has_below, one_if-le, is_one}
+use Rattle.kernel_core.specs.Bits.{one_if}
+use Rattle.kernel_core.specs.inside.BitLaws.{one_if-has, has_below, one_if-le, is_one}
 use Rattle.kernel_core.specs.MapSet.{MapSet, map_set}
 use Rattle.kernel_core.specs.declared.map_flags.MapKind.{MapKind}
 

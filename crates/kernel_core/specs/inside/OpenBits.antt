@@ -1,7 +1,8 @@
 -- The bits in which `OpenFlags` are kept.
 use Rattle.std.specs.Prelude.{◌≡◌, ℕ, ◌+◌, ◌*◌, ◌/◌, ◌%◌, ◌<◌}
 use Rattle.std.proofs.Common.{arith}
-use Rattle.kernel_core.specs.Bits.{one_if, one_if-has, has_below, one_if-le, is_one}
+use Rattle.kernel_core.specs.Bits.{one_if}
+use Rattle.kernel_core.specs.inside.BitLaws.{one_if-has, has_below, one_if-le, is_one}
 use Rattle.kernel_core.specs.OpenSet.{OpenSet, open_set}
 use Rattle.kernel_core.specs.declared.open_flags.Access.{Access}
 

@@ -1,7 +1,8 @@
 -- The bits in which `SaFlags` are kept.
 use Rattle.std.specs.Prelude.{◌≡◌, ℕ, ◌+◌, ◌*◌, ◌/◌, ◌%◌, ◌<◌}
 use Rattle.std.proofs.Common.{arith, sym, ◌∙◌, ap}
-use Rattle.kernel_core.specs.Bits.{one_if, one_if-has, has_below, one_if-le, is_one}
+use Rattle.kernel_core.specs.Bits.{one_if}
+use Rattle.kernel_core.specs.inside.BitLaws.{one_if-has, has_below, one_if-le, is_one}
 use Rattle.kernel_core.specs.SaSet.{SaSet, sa_set}
 
 -- the bits of a set
