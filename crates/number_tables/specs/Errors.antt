@@ -1,8 +1,8 @@
 -- The numbers of the errors in both worlds.
-use Rattle.std.specs.Prelude.{◌≡◌, ℕ, Option, Some, List, [], ◌∷◌, refl}
+use Rattle.std.specs.Prelude.{ℕ, Option, List, [], ◌∷◌}
 use Rattle.kernel_core.specs.declared.error.Errno.{Errno}
 use Rattle.kernel_core.specs.declared.error.Errno.TheVariants.{EPERM, ENOENT, ESRCH, EINTR, EBADF, EAGAIN, ENOMEM, EACCES, EFAULT, EBUSY, EEXIST, ENODEV, ENOTDIR, EISDIR, EINVAL, EMFILE, ENOTTY, EFBIG, ENOSPC, ESPIPE, EPIPE, ERANGE, ENAMETOOLONG, EOVERFLOW, ENOSYS, ELOOP, ENOTEMPTY}
-use Rattle.number_tables.specs.Numbered.{numbered, numbered_number}
+use Rattle.number_tables.specs.Numbered.{numbered}
 
 -- the number of an error for an o32 program
 -- (Linux include/uapi/asm-generic/errno-base.h and arch/mips/include/uapi/asm/errno.h)
@@ -76,18 +76,3 @@ errno_of_o32 number = numbered o32_errno errors number
 
 abbrev pub errno_of_native : ℕ → Option Errno
 errno_of_native number = numbered native_errno errors number
-
--- numbers and names are inverse, in each world
-pub o32_errno_number : (number : ℕ) (value : Errno) → errno_of_o32 number ≡ Some value → o32_errno value ≡ number
-o32_errno_number = numbered_number o32_errno errors
-
-pub native_errno_number : (number : ℕ) (value : Errno) → errno_of_native number ≡ Some value → native_errno value ≡ number
-native_errno_number = numbered_number native_errno errors
-
-pub o32_errno_found : (value : Errno) → errno_of_o32 (o32_errno value) ≡ Some value
-o32_errno_found EPERM = refl
-o32_errno_found _ = refl
-
-pub native_errno_found : (value : Errno) → errno_of_native (native_errno value) ≡ Some value
-native_errno_found EPERM = refl
-native_errno_found _ = refl

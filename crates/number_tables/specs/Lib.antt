@@ -9,5 +9,5 @@ pub mod PollNumbers
 pub mod Requests
 pub mod Resources
 pub mod SaNumbers
-pub mod SignalLaws
 pub mod Signals
+pub mod inside

@@ -1,8 +1,8 @@
 -- The numbers of the changes of a signal mask in both worlds.
-use Rattle.std.specs.Prelude.{◌≡◌, ℕ, Option, Some, List, [], ◌∷◌, refl}
+use Rattle.std.specs.Prelude.{ℕ, Option, List, [], ◌∷◌}
 use Rattle.kernel_core.specs.declared.mask.MaskChange.{MaskChange}
 use Rattle.kernel_core.specs.declared.mask.MaskChange.TheVariants.{Block, Unblock, Set}
-use Rattle.number_tables.specs.Numbered.{numbered, numbered_number}
+use Rattle.number_tables.specs.Numbered.{numbered}
 
 -- the number of a change for an o32 program (Linux arch/mips/include/uapi/asm/signal.h)
 abbrev pub o32_mask_change : MaskChange → ℕ
@@ -26,18 +26,3 @@ mask_change_of_o32 number = numbered o32_mask_change mask_changes number
 
 abbrev pub mask_change_of_native : ℕ → Option MaskChange
 mask_change_of_native number = numbered native_mask_change mask_changes number
-
--- numbers and names are inverse, in each world
-pub o32_mask_change_number : (number : ℕ) (value : MaskChange) → mask_change_of_o32 number ≡ Some value → o32_mask_change value ≡ number
-o32_mask_change_number = numbered_number o32_mask_change mask_changes
-
-pub native_mask_change_number : (number : ℕ) (value : MaskChange) → mask_change_of_native number ≡ Some value → native_mask_change value ≡ number
-native_mask_change_number = numbered_number native_mask_change mask_changes
-
-pub o32_mask_change_found : (value : MaskChange) → mask_change_of_o32 (o32_mask_change value) ≡ Some value
-o32_mask_change_found Block = refl
-o32_mask_change_found _ = refl
-
-pub native_mask_change_found : (value : MaskChange) → mask_change_of_native (native_mask_change value) ≡ Some value
-native_mask_change_found Block = refl
-native_mask_change_found _ = refl

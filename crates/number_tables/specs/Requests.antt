@@ -1,8 +1,8 @@
 -- The numbers of the requests of ioctl(2) in both worlds.
-use Rattle.std.specs.Prelude.{◌≡◌, ℕ, Option, Some, List, [], ◌∷◌, refl}
+use Rattle.std.specs.Prelude.{ℕ, Option, List, [], ◌∷◌}
 use Rattle.kernel_core.specs.declared.request.Request.{Request}
 use Rattle.kernel_core.specs.declared.request.Request.TheVariants.{Tcgets, Tcsets, Tcsetsw, Tcsetsf, Tiocgwinsz, Fionread, Fionbio, Fioclex, Fionclex}
-use Rattle.number_tables.specs.Numbered.{numbered, numbered_number}
+use Rattle.number_tables.specs.Numbered.{numbered}
 
 -- the number of a request for an o32 program (Linux arch/mips/include/uapi/asm/ioctls.h)
 abbrev pub o32_request : Request → ℕ
@@ -38,18 +38,3 @@ request_of_o32 number = numbered o32_request requests number
 
 abbrev pub request_of_native : ℕ → Option Request
 request_of_native number = numbered native_request requests number
-
--- numbers and names are inverse, in each world
-pub o32_request_number : (number : ℕ) (value : Request) → request_of_o32 number ≡ Some value → o32_request value ≡ number
-o32_request_number = numbered_number o32_request requests
-
-pub native_request_number : (number : ℕ) (value : Request) → request_of_native number ≡ Some value → native_request value ≡ number
-native_request_number = numbered_number native_request requests
-
-pub o32_request_found : (value : Request) → request_of_o32 (o32_request value) ≡ Some value
-o32_request_found Tcgets = refl
-o32_request_found _ = refl
-
-pub native_request_found : (value : Request) → request_of_native (native_request value) ≡ Some value
-native_request_found Tcgets = refl
-native_request_found _ = refl

@@ -1,8 +1,8 @@
 -- The numbers of the limits in both worlds.
-use Rattle.std.specs.Prelude.{◌≡◌, ℕ, Option, Some, List, [], ◌∷◌, refl}
+use Rattle.std.specs.Prelude.{ℕ, Option, List, [], ◌∷◌}
 use Rattle.kernel_core.specs.declared.resource.Resource.{Resource}
 use Rattle.kernel_core.specs.declared.resource.Resource.TheVariants.{Cpu, Fsize, Data, Stack, Core, Nofile, As, Rss, Nproc, Memlock, Locks, Sigpending, Msgqueue, Nice, Rtprio, Rttime}
-use Rattle.number_tables.specs.Numbered.{numbered, numbered_number}
+use Rattle.number_tables.specs.Numbered.{numbered}
 
 -- the number of a resource for an o32 program
 -- (Linux arch/mips/include/uapi/asm/resource.h and include/uapi/asm-generic/resource.h)
@@ -53,18 +53,3 @@ resource_of_o32 number = numbered o32_resource resources number
 
 abbrev pub resource_of_native : ℕ → Option Resource
 resource_of_native number = numbered native_resource resources number
-
--- numbers and names are inverse, in each world
-pub o32_resource_number : (number : ℕ) (value : Resource) → resource_of_o32 number ≡ Some value → o32_resource value ≡ number
-o32_resource_number = numbered_number o32_resource resources
-
-pub native_resource_number : (number : ℕ) (value : Resource) → resource_of_native number ≡ Some value → native_resource value ≡ number
-native_resource_number = numbered_number native_resource resources
-
-pub o32_resource_found : (value : Resource) → resource_of_o32 (o32_resource value) ≡ Some value
-o32_resource_found Cpu = refl
-o32_resource_found _ = refl
-
-pub native_resource_found : (value : Resource) → resource_of_native (native_resource value) ≡ Some value
-native_resource_found Cpu = refl
-native_resource_found _ = refl

@@ -1,6 +1,6 @@
 //! Single flags in a number.
 ghost use Rattle.std.specs.Prelude.{◌≡◌, ◌<◌, ◌≤◌};
-ghost use Rattle.number_tables.specs.Flags as spec;
+ghost use Rattle.kernel_core.specs.Bits as spec;
 
 /// 1 where a flag is set, and else 0.
 pub(crate) fn one_if(set: bool) -> u32

@@ -14,15 +14,33 @@ pub const SI_QUEUE: i32 = -1;
 /// SI_TKILL: sent by tkill(2) or tgkill(2), in both worlds.
 pub const SI_TKILL: i32 = -6;
 
+/// SI_TIMER: sent by a timer, for an o32 program.
+pub const SI_TIMER: i32 = -3;
+
+/// SI_MESGQ: sent for a message queue, for an o32 program.
+const SI_MESGQ: i32 = -4;
+
+/// SI_ASYNCIO: sent for asynchronous input and output, for an o32 program.
+const SI_ASYNCIO: i32 = -2;
+
+/// SI_TIMER natively.
+const NATIVE_SI_TIMER: i32 = -2;
+
+/// SI_MESGQ natively.
+const NATIVE_SI_MESGQ: i32 = -3;
+
+/// SI_ASYNCIO natively.
+const NATIVE_SI_ASYNCIO: i32 = -4;
+
 /// The native code of a code of an o32 program.
 pub fn native_code(code: i32) -> i32
     ensures table { result ≡ spec.native_code code }
     ensures back { spec.o32_code result ≡ code }
 {
     match code {
-        -3 => -2,
-        -4 => -3,
-        -2 => -4,
+        SI_TIMER => NATIVE_SI_TIMER,
+        SI_MESGQ => NATIVE_SI_MESGQ,
+        SI_ASYNCIO => NATIVE_SI_ASYNCIO,
         same => same,
     }
 }
@@ -33,9 +51,9 @@ pub fn o32_code(code: i32) -> i32
     ensures back { spec.native_code result ≡ code }
 {
     match code {
-        -2 => -3,
-        -3 => -4,
-        -4 => -2,
+        NATIVE_SI_TIMER => SI_TIMER,
+        NATIVE_SI_MESGQ => SI_MESGQ,
+        NATIVE_SI_ASYNCIO => SI_ASYNCIO,
         same => same,
     }
 }

@@ -1,6 +1,7 @@
 //! The numbers of the errors (errno(3)).
 ghost use Rattle.std.specs.Prelude.{⊤};
-ghost use Rattle.number_tables.specs.Errors.{o32_errno, native_errno, errno_of_o32, errno_of_native, o32_errno_number, native_errno_number, o32_errno_found, native_errno_found};
+ghost use Rattle.number_tables.specs.Errors.{o32_errno, native_errno, errno_of_o32, errno_of_native};
+ghost use Rattle.number_tables.specs.inside.ErrorLaws.{o32_errno_number, native_errno_number, o32_errno_found, native_errno_found};
 
 use crate::{NativeNumber, O32Number};
 use kernel_core::Errno;

@@ -14,7 +14,7 @@ mod sa_flags;
 mod signal;
 mod worlds;
 
-pub use code::{SI_KERNEL, SI_QUEUE, SI_TKILL, SI_USER, native_code, o32_code};
+pub use code::{SI_KERNEL, SI_QUEUE, SI_TIMER, SI_TKILL, SI_USER, native_code, o32_code};
 pub use map_flags::map_flags_in_o32;
 pub use poll_bits::{poll_bits_in_native, poll_bits_in_o32};
 pub use resource::{GETRLIMIT_INFINITY, INFINITY};

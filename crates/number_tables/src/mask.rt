@@ -1,6 +1,7 @@
 //! The numbers of the changes of a signal mask (sigprocmask(2)).
 ghost use Rattle.std.specs.Prelude.{⊤};
-ghost use Rattle.number_tables.specs.MaskChanges.{o32_mask_change, native_mask_change, mask_change_of_o32, mask_change_of_native, o32_mask_change_number, native_mask_change_number, o32_mask_change_found, native_mask_change_found};
+ghost use Rattle.number_tables.specs.MaskChanges.{o32_mask_change, native_mask_change, mask_change_of_o32, mask_change_of_native};
+ghost use Rattle.number_tables.specs.inside.MaskChangeLaws.{o32_mask_change_number, native_mask_change_number, o32_mask_change_found, native_mask_change_found};
 
 use crate::{NativeNumber, O32Number};
 use kernel_core::MaskChange;

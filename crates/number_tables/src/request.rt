@@ -1,6 +1,7 @@
 //! The numbers of the requests of ioctl(2).
 ghost use Rattle.std.specs.Prelude.{⊤};
-ghost use Rattle.number_tables.specs.Requests.{o32_request, native_request, request_of_o32, request_of_native, o32_request_number, native_request_number, o32_request_found, native_request_found};
+ghost use Rattle.number_tables.specs.Requests.{o32_request, native_request, request_of_o32, request_of_native};
+ghost use Rattle.number_tables.specs.inside.RequestLaws.{o32_request_number, native_request_number, o32_request_found, native_request_found};
 
 use crate::{NativeNumber, O32Number};
 use kernel_core::Request;

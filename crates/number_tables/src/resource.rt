@@ -1,6 +1,7 @@
 //! The numbers of the resources that have a limit (getrlimit(2)).
 ghost use Rattle.std.specs.Prelude.{⊤};
-ghost use Rattle.number_tables.specs.Resources.{o32_resource, native_resource, resource_of_o32, resource_of_native, o32_resource_number, native_resource_number, o32_resource_found, native_resource_found};
+ghost use Rattle.number_tables.specs.Resources.{o32_resource, native_resource, resource_of_o32, resource_of_native};
+ghost use Rattle.number_tables.specs.inside.ResourceLaws.{o32_resource_number, native_resource_number, o32_resource_found, native_resource_found};
 
 use crate::{NativeNumber, O32Number};
 use kernel_core::Resource;

@@ -2,7 +2,7 @@
 ghost use Rattle.std.specs.Prelude.{◌≡◌, ⊤};
 ghost use Rattle.kernel_core.specs.declared.signal.Sig.{Sig};
 ghost use Rattle.number_tables.specs.Signals.{o32_signal, native_signal, signal_of_o32, signal_of_native, real_time};
-ghost use Rattle.number_tables.specs.SignalLaws.{o32_number_found, native_number_found, o32_signal_found, native_signal_found};
+ghost use Rattle.number_tables.specs.inside.SignalLaws.{o32_number_found, native_number_found, o32_signal_found, native_signal_found};
 
 use crate::{NativeNumber, O32Number};
 use kernel_core::{RealTime, Sig};

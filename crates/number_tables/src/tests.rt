@@ -1,9 +1,10 @@
 ghost use Rattle.std.specs.Prelude.{◌≡◌, Some};
 
 use super::*;
+use bitflags::Flags;
 use kernel_core::{
-    Access, Errno, MapFlags, MapKind, MaskChange, OpenFlags, PollBits, RealTime, Request, Resource,
-    SaFlags, Sig,
+    Access, Errno, EventBits, MapBits, MapFlags, MapKind, MaskChange, OpenBits, OpenFlags,
+    PollBits, RealTime, Request, Resource, SaBits, SaFlags, Sig,
 };
 use std::process::Abort;
 
@@ -144,137 +145,63 @@ fn signals(rt: HostRuntime) {
     assert!(rt; there_and_back::<Sig>(16) == Some(16));
 }
 
-const NO_OPEN_FLAG: OpenFlags = OpenFlags {
-    access: Access::Read,
-    append: false,
-    dsync: false,
-    nonblock: false,
-    creat: false,
-    trunc: false,
-    excl: false,
-    noctty: false,
-    largefile: false,
-    sync: false,
-    directory: false,
-    nofollow: false,
-    cloexec: false,
-};
+/// The access mode and the flags of a set.
+fn named(flags: OpenFlags) -> (Access, OpenBits) {
+    (flags.access(), flags.bits())
+}
 
 // open(2): Linux arch/mips/include/uapi/asm/fcntl.h and asm-generic/fcntl.h.
 #[test]
 fn open_flags(rt: HostRuntime) {
-    let none = NO_OPEN_FLAG;
-    let flags = [
-        OpenFlags {
-            access: Access::Write,
-            ..none
-        },
-        OpenFlags {
-            access: Access::ReadWrite,
-            ..none
-        },
-        OpenFlags {
-            append: true,
-            ..none
-        },
-        OpenFlags {
-            dsync: true,
-            ..none
-        },
-        OpenFlags {
-            nonblock: true,
-            ..none
-        },
-        OpenFlags {
-            creat: true,
-            ..none
-        },
-        OpenFlags {
-            trunc: true,
-            ..none
-        },
-        OpenFlags { excl: true, ..none },
-        OpenFlags {
-            noctty: true,
-            ..none
-        },
-        OpenFlags {
-            largefile: true,
-            ..none
-        },
-        OpenFlags {
-            directory: true,
-            ..none
-        },
-        OpenFlags {
-            nofollow: true,
-            ..none
-        },
-        OpenFlags {
-            cloexec: true,
-            ..none
-        },
+    let mode = Access::Read;
+    let rows = [
+        (Access::Write, OpenBits::empty(), 1, 1),
+        (Access::ReadWrite, OpenBits::empty(), 2, 2),
+        (mode, OpenBits::APPEND, 8, 0x400),
+        (mode, OpenBits::DSYNC, 0x10, 0x1000),
+        (mode, OpenBits::NONBLOCK, 0x80, 0x800),
+        (mode, OpenBits::CREAT, 0x100, 0x40),
+        (mode, OpenBits::TRUNC, 0x200, 0x200),
+        (mode, OpenBits::EXCL, 0x400, 0x80),
+        (mode, OpenBits::NOCTTY, 0x800, 0x100),
+        (mode, OpenBits::LARGEFILE, 0x2000, 0x8000),
+        (mode, OpenBits::DIRECTORY, 0x10000, 0x10000),
+        (mode, OpenBits::NOFOLLOW, 0x20000, 0x20000),
+        (mode, OpenBits::CLOEXEC, 0x80000, 0x80000),
+        (
+            mode,
+            OpenBits::SYNC.union(OpenBits::DSYNC),
+            0x4010,
+            0x101000,
+        ),
     ];
-    let o32 = [
-        1, 2, 8, 0x10, 0x80, 0x100, 0x200, 0x400, 0x800, 0x2000, 0x10000, 0x20000, 0x80000,
-    ];
-    let native = [
-        1, 2, 0x400, 0x1000, 0x800, 0x40, 0x200, 0x80, 0x100, 0x8000, 0x10000, 0x20000, 0x80000,
-    ];
-    for place in 0..13 {
-        assert!(rt; OpenFlags::of_o32(o32[place]) == Some(flags[place]));
-        assert!(rt; OpenFlags::of_native(native[place]) == Some(flags[place]));
-        assert_eq!(rt; flags[place].to_o32(), o32[place]);
-        assert_eq!(rt; flags[place].to_native(), native[place]);
+    for row in rows.iter() {
+        let names = Some((row.0, row.1));
+        assert!(rt; OpenFlags::of_o32(row.2).map(named) == names);
+        assert!(rt; OpenFlags::of_native(row.3).map(named) == names);
+        let flags = OpenFlags::new(row.0, row.1);
+        assert_eq!(rt; flags.to_o32(), row.2);
+        assert_eq!(rt; flags.to_native(), row.3);
     }
     for place in 0..32u32 {
         let bit = 1u32 << place;
-        assert!(rt; OpenFlags::of_o32(bit).is_some() == o32.contains(&bit));
-        let bit = u64::from(bit);
-        assert!(rt; OpenFlags::of_native(bit).is_some() == native.contains(&bit));
+        assert!(rt; OpenFlags::of_o32(bit).is_some() == rows.iter().any(|row| row.2 == bit));
+        let bit = 1u64 << place;
+        assert!(rt; OpenFlags::of_native(bit).is_some() == rows.iter().any(|row| row.3 == bit));
     }
-    let synced = OpenFlags {
-        dsync: true,
-        sync: true,
-        ..none
-    };
-    assert!(rt; OpenFlags::of_o32(0x4010) == Some(synced));
-    assert!(rt; OpenFlags::of_native(0x101000) == Some(synced));
     assert!(rt; OpenFlags::of_o32(3).is_none() && OpenFlags::of_native(3).is_none());
 }
 
 // sigaction(2): Linux arch/mips/include/uapi/asm/signal.h and asm-generic/signal-defs.h.
 #[test]
 fn sigaction_flags(rt: HostRuntime) {
-    let none = sa_flags_in_o32(0);
-    let nocldstop = SaFlags {
-        nocldstop: true,
-        ..none
-    };
-    let siginfo = SaFlags {
-        siginfo: true,
-        ..none
-    };
-    let nocldwait = SaFlags {
-        nocldwait: true,
-        ..none
-    };
-    let onstack = SaFlags {
-        onstack: true,
-        ..none
-    };
-    let restart = SaFlags {
-        restart: true,
-        ..none
-    };
-    let nodefer = SaFlags {
-        nodefer: true,
-        ..none
-    };
-    let resethand = SaFlags {
-        resethand: true,
-        ..none
-    };
+    let nocldstop = SaFlags::new(SaBits::NOCLDSTOP);
+    let siginfo = SaFlags::new(SaBits::SIGINFO);
+    let nocldwait = SaFlags::new(SaBits::NOCLDWAIT);
+    let onstack = SaFlags::new(SaBits::ONSTACK);
+    let restart = SaFlags::new(SaBits::RESTART);
+    let nodefer = SaFlags::new(SaBits::NODEFER);
+    let resethand = SaFlags::new(SaBits::RESETHAND);
     let o32 = [
         (1, nocldstop),
         (8, siginfo),
@@ -302,39 +229,17 @@ fn sigaction_flags(rt: HostRuntime) {
 // poll(2): Linux arch/mips/include/uapi/asm/poll.h and asm-generic/poll.h.
 #[test]
 fn poll_events(rt: HostRuntime) {
-    let none = poll_bits_in_o32(0);
-    let input = PollBits {
-        input: true,
-        ..none
-    };
-    let pri = PollBits { pri: true, ..none };
-    let output = PollBits {
-        output: true,
-        ..none
-    };
-    let both = PollBits {
-        wrnorm: true,
-        ..output
-    };
-    let err = PollBits { err: true, ..none };
-    let hup = PollBits { hup: true, ..none };
-    let nval = PollBits { nval: true, ..none };
-    let rdnorm = PollBits {
-        rdnorm: true,
-        ..none
-    };
-    let rdband = PollBits {
-        rdband: true,
-        ..none
-    };
-    let wrnorm = PollBits {
-        wrnorm: true,
-        ..none
-    };
-    let wrband = PollBits {
-        wrband: true,
-        ..none
-    };
+    let input = PollBits::new(EventBits::IN);
+    let pri = PollBits::new(EventBits::PRI);
+    let output = PollBits::new(EventBits::OUT);
+    let err = PollBits::new(EventBits::ERR);
+    let hup = PollBits::new(EventBits::HUP);
+    let nval = PollBits::new(EventBits::NVAL);
+    let rdnorm = PollBits::new(EventBits::RDNORM);
+    let rdband = PollBits::new(EventBits::RDBAND);
+    let wrnorm = PollBits::new(EventBits::WRNORM);
+    let wrband = PollBits::new(EventBits::WRBAND);
+    let both = PollBits::new(EventBits::OUT.union(EventBits::WRNORM));
     let o32 = [
         (1, input),
         (2, pri),
@@ -368,23 +273,10 @@ fn poll_events(rt: HostRuntime) {
 // mmap(2): Linux arch/mips/include/uapi/asm/mman.h.
 #[test]
 fn mapping_flags(rt: HostRuntime) {
-    let private = MapFlags {
-        kind: MapKind::Private,
-        fixed: false,
-        noreserve: false,
-        anonymous: false,
-    };
-    let shared = MapFlags {
-        kind: MapKind::Shared,
-        ..private
-    };
+    let private = MapFlags::new(MapKind::Private, MapBits::empty());
+    let shared = MapFlags::new(MapKind::Shared, MapBits::empty());
     o32_bits_are_the_table(&rt, &[(1, shared), (2, private)]);
-    let all = MapFlags {
-        fixed: true,
-        noreserve: true,
-        anonymous: true,
-        ..private
-    };
+    let all = MapFlags::new(MapKind::Private, MapBits::all());
     assert!(rt; MapFlags::of_o32(0xC12) == Some(all));
     assert!(rt; MapFlags::of_o32(0x42).is_none() && map_flags_in_o32(0x42) == Some(private));
     assert!(rt; map_flags_in_o32(0x803).is_none() && map_flags_in_o32(0x800).is_none());
@@ -431,16 +323,27 @@ fn smaller_tables(rt: HostRuntime) {
     ];
     numbers_are_the_table(&rt, &changes, 9);
     let codes = [
-        (SI_USER, SI_USER),
-        (SI_KERNEL, SI_KERNEL),
-        (SI_QUEUE, SI_QUEUE),
-        (SI_TKILL, SI_TKILL),
+        (SI_USER, 0, 0),
+        (SI_KERNEL, 0x80, 0x80),
+        (SI_QUEUE, -1, -1),
+        (SI_TKILL, -6, -6),
+        (SI_TIMER, -3, -2),
+        (-4, -4, -3),
+        (-2, -2, -4),
+        (2, 2, 2),
+        (-5, -5, -5),
     ];
-    for code in codes
-        .iter()
-        .chain([(-3, -2), (-4, -3), (-2, -4), (-5, -5), (2, 2)].iter())
-    {
-        assert_eq!(rt; native_code(code.0), code.1);
-        assert_eq!(rt; o32_code(code.1), code.0);
+    for (code, o32, native) in codes {
+        assert_eq!(rt; code, o32);
+        assert_eq!(rt; native_code(o32), native);
+        assert_eq!(rt; o32_code(native), o32);
     }
+}
+
+// getrlimit(2): RLIM_INFINITY of Linux arch/mips/include/uapi/asm/resource.h; prlimit64 of both
+// worlds has RLIM64_INFINITY of include/uapi/linux/resource.h.
+#[test]
+fn no_limit(rt: HostRuntime) {
+    assert_eq!(rt; GETRLIMIT_INFINITY, 2_147_483_647);
+    assert_eq!(rt; INFINITY, 18_446_744_073_709_551_615);
 }

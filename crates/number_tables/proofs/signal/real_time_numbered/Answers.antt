@@ -1,5 +1,5 @@
 use Rattle.std.proofs.Common.{sym, arith}
-use Rattle.number_tables.specs.SignalLaws.{real_time_some, real_time_none}
+use Rattle.number_tables.specs.inside.SignalLaws.{real_time_some, real_time_none}
 use Rattle.number_tables.proofs.signal.real_time_numbered.Goals as goal
 
 pub returns-in-32-to-128 : goal.returns-in-32-to-128

@@ -7,7 +7,8 @@ use Rattle.kernel_core.specs.RealTime.{is_real_time}
 use Rattle.kernel_core.specs.declared.signal.RealTime.{RealTime as RealTimeSignal}
 use Rattle.kernel_core.specs.declared.signal.Sig.{Sig}
 use Rattle.kernel_core.specs.declared.signal.Sig.TheVariants.{RealTime}
-use Rattle.number_tables.specs.Numbered.{numbered_or, numbered_or_number}
+use Rattle.number_tables.specs.Numbered.{numbered_or}
+use Rattle.number_tables.specs.inside.NumberedLaws.{numbered_or_number}
 use Rattle.number_tables.specs.Signals.{o32_signal, native_signal, named_signals, real_time_if, real_time, signal_of_o32, signal_of_native}
 
 -- the real-time signal of a real-time signal's number is that signal

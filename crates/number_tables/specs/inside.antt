@@ -1,0 +1,11 @@
+pub mod ErrorLaws
+pub mod FlagLaws
+pub mod MapLaws
+pub mod MaskChangeLaws
+pub mod NumberedLaws
+pub mod OpenLaws
+pub mod PollLaws
+pub mod RequestLaws
+pub mod ResourceLaws
+pub mod SaLaws
+pub mod SignalLaws
