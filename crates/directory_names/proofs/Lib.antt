@@ -1,5 +1,6 @@
 mod IndexLemmas
 mod Lists
+mod OrderLemmas
 pub mod LoadLemmas
 pub mod NameLemmas
 pub mod PlainLemmas

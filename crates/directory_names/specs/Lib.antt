@@ -1,2 +1,2 @@
-pub mod Index
 pub mod Names
+pub mod inside

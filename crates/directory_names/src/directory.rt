@@ -4,6 +4,7 @@ ghost use Rattle.kernel_core.specs.ValidTree.{IsName, greatest_cookie};
 ghost use Rattle.directory_names.specs.Names.{AreNames, find_name, entry_after, shown, with_entry, added, without};
 
 use crate::entry::{EntryView, NodeRef, Place};
+use crate::order::CookieOrder;
 use indexmap::IndexMap;
 use kernel_core::{Bytes, NoMemory};
 use std::alloc::Global;
@@ -19,22 +20,23 @@ use std::marker::Model;
 #[derive(Drop)]
 pub struct Directory {
     names: IndexMap<Vec<u8>, Place>,
+    order: CookieOrder,
     greatest: u32,
 }
 
 impl Model for Directory {
-    ghost use Rattle.std.specs.Prelude.{map};
     ghost use Rattle.indexmap.specs.IndexMap.{spare};
-    ghost use Rattle.directory_names.specs.Index.{named};
+    ghost use Rattle.directory_names.specs.inside.Index.{listed, room, Agree};
     ghost use Rattle.directory_names.specs.Names.{Names, AreNames, names_code};
 
     ghost Value = { Names };
 
     ghost coded = { names_code };
 
-    ghost view = { λ d. record { greatest = d.greatest; spare = spare d.names; entries = map named d.names.entries } };
+    ghost view = { λ d. record { greatest = d.greatest; spare = room d.order.has_room (spare d.names); entries = listed d.names.entries d.order.seats } };
 
-    ghost invariant = { λ d. AreNames (record { greatest = d.greatest; spare = spare d.names; entries = map named d.names.entries }) };
+    ghost invariant = { λ d. AreNames (record { greatest = d.greatest; spare = room d.order.has_room (spare d.names); entries = listed d.names.entries d.order.seats })
+        × Agree d.names.entries d.order.seats };
 }
 
 impl Directory {
@@ -47,6 +49,7 @@ impl Directory {
     {
         Directory {
             names: IndexMap::new(alloc),
+            order: CookieOrder::new(alloc),
             greatest: 2,
         }
     }
@@ -56,14 +59,14 @@ impl Directory {
         ensures count { result ≡ length self.now.entries }
         ensures valid { AreNames self.now }
     {
-        self.names.len()
+        self.order.len()
     }
 
     /// Whether there is no entry.
     pub fn is_empty(&self) -> bool
         ensures { IsTrue result ↔ (self.now.entries ≡ []) }
     {
-        self.names.is_empty()
+        self.len() == 0
     }
 
     /// The greatest cookie that the directory ever had, from 2 to 2^31 - 1.
@@ -89,10 +92,8 @@ impl Directory {
         ensures entry { option_map shown result ≡ entry_after self.now.entries cookie }
         ensures valid { AreNames self.now }
     {
-        let at = self
-            .names
-            .partition_point(|_name, place| place.cookie <= cookie);
-        let (name, place) = self.names.get_index(at)?;
+        let index = self.order.after(cookie)?;
+        let (name, place) = self.names.get_index(index)?;
         Some(EntryView {
             cookie: place.cookie,
             name: name.as_slice(),
@@ -110,6 +111,7 @@ impl Directory {
         ensures valid { AreNames self.new }
     {
         self.names.reserve(1)?;
+        self.order.reserve()?;
         Ok(())
     }
 
@@ -125,8 +127,7 @@ impl Directory {
         ensures room { self.old.spare ≤ self.new.spare + 1 }
         ensures valid { AreNames self.new }
     {
-        let cookie = self.greatest + 1;
-        self.load(cookie, name, node).unwrap();
+        self.put(self.greatest + 1, name, node);
     }
 
     /// Adds an entry of a tree that is loaded, with the cookie that it has there, which is then the
@@ -144,18 +145,48 @@ impl Directory {
         ensures enough { 0 < self.old.spare → IsOk result }
         ensures valid { AreNames self.new }
     {
-        let _ = self.names.insert(name.into_vec(), Place { cookie, node })?;
-        self.greatest = cookie;
+        self.reserve()?;
+        self.put(cookie, name, node);
         Ok(())
     }
 
     /// Removes the entry with this name, and does nothing where no entry has it. The others keep their
-    /// order and their cookies, and its cookie is not used again. The entries behind it are moved.
+    /// order and their cookies, and its cookie is not used again. It takes no memory, and costs one look-up
+    /// by hash and the logarithm of the number of entries.
     pub fn remove(&mut self, name: &[u8])
         ensures removed { self.new ≡ record (without self.old name.now) { spare = self.new.spare } }
         ensures kept { self.old.spare ≤ self.new.spare }
         ensures valid { AreNames self.new }
     {
-        let _ = self.names.shift_remove(name);
+        let Some((index, _, place)) = self.names.get_full(name) else {
+            return;
+        };
+        let cookie = place.cookie;
+        let _ = self.names.swap_remove_index(index);
+        self.order.remove(cookie);
+        // The last entry of the map stands now where the removed one stood, unless that was the last.
+        if let Some((_, moved)) = self.names.get_index(index) {
+            self.order.set_index(moved.cookie, index);
+        }
+    }
+
+    /// Adds an entry with a cookie above all others, for which there is room.
+    fn put(&mut self, cookie: u32, name: Bytes, node: NodeRef)
+        requires room { 0 < self.old.spare }
+        requires low { self.old.greatest < cookie }
+        requires high { cookie ≤ greatest_cookie }
+        requires name { IsName name }
+        requires absent { find_name self.old.entries name ≡ None }
+        ensures put { self.new ≡ record (with_entry self.old cookie name node) { spare = self.new.spare } }
+        ensures one { self.old.spare ≤ 1 }
+        ensures valid { AreNames self.new }
+    {
+        let index = self.names.len();
+        let _ = self
+            .names
+            .insert(name.into_vec(), Place { cookie, node })
+            .unwrap();
+        self.order.push(cookie, index);
+        self.greatest = cookie;
     }
 }

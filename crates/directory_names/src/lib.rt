@@ -3,6 +3,7 @@
 
 mod directory;
 mod entry;
+mod order;
 
 pub use directory::Directory;
 pub use entry::{EntryView, NodeRef};
