@@ -4,7 +4,7 @@ use Rattle.std.proofs.lemmas.Bool.{cases_lt}
 use Rattle.std.proofs.lemmas.Nat.{pow-add, pow_pos}
 use Rattle.std.proofs.Math.Pow.{pow_mono}
 use Rattle.number_pool.specs.Places.{AreAllTaken, IsLeastFree}
-use Rattle.number_pool.specs.Tree.{IsTree, child_on_way, is_full_at, leaves}
+use Rattle.number_pool.specs.inside.Tree.{IsTree, child_on_way, is_full_at, leaves}
 use Rattle.number_pool.proofs.Mending.{leaf_at, length-leaves}
 
 both_left : (a b : Bool) → true ≡ (a && b) → a ≡ true

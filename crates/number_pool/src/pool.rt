@@ -23,7 +23,7 @@ pub struct NumberPool {
 
 impl Model for NumberPool {
     ghost use Rattle.std.specs.Prelude.{Bool, List};
-    ghost use Rattle.number_pool.specs.Tree.{IsTree, leaves};
+    ghost use Rattle.number_pool.specs.inside.Tree.{IsTree, leaves};
 
     ghost Value = { List Bool };
 

@@ -5,7 +5,7 @@
 //! below it is. Entry 0 is not used.
 ghost use Rattle.std.specs.Prelude.{◌≡◌, ◌+◌, ◌*◌, ◌^◌, ◌<◌, ◌≤◌, ◌&&◌, false, length, IfOk, MatchOption, replicate, slice_set};
 ghost use Rattle.number_pool.specs.Places.{AreAllTaken, IsLeastFree};
-ghost use Rattle.number_pool.specs.Tree.{IsTree, child_on_way, is_full_at, leaves};
+ghost use Rattle.number_pool.specs.inside.Tree.{IsTree, child_on_way, is_full_at, leaves};
 
 use std::alloc::{AllocError, Global};
 
