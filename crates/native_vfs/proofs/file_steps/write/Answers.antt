@@ -82,8 +82,12 @@ returns-clause-err c =
     subst (λ o. IfSome o (λ content. OnErr c.write_node.result (After content))) (sym (file-there c.args.table.now c.args.key c.index_mut-node.result.now c.index_mut-node.ensures.value c.requires.distinct))
     (some_from (file_in (content_of node.content)) (λ content. OnErr c.write_node.result (Part content)) (λ content. OnErr c.write_node.result (After content))
     (λ content h. err_from c.write_node.result (Part content) (After content)
-    (λ w. (w.0, w.1, file-step c.args.table.now c.args.key c.index_mut-node.result.now c.index_mut-node.ensures.value c.requires.distinct
-    c.write_node.new.node (content_written c.args.at (take w.0 c.args.bytes.now)) w.2
-    (file c.args.table.now c.args.key c.index_mut-node.result.now c.index_mut-node.ensures.value c.requires.distinct c.requires.file) (few c))) h)
+    (λ w. (
+      w.0,
+      w.1,
+      file-step c.args.table.now c.args.key c.index_mut-node.result.now c.index_mut-node.ensures.value c.requires.distinct
+          c.write_node.new.node (content_written c.args.at (take w.0 c.args.bytes.now)) w.2
+          (file c.args.table.now c.args.key c.index_mut-node.result.now c.index_mut-node.ensures.value c.requires.distinct c.requires.file) (few c),
+    )) h)
     (subst (λ b. IfSome (file_in (content_of node.content)) (λ content. OnErr c.write_node.result ((k : ℕ) × (k ≤ longest_write content.blocks c.args.at (length c.args.bytes.now) (block_limit - b))
     × IsFileChange node c.write_node.new.node (content_written c.args.at (take k c.args.bytes.now))))) c.requires.counted c.write_node.ensures.err))

@@ -8,7 +8,7 @@ use Rattle.native_vfs.specs.Keyed.{place_at, number_at}
 use Rattle.native_vfs.specs.inside.Renames.{entry_moved, Becomes}
 use Rattle.native_vfs.specs.inside.Stored.{nodes_of, keyed_of, number_of_key, CanAdd, IsKept}
 use Rattle.native_vfs.proofs.tables.Kept.{valid-view, are-keys-view}
-use Rattle.native_vfs.proofs.renames.MovedEntries.{IsRenaming, renaming-same, same-view, same-kept, sound-of, agrees-to, entry-gives, entry-from, entry-to, entry-moved-live, entry-some, entry-few, entry-can, entry-nodes, entry-kept, entry-keeps, after-error}
+use Rattle.native_vfs.proofs.renames.MovedEntries.{IsRenaming, renaming-same, same-view, same-kept, sound-of, agrees-to, entry-gives, entry-from, entry-moved-live, entry-some, entry-few, entry-can, entry-nodes, entry-kept, entry-keeps, after-error}
 use Rattle.native_vfs.proofs.vfs.Vfs.move_entry.Goals as goal
 
 -- memory runs out for the name: the table has the nodes that it had
