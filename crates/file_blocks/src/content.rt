@@ -1,5 +1,5 @@
 //! A regular file's content.
-ghost use Rattle.std.specs.Prelude.{◌≡◌, ◌+◌, ◌<◌, ◌≤◌, ◌^◌, ℕ, length, take, IfOk, OnOk, OnErr, IfSome, IfNone};
+ghost use Rattle.std.specs.Prelude.{◌≡◌, ◌+◌, ◌<◌, ◌≤◌, ◌^◌, ℕ, length, take, IfOk, IsOk, OnOk, OnErr, IfSome, IfNone};
 ghost use Rattle.std.specs.FinMap as map;
 ghost use Rattle.kernel_core.specs.FileContent.{no_content, IsContent, IsBlock, kept_blocks, readable, read_into, size_with, written, longest_write, resized, greatest_size};
 ghost use Rattle.file_blocks.specs.Kept.{IsFirstFrom, NoneFrom};
@@ -78,7 +78,8 @@ impl Content {
 
     /// Writes the bytes from `at` on and answers how many (pwrite(2)): the longest prefix of them that
     /// takes at most `spare` blocks anew. The size rises to the end of what is written. After NoMemory a
-    /// prefix of those bytes is written. (That blocks are counted is this project's own.)
+    /// prefix of those bytes is written; it never comes where `spare` is 0. (That blocks are counted is this
+    /// project's own.)
     pub fn write(&mut self, at: u64, bytes: &[u8], spare: u32) -> Result<usize, NoMemory>
         requires end { at + length bytes.now ≤ greatest_size }
         requires room { kept_blocks self.old + spare < 2 ^ 32 }
@@ -87,6 +88,7 @@ impl Content {
         ensures ok { IfOk result (λ n. self.new ≡ written self.old at (take n bytes.now)) }
         ensures err { OnErr result ((k : ℕ) × (k ≤ longest_write self.old.blocks at (length bytes.now) spare)
             × (self.new ≡ written self.old at (take k bytes.now))) }
+        ensures enough { spare ≡ 0 → IsOk result }
 
         // However it ends, no more blocks were taken than were to spare.
         ensures kept { kept_blocks self.new ≤ kept_blocks self.old + spare }

@@ -1,5 +1,5 @@
 //! Reads and writes of a file's bytes, a block at a time, and what is cut off.
-ghost use Rattle.std.specs.Prelude.{◌≡◌, ◌+◌, ◌*◌, ◌<◌, ◌≤◌, ◌/◌, ◌%◌, ◌^◌, length, take, nat_lt, IfOk, OnErr, IfErr};
+ghost use Rattle.std.specs.Prelude.{◌≡◌, ◌+◌, ◌*◌, ◌<◌, ◌≤◌, ◌/◌, ◌%◌, ◌^◌, length, take, nat_lt, IfOk, IsOk, OnErr, IfErr};
 ghost use Rattle.std.specs.FinMap as map;
 ghost use Rattle.kernel_core.specs.FileContent.{bytes_at, with_bytes, longest_write, cut, block_size, greatest_size};
 ghost use Rattle.file_blocks.specs.inside.Pieces.{WritesPiece};
@@ -62,6 +62,7 @@ fn write_piece(
     requires { place + length piece.now ≤ 4096 }
     ensures ok { IfOk result (λ left. WritesPiece left blocks.old blocks.new index place piece.now spare) }
     ensures err { OnErr result (blocks.new ≡ blocks.old) }
+    ensures enough { spare ≡ 0 → IsOk result }
 {
     if blocks.write(index, place, piece) {
         return Ok(Some(spare));
@@ -92,6 +93,7 @@ pub(crate) fn write_bytes(
     ensures err_within { IfErr result (λ e. e.count ≤ length bytes.now) }
     ensures err { IfErr result (λ e. blocks.new ≡ with_bytes blocks.old at (take e.count bytes.now)) }
     ensures kept { map.len blocks.new ≤ map.len blocks.old + spare }
+    ensures enough { spare ≡ 0 → IsOk result }
 {
     let mut left = spare;
     let mut done = 0;

@@ -13,7 +13,7 @@ loop-done-init c =
     let count = length c.args.bytes.now in
     let same : longest_write blocks c.args.at count c.args.spare ≡ longest_write blocks (c.args.at + 0) (count - 0) c.args.spare =
     longest_write-same blocks c.args.spare (omega arith) (omega arith) in
-    record { within = omega arith; written = sym (with_bytes-nil _ _); reach = omega (arith, same); kept = omega arith }
+    record { within = omega arith; written = sym (with_bytes-nil _ _); reach = omega (arith, same); kept = omega arith; few = omega arith }
 
 pub loop-done-preserved : goal.loop-done-preserved
 loop-done-preserved c =
@@ -42,6 +42,7 @@ loop-done-preserved c =
           ∙ joined
           ∙ ap (λ n. done + size + n) (longest_write-same new rest (omega arith) refl);
       kept = omega (arith, ok.2, c.loop-done.invariant.kept);
+      few = omega (arith, ok.1, c.loop-done.invariant.few);
     }
 
 pub returns-in-Ok-None-clause-count : goal.returns-in-Ok-None-clause-count

@@ -9,6 +9,7 @@ invariant-loop-done l = record {
   written : l.blocks ≡ with_bytes l.fn.blocks l.at (take l.done l.bytes);
   reach : longest_write l.fn.blocks l.at (length l.bytes) l.spare ≡ l.done + longest_write l.blocks (l.at + l.done) (length l.bytes - l.done) l.left;
   kept : len l.blocks + l.left ≤ len l.fn.blocks + l.spare;
+  few : l.left ≤ l.spare;
 }
 
 abbrev pub decreases-loop-done : goal.decreases-loop-done
