@@ -6,8 +6,8 @@ use Rattle.std.proofs.Math.Nat.{mod-lt, mul-le-mul_right, add-mul}
 use Rattle.std.specs.Int.{byte_at}
 use Rattle.byteorder.specs.Endian.{big_number, big_from, big_bytes}
 use Rattle.byteorder.specs.Numbers.{big_from-cons, big_from-lt, big_number-reads_back, big_from-take, length-bytes_high_first}
-use Rattle.fs_image.specs.declared.refusal.Rule.{Rule}
-use Rattle.fs_image.specs.declared.refusal.Rule.TheVariants as rule
+use Rattle.fs_image.specs.declared.refusal.ImageRule.{ImageRule}
+use Rattle.fs_image.specs.declared.refusal.ImageRule.TheVariants as rule
 use Rattle.fs_image.specs.declared.refusal.ImageRefusal.{ImageRefusal}
 use Rattle.fs_image.specs.Refusal.{refused}
 use Rattle.fs_image.specs.Reading.{◌>>=◌, place, number_at, bytes_at, number_by, bytes_by}
@@ -120,14 +120,14 @@ number_again width file n rest lt =
     let left = drop_at (big_bytes width n) rest width len in
     rw (long, value, left) refl
 
-pub number_kept : (broken : Rule) (breaks : ℕ → Bool) (width file : ℕ) (bytes : List ℕ) (x : ℕ × List ℕ) → number_by broken breaks width file bytes ≡ Ok x → (number_at width file bytes ≡ Ok x) × (breaks x.0 ≡ false)
+pub number_kept : (broken : ImageRule) (breaks : ℕ → Bool) (width file : ℕ) (bytes : List ℕ) (x : ℕ × List ℕ) → number_by broken breaks width file bytes ≡ Ok x → (number_at width file bytes ≡ Ok x) × (breaks x.0 ≡ false)
 number_kept broken breaks width file bytes x e =
     let b = bind_ok (number_at width file bytes) (λ n. cond (breaks n.0) (Err (refused broken (place file bytes))) (Ok n)) x e in
     let g = guard_ok (breaks b.0.0) (refused broken (place file bytes)) b.0 x b.2 in
     let P : ℕ × List ℕ → Type 0 = λ y. (number_at width file bytes ≡ Ok y) × (breaks y.0 ≡ false) in
     subst P g.1 (b.1, g.0)
 
-pub number_by_again : (broken : Rule) (breaks : ℕ → Bool) (width file n : ℕ) (rest : List ℕ) → n < 256 ^ width → breaks n ≡ false → number_by broken breaks width file (big_bytes width n ++ rest) ≡ Ok (n, rest)
+pub number_by_again : (broken : ImageRule) (breaks : ℕ → Bool) (width file n : ℕ) (rest : List ℕ) → n < 256 ^ width → breaks n ≡ false → number_by broken breaks width file (big_bytes width n ++ rest) ≡ Ok (n, rest)
 number_by_again broken breaks width file n rest lt keeps =
     let again = number_again width file n rest lt in
     rw again (rw keeps refl)
@@ -146,14 +146,14 @@ bytes_again count file bytes rest len =
     let long : ltb (length (bytes ++ rest)) count ≡ false = le-ltb _ _ (omega (arith, length-append bytes rest)) in
     rw (long, take_at bytes rest count len, drop_at bytes rest count len) refl
 
-pub bytes_kept : (broken : Rule) (breaks : List ℕ → Bool) (count file : ℕ) (rest : List ℕ) (x : List ℕ × List ℕ) → bytes_by broken breaks count file rest ≡ Ok x → (bytes_at count file rest ≡ Ok x) × (breaks x.0 ≡ false)
+pub bytes_kept : (broken : ImageRule) (breaks : List ℕ → Bool) (count file : ℕ) (rest : List ℕ) (x : List ℕ × List ℕ) → bytes_by broken breaks count file rest ≡ Ok x → (bytes_at count file rest ≡ Ok x) × (breaks x.0 ≡ false)
 bytes_kept broken breaks count file rest x e =
     let b = bind_ok (bytes_at count file rest) (λ n. cond (breaks n.0) (Err (refused broken (place file rest))) (Ok n)) x e in
     let g = guard_ok (breaks b.0.0) (refused broken (place file rest)) b.0 x b.2 in
     let P : List ℕ × List ℕ → Type 0 = λ y. (bytes_at count file rest ≡ Ok y) × (breaks y.0 ≡ false) in
     subst P g.1 (b.1, g.0)
 
-pub bytes_by_again : (broken : Rule) (breaks : List ℕ → Bool) (count file : ℕ) (bytes rest : List ℕ) → length bytes ≡ count → breaks bytes ≡ false → bytes_by broken breaks count file (bytes ++ rest) ≡ Ok (bytes, rest)
+pub bytes_by_again : (broken : ImageRule) (breaks : List ℕ → Bool) (count file : ℕ) (bytes rest : List ℕ) → length bytes ≡ count → breaks bytes ≡ false → bytes_by broken breaks count file (bytes ++ rest) ≡ Ok (bytes, rest)
 bytes_by_again broken breaks count file bytes rest len keeps =
     let again = bytes_again count file bytes rest len in
     rw again (rw keeps refl)

@@ -7,7 +7,8 @@ use Rattle.std.proofs.lemmas.List.{append-nil, take_all, take_more, drop_more, t
 use Rattle.std.proofs.lemmas.List.Concat.{flat_map-cons}
 use Rattle.std.proofs.lemmas.Grind.{flat_map-append}
 use Rattle.std.specs.Prelude.{OnOk, OnErr}
-use Rattle.fs_image.specs.Adding.{AddsPrefix, Adds, CanBeWritten}
+use Rattle.fs_image.specs.Adding.{AddsPrefix}
+use Rattle.fs_image.specs.inside.Writing.{Adds, CanBeWritten}
 use Rattle.std.proofs.lemmas.List.Sums.{get_or-le-sum_by}
 use Rattle.std.proofs.lemmas.List.Elements.{All-get_or}
 use Rattle.kernel_core.specs.declared.tree.Tree.{Tree}

@@ -17,7 +17,7 @@ use Rattle.kernel_core.specs.declared.tree.Block.{Block}
 use Rattle.kernel_core.specs.declared.tree.DirEntry.{DirEntry}
 use Rattle.kernel_core.specs.FileContent.{IsBlock, block_size, greatest_size}
 use Rattle.kernel_core.specs.ValidTree.{IsName, IsEntry, AreEntries, AreBlocks, IsTarget, IsKind, block_limit, entry_limit, greatest_cookie, is_dots, is_no_name_byte}
-use Rattle.fs_image.specs.declared.refusal.Rule.TheVariants as rule
+use Rattle.fs_image.specs.declared.refusal.ImageRule.TheVariants as rule
 use Rattle.fs_image.specs.Text.{block_text, entry_text, kind_text}
 use Rattle.fs_image.specs.Reading.{◌>>=◌, number_at, number_by, bytes_by, many, rises, last_index, breaks_index, breaks_tail, block_at, file_at, last_cookie, breaks_cookie, is_taken, breaks_name, entry_at, dir_at, link_at}
 use Rattle.fs_image.proofs.FieldLaws.{IsBytes, Takes, Takes-then, bind_ok, ok_is, number_takes, number_again, number_kept, number_by_again, bytes_take, bytes_kept, bytes_by_again}

@@ -19,7 +19,7 @@ use Rattle.std.specs.Prelude.{IfOk, IfErr, OnOk}
 use Rattle.byteorder.specs.Endian.{big_bytes}
 use Rattle.fs_image.specs.Meaning.{meaning_of, failure_in, first_failure, Fails, Gives, IsCause}
 use Rattle.fs_image.proofs.FieldLaws.{IsBytes, bind_ok, ok_is}
-use Rattle.fs_image.specs.Valid.{AreNodes, IsRead}
+use Rattle.fs_image.specs.inside.Valid.{AreNodes, IsRead}
 use Rattle.fs_image.proofs.NodeLaws.{root_first, reading_takes, reading_again}
 use Rattle.fs_image.proofs.NamingLaws.{naming-sound, naming-complete}
 

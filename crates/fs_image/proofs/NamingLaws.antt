@@ -9,7 +9,7 @@ use Rattle.kernel_core.specs.declared.tree.Tree.{Tree}
 use Rattle.kernel_core.specs.declared.tree.Node.{Node}
 use Rattle.kernel_core.specs.declared.tree.DirEntry.{DirEntry}
 use Rattle.kernel_core.specs.ValidTree.{IsValidTree, root, is_dir, entries_of, numbers, times_named, IsNamedRightly, IsReached}
-use Rattle.fs_image.specs.declared.refusal.Rule.TheVariants as rule
+use Rattle.fs_image.specs.declared.refusal.ImageRule.TheVariants as rule
 use Rattle.fs_image.specs.declared.refusal.ImageRefusal.{ImageRefusal}
 use Rattle.fs_image.specs.Refusal.{refused, first_of}
 use Rattle.fs_image.specs.Text.{entry_text, head_text, node_text}

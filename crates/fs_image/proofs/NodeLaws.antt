@@ -22,10 +22,10 @@ use Rattle.kernel_core.specs.declared.tree.Kind.{Kind}
 use Rattle.kernel_core.specs.declared.tree.Kind.TheVariants.{File, Dir, Link}
 use Rattle.kernel_core.specs.declared.tree.DirEntry.{DirEntry}
 use Rattle.kernel_core.specs.ValidTree.{IsKind, IsNode, node_limit, block_limit, entry_limit, greatest_number, greatest_mode, root, is_dir, entries_of, blocks_of, numbers, all_entries, all_blocks}
-use Rattle.fs_image.specs.declared.refusal.Rule.TheVariants as rule
+use Rattle.fs_image.specs.declared.refusal.ImageRule.TheVariants as rule
 use Rattle.fs_image.specs.Text.{magic, kind_number, kind_text, head_text, node_text, text_of}
 use Rattle.fs_image.specs.Reading.{◌>>=◌, number_at, number_by, bytes_by, many, rises, last_number, follows, breaks_number, breaks_kind, kind_at, node_at, whole, reading_of}
-use Rattle.fs_image.specs.Valid.{AreNodes, IsRead}
+use Rattle.fs_image.specs.inside.Valid.{AreNodes, IsRead}
 use Rattle.fs_image.proofs.FieldLaws.{IsBytes, Takes, Takes-then, bind_ok, ok_is, number_takes, number_again, number_kept, number_by_again, bytes_take, bytes_kept, bytes_by_again}
 use Rattle.fs_image.proofs.ManyLaws.{many_take, many_again}
 use Rattle.fs_image.proofs.KindLaws.{file_takes, file_again, dir_takes, dir_again, link_takes, link_again}

@@ -8,7 +8,7 @@ use Rattle.std.proofs.lemmas.List.Folds.{list_any-append}
 use Rattle.std.proofs.lemmas.List.{map-append}
 use denote.Ref.{Bor}
 use Rattle.kernel_core.specs.declared.tree.DirEntry.{DirEntry}
-use Rattle.fs_image.specs.Names.{has_name, AreNames}
+use Rattle.fs_image.specs.inside.Names.{has_name, AreNames}
 use Rattle.fs_image.specs.Reading.{is_taken}
 
 either : (a b : Bool) → cond a true b ≡ (a || b)

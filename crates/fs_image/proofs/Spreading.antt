@@ -14,7 +14,7 @@ use Rattle.kernel_core.specs.declared.tree.Node.{Node}
 use Rattle.kernel_core.specs.declared.tree.DirEntry.{DirEntry}
 use Rattle.kernel_core.specs.ValidTree.{root, entries_of, names_in, numbers, IsReached, IsReachedIn}
 use Rattle.fs_image.specs.Naming.{is_there, is_reached}
-use Rattle.fs_image.specs.Walk.{is_in, Spreads, AreUnreached}
+use Rattle.fs_image.specs.inside.Walk.{is_in, Spreads, AreUnreached}
 use Rattle.fs_image.proofs.Reaching.{true_any, is_reached-sound, is_reached-complete}
 
 -- one entry more names its number once more

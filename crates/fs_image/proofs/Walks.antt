@@ -3,12 +3,12 @@ use Rattle.std.proofs.Common.{◌≡◌, ℕ, ◌+◌, ◌<◌, ◌≤◌, Bool,
 use Rattle.std.specs.Prelude.{◌&&◌, not, Contains}
 use Rattle.std.specs.HashMap.{HashMap}
 use Rattle.std.specs.HashSet.{HashSet}
-use Rattle.fs_image.specs.Walk.{count_of, is_in, AreUnreached}
+use Rattle.fs_image.specs.inside.Walk.{count_of, is_in, AreUnreached}
 use Rattle.std.proofs.lemmas.List.{drop_all}
 use Rattle.kernel_core.specs.declared.tree.Node.{Node}
 use Rattle.kernel_core.specs.declared.tree.DirEntry.{DirEntry}
 use Rattle.kernel_core.specs.ValidTree.{entries_of, times_named}
-use Rattle.fs_image.specs.declared.refusal.Rule.TheVariants as rule
+use Rattle.fs_image.specs.declared.refusal.ImageRule.TheVariants as rule
 use Rattle.fs_image.specs.declared.refusal.ImageRefusal.{ImageRefusal}
 use Rattle.fs_image.specs.Refusal.{refused, first_of}
 use Rattle.fs_image.specs.Text.{entry_text, head_text, node_text}

@@ -1,7 +1,5 @@
--- What a call adds to bytes that it writes to: all of a text, or, where memory runs out, a prefix of it.
-use Rattle.std.specs.Prelude.{◌≡◌, ◌≤◌, ℕ, List, ◌++◌, length, Result, Ok, Err}
-use Rattle.kernel_core.specs.declared.tree.Node.{Node}
-use Rattle.kernel_core.specs.ValidTree.{IsNode, block_limit, entry_limit, blocks_of, entries_of}
+-- What a call adds to bytes that it writes to where memory runs out.
+use Rattle.std.specs.Prelude.{◌≡◌, ℕ, List, ◌++◌}
 
 -- a prefix of the text was added
 pub record AddsPrefix (text old new : List ℕ) : Type 0 where
@@ -9,13 +7,3 @@ pub record AddsPrefix (text old new : List ℕ) : Type 0 where
   pub missing : List ℕ
   pub gained : new ≡ old ++ added
   pub parts : text ≡ added ++ missing
-
-abbrev pub Adds : {A E : Type 0} → List ℕ → Result A E → List ℕ → List ℕ → Type 0
-Adds text (Ok done) old new = new ≡ old ++ text
-Adds text (Err error) old new = AddsPrefix text old new
-
--- a node that is valid, and whose counts are within the limits of a tree
-pub record CanBeWritten (node : Node) : Type 0 where
-  pub valid : IsNode node
-  pub blocks : length (blocks_of node.kind) ≤ block_limit
-  pub entries : length (entries_of node.kind) ≤ entry_limit

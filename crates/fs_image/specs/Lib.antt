@@ -1,10 +1,7 @@
+pub mod Adding
+pub mod Meaning
+pub mod Naming
+pub mod Reading
 pub mod Refusal
 pub mod Text
-pub mod Kinds
-pub mod Reading
-pub mod Naming
-pub mod Names
-pub mod Adding
-pub mod Valid
-pub mod Walk
-pub mod Meaning
+pub mod inside

@@ -14,8 +14,8 @@ use Rattle.kernel_core.specs.declared.tree.Block.{Block}
 use Rattle.kernel_core.specs.declared.tree.DirEntry.{DirEntry}
 use Rattle.kernel_core.specs.FileContent.{block_size, greatest_size}
 use Rattle.kernel_core.specs.ValidTree.{node_limit, block_limit, entry_limit, greatest_number, greatest_cookie, greatest_mode, root, is_dots, is_no_name_byte, all_blocks, all_entries}
-use Rattle.fs_image.specs.declared.refusal.Rule.{Rule}
-use Rattle.fs_image.specs.declared.refusal.Rule.TheVariants as rule
+use Rattle.fs_image.specs.declared.refusal.ImageRule.{ImageRule}
+use Rattle.fs_image.specs.declared.refusal.ImageRule.TheVariants as rule
 use Rattle.fs_image.specs.declared.refusal.ImageRefusal.{ImageRefusal}
 use Rattle.fs_image.specs.Refusal.{refused}
 use Rattle.fs_image.specs.Text.{magic}
@@ -42,13 +42,13 @@ number_at width file rest =
     if nat_lt (length rest) width then Err (refused rule.Short file) else Ok (big_number width rest, drop width rest)
 
 -- a number of which a rule is kept
-abbrev pub number_by : Rule → (ℕ → Bool) → ℕ → ℕ → List ℕ → Result (ℕ × List ℕ) ImageRefusal
+abbrev pub number_by : ImageRule → (ℕ → Bool) → ℕ → ℕ → List ℕ → Result (ℕ × List ℕ) ImageRefusal
 number_by broken breaks width file rest = do
   number ← number_at width file rest
   if breaks number.0 then Err (refused broken (place file rest)) else Ok number
 
 -- bytes of which a rule is kept
-abbrev pub bytes_by : Rule → (List ℕ → Bool) → ℕ → ℕ → List ℕ → Result (List ℕ × List ℕ) ImageRefusal
+abbrev pub bytes_by : ImageRule → (List ℕ → Bool) → ℕ → ℕ → List ℕ → Result (List ℕ × List ℕ) ImageRefusal
 bytes_by broken breaks count file rest = do
   bytes ← bytes_at count file rest
   if breaks bytes.0 then Err (refused broken (place file rest)) else Ok bytes

@@ -1,28 +1,28 @@
 -- The rules of an image by their numbers, and what a refusal says. Rules and numbers are this project's own.
 use Rattle.std.specs.Prelude.{ℕ, Option, Some, None, Result, Ok, Err}
-use Rattle.fs_image.specs.declared.refusal.Rule.{Rule}
-use Rattle.fs_image.specs.declared.refusal.Rule.TheVariants as rule
+use Rattle.fs_image.specs.declared.refusal.ImageRule.{ImageRule}
+use Rattle.fs_image.specs.declared.refusal.ImageRule.TheVariants as rule
 use Rattle.fs_image.specs.declared.refusal.ImageRefusal.{ImageRefusal}
 
-abbrev pub number_of : Rule → ℕ
-number_of rule.Short = 1
-number_of rule.Magic = 2
-number_of rule.Count = 3
-number_of rule.Number = 4
-number_of rule.Kind = 5
-number_of rule.Mode = 6
-number_of rule.Size = 7
-number_of rule.Tail = 8
-number_of rule.Cookie = 9
-number_of rule.Name = 10
-number_of rule.Target = 11
-number_of rule.Tree = 12
-number_of rule.Limit = 13
-number_of rule.Rest = 14
+abbrev pub image_rule_number : ImageRule → ℕ
+image_rule_number rule.Short = 1
+image_rule_number rule.Magic = 2
+image_rule_number rule.Count = 3
+image_rule_number rule.Number = 4
+image_rule_number rule.Kind = 5
+image_rule_number rule.Mode = 6
+image_rule_number rule.Size = 7
+image_rule_number rule.Tail = 8
+image_rule_number rule.Cookie = 9
+image_rule_number rule.Name = 10
+image_rule_number rule.Target = 11
+image_rule_number rule.Tree = 12
+image_rule_number rule.Limit = 13
+image_rule_number rule.Rest = 14
 
 -- a rule that is broken, with the offset of what breaks it
-abbrev pub refused : Rule → ℕ → ImageRefusal
-refused broken at = record { rule = number_of broken; at = at }
+abbrev pub refused : ImageRule → ℕ → ImageRefusal
+refused broken at = record { rule = image_rule_number broken; at = at }
 
 -- a value, unless a rule is broken
 abbrev pub unless : {A : Type 0} → Option ImageRefusal → A → Result A ImageRefusal

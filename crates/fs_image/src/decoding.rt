@@ -22,7 +22,7 @@ fn decoded(alloc: Global, bytes: &[u8]) -> Result<Tree, ImageError>
     }
 }
 
-/// The tree whose text the bytes are, or the first rule that fails ([`crate::Rule`]) with its
+/// The tree whose text the bytes are, or the first rule that fails ([`crate::ImageRule`]) with its
 /// offset.
 ///
 /// The bytes are those of a whole file, of any length. `Refused` comes exactly where a rule fails.

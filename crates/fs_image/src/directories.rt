@@ -3,12 +3,12 @@ ghost use Rattle.std.specs.Prelude.{◌≡◌, ◌≤◌, ◌^◌, ◌==◌, [],
 ghost use Rattle.std.specs.List.{list_any};
 ghost use Rattle.kernel_core.specs.ValidTree.{is_dots, is_no_name_byte};
 ghost use Rattle.fs_image.specs.Reading.{last_cookie, breaks_cookie, breaks_name, entry_at, many, dir_at, link_at};
-ghost use Rattle.fs_image.specs.Names.{AreNames};
+ghost use Rattle.fs_image.specs.inside.Names.{AreNames};
 ghost use Rattle.fs_image.specs.Meaning.{GivesBy};
 
 use crate::fields::{bytes_at, place, refused, rises, u8_at, u16_at, u32_at, u64_at};
 use crate::names::take_name;
-use crate::refusal::{ImageError, Rule};
+use crate::refusal::{ImageError, ImageRule};
 use kernel_core::limits::{ENTRY_LIMIT, GREATEST_COOKIE, LONGEST_TARGET};
 use kernel_core::{Bytes, DirEntry, Items, Kind};
 use std::alloc::{AllocError, Global};
@@ -82,17 +82,17 @@ fn entry_at<'a>(
     let at = place(file, rest);
     let (cookie, rest) = u32_at(file, rest)?;
     if breaks_cookie(last_cookie(before), cookie) {
-        return Err(refused(Rule::Cookie, at));
+        return Err(refused(ImageRule::Cookie, at));
     }
     let at = place(file, rest);
     let (count, rest) = u8_at(file, rest)?;
     if count == 0 {
-        return Err(refused(Rule::Name, at));
+        return Err(refused(ImageRule::Name, at));
     }
     let at = place(file, rest);
     let (name, rest) = bytes_at(file, usize::from(count), rest)?;
     if breaks_name(before, names, name)? {
-        return Err(refused(Rule::Name, at));
+        return Err(refused(ImageRule::Name, at));
     }
     let (node, rest) = u64_at(file, rest)?;
     let name = Bytes::from(Vec::from_slice(alloc, name)?);
@@ -133,7 +133,7 @@ pub(crate) fn dir_at<'a>(
     let at = place(file, rest);
     let (count, rest) = u32_at(file, rest)?;
     if entries + u64::from(count) > u64::from(ENTRY_LIMIT) {
-        return Err(refused(Rule::Limit, at));
+        return Err(refused(ImageRule::Limit, at));
     }
     let (held, rest) = entries_at(alloc, count, file, rest)?;
     let entries = Items::from(held);
@@ -148,12 +148,12 @@ pub(crate) fn link_at(alloc: Global, file: u64, rest: &[u8]) -> Result<(Kind, &[
     let at = place(file, rest);
     let (count, rest) = u16_at(file, rest)?;
     if count == 0 || usize::from(count) > LONGEST_TARGET {
-        return Err(refused(Rule::Name, at));
+        return Err(refused(ImageRule::Name, at));
     }
     let at = place(file, rest);
     let (target, rest) = bytes_at(file, usize::from(count), rest)?;
     if has_nul(target) {
-        return Err(refused(Rule::Name, at));
+        return Err(refused(ImageRule::Name, at));
     }
     let target = Bytes::from(Vec::from_slice(alloc, target)?);
     Ok((Kind::Link { target }, rest))

@@ -7,7 +7,7 @@ ghost use Rattle.fs_image.specs.Refusal.{refused};
 ghost use Rattle.fs_image.specs.Reading.{place, rises, bytes_at, number_at};
 ghost use Rattle.fs_image.specs.Meaning.{GivesBy};
 
-use crate::refusal::{ImageError, ImageRefusal, Rule};
+use crate::refusal::{ImageError, ImageRefusal, ImageRule};
 use byteorder::{BigEndian, ByteOrder};
 
 /// The offset of what is left.
@@ -18,7 +18,7 @@ pub(crate) fn place(file: u64, rest: &[u8]) -> u64
 }
 
 /// The error for a rule that fails at an offset.
-pub(crate) fn refused(rule: Rule, at: u64) -> ImageError
+pub(crate) fn refused(rule: ImageRule, at: u64) -> ImageError
     ensures { result ≡ ImageError.Refused (refused rule at) }
 {
     ImageError::Refused(ImageRefusal::new(rule, at))
@@ -39,7 +39,7 @@ pub(crate) fn bytes_at(file: u64, count: usize, rest: &[u8]) -> Result<(&[u8], &
     ensures { GivesBy (λ x. (x.0.now, x.1.now)) result (bytes_at count file rest.now) }
 {
     if rest.len() < count {
-        return Err(refused(Rule::Short, file));
+        return Err(refused(ImageRule::Short, file));
     }
     let (bytes, rest) = rest.split_at(count);
     Ok((bytes, rest))

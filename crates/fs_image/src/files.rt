@@ -5,7 +5,7 @@ ghost use Rattle.fs_image.specs.Reading.{last_index, breaks_index, breaks_tail, 
 ghost use Rattle.fs_image.specs.Meaning.{GivesBy};
 
 use crate::fields::{bytes_at, place, refused, rises, u32_at, u64_at};
-use crate::refusal::{ImageError, Rule};
+use crate::refusal::{ImageError, ImageRule};
 use kernel_core::limits::{BLOCK_LIMIT, BLOCK_SIZE, GREATEST_SIZE};
 use kernel_core::{Block, Bytes, Items, Kind};
 use std::alloc::Global;
@@ -53,12 +53,12 @@ fn block_at<'a>(
     let at = place(file, rest);
     let (index, rest) = u32_at(file, rest)?;
     if breaks_index(size, last_index(before), index) {
-        return Err(refused(Rule::Size, at));
+        return Err(refused(ImageRule::Size, at));
     }
     let at = place(file, rest);
     let (bytes, rest) = bytes_at(file, BLOCK_SIZE, rest)?;
     if breaks_tail(size, index, bytes) {
-        return Err(refused(Rule::Tail, at));
+        return Err(refused(ImageRule::Tail, at));
     }
     let bytes = Bytes::from(Vec::from_slice(alloc, bytes)?);
     Ok((Block { index, bytes }, rest))
@@ -97,12 +97,12 @@ pub(crate) fn file_at<'a>(
     let at = place(file, rest);
     let (size, rest) = u64_at(file, rest)?;
     if size > GREATEST_SIZE {
-        return Err(refused(Rule::Size, at));
+        return Err(refused(ImageRule::Size, at));
     }
     let at = place(file, rest);
     let (count, rest) = u32_at(file, rest)?;
     if blocks + u64::from(count) > u64::from(BLOCK_LIMIT) {
-        return Err(refused(Rule::Limit, at));
+        return Err(refused(ImageRule::Limit, at));
     }
     let (kept, rest) = blocks_at(alloc, count, size, file, rest)?;
     let blocks = Items::from(kept);

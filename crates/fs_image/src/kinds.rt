@@ -14,7 +14,7 @@ pub(crate) enum KindCode {
 }
 
 impl KindCode {
-    ghost use Rattle.fs_image.specs.Kinds.{code_number};
+    ghost use Rattle.fs_image.specs.inside.Kinds.{code_number};
 
     /// The kind of a number; none for one that is unknown.
     pub(crate) fn of_number(number: u8) -> Option<KindCode>

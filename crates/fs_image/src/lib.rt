@@ -17,8 +17,7 @@ mod walk;
 mod writing;
 
 pub use decoding::{decode, text_is_accepted, text_is_of_one_tree};
-pub use kernel_core::NoMemory;
-pub use refusal::{ImageError, ImageRefusal, Rule};
+pub use refusal::{ImageError, ImageRefusal, ImageRule};
 pub use writing::encode;
 
 #[cfg(test)]

@@ -1,7 +1,7 @@
 //! The names of a directory that is being read.
 ghost use Rattle.std.specs.Prelude.{◌≡◌, ℕ, List, not, ◌||◌, IfOk, OnOk};
 ghost use Rattle.std.specs.Str.{bytes_eq};
-ghost use Rattle.fs_image.specs.Names.{has_name};
+ghost use Rattle.fs_image.specs.inside.Names.{has_name};
 
 use std::alloc::AllocError;
 use std::collections::HashSet;

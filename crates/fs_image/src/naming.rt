@@ -7,13 +7,14 @@ ghost use Rattle.kernel_core.specs.declared.tree.Node.{Node};
 ghost use Rattle.kernel_core.specs.ValidTree.{numbers, IsKind, times_named, names_in, root};
 ghost use Rattle.fs_image.specs.Text.{entry_text, node_text};
 ghost use Rattle.fs_image.specs.Naming.{lost_entry, lost_target, is_named_rightly, stray_node, naming_failure};
-ghost use Rattle.fs_image.specs.Walk.{count_of, is_in, AreUnreached};
-ghost use Rattle.fs_image.specs.Valid.{IsRead};
+ghost use Rattle.fs_image.specs.inside.Walk.{count_of, is_in, AreUnreached};
+ghost use Rattle.fs_image.specs.inside.Valid.{IsRead};
 
-use crate::nodes::{MAGIC, ROOT};
-use crate::numbers::{COUNT_LEN, DIR_FRONT_LEN, entries_of, entry_len, node_len, place_of};
-use crate::refusal::{ImageRefusal, Rule};
+use crate::nodes::MAGIC;
+use crate::numbers::{COUNT_LEN, DIR_FRONT_LEN, entry_len, node_len, place_of};
+use crate::refusal::{ImageRefusal, ImageRule};
 use crate::walk::{count_names, unreached};
+use kernel_core::limits::ROOT_NUMBER;
 use kernel_core::{DirEntry, Kind, Node, Tree};
 use std::alloc::{AllocError, Global};
 use std::collections::{HashMap, HashSet};
@@ -31,7 +32,7 @@ fn lost_entry(nodes: &[Node], start: u64, entries: &[DirEntry]) -> Option<ImageR
     let mut place = start;
     for entry in entries {
         if place_of(nodes, entry.node).is_none() {
-            return Some(ImageRefusal::new(Rule::Target, place));
+            return Some(ImageRefusal::new(ImageRule::Target, place));
         }
         place += entry_len(entry);
     }
@@ -47,7 +48,7 @@ fn lost_target(nodes: &[Node]) -> Option<ImageRefusal>
 {
     let mut place = FIRST_NODE;
     for node in nodes {
-        let entries = entries_of(&node.kind);
+        let entries = node.kind.entries();
         if let Some(refusal) = lost_entry(nodes, place + DIR_FRONT_LEN, entries) {
             return Some(refusal);
         }
@@ -60,7 +61,7 @@ fn lost_target(nodes: &[Node]) -> Option<ImageRefusal>
 fn is_named_rightly(times: u64, node: &Node) -> bool
     ensures { result ≡ is_named_rightly times node.now }
 {
-    if node.number == ROOT {
+    if node.number == ROOT_NUMBER {
         return times == 0;
     }
     match &node.kind {
@@ -79,7 +80,7 @@ fn is_in_tree(node: &Node, counts: &HashMap<u64, u64>, unreached: &HashSet<u64>)
     is_named_rightly(times, node) && !unreached.contains(&node.number)
 }
 
-/// The first node that breaks [`Rule::Tree`], by how often each number is named and which numbers
+/// The first node that breaks [`ImageRule::Tree`], by how often each number is named and which numbers
 /// are not reached.
 fn stray_node(
     nodes: &[Node],
@@ -95,14 +96,14 @@ fn stray_node(
     let mut place = FIRST_NODE;
     for node in nodes {
         if !is_in_tree(node, counts, unreached) {
-            return Some(ImageRefusal::new(Rule::Tree, place));
+            return Some(ImageRefusal::new(ImageRule::Tree, place));
         }
         place += node_len(node);
     }
     None
 }
 
-/// The first failure of [`Rule::Target`] in a tree, and then of [`Rule::Tree`], with its offset in
+/// The first failure of [`ImageRule::Target`] in a tree, and then of [`ImageRule::Tree`], with its offset in
 /// the tree's text. Costs by the nodes and entries, and takes memory by the nodes and gives it back.
 pub(crate) fn naming_failure(alloc: Global, tree: &Tree) -> Result<Option<ImageRefusal>, AllocError>
     requires read { IsRead tree.now }

@@ -2,29 +2,20 @@
 ghost use Rattle.std.specs.Prelude.{◌≡◌, ◌≤◌, ◌<◌, ◌+◌, ◌^◌, [], length, IfSome, is_none};
 ghost use Rattle.kernel_core.specs.ValidTree.{all_blocks, all_entries, blocks_of, entries_of};
 ghost use Rattle.fs_image.specs.Reading.{last_number, breaks_number, breaks_kind, kind_at, node_at, many, reading_of};
-ghost use Rattle.fs_image.specs.Kinds.{code_number};
+ghost use Rattle.fs_image.specs.inside.Kinds.{code_number};
 ghost use Rattle.fs_image.specs.Meaning.{GivesBy, Gives};
 
 use crate::directories::{dir_at, link_at};
 use crate::fields::{bytes_at, place, refused, u8_at, u16_at, u32_at, u64_at};
 use crate::files::file_at;
 use crate::kinds::KindCode;
-use crate::refusal::{ImageError, Rule};
-use kernel_core::limits::NODE_LIMIT;
+use crate::refusal::{ImageError, ImageRule};
+use kernel_core::limits::{GREATEST_MODE, GREATEST_NUMBER, NODE_LIMIT, ROOT_NUMBER};
 use kernel_core::{Items, Kind, Node, Tree};
 use std::alloc::Global;
 
 /// The first eight bytes of an image.
 pub(crate) const MAGIC: [u8; 8] = *b"O32IMG1\n";
-
-/// The number of the root.
-pub(crate) const ROOT: u64 = 1;
-
-/// The greatest number of a node, 2^63 - 1.
-const GREATEST_NUMBER: u64 = 0x7FFF_FFFF_FFFF_FFFF;
-
-/// The greatest mode, 07777.
-const GREATEST_MODE: u16 = 0o7777;
 
 fn last_number(nodes: &[Node]) -> Option<u64>
     ensures { result ≡ last_number nodes.now }
@@ -38,7 +29,7 @@ fn breaks_number(before: Option<u64>, number: u64) -> bool
 {
     let follows = match before {
         Some(before) => before < number,
-        None => number == ROOT,
+        None => number == ROOT_NUMBER,
     };
     !follows || number > GREATEST_NUMBER
 }
@@ -49,7 +40,7 @@ fn kind_of_front(number: u64, code: u8) -> Option<KindCode>
     ensures kind { IfSome result (λ kind. code_number kind ≡ code) }
 {
     match KindCode::of_number(code) {
-        Some(kind) if number != ROOT || matches!(kind, KindCode::Dir) => Some(kind),
+        Some(kind) if number != ROOT_NUMBER || matches!(kind, KindCode::Dir) => Some(kind),
         _ => None,
     }
 }
@@ -98,17 +89,17 @@ fn node_at<'a>(
     let at = place(file, rest);
     let (number, rest) = u64_at(file, rest)?;
     if breaks_number(last_number(before), number) {
-        return Err(refused(Rule::Number, at));
+        return Err(refused(ImageRule::Number, at));
     }
     let at = place(file, rest);
     let (code, rest) = u8_at(file, rest)?;
     let Some(kind) = kind_of_front(number, code) else {
-        return Err(refused(Rule::Kind, at));
+        return Err(refused(ImageRule::Kind, at));
     };
     let at = place(file, rest);
     let (mode, rest) = u16_at(file, rest)?;
     if mode > GREATEST_MODE {
-        return Err(refused(Rule::Mode, at));
+        return Err(refused(ImageRule::Mode, at));
     }
     let (mtime, rest) = u64_at(file, rest)?;
     let (kind, rest) = kind_at(alloc, kind, totals, file, rest)?;
@@ -173,16 +164,16 @@ pub(crate) fn read(alloc: Global, bytes: &[u8]) -> Result<Tree, ImageError>
     let file = bytes.len() as u64;
     let (magic, rest) = bytes_at(file, MAGIC.len(), bytes)?;
     if magic != MAGIC.as_slice() {
-        return Err(refused(Rule::Magic, 0));
+        return Err(refused(ImageRule::Magic, 0));
     }
     let at = place(file, rest);
     let (count, rest) = u32_at(file, rest)?;
     if count == 0 || count > NODE_LIMIT {
-        return Err(refused(Rule::Count, at));
+        return Err(refused(ImageRule::Count, at));
     }
     let (nodes, rest) = nodes_at(alloc, count, file, rest)?;
     if !rest.is_empty() {
-        return Err(refused(Rule::Rest, place(file, rest)));
+        return Err(refused(ImageRule::Rest, place(file, rest)));
     }
     Ok(Tree {
         nodes: Items::from(nodes),

@@ -5,7 +5,7 @@ ghost use Rattle.std.specs.List.Sorted.{IsStrictlySortedBy};
 ghost use Rattle.std.specs.Ordering.{nat_cmp};
 ghost use Rattle.kernel_core.specs.declared.tree.DirEntry.{DirEntry};
 ghost use Rattle.kernel_core.specs.declared.tree.Node.{Node};
-ghost use Rattle.kernel_core.specs.ValidTree.{numbers, entries_of, IsKind};
+ghost use Rattle.kernel_core.specs.ValidTree.{numbers, IsKind};
 ghost use Rattle.fs_image.specs.Text.{block_text, entry_text, node_text};
 ghost use Rattle.fs_image.specs.Naming.{is_there};
 
@@ -44,17 +44,6 @@ pub(crate) fn place_of(nodes: &[Node], number: u64) -> Option<usize>
     match nodes.binary_search_by_key(&number, |node| node.number) {
         Ok(at) => Some(at),
         Err(_) => None,
-    }
-}
-
-/// The entries of a directory, and none of another kind.
-pub(crate) fn entries_of(kind: &Kind) -> &[DirEntry]
-    ensures { result.now ≡ entries_of kind.now }
-{
-    match kind {
-        Kind::Dir { entries } => entries.as_slice(),
-        Kind::File { .. } => &[],
-        Kind::Link { .. } => &[],
     }
 }
 

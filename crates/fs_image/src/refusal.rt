@@ -9,7 +9,7 @@ use thiserror::Error;
 /// `Target` and then `Tree` come after all others, over the whole tree. (The rules are this
 /// project's own.)
 #[derive(Clone, Copy)]
-pub enum Rule {
+pub enum ImageRule {
     /// The bytes end inside a field.
     Short = 1,
     /// The first eight bytes are not those of this format.
@@ -42,18 +42,18 @@ pub enum Rule {
     Rest = 14,
 }
 
-impl Rule {
-    ghost use Rattle.fs_image.specs.Refusal.{number_of};
+impl ImageRule {
+    ghost use Rattle.fs_image.specs.Refusal.{image_rule_number};
 
     /// The number that a refusal shows, 1 to 14.
     pub fn number(self) -> u8
-        ensures { result ≡ number_of self }
+        ensures { result ≡ image_rule_number self }
     {
         self as u8
     }
 }
 
-/// The first rule that fails, by its number ([`Rule`]), and the offset in bytes of the field that
+/// The first rule that fails, by its number ([`ImageRule`]), and the offset in bytes of the field that
 /// breaks it: for `Short` the file's length, for `Tail` the block's 4096 bytes, for `Name` the
 /// length where that is 0 or too great, else the name or the target, for `Target` the entry, for
 /// `Tree` the node, for `Rest` the first byte that follows.
@@ -67,7 +67,7 @@ impl ImageRefusal {
     ghost use Rattle.fs_image.specs.Refusal.{refused};
 
     /// The refusal by a rule that fails at an offset.
-    pub(crate) fn new(rule: Rule, at: u64) -> ImageRefusal
+    pub(crate) fn new(rule: ImageRule, at: u64) -> ImageRefusal
         ensures { result ≡ refused rule at }
     {
         ImageRefusal {

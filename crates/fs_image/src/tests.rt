@@ -1,5 +1,5 @@
 //! Small images: what each rule refuses and where, and what is read and written.
-use crate::{ImageError, ImageRefusal, Rule, decode, encode};
+use crate::{ImageError, ImageRefusal, ImageRule, decode, encode};
 use kernel_core::{Kind, Node};
 use std::alloc::{AllocError, Global};
 use std::test::Fail;
@@ -94,12 +94,12 @@ fn refusal_of(alloc: Global, bytes: &[u8]) -> Result<Option<ImageRefusal>, Fail>
 }
 
 /// The refusal by a rule at an offset.
-fn refused(rule: Rule, at: u64) -> Option<ImageRefusal> {
+fn refused(rule: ImageRule, at: u64) -> Option<ImageRefusal> {
     Some(ImageRefusal::new(rule, at))
 }
 
 /// Bytes of [`image`] that are changed, by their places; the rule that fails then, and its offset.
-type Row<'a> = (&'a [(usize, u8)], Rule, u64);
+type Row<'a> = (&'a [(usize, u8)], ImageRule, u64);
 
 /// The image with some bytes changed.
 fn changed(alloc: Global, changes: &[(usize, u8)]) -> Result<Vec<u8>, AllocError> {
@@ -126,20 +126,20 @@ fn first_wrong(alloc: Global, rows: &[Row<'_>]) -> Result<Option<usize>, Fail> {
 #[test]
 fn rules_have_the_numbers_1_to_14(rt: HostRuntime) -> Result<(), Fail> {
     let rules = [
-        Rule::Short,
-        Rule::Magic,
-        Rule::Count,
-        Rule::Number,
-        Rule::Kind,
-        Rule::Mode,
-        Rule::Size,
-        Rule::Tail,
-        Rule::Cookie,
-        Rule::Name,
-        Rule::Target,
-        Rule::Tree,
-        Rule::Limit,
-        Rule::Rest,
+        ImageRule::Short,
+        ImageRule::Magic,
+        ImageRule::Count,
+        ImageRule::Number,
+        ImageRule::Kind,
+        ImageRule::Mode,
+        ImageRule::Size,
+        ImageRule::Tail,
+        ImageRule::Cookie,
+        ImageRule::Name,
+        ImageRule::Target,
+        ImageRule::Tree,
+        ImageRule::Limit,
+        ImageRule::Rest,
     ];
     for (rule, number) in rules.into_iter().zip(1..=14) {
         assert_eq!(rt; rule.number(), number);
@@ -150,20 +150,20 @@ fn rules_have_the_numbers_1_to_14(rt: HostRuntime) -> Result<(), Fail> {
 #[test]
 fn refuses_fronts(rt: HostRuntime) -> Result<(), Fail> {
     let rows: [Row; 10] = [
-        (&[(0, b'o')], Rule::Magic, 0),
+        (&[(0, b'o')], ImageRule::Magic, 0),
         // No node, and 131,076 nodes.
-        (&[(11, 0)], Rule::Count, 8),
-        (&[(9, 2)], Rule::Count, 8),
+        (&[(11, 0)], ImageRule::Count, 8),
+        (&[(9, 2)], ImageRule::Count, 8),
         // Not 1 at first, equal to the one before, above 2^63 - 1.
-        (&[(19, 2)], Rule::Number, 12),
-        (&[(84, 1)], Rule::Number, 77),
-        (&[(77, 0x80)], Rule::Number, 77),
+        (&[(19, 2)], ImageRule::Number, 12),
+        (&[(84, 1)], ImageRule::Number, 77),
+        (&[(77, 0x80)], ImageRule::Number, 77),
         // The root a file, and kinds that are unknown.
-        (&[(20, 1)], Rule::Kind, 20),
-        (&[(85, 0)], Rule::Kind, 85),
-        (&[(85, 4)], Rule::Kind, 85),
+        (&[(20, 1)], ImageRule::Kind, 20),
+        (&[(85, 0)], ImageRule::Kind, 85),
+        (&[(85, 4)], ImageRule::Kind, 85),
         // A bit above the twelve.
-        (&[(21, 0x10)], Rule::Mode, 21),
+        (&[(21, 0x10)], ImageRule::Mode, 21),
     ];
     assert_eq!(rt; first_wrong(rt.alloc(), &rows)?, None);
     Ok(())
@@ -173,14 +173,14 @@ fn refuses_fronts(rt: HostRuntime) -> Result<(), Fail> {
 fn refuses_files(rt: HostRuntime) -> Result<(), Fail> {
     let rows: [Row; 6] = [
         // The size, an index past it, and a size at which the index is.
-        (&[(98, 0x20)], Rule::Size, 96),
-        (&[(111, 3)], Rule::Size, 108),
-        (&[(103, 0)], Rule::Size, 108),
+        (&[(98, 0x20)], ImageRule::Size, 96),
+        (&[(111, 3)], ImageRule::Size, 108),
+        (&[(103, 0)], ImageRule::Size, 108),
         // The first byte past the size, also where that is one less.
-        (&[(115, 1)], Rule::Tail, 112),
-        (&[(114, 1), (103, 2)], Rule::Tail, 112),
+        (&[(115, 1)], ImageRule::Tail, 112),
+        (&[(114, 1), (103, 2)], ImageRule::Tail, 112),
         // 131,073 blocks.
-        (&[(105, 2)], Rule::Limit, 104),
+        (&[(105, 2)], ImageRule::Limit, 104),
     ];
     assert_eq!(rt; first_wrong(rt.alloc(), &rows)?, None);
     Ok(())
@@ -190,22 +190,22 @@ fn refuses_files(rt: HostRuntime) -> Result<(), Fail> {
 fn refuses_directories_and_links(rt: HostRuntime) -> Result<(), Fail> {
     let rows: [Row; 13] = [
         // Below 3, equal to the one before, above 2^31 - 1.
-        (&[(38, 2)], Rule::Cookie, 35),
-        (&[(52, 3)], Rule::Cookie, 49),
-        (&[(35, 0x80)], Rule::Cookie, 35),
-        (&[(39, 0)], Rule::Name, 39),
-        (&[(40, b'/')], Rule::Name, 40),
-        (&[(40, 0)], Rule::Name, 40),
-        (&[(40, b'.')], Rule::Name, 40),
+        (&[(38, 2)], ImageRule::Cookie, 35),
+        (&[(52, 3)], ImageRule::Cookie, 49),
+        (&[(35, 0x80)], ImageRule::Cookie, 35),
+        (&[(39, 0)], ImageRule::Name, 39),
+        (&[(40, b'/')], ImageRule::Name, 40),
+        (&[(40, 0)], ImageRule::Name, 40),
+        (&[(40, b'.')], ImageRule::Name, 40),
         // A name twice stands at the second.
-        (&[(54, b'a')], Rule::Name, 54),
+        (&[(54, b'a')], ImageRule::Name, 54),
         // A target of no byte, of 4097 bytes, and with NUL.
-        (&[(4265, 0)], Rule::Name, 4264),
-        (&[(4264, 0x10)], Rule::Name, 4264),
-        (&[(4266, 0)], Rule::Name, 4266),
+        (&[(4265, 0)], ImageRule::Name, 4264),
+        (&[(4264, 0x10)], ImageRule::Name, 4264),
+        (&[(4266, 0)], ImageRule::Name, 4266),
         // 196,611 entries in the root, and 131,073 in the other directory.
-        (&[(32, 3)], Rule::Limit, 31),
-        (&[(4228, 2)], Rule::Limit, 4227),
+        (&[(32, 3)], ImageRule::Limit, 31),
+        (&[(4228, 2)], ImageRule::Limit, 4227),
     ];
     assert_eq!(rt; first_wrong(rt.alloc(), &rows)?, None);
     Ok(())
@@ -215,15 +215,15 @@ fn refuses_directories_and_links(rt: HostRuntime) -> Result<(), Fail> {
 fn refuses_trees(rt: HostRuntime) -> Result<(), Fail> {
     let rows: [Row; 7] = [
         // There is no node 9.
-        (&[(48, 9)], Rule::Target, 35),
-        (&[(4244, 9)], Rule::Target, 4231),
+        (&[(48, 9)], ImageRule::Target, 35),
+        (&[(4244, 9)], ImageRule::Target, 4231),
         // The root named, a directory named twice and not at all, a link not named, and a directory
         // that names itself alone.
-        (&[(48, 1)], Rule::Tree, 12),
-        (&[(48, 3)], Rule::Tree, 4208),
-        (&[(76, 2)], Rule::Tree, 4208),
-        (&[(4244, 2)], Rule::Tree, 4245),
-        (&[(76, 2), (4244, 3)], Rule::Tree, 4208),
+        (&[(48, 1)], ImageRule::Tree, 12),
+        (&[(48, 3)], ImageRule::Tree, 4208),
+        (&[(76, 2)], ImageRule::Tree, 4208),
+        (&[(4244, 2)], ImageRule::Tree, 4245),
+        (&[(76, 2), (4244, 3)], ImageRule::Tree, 4208),
     ];
     assert_eq!(rt; first_wrong(rt.alloc(), &rows)?, None);
     Ok(())
@@ -233,9 +233,9 @@ fn refuses_trees(rt: HostRuntime) -> Result<(), Fail> {
 fn looks_at_the_rules_in_order(rt: HostRuntime) -> Result<(), Fail> {
     let rows: [Row; 2] = [
         // A limit is met in reading, before the nodes of entries.
-        (&[(4228, 2), (48, 9)], Rule::Limit, 4227),
+        (&[(4228, 2), (48, 9)], ImageRule::Limit, 4227),
         // The nodes of entries come before the names of nodes.
-        (&[(48, 1), (4244, 9)], Rule::Target, 4231),
+        (&[(48, 1), (4244, 9)], ImageRule::Target, 4231),
     ];
     assert_eq!(rt; first_wrong(rt.alloc(), &rows)?, None);
     Ok(())
@@ -260,7 +260,7 @@ fn refuses_bytes_that_follow(rt: HostRuntime) -> Result<(), Fail> {
     bytes.push(0)?;
     assert_eq!(rt;
         refusal_of(alloc, bytes.as_slice())?,
-        refused(Rule::Rest, 35)
+        refused(ImageRule::Rest, 35)
     );
     Ok(())
 }
@@ -269,9 +269,9 @@ fn refuses_bytes_that_follow(rt: HostRuntime) -> Result<(), Fail> {
 fn a_short_file_is_short_before_it_is_of_another_format(rt: HostRuntime) -> Result<(), Fail> {
     let alloc = rt.alloc();
     let short = refusal_of(alloc, b"O32IMG2".as_slice())?;
-    assert_eq!(rt; short, refused(Rule::Short, 7));
+    assert_eq!(rt; short, refused(ImageRule::Short, 7));
     let other = refusal_of(alloc, b"O32IMG2\n".as_slice())?;
-    assert_eq!(rt; other, refused(Rule::Magic, 0));
+    assert_eq!(rt; other, refused(ImageRule::Magic, 0));
     Ok(())
 }
 
@@ -283,7 +283,7 @@ fn cut_anywhere_it_is_short(rt: HostRuntime) -> Result<(), Fail> {
         let cut = bytes.get(..length).ok_or("length")?;
         assert_eq!(rt;
             refusal_of(alloc, cut)?,
-            refused(Rule::Short, length as u64)
+            refused(ImageRule::Short, length as u64)
         );
     }
     Ok(())

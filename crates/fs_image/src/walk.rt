@@ -5,10 +5,10 @@ ghost use Rattle.std.specs.Ordering.{nat_cmp};
 ghost use Rattle.kernel_core.specs.declared.tree.Node.{Node};
 ghost use Rattle.kernel_core.specs.ValidTree.{numbers, names_in, times_named, all_entries, entry_limit, root};
 ghost use Rattle.fs_image.specs.Naming.{is_there};
-ghost use Rattle.fs_image.specs.Walk.{count_of, is_in, Spreads, AreUnreached};
+ghost use Rattle.fs_image.specs.inside.Walk.{count_of, is_in, Spreads, AreUnreached};
 
-use crate::nodes::ROOT;
-use crate::numbers::{entries_of, place_of};
+use crate::numbers::place_of;
+use kernel_core::limits::ROOT_NUMBER;
 use kernel_core::{DirEntry, Node};
 use std::alloc::{AllocError, Global};
 use std::collections::{HashMap, HashSet};
@@ -32,7 +32,7 @@ pub(crate) fn count_names(alloc: Global, nodes: &[Node]) -> Result<HashMap<u64, 
 {
     let mut counts = HashMap::new(alloc);
     for node in nodes {
-        count_entries(&mut counts, entries_of(&node.kind))?;
+        count_entries(&mut counts, node.kind.entries())?;
     }
     Ok(counts)
 }
@@ -71,12 +71,12 @@ pub(crate) fn unreached(alloc: Global, nodes: &[Node]) -> Result<HashSet<u64>, A
     ensures { IfOk result (AreUnreached nodes.now) }
 {
     let mut unreached = numbers_of(alloc, nodes)?;
-    unreached.remove(&ROOT);
+    unreached.remove(&ROOT_NUMBER);
     let mut stack = Vec::new(alloc);
-    stack.push(ROOT)?;
+    stack.push(ROOT_NUMBER)?;
     while let Some(number) = stack.pop() {
         if let Some(at) = place_of(nodes, number) {
-            spread(&mut unreached, &mut stack, entries_of(&nodes[at].kind))?;
+            spread(&mut unreached, &mut stack, nodes[at].kind.entries())?;
         }
     }
     Ok(unreached)

@@ -5,7 +5,8 @@ ghost use Rattle.std.specs.Int.{w64, cast_unsigned};
 ghost use Rattle.byteorder.specs.Endian.{big_bytes};
 ghost use Rattle.kernel_core.specs.ValidTree.{IsValidTree, IsKind, IsEntry, IsTarget, node_limit, block_limit, entry_limit, blocks_of, entries_of};
 ghost use Rattle.fs_image.specs.Text.{block_text, entry_text, kind_number, kind_text, head_text, node_text, text_of, tree_text, magic};
-ghost use Rattle.fs_image.specs.Adding.{Adds, AddsPrefix, CanBeWritten};
+ghost use Rattle.fs_image.specs.Adding.{AddsPrefix};
+ghost use Rattle.fs_image.specs.inside.Writing.{Adds, CanBeWritten};
 
 use crate::kinds::KindCode;
 use crate::nodes::MAGIC;

@@ -1,5 +1,5 @@
 use Rattle.std.proofs.Common.{◌≡◌, ◌-◌, []}
-use Rattle.fs_image.specs.Names.{AreNames}
+use Rattle.fs_image.specs.inside.Names.{AreNames}
 use Rattle.fs_image.specs.Reading.{entry_at, many}
 use Rattle.fs_image.proofs.directories.entries_at.Given as goal
 

@@ -6,7 +6,7 @@ use Rattle.kernel_core.specs.declared.tree.Node.{Node}
 use Rattle.std.specs.Prelude.{length, Ok}
 use Rattle.fs_image.specs.Reading.{node_at, many}
 use Rattle.fs_image.proofs.Loops.{many-next, many-fails, many-done}
-use Rattle.fs_image.specs.Valid.{AreNodes}
+use Rattle.fs_image.specs.inside.Valid.{AreNodes}
 use Rattle.fs_image.proofs.NodeLaws.{no_nodes, node_takes}
 use Rattle.fs_image.proofs.nodes.nodes_at.Goals as goal
 

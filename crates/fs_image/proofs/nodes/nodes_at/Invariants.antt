@@ -1,7 +1,7 @@
 use Rattle.std.proofs.Common.{◌≡◌, ◌-◌, []}
 use Rattle.kernel_core.specs.ValidTree.{all_blocks, all_entries}
 use Rattle.fs_image.specs.Reading.{node_at, many}
-use Rattle.fs_image.specs.Valid.{AreNodes}
+use Rattle.fs_image.specs.inside.Valid.{AreNodes}
 use Rattle.fs_image.proofs.FieldLaws.{IsBytes}
 use Rattle.fs_image.proofs.nodes.nodes_at.Given as goal
 

@@ -1,6 +1,6 @@
 use Rattle.std.proofs.Common.{◌≡◌, ℕ, ◌+◌, take}
 use Rattle.kernel_core.specs.ValidTree.{names_in}
-use Rattle.fs_image.specs.Walk.{count_of}
+use Rattle.fs_image.specs.inside.Walk.{count_of}
 use Rattle.fs_image.proofs.walk.count_entries.Given as goal
 
 abbrev pub invariant-loop-entry : goal.invariant-loop-entry

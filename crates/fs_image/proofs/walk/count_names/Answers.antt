@@ -13,5 +13,5 @@ count_entries-requires c = λ q.
     let node = c.node-item.result in
     let sums = sum_by_more_le_part (λ (n : Node). names_in (entries_of n.kind) q) (λ (n : Node). length (entries_of n.kind)) nodes i node c.loop-node-test.true
     (λ n. count_by-le-length (λ (e : DirEntry). e.node == q) (entries_of n.kind)) in
-    let len : length c.entries_of.result.now ≡ length (entries_of (get_or nodes i node).kind) = ap length c.entries_of.ensures ∙ ap (λ (n : Node). length (entries_of n.kind)) c.node-item.is in
+    let len : length c.entries.result.now ≡ length (entries_of (get_or nodes i node).kind) = ap length c.entries.ensures ∙ ap (λ (n : Node). length (entries_of n.kind)) c.node-item.is in
     omega (arith, sums, len, c.loop-node.invariant q, c.requires)

@@ -1,6 +1,6 @@
 use Rattle.std.proofs.Common.{◌≡◌, ◌+◌, false, sym, ◌∙◌, arith}
 use Rattle.std.specs.HashSet.{hash_set_len}
-use Rattle.fs_image.specs.Walk.{is_in}
+use Rattle.fs_image.specs.inside.Walk.{is_in}
 use Rattle.fs_image.proofs.Spreading.{spread_pushed, spread_kept}
 use Rattle.fs_image.proofs.walk.spread.Goals as goal
 use Rattle.fs_image.proofs.walk.spread.Goals.{then-remove+in_ok-push, else-remove}

@@ -1,5 +1,5 @@
 use Rattle.std.proofs.Common.{take}
-use Rattle.fs_image.specs.Walk.{Spreads}
+use Rattle.fs_image.specs.inside.Walk.{Spreads}
 use Rattle.fs_image.proofs.walk.spread.Given as goal
 
 abbrev pub invariant-loop-entry : goal.invariant-loop-entry

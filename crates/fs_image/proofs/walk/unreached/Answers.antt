@@ -3,7 +3,7 @@ use Rattle.std.specs.Prelude.{Contains}
 use Rattle.std.proofs.lemmas.List.{nil_from_length}
 use Rattle.kernel_core.specs.declared.tree.Node.{Node}
 use Rattle.kernel_core.specs.ValidTree.{root, entries_of}
-use Rattle.fs_image.specs.Walk.{Spreads}
+use Rattle.fs_image.specs.inside.Walk.{Spreads}
 use Rattle.fs_image.proofs.Spreading.{Walked, walked_start, walked_on, walked_past, walked_all}
 use Rattle.fs_image.proofs.walk.unreached.Goals as goal
 
@@ -18,7 +18,7 @@ loop-number-preserved-in-Continue-branch-3 c =
     let node = c.index-nodes-at.result in
     let there : Contains nodes node = (c.in-Some-place_of.at, c.in-Some-place_of.ensures.found.0, sym c.index-nodes-at.is) in
     let is : node.number ≡ c.in-Some.number = ap (λ (n : Node). n.number) c.index-nodes-at.is ∙ c.in-Some-place_of.ensures.found.1 node in
-    let entries : c.entries_of.result.now ≡ entries_of node.kind = c.entries_of.ensures ∙ ap (λ (n : Node). entries_of n.kind) (sym c.index-nodes-at.is) in
+    let entries : c.entries.result.now ≡ entries_of node.kind = c.entries.ensures ∙ ap (λ (n : Node). entries_of n.kind) (sym c.index-nodes-at.is) in
     let walked = subst (λ (s : List ℕ). Walked nodes c.loop-number.unreached s) c.in-Some.ensures.items c.loop-number.invariant in
     let spread = subst (λ es. Spreads es c.loop-number.unreached c.pop.new.self.items c.spread.new.unreached c.spread.new.stack.items) entries c.in_ok-spread.ensures in
     walked_on nodes c.loop-number.unreached c.pop.new.self.items c.in-Some.number node c.spread.new.unreached c.spread.new.stack.items c.requires.sorted walked there is spread

@@ -1,7 +1,7 @@
 use Rattle.std.proofs.Common.{List, ℕ, All, ap, subst, sym}
 use Rattle.kernel_core.specs.declared.tree.Node.{Node}
 use Rattle.fs_image.specs.Text.{tree_text, text_of}
-use Rattle.fs_image.specs.Adding.{CanBeWritten}
+use Rattle.fs_image.specs.inside.Writing.{CanBeWritten}
 use Rattle.fs_image.proofs.Gains.{can_be_written, adds_ok, adds_err}
 use Rattle.fs_image.proofs.writing.encode.Goals as goal
 

@@ -3,7 +3,7 @@ use Rattle.std.specs.Int.{w64, cast_unsigned}
 use Rattle.std.proofs.lemmas.Int.{to_z-of_z}
 use Rattle.byteorder.specs.Endian.{big_bytes}
 use Rattle.fs_image.specs.Text.{kind_number}
-use Rattle.fs_image.specs.Adding.{Adds}
+use Rattle.fs_image.specs.inside.Writing.{Adds}
 use Rattle.fs_image.proofs.Gains.{four_pieces, one_byte}
 use Rattle.fs_image.proofs.NodeLaws.{kind_small}
 use Rattle.fs_image.proofs.writing.put_head.Goals as goal
