@@ -3,7 +3,7 @@ use Rattle.std.proofs.Common.{◌≡◌, ◌≢◌, ℕ, ◌+◌, ◌-◌, ◌*�
 use Rattle.std.proofs.lemmas.List.{length-set, length-drop, get_or-drop, get_or-set_same, get_or_past, get_or-set_other, drop-set-add, drop-set-lt, drop-replicate}
 use Rattle.std.proofs.lemmas.Bool.{cases_eq}
 use Rattle.number_pool.specs.Places.{is_taken_at}
-use Rattle.number_pool.specs.Tree.{IsTree, IsMended, is_full_at, leaves}
+use Rattle.number_pool.specs.inside.Tree.{IsTree, IsMended, is_full_at, leaves}
 
 -- a tree whose nodes are mended but for one number
 pub record IsMendedBut (size : ℕ) (flags : List Bool) (but : ℕ) : Type 0 where

@@ -1,7 +1,7 @@
 use Rattle.std.proofs.Common.{◌≡◌, ℕ, ◌<◌, ◌^◌, ◌+◌, ◌-◌, ◌*◌, ◌%◌, subst, sym, arith}
 use Rattle.std.proofs.lemmas.Nat.{pow_pos, one_shl}
 use Rattle.number_pool.specs.Places.{IsLeastFree}
-use Rattle.number_pool.specs.Tree.{leaves}
+use Rattle.number_pool.specs.inside.Tree.{leaves}
 use Rattle.number_pool.proofs.Descent.{IsOnWay, all_taken, on_way_more, node_inner, small_power, least_free_on_way}
 use Rattle.number_pool.proofs.tree.least_free_leaf.Goals as goal
 use Rattle.number_pool.proofs.tree.least_free_leaf.Goals.{In-loop-level, After-loop-level}

@@ -1,5 +1,5 @@
 use Rattle.std.proofs.Common.{◌∙◌, ap}
-use Rattle.number_pool.specs.Tree.{leaves}
+use Rattle.number_pool.specs.inside.Tree.{leaves}
 use Rattle.number_pool.proofs.Mending.{leaves-replicate}
 use Rattle.number_pool.proofs.tree.new_tree.Goals as goal
 

@@ -1,5 +1,5 @@
 use Rattle.std.proofs.Common.{◌≡◌, ◌+◌, ◌/◌, ◌<◌, set}
-use Rattle.number_pool.specs.Tree.{leaves}
+use Rattle.number_pool.specs.inside.Tree.{leaves}
 use Rattle.number_pool.proofs.Mending.{IsMendedBut}
 use Rattle.number_pool.proofs.tree.set_leaf.Given as goal
 

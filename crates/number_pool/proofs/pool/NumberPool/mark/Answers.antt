@@ -1,6 +1,6 @@
 use Rattle.std.proofs.Common.{◌∙◌, ap, length, arith}
 use Rattle.std.proofs.lemmas.List.{with_items_is}
-use Rattle.number_pool.specs.Tree.{leaves}
+use Rattle.number_pool.specs.inside.Tree.{leaves}
 use Rattle.number_pool.proofs.Mending.{length-leaves}
 use Rattle.number_pool.proofs.pool.NumberPool.mark.Goals as goal
 
