@@ -16,10 +16,10 @@ both_right true b h = sym h
 both_right false b h = absurd (cc)
 
 -- the children of a full node are full
-full_left : (size : ℕ) (flags : List Bool) (node : ℕ) → IsTree size flags → 0 < node → node < size → is_full_at flags node ≡ true → is_full_at flags (2 * node) ≡ true
+pub full_left : (size : ℕ) (flags : List Bool) (node : ℕ) → IsTree size flags → 0 < node → node < size → is_full_at flags node ≡ true → is_full_at flags (2 * node) ≡ true
 full_left size flags node tree positive inner full = both_left _ _ (sym full ∙ tree.mended node positive inner)
 
-full_right : (size : ℕ) (flags : List Bool) (node : ℕ) → IsTree size flags → 0 < node → node < size → is_full_at flags node ≡ true → is_full_at flags (2 * node + 1) ≡ true
+pub full_right : (size : ℕ) (flags : List Bool) (node : ℕ) → IsTree size flags → 0 < node → node < size → is_full_at flags node ≡ true → is_full_at flags (2 * node + 1) ≡ true
 full_right size flags node tree positive inner full = both_right _ _ (sym full ∙ tree.mended node positive inner)
 
 -- a node is the left or the right child of its parent
@@ -97,7 +97,7 @@ least_free_on_way size flags node tree way = record {
   below = λ lower under. leaf_at size flags lower ∙ way.before (size + lower) (omega arith) (omega arith);
 }
 
-power_more : (k : ℕ) → 2 ^ (k + 1) ≡ 2 * 2 ^ k
+pub power_more : (k : ℕ) → 2 ^ (k + 1) ≡ 2 * 2 ^ k
 power_more k = omega (arith, pow-add 2 k 1)
 
 power_below : (k levels : ℕ) → k < levels → 2 ^ k + 2 ^ k ≤ 2 ^ levels

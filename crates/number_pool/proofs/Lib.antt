@@ -1,3 +1,4 @@
+pub mod Below
 pub mod Descent
 pub mod Mending
 pub mod Pigeonhole

@@ -1,8 +1,8 @@
 //! The pool of places as callers see it.
 ghost use Rattle.std.specs.Prelude.{◌≡◌, ◌<◌, true, false, length, IfOk, MatchOption, slice_set};
-ghost use Rattle.number_pool.specs.Places.{AreAllTaken, IsLeastFree, is_taken_at, none_taken};
+ghost use Rattle.number_pool.specs.Places.{AreAllTaken, AreTakenFrom, IsLeastFree, IsLeastFreeFrom, is_taken_at, none_taken};
 
-use crate::tree::{least_free_leaf, new_tree, set_leaf};
+use crate::tree::{least_free_below, least_free_leaf, new_tree, set_leaf};
 use kernel_core::NoMemory;
 use kernel_core::limits::NODE_LIMIT;
 use std::alloc::Global;
@@ -75,6 +75,20 @@ impl NumberPool {
         ensures whole { length self.now ≡ PLACES }
     {
         least_free_leaf(self.flags.as_slice(), LEVELS)
+    }
+
+    /// The least free place that is not below `from`, or None where every place from there on is taken.
+    /// Two steps for each of sixteen levels, no memory.
+    pub fn least_free_from(&self, from: u32) -> Option<u32>
+        ensures least { MatchOption result (AreTakenFrom self.now from) (IsLeastFreeFrom self.now from) }
+        ensures whole { length self.now ≡ PLACES }
+    {
+        let flags = self.flags.as_slice();
+        if from >= PLACES {
+            return None;
+        }
+        let leaf = least_free_below(flags, 1, LEVELS, PLACES + from)?;
+        Some(leaf - PLACES)
     }
 
     fn mark(&mut self, place: u32, taken: bool)

@@ -39,6 +39,27 @@ fn a_place_given_back_is_the_least_free_one(rt: HostRuntime) -> Result<(), Fail>
 }
 
 #[test]
+fn the_least_free_place_from_one_on(rt: HostRuntime) -> Result<(), Fail> {
+    let mut pool = empty_pool(rt.alloc())?;
+    for place in [0, 1, 2, 4, 7, 8, 65_535] {
+        pool.take(place);
+    }
+    for (from, least) in [
+        (0, Some(3)),
+        (3, Some(3)),
+        (4, Some(5)),
+        (7, Some(9)),
+        (65_534, Some(65_534)),
+        (65_535, None),
+        (65_536, None),
+        (u32::MAX, None),
+    ] {
+        assert_eq!(rt; pool.least_free_from(from), least, "from {from}");
+    }
+    Ok(())
+}
+
+#[test]
 fn a_full_pool_has_no_free_place(rt: HostRuntime) -> Result<(), Fail> {
     let mut pool = empty_pool(rt.alloc())?;
     for place in 0..PLACES {

@@ -3,9 +3,9 @@
 //! Node 1 is the root, and the children of node n are 2n and 2n + 1. With `size` leaves, a power of two,
 //! leaf p is node `size` + p. A leaf's flag says whether it is taken, an inner node's whether every leaf
 //! below it is. Entry 0 is not used.
-ghost use Rattle.std.specs.Prelude.{◌≡◌, ◌+◌, ◌*◌, ◌^◌, ◌<◌, ◌≤◌, ◌&&◌, false, length, IfOk, MatchOption, replicate, slice_set};
+ghost use Rattle.std.specs.Prelude.{◌≡◌, ◌+◌, ◌*◌, ◌/◌, ◌^◌, ◌<◌, ◌≤◌, ◌&&◌, false, length, IfOk, MatchOption, replicate, slice_set};
 ghost use Rattle.number_pool.specs.Places.{AreAllTaken, IsLeastFree};
-ghost use Rattle.number_pool.specs.inside.Tree.{IsTree, child_on_way, is_full_at, leaves};
+ghost use Rattle.number_pool.specs.inside.Tree.{AreFullFrom, IsLeastNode, IsTree, child_on_way, is_full_at, leaves};
 
 use std::alloc::{AllocError, Global};
 
@@ -67,4 +67,30 @@ fn first_free_child(flags: &[bool], node: u32) -> u32
 {
     let left = 2 * node;
     if flags[left as usize] { left + 1 } else { left }
+}
+
+/// The least free leaf below a node that is not below `from`. Leaves go by the numbers of their nodes, and
+/// `height` is how many levels below the node they stand. Of a part that is full, or below `from`, only the
+/// topmost node is looked at.
+pub(crate) fn least_free_below(flags: &[bool], node: u32, height: u32, from: u32) -> Option<u32>
+    requires tree { IsTree (length flags.now / 2) flags.now }
+    requires small { length flags.now ≤ 2 ^ 31 }
+    requires low { length flags.now / 2 ≤ node * 2 ^ height }
+    requires high { (node + 1) * 2 ^ height ≤ length flags.now }
+    requires height { height < 31 }
+    ensures { MatchOption result
+        (AreFullFrom flags.now (node * 2 ^ height) ((node + 1) * 2 ^ height) from)
+        (IsLeastNode flags.now (node * 2 ^ height) ((node + 1) * 2 ^ height) from) }
+{
+    let end = (node + 1) * (1 << height);
+    if end <= from || flags[node as usize] {
+        return None;
+    }
+    if height == 0 {
+        return Some(node);
+    }
+    match least_free_below(flags, 2 * node, height - 1, from) {
+        Some(leaf) => Some(leaf),
+        None => least_free_below(flags, 2 * node + 1, height - 1, from),
+    }
 }
