@@ -1,5 +1,5 @@
 -- The interval timer over two advances of the clock.
-use Rattle.std.proofs.Common.{◌≡◌, ℕ, zero, suc, ◌+◌, ◌-◌, ◌*◌, ◌/◌, ◌^◌, ◌<◌, ◌≤◌, ◌⊎◌, inl, inr, min, Bool, true, false, ◌&&◌, refl, sym, ◌∙◌, ap, subst, arith}
+use Rattle.std.proofs.Common.{◌≡◌, ℕ, zero, suc, ◌+◌, ◌-◌, ◌*◌, ◌/◌, ◌^◌, ◌<◌, ◌≤◌, Bool, true, false, ◌&&◌, refl, sym, ◌∙◌, ap, subst, arith}
 use Rattle.std.specs.Prelude.{Option, Some, None, unwrap_or, ◌==◌, nat_le, if◌then◌else◌}
 use Rattle.std.proofs.Math.Nat.{add-mul-div_left, div-mul-le_self, mul-add, mul_comm}
 use Rattle.std.proofs.lemmas.Nat.{div-mul-add}
@@ -75,17 +75,17 @@ module _ (first second : ℕ) (later : first ≤ second) (early : second ≤ 2 ^
   -- a timer with a period that went off, at the later time
   again_armed : (time period : ℕ) → (period == 0) ≡ false → time ≤ first
       → unwrap_or (gone_off second (armed_at (turn first time period) period)) (armed_at (turn first time period) period)
-        ≡ armed_at (turn second time period) period
+      ≡ armed_at (turn second time period) period
   unfolding armed_at
   again_armed time period e came = by (is_due second (capped (turn first time period))) refl where
     by : (d : Bool) → is_due second (capped (turn first time period)) ≡ d
         → unwrap_or (gone_off second (armed_at (turn first time period) period)) (armed_at (turn first time period) period)
-          ≡ armed_at (turn second time period) period
+        ≡ armed_at (turn second time period) period
     by true due =
         let facts = due_facts second (capped (turn first time period)) due in
         let same : capped (turn first time period) ≡ turn first time period = uncapped (turn first time period) facts.1 in
         let went : gone_off second (armed_at (turn first time period) period) ≡ Some (next_due second (capped (turn first time period)) period)
-            = ap (λ b. if b then Some (next_due second (capped (turn first time period)) period) else None) due in
+        = ap (λ b. if b then Some (next_due second (capped (turn first time period)) period) else None) due in
         ap (λ o. unwrap_or o (armed_at (turn first time period) period)) went
         ∙ next_is second (capped (turn first time period)) period e
         ∙ ap (λ n. armed_at (turn second n period) period) same
@@ -93,7 +93,7 @@ module _ (first second : ℕ) (later : first ≤ second) (early : second ≤ 2 ^
     by false none =
         let before : second < turn first time period = omega (arith, not_yet second (capped (turn first time period)) early none) in
         let went : gone_off second (armed_at (turn first time period) period) ≡ None
-            = ap (λ b. if b then Some (next_due second (capped (turn first time period)) period) else None) none in
+        = ap (λ b. if b then Some (next_due second (capped (turn first time period)) period) else None) none in
         ap (λ o. unwrap_or o (armed_at (turn first time period) period)) went
         ∙ ap (λ n. armed_at n period) (sym (turn_stays first second time period (positive period e) came later before))
 
@@ -104,7 +104,7 @@ module _ (first second : ℕ) (later : first ≤ second) (early : second ≤ 2 ^
         → unwrap_or (gone_off second (next_due first time period)) (next_due first time period) ≡ next_due second time period
     by true e =
         let none : (clock : ℕ) → next_due clock time period ≡ unarmed
-            = λ clock. ap (λ b. if b then unarmed else record { due = Some (capped (time + period * ((clock - time) / period + 1))); period = period }) e in
+        = λ clock. ap (λ b. if b then unarmed else record { due = Some (capped (time + period * ((clock - time) / period + 1))); period = period }) e in
         ap (λ t. unwrap_or (gone_off second t) t) (none first) ∙ sym (none second)
     by false e =
         ap (λ t. unwrap_or (gone_off second t) t) (next_is first time period e)

@@ -1,6 +1,9 @@
 pub mod Advances
-pub mod Checks
-pub mod DescriptorRefusals
+pub mod Advancing
+pub mod Described
+pub mod DescribedRows
 pub mod Expiry
 pub mod LeastFree
+pub mod Posting
+pub mod refusals
 pub mod rows

@@ -1,3 +1,6 @@
-pub mod Small
+pub mod Clocks
 pub mod Descriptors
+pub mod Names
+pub mod Signals
+pub mod Small
 pub mod Transfers

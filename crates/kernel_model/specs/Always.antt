@@ -1,22 +1,20 @@
 -- What a state of the kernel always is.
-use Rattle.std.specs.Prelude.{◌≡◌, ◌≢◌, ℕ, ◌+◌, ◌*◌, ◌^◌, ◌<◌, ◌≤◌, ◌==◌, ◌||◌, ◌⊎◌, Bool, true, false, List, [], length, All, Option, Some, None, is_some, count_by, if◌then◌else◌, slice_index_or, bit_and}
+use Rattle.std.specs.Prelude.{◌≡◌, ℕ, ◌+◌, ◌^◌, ◌<◌, ◌≤◌, ◌==◌, ◌||◌, ◌⊎◌, Bool, true, false, List, [], length, All, Option, Some, None, is_some, count_by, if◌then◌else◌, slice_index_or}
 use Rattle.kernel_core.specs.FileContent.{greatest_size}
 use Rattle.kernel_core.specs.FileSystem.{IsFileSystem}
-use Rattle.kernel_core.specs.Nodes.{Nodes, is_directory}
+use Rattle.kernel_core.specs.Nodes.{is_directory}
 use Rattle.kernel_core.specs.Queries.{holds_at, kind_at, FileKind, DirectoryKind}
-use Rattle.kernel_model.specs.Came.{Did}
 use Rattle.kernel_model.specs.Descriptions.{kept_flags}
 use Rattle.kernel_model.specs.Pipes.{pipe_at, pipe_size}
 use Rattle.kernel_model.specs.Shared.{Info}
 use Rattle.kernel_model.specs.SignalRows.{queued, queue_limit}
 use Rattle.kernel_model.specs.SignalSets.{SignalSet, signal_count, standard_count, blockable, place}
-use Rattle.kernel_model.specs.State.{Kernel, Files, Flow, Pipe, Descriptors, Signals, Chance, Timer}
+use Rattle.kernel_model.specs.State.{Kernel, Files, Pipe, Descriptors, Signals, Timer}
 use Rattle.kernel_model.specs.Table.{descriptor_limit, slot, leads_to}
 use Rattle.kernel_model.specs.declared.descriptor.Descriptor.{Descriptor}
 use Rattle.kernel_model.specs.declared.descriptor.Description.{Description}
 use Rattle.kernel_model.specs.declared.descriptor.Object.{Object}
 use Rattle.kernel_model.specs.declared.descriptor.Object.TheVariants as objects
-use Rattle.kernel_model.specs.declared.signal.Action.{Action}
 use Rattle.std.specs.List.{list_any}
 
 -- Descriptors: each leads to a description that lives, and each description that lives has a descriptor

@@ -1,5 +1,5 @@
 -- The first state of a kernel, from a file tree and the settings of a schedule.
-use Rattle.std.specs.Prelude.{ℕ, ◌+◌, ◌*◌, ◌%◌, Bool, true, false, List, [], ◌∷◌, ◌++◌, length, replicate, Option, Some, None, option_map}
+use Rattle.std.specs.Prelude.{ℕ, ◌+◌, ◌*◌, ◌%◌, true, false, List, [], ◌∷◌, length, replicate, Option, Some, None, option_map}
 use Rattle.kernel_core.specs.LoadedTree.{loaded}
 use Rattle.kernel_core.specs.NodeCalls.{held}
 use Rattle.kernel_core.specs.Nodes.{update}
@@ -9,7 +9,7 @@ use Rattle.kernel_core.specs.declared.resource.Resource.TheVariants as resources
 use Rattle.kernel_core.specs.declared.tree.Tree.{Tree}
 use Rattle.kernel_model.specs.Clock.{second, unarmed}
 use Rattle.kernel_model.specs.Descriptions.{no_flags}
-use Rattle.kernel_model.specs.Shared.{Access, OpenSet}
+use Rattle.kernel_model.specs.Shared.{Access}
 use Rattle.kernel_model.specs.SignalRows.{no_action, no_stack}
 use Rattle.kernel_model.specs.SignalSets.{signal_count, no_signals}
 use Rattle.kernel_model.specs.State.{Kernel, Files, Flow, Descriptors, Signals}

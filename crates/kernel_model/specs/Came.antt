@@ -1,7 +1,6 @@
 -- What a row comes to, and how a row is written: as its checks in order and then its effect.
-use Rattle.std.specs.Prelude.{ℕ, Bool, Option, Some, None, Result, Ok, Err, if◌then◌else◌, List, []}
+use Rattle.std.specs.Prelude.{ℕ, Bool, Option, Some, None, Result, Ok, Err, if◌then◌else◌}
 use Rattle.kernel_model.specs.Shared.{Errno}
-use Rattle.kernel_core.specs.declared.error.Errno.TheVariants.{EBADF, EFAULT}
 use Rattle.kernel_model.specs.Shared.{Wake}
 
 -- a row is done with a value, refused with an error, or waits

@@ -1,8 +1,8 @@
 -- The clock and what is measured by it (clock_gettime(2), clock_nanosleep(2), setitimer(2), alarm(2)). All times are in nanoseconds; the
 -- clock counts from 0.
-use Rattle.std.specs.Prelude.{ℕ, ◌+◌, ◌-◌, ◌*◌, ◌/◌, ◌%◌, ◌^◌, ◌==◌, min, max, ℤ, pos, nat_abs, int_lt, Bool, true, false, ◌&&◌, ◌||◌, not, Option, Some, None, option_map, Ok, Err, nat_lt, nat_le, if◌then◌else◌}
+use Rattle.std.specs.Prelude.{ℕ, ◌+◌, ◌-◌, ◌*◌, ◌/◌, ◌^◌, ◌==◌, min, max, ℤ, pos, nat_abs, int_lt, Bool, ◌&&◌, ◌||◌, not, Option, Some, None, option_map, Ok, Err, nat_lt, nat_le, if◌then◌else◌}
 use Rattle.kernel_core.specs.declared.error.Errno.TheVariants.{EINVAL}
-use Rattle.kernel_model.specs.Came.{Did, Given, done, refused, refused_if, with_given, with_some, given_or_none, waits}
+use Rattle.kernel_model.specs.Came.{Did, Given, done, refused_if, with_given, with_some, waits}
 use Rattle.kernel_model.specs.State.{Kernel, Timer}
 use Rattle.kernel_model.specs.declared.time.TimeSpec.{TimeSpec}
 use Rattle.kernel_model.specs.declared.time.TimeVal.{TimeVal}

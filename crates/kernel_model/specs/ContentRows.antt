@@ -1,13 +1,13 @@
 -- The other rows on what a descriptor has open: lseek(2), fstat(2), getdents(2), fsync(2), and the requests of ioctl(2) and ioctl_tty(2).
-use Rattle.std.specs.Prelude.{ℕ, zero, suc, ◌+◌, ◌-◌, ◌==◌, ◌||◌, ℤ, pos, ◌+ℤ◌, Bool, true, false, not, ◌&&◌, List, [], ◌∷◌, map, filter, length, sum_by, Option, Some, None, is_none, is_some, unwrap_or, option_map, codes, nat_lt, nat_le, nat_abs, int_lt, if◌then◌else◌}
+use Rattle.std.specs.Prelude.{ℕ, zero, suc, ◌-◌, ◌||◌, ℤ, pos, ◌+ℤ◌, Bool, false, not, ◌&&◌, List, [], ◌∷◌, map, filter, length, sum_by, Option, Some, None, unwrap_or, option_map, codes, nat_lt, nat_le, nat_abs, int_lt, if◌then◌else◌}
 use Rattle.std.specs.FinMap.{get}
 use Rattle.kernel_core.specs.FileContent.{FileContent, greatest_size}
 use Rattle.kernel_core.specs.NodeCalls.{status_mode, content_size, content_sectors}
 use Rattle.kernel_core.specs.Nodes.{Nodes, Inode, listing_at, NodeContent, File, Directory, Link, file_at}
-use Rattle.kernel_core.specs.Queries.{NodeKind, FileKind, DirectoryKind, LinkKind, kind_at}
+use Rattle.kernel_core.specs.Queries.{NodeKind, FileKind, DirectoryKind, kind_at}
 use Rattle.kernel_core.specs.declared.tree.DirEntry.{DirEntry}
 use Rattle.kernel_core.specs.declared.error.Errno.TheVariants.{EBADF, EFAULT, EINVAL, ENOENT, ENOTDIR, ENOTTY, EOVERFLOW, ESPIPE}
-use Rattle.kernel_model.specs.Came.{Did, Given, done, refused, refused_if, refused_by, with_given, with_some}
+use Rattle.kernel_model.specs.Came.{Did, Given, done, refused_if, refused_by, with_given, with_some}
 use Rattle.kernel_model.specs.Descriptions.{opened, node_of, is_stream, content_at}
 use Rattle.kernel_model.specs.Pipes.{pipe_at}
 use Rattle.kernel_model.specs.Shared.{Errno}

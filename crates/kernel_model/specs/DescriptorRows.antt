@@ -1,5 +1,5 @@
 -- The rows on descriptors: close(2), dup(2), pipe(2), and the part of fcntl(2) and ioctl(2) on descriptors and their flags.
-use Rattle.std.specs.Prelude.{ℕ, ◌+◌, ℤ, Bool, true, false, not, ◌==◌, List, Option, Some, None, is_none, nat_le, if◌then◌else◌}
+use Rattle.std.specs.Prelude.{ℕ, ◌+◌, Bool, false, ◌==◌, Option, Some, None, nat_le, if◌then◌else◌}
 use Rattle.kernel_core.specs.NodeCalls.{released}
 use Rattle.kernel_core.specs.declared.error.Errno.TheVariants.{EBADF, EINVAL, EMFILE, ENOTTY}
 use Rattle.kernel_core.specs.declared.open_flags.Access.TheVariants as accesses

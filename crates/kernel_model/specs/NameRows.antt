@@ -1,15 +1,14 @@
 -- The rows on names: mkdir(2), rmdir(2), unlink(2), link(2), symlink(2), rename(2), readlink(2). Each takes where its path begins and the
 -- path as it was read; a second path is read before the first is walked.
-use Rattle.std.specs.Prelude.{ℕ, ◌%◌, ℤ, pos, nat_abs, int_lt, Bool, true, false, ◌&&◌, ◌||◌, not, List, [], take, Option, Some, None, is_none, is_some, if◌then◌else◌}
+use Rattle.std.specs.Prelude.{ℕ, ◌%◌, ℤ, pos, nat_abs, int_lt, Bool, false, ◌&&◌, ◌||◌, not, List, take, Option, if◌then◌else◌}
 use Rattle.kernel_core.specs.NameCalls.{make_refusal, after_mkdir, symlink_refusal, after_symlink, link_refusal, after_link, unlink_refusal, after_unlink, rmdir_refusal, after_rmdir, rename_refusal, after_rename, is_no_entry, is_empty_list}
 use Rattle.kernel_core.specs.Nodes.{Nodes, is_directory, target_at}
 use Rattle.kernel_core.specs.PathWalk.{Place}
 use Rattle.kernel_core.specs.Queries.{new_number}
-use Rattle.kernel_core.specs.declared.error.Errno.TheVariants.{EEXIST, EINVAL, ENOENT, EPERM}
-use Rattle.kernel_model.specs.Came.{Did, Given, done, refused, refused_if, refused_by, with_given, with_some}
+use Rattle.kernel_core.specs.declared.error.Errno.TheVariants.{EINVAL, ENOENT, EPERM}
+use Rattle.kernel_model.specs.Came.{Did, Given, done, refused_if, refused_by, with_given, with_some}
 use Rattle.kernel_model.specs.Modes.{permitted}
 use Rattle.kernel_model.specs.Paths.{Base, walk, walk_to_node, is_missing_before_slash}
-use Rattle.kernel_model.specs.Shared.{Errno}
 use Rattle.kernel_model.specs.State.{Files}
 
 abbrev pub with_nodes : Files → Nodes → Files

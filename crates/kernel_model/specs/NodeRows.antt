@@ -1,11 +1,11 @@
 -- The rows on the node that a path or a descriptor names: stat(2), access(2), chmod(2), utimensat(2), truncate(2), chdir(2), getcwd(2),
 -- umask(2).
-use Rattle.std.specs.Prelude.{ℕ, zero, suc, ◌+◌, ◌%◌, ◌==◌, ℤ, pos, ◌+ℤ◌, ◌*ℤ◌, nat_abs, int_lt, Bool, true, false, ◌&&◌, ◌||◌, not, List, [], ◌∷◌, ◌++◌, length, find, Option, Some, None, is_none, is_some, option_map, Result, Ok, Err, nat_lt, nat_le, bit_and, if◌then◌else◌}
+use Rattle.std.specs.Prelude.{ℕ, zero, suc, ◌+◌, ◌%◌, ◌==◌, ℤ, pos, ◌+ℤ◌, ◌*ℤ◌, nat_abs, int_lt, Bool, true, false, ◌&&◌, ◌||◌, not, List, [], ◌∷◌, ◌++◌, length, find, Option, Some, None, option_map, nat_lt, bit_and, if◌then◌else◌}
 use Rattle.std.specs.FinMap.{get, len}
 use Rattle.kernel_core.specs.FileSystem.{parent_at}
 use Rattle.kernel_core.specs.NameCalls.{is_empty_list}
 use Rattle.kernel_core.specs.NodeCalls.{with_mode, with_times, held, released, resize_refusal, after_resize}
-use Rattle.kernel_core.specs.Nodes.{Nodes, Inode, NodeContent, File, Directory, Link, Listing, listing_at, file_at, is_directory, entries_in, update}
+use Rattle.kernel_core.specs.Nodes.{Nodes, Inode, NodeContent, File, Directory, Link, listing_at, is_directory, entries_in, update}
 use Rattle.kernel_core.specs.ValidTree.{root}
 use Rattle.kernel_core.specs.declared.tree.DirEntry.{DirEntry}
 use Rattle.kernel_core.specs.declared.error.Errno.TheVariants.{EACCES, EBADF, EINVAL, EISDIR, ENOENT, ENOTDIR, ERANGE}
@@ -14,9 +14,7 @@ use Rattle.kernel_model.specs.ContentRows.{Status, status, status_at}
 use Rattle.kernel_model.specs.Descriptions.{opened, writable, node_of, content_at}
 use Rattle.kernel_model.specs.NameRows.{with_nodes}
 use Rattle.kernel_model.specs.Paths.{Base, Working, Descriptor, walk_to_node, directory_of}
-use Rattle.kernel_model.specs.Shared.{Errno}
 use Rattle.kernel_model.specs.State.{Files}
-use Rattle.kernel_model.specs.declared.descriptor.Object.{Object}
 use Rattle.kernel_model.specs.declared.time.TimeSpec.{TimeSpec}
 
 -- Status by a path

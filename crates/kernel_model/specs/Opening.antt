@@ -1,13 +1,12 @@
 -- open(2), openat(2) and creat(2).
-use Rattle.std.specs.Prelude.{ℕ, ◌%◌, ℤ, Bool, true, false, ◌&&◌, ◌||◌, not, List, Option, Some, None, is_some, nat_lt, if◌then◌else◌}
-use Rattle.kernel_core.specs.FileContent.{FileContent}
+use Rattle.std.specs.Prelude.{ℕ, ◌%◌, ℤ, Bool, false, ◌&&◌, ◌||◌, not, List, Option, Some, None, nat_lt, if◌then◌else◌}
 use Rattle.kernel_core.specs.NameCalls.{make_refusal, after_create}
 use Rattle.kernel_core.specs.NodeCalls.{held, after_resize}
-use Rattle.kernel_core.specs.Nodes.{Nodes, NodeContent, File, Directory, Link, update}
+use Rattle.kernel_core.specs.Nodes.{NodeContent, File, Directory, Link, update}
 use Rattle.kernel_core.specs.PathWalk.{Place}
 use Rattle.kernel_core.specs.Queries.{new_number}
 use Rattle.kernel_core.specs.declared.error.Errno.TheVariants.{EEXIST, EINVAL, EISDIR, ELOOP, EMFILE, ENOENT, ENOTDIR, EOVERFLOW}
-use Rattle.kernel_model.specs.Came.{Did, Given, done, refused, refused_if, refused_by, with_given, with_some}
+use Rattle.kernel_model.specs.Came.{Did, Given, done, refused_if, refused_by, with_given, with_some}
 use Rattle.kernel_model.specs.Descriptions.{writes, description_of, content_at}
 use Rattle.kernel_model.specs.Modes.{permitted}
 use Rattle.kernel_model.specs.Paths.{Base, walk, is_missing_before_slash}

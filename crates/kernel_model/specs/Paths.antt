@@ -1,11 +1,10 @@
 -- Where a path leads from (path_resolution(7), openat(2)).
-use Rattle.std.specs.Prelude.{ℕ, Bool, true, false, ◌&&◌, not, List, [], ◌∷◌, Option, Some, None, is_none, is_some, ok_or, Result, Ok, Err, if◌then◌else◌}
+use Rattle.std.specs.Prelude.{ℕ, Bool, ◌&&◌, List, [], ◌∷◌, Option, Some, None, is_none, ok_or, Result, Ok, Err, if◌then◌else◌}
 use Rattle.kernel_core.specs.Nodes.{Nodes}
 use Rattle.kernel_core.specs.PathWalk.{Place, begins_with_slash, ends_with_slash}
 use Rattle.kernel_core.specs.Queries.{walked}
 use Rattle.kernel_core.specs.ValidTree.{root}
 use Rattle.kernel_core.specs.declared.error.Errno.TheVariants.{EBADF, ENOENT, ENOTDIR}
-use Rattle.kernel_model.specs.Came.{Did, Given, with_given}
 use Rattle.kernel_model.specs.Descriptions.{opened, open_directory}
 use Rattle.kernel_model.specs.Shared.{Errno}
 use Rattle.kernel_model.specs.State.{Files}

@@ -1,14 +1,13 @@
 -- Pipes (pipe(7)) and the three streams: what a read takes and a write puts, and the numbers of bytes moved.
-use Rattle.std.specs.Prelude.{ℕ, ◌+◌, ◌-◌, ◌^◌, ◌==◌, min, Bool, true, false, not, ◌||◌, List, [], ◌∷◌, ◌++◌, length, take, drop, replicate, Option, Some, None, nat_le, if◌then◌else◌}
+use Rattle.std.specs.Prelude.{ℕ, ◌+◌, ◌-◌, ◌^◌, ◌==◌, min, Bool, true, false, not, ◌||◌, List, [], ◌++◌, length, take, drop, Option, Some, None, nat_le, if◌then◌else◌}
 use Rattle.kernel_core.specs.NameCalls.{is_empty_list}
-use Rattle.kernel_core.specs.declared.error.Errno.TheVariants.{EAGAIN, EBADF, EPIPE}
+use Rattle.kernel_core.specs.declared.error.Errno.TheVariants.{EAGAIN, EPIPE}
 use Rattle.kernel_model.specs.Came.{Came, Done, Refused, Waits}
 use Rattle.kernel_model.specs.State.{Flow, Pipe}
 use Rattle.kernel_model.specs.Table.{slot, with_slot}
 use Rattle.kernel_model.specs.declared.stream.Stream.{Stream}
 use Rattle.kernel_model.specs.declared.stream.Stream.TheVariants as streams
 use Rattle.kernel_model.specs.declared.stream.Moved.{Moved}
-use Rattle.kernel_model.specs.Shared.{Wake}
 
 -- the most bytes that a pipe holds
 abbrev pub pipe_size : ℕ

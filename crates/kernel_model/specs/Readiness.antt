@@ -1,10 +1,10 @@
 -- Which descriptors are ready, and waiting for that (poll(2), select(2)).
-use Rattle.std.specs.Prelude.{ℕ, ◌+◌, ◌*◌, ◌==◌, min, ℤ, pos, nat_abs, int_lt, Bool, true, false, ◌&&◌, ◌||◌, not, List, [], ◌∷◌, ◌++◌, length, map, filter, count_by, Option, Some, None, is_none, is_some, nat_lt, nat_le, if◌then◌else◌}
+use Rattle.std.specs.Prelude.{ℕ, ◌+◌, ◌*◌, ◌==◌, min, ℤ, pos, nat_abs, int_lt, Bool, true, false, ◌&&◌, ◌||◌, not, List, [], length, map, filter, Option, Some, None, is_none, nat_lt, nat_le, if◌then◌else◌}
 use Rattle.std.specs.Prelude.{Ok, Err}
 use Rattle.std.specs.List.{list_any}
 use Rattle.kernel_core.specs.declared.error.Errno.TheVariants.{EBADF, EINVAL}
-use Rattle.kernel_model.specs.Came.{Did, Given, done, refused, refused_if, with_given, with_some, given_or_none}
-use Rattle.kernel_model.specs.Clock.{second, microsecond, deadline, waits_until, length_of, checked_or_none}
+use Rattle.kernel_model.specs.Came.{Did, Given, done, refused_if, with_given}
+use Rattle.kernel_model.specs.Clock.{second, microsecond, deadline, waits_until}
 use Rattle.kernel_model.specs.Descriptions.{opened, reads, writes}
 use Rattle.kernel_model.specs.Pipes.{pipe_at, room, whole_write}
 use Rattle.kernel_model.specs.Shared.{PollSet}

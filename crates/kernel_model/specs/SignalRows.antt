@@ -1,15 +1,15 @@
 -- Signals (signal(7)): posting, and the rows kill(2), tgkill(2), rt_sigqueueinfo(2), sigaction(2), sigprocmask(2), sigpending(2),
 -- sigtimedwait(2), sigsuspend(2), sigaltstack(2).
-use Rattle.std.specs.Prelude.{ℕ, ◌+◌, ◌*◌, ◌<◌, ◌==◌, ℤ, pos, negsuc, neg_ℤ, int_lt, Bool, true, false, ◌&&◌, ◌||◌, not, List, [], ◌∷◌, ◌++◌, length, drop, find, sum_by, slice_index_or, slice_set, slice_range, Option, Some, None, is_some, nat_lt, nat_le, if◌then◌else◌}
+use Rattle.std.specs.Prelude.{ℕ, ◌+◌, ◌*◌, ◌==◌, ℤ, pos, negsuc, neg_ℤ, int_lt, Bool, true, false, ◌&&◌, ◌||◌, not, List, [], ◌∷◌, ◌++◌, length, drop, find, sum_by, slice_index_or, slice_set, slice_range, Option, Some, None, is_some, nat_lt, nat_le, if◌then◌else◌}
 use Rattle.std.specs.List.{list_any}
 use Rattle.kernel_core.specs.NameCalls.{is_empty_list}
-use Rattle.kernel_core.specs.declared.error.Errno.TheVariants.{EAGAIN, EINVAL, ENOMEM, EPERM, EPIPE, ESRCH}
+use Rattle.kernel_core.specs.declared.error.Errno.TheVariants.{EAGAIN, EINVAL, ENOMEM, EPERM, ESRCH}
 use Rattle.kernel_core.specs.declared.mask.MaskChange.{MaskChange}
 use Rattle.kernel_core.specs.declared.mask.MaskChange.TheVariants as changes
 use Rattle.kernel_core.specs.declared.signal.Sig.{Sig}
 use Rattle.kernel_core.specs.declared.signal.Sig.TheVariants as sigs
-use Rattle.kernel_model.specs.Came.{Came, Done, Refused, Waits, Did, Given, done, refused, refused_if, with_given, with_some, given_or_none, waits}
-use Rattle.kernel_model.specs.Clock.{length_of, checked_or_none, deadline, waits_until, gone_off, now}
+use Rattle.kernel_model.specs.Came.{Did, Given, done, refused, refused_if, with_given, with_some, given_or_none, waits}
+use Rattle.kernel_model.specs.Clock.{length_of, checked_or_none, deadline, waits_until, gone_off}
 use Rattle.kernel_model.specs.Shared.{Info}
 use Rattle.kernel_model.specs.SignalSets.{SignalSet, place, standard_count, words, no_signals, has, union, without, unblockable, blockable}
 use Rattle.kernel_model.specs.State.{Kernel, Signals, Timer}

@@ -1,5 +1,5 @@
 -- Sets of signals (sigsetops(3)): four words of 32 bits, with a bit for each signal in the order in which `kernel_core` names them.
-use Rattle.std.specs.Prelude.{ℕ, ◌+◌, ◌-◌, ◌*◌, ◌/◌, ◌%◌, ◌^◌, Bool, ◌==◌, List, [], ◌∷◌, map, zip, slice_index, if◌then◌else◌, bit_and, bit_or}
+use Rattle.std.specs.Prelude.{ℕ, ◌-◌, ◌/◌, ◌%◌, ◌^◌, Bool, ◌==◌, List, [], ◌∷◌, map, zip, slice_index, if◌then◌else◌, bit_and, bit_or}
 use Rattle.kernel_core.specs.declared.signal.Sig.{Sig}
 use Rattle.kernel_core.specs.declared.signal.Sig.TheVariants as sigs
 

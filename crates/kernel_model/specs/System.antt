@@ -1,9 +1,9 @@
 -- Limits, chance, names and ids (getrlimit(2), getrandom(2), uname(2), getpid(2)).
-use Rattle.std.specs.Prelude.{ℕ, zero, suc, ◌+◌, ◌-◌, ◌*◌, ◌/◌, ◌%◌, ◌^◌, ◌==◌, min, ℤ, pos, Bool, true, false, ◌&&◌, ◌||◌, not, List, [], ◌∷◌, length, slice_index, slice_index_or, slice_set, Option, Some, None, codes, nat_lt, if◌then◌else◌, Ok}
+use Rattle.std.specs.Prelude.{ℕ, zero, suc, ◌+◌, ◌-◌, ◌/◌, ◌%◌, ◌^◌, ◌==◌, min, ℤ, Bool, ◌&&◌, ◌||◌, not, List, [], ◌∷◌, length, slice_index, slice_index_or, slice_set, Option, Some, None, codes, nat_lt, Ok}
 use Rattle.kernel_core.specs.declared.error.Errno.TheVariants.{EINVAL, EPERM, ESRCH}
 use Rattle.kernel_core.specs.declared.resource.Resource.{Resource}
 use Rattle.kernel_core.specs.declared.resource.Resource.TheVariants as resources
-use Rattle.kernel_model.specs.Came.{Did, Given, done, refused, refused_if, with_given, with_some, given_or_none}
+use Rattle.kernel_model.specs.Came.{Did, Given, done, refused_if, with_given, with_some, given_or_none}
 use Rattle.kernel_model.specs.SignalRows.{own_id, is_id}
 use Rattle.kernel_model.specs.State.{Kernel, Chance}
 use Rattle.kernel_model.specs.Table.{descriptor_limit}

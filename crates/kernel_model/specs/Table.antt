@@ -1,5 +1,5 @@
 -- Descriptors and the descriptions that they lead to (open(2), dup(2), close(2)).
-use Rattle.std.specs.Prelude.{ℕ, ◌+◌, Bool, true, false, ◌==◌, List, length, drop, position, slice_index_or, slice_set, Option, Some, None, is_some, is_none, option_map, option_and_then, unwrap_or, if◌then◌else◌}
+use Rattle.std.specs.Prelude.{ℕ, ◌+◌, Bool, false, ◌==◌, List, length, drop, position, slice_index_or, slice_set, Option, Some, None, is_none, option_map, option_and_then, unwrap_or, if◌then◌else◌}
 use Rattle.std.specs.List.{list_any}
 use Rattle.kernel_model.specs.State.{Descriptors}
 use Rattle.kernel_model.specs.declared.descriptor.Descriptor.{Descriptor}

@@ -2,4 +2,7 @@
 //! project's own.)
 
 pub mod clocks;
+pub mod descriptions;
 pub mod least_numbers;
+pub mod refusals;
+pub mod signals;

@@ -1,12 +1,12 @@
 -- Worked rows on descriptors.
-use Rattle.std.specs.Prelude.{◌≡◌, ℕ, true, false, List, [], ◌∷◌, Option, Some, None, refl}
+use Rattle.std.specs.Prelude.{◌≡◌, true, false, [], ◌∷◌, Some, None, refl}
 use Rattle.kernel_core.specs.Nodes.{Nodes}
 use Rattle.kernel_core.specs.declared.error.Errno.TheVariants.{EBADF, EINVAL, EMFILE, ENOTTY}
 use Rattle.kernel_core.specs.declared.open_flags.Access.TheVariants.{Read, Write}
 use Rattle.kernel_model.proofs.rows.Small.{small, to, to_on_exec, input, output, read_end, write_end, flow}
 use Rattle.kernel_model.specs.Came.{done, refused}
 use Rattle.kernel_model.specs.Descriptions.{no_flags, description_of}
-use Rattle.kernel_model.specs.DescriptorRows.{close, after_close, duplicate, duplicate_onto, duplicate_onto_with, make_pipe, ends, close_on_exec, set_close_on_exec, status_flags, set_status_flags, set_nonblock, unlisted_command, unlisted_request}
+use Rattle.kernel_model.specs.DescriptorRows.{close, after_close, duplicate, duplicate_onto, duplicate_onto_with, make_pipe, ends, close_on_exec, set_close_on_exec, status_flags, set_status_flags, unlisted_command, unlisted_request}
 use Rattle.kernel_model.specs.Table.{closed, last_description}
 use Rattle.kernel_model.specs.declared.descriptor.Object.TheVariants.{ReadEnd, WriteEnd}
 
@@ -23,41 +23,45 @@ module _ (nodes : Nodes) where
 
   -- the last descriptor of a description
   close_input : close (small nodes []) 0 ≡ done (record (small nodes []) {
-      table = record {
-        fds = None ∷ to 1 ∷ None ∷ to 2 ∷ to 3 ∷ to_on_exec 3 ∷ None ∷ None ∷ [];
-        live = None ∷ Some output ∷ Some read_end ∷ Some write_end ∷ None ∷ None ∷ [];
-      } }) tt
+    table = record {
+      fds = None ∷ to 1 ∷ None ∷ to 2 ∷ to 3 ∷ to_on_exec 3 ∷ None ∷ None ∷ [];
+      live = None ∷ Some output ∷ Some read_end ∷ Some write_end ∷ None ∷ None ∷ [];
+    };
+  }) tt
   unfolding close after_close closed last_description
   close_input = refl
 
   -- one of two descriptors: the description stays
   close_one_of_two : close (small nodes []) 4 ≡ done (record (small nodes []) {
-      table = record {
-        fds = to 0 ∷ to 1 ∷ None ∷ to 2 ∷ None ∷ to_on_exec 3 ∷ None ∷ None ∷ [];
-        live = Some input ∷ Some output ∷ Some read_end ∷ Some write_end ∷ None ∷ None ∷ [];
-      } }) tt
+    table = record {
+      fds = to 0 ∷ to 1 ∷ None ∷ to 2 ∷ None ∷ to_on_exec 3 ∷ None ∷ None ∷ [];
+      live = Some input ∷ Some output ∷ Some read_end ∷ Some write_end ∷ None ∷ None ∷ [];
+    };
+  }) tt
   unfolding close after_close closed last_description
   close_one_of_two = refl
 
   -- the only read end: the pipe has no readers then, and keeps its bytes
   close_read_end : close (small nodes (7 ∷ [])) 3 ≡ done (record (small nodes (7 ∷ [])) {
-      table = record {
-        fds = to 0 ∷ to 1 ∷ None ∷ None ∷ to 3 ∷ to_on_exec 3 ∷ None ∷ None ∷ [];
-        live = Some input ∷ Some output ∷ None ∷ Some write_end ∷ None ∷ None ∷ [];
-      };
-      flow = record (flow []) { pipes = Some (record { bytes = 7 ∷ []; readers = false; writers = true }) ∷ None ∷ [] };
-    }) tt
+    table = record {
+      fds = to 0 ∷ to 1 ∷ None ∷ None ∷ to 3 ∷ to_on_exec 3 ∷ None ∷ None ∷ [];
+      live = Some input ∷ Some output ∷ None ∷ Some write_end ∷ None ∷ None ∷ [];
+    };
+    flow = record (flow []) { pipes = Some (record { bytes = 7 ∷ []; readers = false; writers = true }) ∷ None ∷ [] };
+  }) tt
   unfolding close after_close closed last_description
   close_read_end = refl
 
   -- the least free descriptor from one on
   duplicate_from_0 : duplicate (small nodes []) 1 (Some 0) false ≡ done (record (small nodes []) {
-      table = record { fds = to 0 ∷ to 1 ∷ to 1 ∷ to 2 ∷ to 3 ∷ to_on_exec 3 ∷ None ∷ None ∷ []; live = (small nodes []).table.live } }) 2
+    table = record { fds = to 0 ∷ to 1 ∷ to 1 ∷ to 2 ∷ to 3 ∷ to_on_exec 3 ∷ None ∷ None ∷ []; live = (small nodes []).table.live };
+  }) 2
   unfolding duplicate
   duplicate_from_0 = refl
 
   duplicate_from_3 : duplicate (small nodes []) 1 (Some 3) true ≡ done (record (small nodes []) {
-      table = record { fds = to 0 ∷ to 1 ∷ None ∷ to 2 ∷ to 3 ∷ to_on_exec 3 ∷ to_on_exec 1 ∷ None ∷ []; live = (small nodes []).table.live } }) 6
+    table = record { fds = to 0 ∷ to 1 ∷ None ∷ to 2 ∷ to 3 ∷ to_on_exec 3 ∷ to_on_exec 1 ∷ None ∷ []; live = (small nodes []).table.live };
+  }) 6
   unfolding duplicate
   duplicate_from_3 = refl
 
@@ -84,12 +88,12 @@ module _ (nodes : Nodes) where
 
   -- what stood there is closed first
   onto_read_end : duplicate_onto (small nodes []) 1 3 ≡ done (record (small nodes []) {
-      table = record {
-        fds = to 0 ∷ to 1 ∷ None ∷ to 1 ∷ to 3 ∷ to_on_exec 3 ∷ None ∷ None ∷ [];
-        live = Some input ∷ Some output ∷ None ∷ Some write_end ∷ None ∷ None ∷ [];
-      };
-      flow = record (flow []) { pipes = Some (record { bytes = []; readers = false; writers = true }) ∷ None ∷ [] };
-    }) 3
+    table = record {
+      fds = to 0 ∷ to 1 ∷ None ∷ to 1 ∷ to 3 ∷ to_on_exec 3 ∷ None ∷ None ∷ [];
+      live = Some input ∷ Some output ∷ None ∷ Some write_end ∷ None ∷ None ∷ [];
+    };
+    flow = record (flow []) { pipes = Some (record { bytes = []; readers = false; writers = true }) ∷ None ∷ [] };
+  }) 3
   unfolding duplicate_onto after_close closed last_description
   onto_read_end = refl
 
@@ -114,21 +118,22 @@ module _ (nodes : Nodes) where
   onto_with_other_flags = refl
 
   onto_with_cloexec : duplicate_onto_with (small nodes []) 1 2 (Some true) ≡ done (record (small nodes []) {
-      table = record { fds = to 0 ∷ to 1 ∷ to_on_exec 1 ∷ to 2 ∷ to 3 ∷ to_on_exec 3 ∷ None ∷ None ∷ []; live = (small nodes []).table.live } }) 2
+    table = record { fds = to 0 ∷ to 1 ∷ to_on_exec 1 ∷ to 2 ∷ to 3 ∷ to_on_exec 3 ∷ None ∷ None ∷ []; live = (small nodes []).table.live };
+  }) 2
   unfolding duplicate_onto_with after_close closed last_description
   onto_with_cloexec = refl
 
   -- a pipe: the least two descriptors, descriptions and the least pipe
   new_pipe : make_pipe (small nodes []) (Some (record { cloexec = true; nonblock = true })) ≡ done (record (small nodes []) {
-      table = record {
-        fds = to 0 ∷ to 1 ∷ to_on_exec 4 ∷ to 2 ∷ to 3 ∷ to_on_exec 3 ∷ to_on_exec 5 ∷ None ∷ [];
-        live =
+    table = record {
+      fds = to 0 ∷ to 1 ∷ to_on_exec 4 ∷ to 2 ∷ to 3 ∷ to_on_exec 3 ∷ to_on_exec 5 ∷ None ∷ [];
+      live =
           Some input ∷ Some output ∷ Some read_end ∷ Some write_end
           ∷ Some (description_of (ReadEnd 1) (record (no_flags Read) { nonblock = true }))
           ∷ Some (description_of (WriteEnd 1) (record (no_flags Write) { nonblock = true })) ∷ [];
-      };
-      flow = record (flow []) { pipes = Some (record { bytes = []; readers = true; writers = true }) ∷ Some (record { bytes = []; readers = true; writers = true }) ∷ [] };
-    }) (ends 2 6)
+    };
+    flow = record (flow []) { pipes = Some (record { bytes = []; readers = true; writers = true }) ∷ Some (record { bytes = []; readers = true; writers = true }) ∷ [] };
+  }) (ends 2 6)
   unfolding make_pipe
   new_pipe = refl
 
@@ -150,7 +155,8 @@ module _ (nodes : Nodes) where
   on_exec_of_closed = refl
 
   set_off : set_close_on_exec (small nodes []) 5 false ≡ done (record (small nodes []) {
-      table = record { fds = to 0 ∷ to 1 ∷ None ∷ to 2 ∷ to 3 ∷ to 3 ∷ None ∷ None ∷ []; live = (small nodes []).table.live } }) tt
+    table = record { fds = to 0 ∷ to 1 ∷ None ∷ to 2 ∷ to 3 ∷ to 3 ∷ None ∷ None ∷ []; live = (small nodes []).table.live };
+  }) tt
   unfolding set_close_on_exec
   set_off = refl
 
@@ -164,8 +170,10 @@ module _ (nodes : Nodes) where
   flags_of_closed = refl
 
   nonblock_on : set_status_flags (small nodes []) 4 true true ≡ done (record (small nodes []) {
-      table = record (small nodes []).table {
-        live = Some input ∷ Some output ∷ Some read_end ∷ Some (record write_end { flags = record (no_flags Write) { append = true; nonblock = true } }) ∷ None ∷ None ∷ [] } }) tt
+    table = record (small nodes []).table {
+      live = Some input ∷ Some output ∷ Some read_end ∷ Some (record write_end { flags = record (no_flags Write) { append = true; nonblock = true } }) ∷ None ∷ None ∷ [];
+    };
+  }) tt
   unfolding set_status_flags
   nonblock_on = refl
 

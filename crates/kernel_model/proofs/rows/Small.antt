@@ -1,11 +1,11 @@
 -- A small state for worked rows: 0 is the input, 1 the output, 2 is free, 3 and 4 are the ends of pipe 0, 5 is 4 again, closed on exec,
 -- and 6 and 7 are free.
-use Rattle.std.specs.Prelude.{ℕ, true, false, Bool, List, [], ◌∷◌, Option, Some, None}
+use Rattle.std.specs.Prelude.{ℕ, true, false, List, [], ◌∷◌, Option, Some, None}
 use Rattle.kernel_core.specs.Nodes.{Nodes}
 use Rattle.kernel_core.specs.declared.open_flags.Access.TheVariants.{Read, Write}
 use Rattle.kernel_model.specs.Begin.{stream_description}
 use Rattle.kernel_model.specs.Descriptions.{description_of, no_flags}
-use Rattle.kernel_model.specs.State.{Files, Flow, Descriptors, Pipe}
+use Rattle.kernel_model.specs.State.{Files, Flow, Pipe}
 use Rattle.kernel_model.specs.declared.descriptor.Descriptor.{Descriptor}
 use Rattle.kernel_model.specs.declared.descriptor.Description.{Description}
 use Rattle.kernel_model.specs.declared.descriptor.Object.TheVariants.{ReadEnd, WriteEnd}

@@ -1,12 +1,11 @@
 -- Worked rows on reading and writing at streams and pipes.
-use Rattle.std.specs.Prelude.{◌≡◌, ℕ, ◌+◌, ℤ, pos, negsuc, true, false, List, [], ◌∷◌, length, replicate, Option, Some, None, Ok, Err, refl}
+use Rattle.std.specs.Prelude.{◌≡◌, ℕ, ℤ, pos, negsuc, true, false, List, [], ◌∷◌, replicate, Option, None, Ok, Err, refl}
 use Rattle.kernel_core.specs.Nodes.{Nodes}
 use Rattle.kernel_core.specs.declared.error.Errno.TheVariants.{EAGAIN, EBADF, EFAULT, EINVAL, EPIPE, ESPIPE}
 use Rattle.kernel_model.proofs.rows.Small.{small, flow, pipe}
 use Rattle.kernel_model.specs.Came.{Done, Refused, done, refused, waits}
-use Rattle.kernel_model.specs.Pipes.{PipeStep, becomes, stays, waits_after, read_pipe, write_pipe, Sent, nothing}
-use Rattle.kernel_model.specs.State.{Files, Pipe}
-use Rattle.kernel_model.specs.Transfers.{Reading, Writing, reading, writing, read, read_at, write, write_at}
+use Rattle.kernel_model.specs.Pipes.{becomes, stays, waits_after, read_pipe, write_pipe}
+use Rattle.kernel_model.specs.Transfers.{reading, writing, read, read_at, write, write_at}
 
 -- One pipe
 

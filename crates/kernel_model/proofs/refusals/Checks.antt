@@ -1,8 +1,8 @@
 -- A row that is refused leaves the state: each check does, and what follows it.
-use Rattle.std.proofs.Common.{◌≡◌, ℕ, Bool, true, false, refl}
+use Rattle.std.proofs.Common.{ℕ, Bool, true, false, refl, ap}
 use Rattle.std.specs.Prelude.{Option, Some, None, Ok, Err, if◌then◌else◌}
-use Rattle.kernel_model.specs.Came.{Did, Given, done, refused, refused_if, refused_by, with_given, with_some}
-use Rattle.kernel_model.specs.Laws.{StaysIfRefused}
+use Rattle.kernel_model.specs.Came.{Did, Given, done, refused, waits, widened, Came, Done, Refused, Waits, refused_if, refused_by, with_given, with_some}
+use Rattle.kernel_model.specs.Laws.{StaysIfRefused, StaysAt}
 use Rattle.kernel_model.specs.Shared.{Errno}
 
 module _ {S V : Type 0} (state : S) where
@@ -11,6 +11,9 @@ module _ {S V : Type 0} (state : S) where
 
   pub refused_stays : (error : Errno) → StaysIfRefused {V = V} state (refused state error)
   refused_stays error = record { stays = refl }
+
+  pub waits_stays : (until : Option ℕ) → StaysIfRefused {V = V} state (waits state until)
+  waits_stays until = record { stays = tt }
 
   pub if_stays : (wrong : Bool) (error : Errno) (rest : Did S V) → StaysIfRefused state rest → StaysIfRefused state (refused_if wrong error state rest)
   if_stays true error rest h = refused_stays error
@@ -34,4 +37,12 @@ pub choice_stays : {S V : Type 0} (state : S) (test : Bool) (first second : Did 
 choice_stays state true first second h g = h
 choice_stays state false first second h g = g
 
-pub ruleset stays = (done_stays, refused_stays, if_stays, by_stays, given_stays, some_stays, choice_stays)
+-- a row over a part of the state
+pub widened_stays : {S T V : Type 0} (whole : S → T) (state : S) (did : Did S V) → StaysIfRefused state did → StaysIfRefused (whole state) (widened whole did)
+widened_stays {S = S} {V = V} whole state did h = record { stays = at did.state did.came h.stays } where
+  at : (new : S) (came : Came V) → StaysAt state new came → StaysAt (whole state) (whole new) came
+  at new (Done value) h = tt
+  at new (Refused error) h = ap whole h
+  at new (Waits wake) h = tt
+
+pub ruleset stays = (done_stays, refused_stays, waits_stays, if_stays, by_stays, given_stays, some_stays, choice_stays)

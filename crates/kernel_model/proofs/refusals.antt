@@ -1,0 +1,9 @@
+pub mod Checks
+pub mod ClockRefusals
+pub mod ContentRefusals
+pub mod DescriptorRefusals
+pub mod NameRefusals
+pub mod NodeRefusals
+pub mod OtherRefusals
+pub mod SignalRefusals
+pub mod TransferRefusals
