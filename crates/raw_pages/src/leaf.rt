@@ -1,0 +1,161 @@
+//! A table of 1024 neighbouring pages.
+ghost use Rattle.std.specs.Prelude.{◌≡◌, ◌+◌, ◌<◌, ◌≤◌, length, replicate, None, IfOk, OnOk, OnErr, IsOk, option_copied, option_map, slice_index_or, slice_set, true};
+ghost use Rattle.raw_pages.specs.inside.Tables.{IsLastEntry};
+ghost use Rattle.raw_pages.specs.Pages.{with_piece, with_protection, cleared_page, is_ready, IsWriteAnswer};
+
+use crate::page::Page;
+use crate::write_error::WriteError;
+use std::alloc::{AllocError, Global};
+use std::marker::Model;
+use std::mem::replace;
+
+/// The number of entries of a table.
+pub(crate) const ENTRIES: usize = 1024;
+
+/// The entries of 1024 neighbouring page numbers. An entry is empty where no page is mapped.
+#[derive(Drop)]
+pub(crate) struct Leaf {
+    entries: Vec<Option<Page>>,
+}
+
+impl Model for Leaf {
+    ghost use Rattle.std.specs.Prelude.{◌≡◌, List, Option, length};
+    ghost use Rattle.std.specs.Coded.{coded_list, coded_option};
+    ghost use Rattle.raw_pages.specs.Pages.{MappedPage, mapped_page_code};
+
+    ghost Value = { List (Option MappedPage) };
+
+    ghost coded = { coded_list (coded_option mapped_page_code) };
+
+    ghost view = { λ l. l.entries.items };
+
+    ghost invariant = { λ l. length l.entries.items ≡ 1024 };
+}
+
+impl Leaf {
+    /// A table with no page.
+    pub(crate) fn new(alloc: Global) -> Result<Leaf, AllocError>
+        ensures { IfOk result (λ l. l ≡ replicate 1024 None) }
+    {
+        let entries = empty_entries(alloc, ENTRIES)?;
+        Ok(Leaf { entries })
+    }
+
+    pub(crate) fn page(&self, place: usize) -> Option<&Page>
+        requires { place < 1024 }
+        ensures { option_copied result ≡ slice_index_or self.now place None }
+    {
+        self.entries[place].as_ref()
+    }
+
+    /// The greatest place below the end at which a page is mapped.
+    pub(crate) fn last_below(&self, end: usize) -> Option<usize>
+        requires { end ≤ 1024 }
+        ensures { IsLastEntry self.now end result }
+    {
+        last_entry(self.entries.as_slice(), end)
+    }
+
+    /// Puts the entry at the place, and gives the one that stood there.
+    pub(crate) fn replace(&mut self, place: usize, entry: Option<Page>) -> Option<Page>
+        requires { place < 1024 }
+        ensures was { result ≡ slice_index_or self.old place None }
+        ensures now { self.new ≡ slice_set self.old place entry }
+        ensures whole { length self.old ≡ 1024 }
+    {
+        replace(&mut self.entries[place], entry)
+    }
+
+    /// Writes the bytes into the page from a place in it on, where it is mapped.
+    pub(crate) fn write(
+        &mut self,
+        alloc: Global,
+        place: usize,
+        at: usize,
+        bytes: &[u8],
+    ) -> Result<(), AllocError>
+        requires place { place < 1024 }
+        requires inside { at + length bytes.now ≤ 4096 }
+        ensures ok { OnOk result (self.new ≡ slice_set self.old place
+            (option_map (λ p. with_piece p at bytes.now) (slice_index_or self.old place None))) }
+        ensures err { OnErr result (self.new ≡ self.old) }
+        ensures ready { is_ready (slice_index_or self.old place None) ≡ true → IsOk result }
+        ensures whole { length self.old ≡ 1024 }
+    {
+        match &mut self.entries[place] {
+            Some(page) => page.write(alloc, at, bytes)?,
+            None => {}
+        }
+        Ok(())
+    }
+
+    /// The same where the page is mapped with leave to write.
+    pub(crate) fn write_if_allowed(
+        &mut self,
+        alloc: Global,
+        place: usize,
+        at: usize,
+        bytes: &[u8],
+    ) -> Result<(), WriteError>
+        requires place { place < 1024 }
+        requires inside { at + length bytes.now ≤ 4096 }
+        ensures ok { OnOk result (self.new ≡ slice_set self.old place
+            (option_map (λ p. with_piece p at bytes.now) (slice_index_or self.old place None))) }
+        ensures err { OnErr result (self.new ≡ self.old) }
+        ensures answer { IsWriteAnswer (slice_index_or self.old place None) result }
+        ensures whole { length self.old ≡ 1024 }
+    {
+        match &mut self.entries[place] {
+            Some(page) => page.write_if_allowed(alloc, at, bytes)?,
+            None => return Err(WriteError::Absent),
+        }
+        Ok(())
+    }
+
+    /// Makes the page one of zeros again, where it is mapped.
+    pub(crate) fn clear(&mut self, place: usize)
+        requires { place < 1024 }
+        ensures now { self.new ≡ slice_set self.old place (option_map cleared_page (slice_index_or self.old place None)) }
+        ensures whole { length self.old ≡ 1024 }
+    {
+        if let Some(page) = &mut self.entries[place] {
+            page.clear();
+        }
+    }
+
+    /// Gives the page the protection, where it is mapped.
+    pub(crate) fn protect(&mut self, place: usize, protection: u8)
+        requires { place < 1024 }
+        ensures now { self.new ≡ slice_set self.old place
+            (option_map (λ p. with_protection p protection) (slice_index_or self.old place None)) }
+        ensures whole { length self.old ≡ 1024 }
+    {
+        if let Some(page) = &mut self.entries[place] {
+            page.protect(protection);
+        }
+    }
+}
+
+fn empty_entries(alloc: Global, count: usize) -> Result<Vec<Option<Page>>, AllocError>
+    ensures { IfOk result (λ v. v.items ≡ replicate count None) }
+{
+    let mut entries = Vec::with_capacity(alloc, count)?;
+    for _ in 0..count {
+        entries.push(None)?;
+    }
+    Ok(entries)
+}
+
+fn last_entry(entries: &[Option<Page>], end: usize) -> Option<usize>
+    requires { end ≤ length entries.now }
+    ensures { IsLastEntry entries.now end result }
+{
+    let mut at = end;
+    while at > 0 {
+        at -= 1;
+        if entries[at].is_some() {
+            return Some(at);
+        }
+    }
+    None
+}
