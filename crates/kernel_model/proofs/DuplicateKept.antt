@@ -1,6 +1,6 @@
 -- One more descriptor of a description keeps what files always are.
-use Rattle.std.proofs.Common.{◌≡◌, ℕ, zero, suc, ◌<◌, ◌≤◌, List, [], ◌∷◌, length, get_or, set, Bool, true, false, ◌||◌, refl, sym, ◌∙◌, ap, subst, arith}
-use Rattle.std.specs.Prelude.{Option, Some, None, is_some, option_and_then, option_map, unwrap_or, nat_le, if◌then◌else◌}
+use Rattle.std.proofs.Common.{◌≡◌, ℕ, zero, suc, ◌<◌, List, [], ◌∷◌, length, get_or, set, Bool, true, false, ◌||◌, refl, sym, ◌∙◌, ap, subst}
+use Rattle.std.specs.Prelude.{Option, Some, None, is_some, option_and_then, option_map, unwrap_or, nat_le}
 use Rattle.std.specs.List.{list_any}
 use Rattle.std.proofs.lemmas.List.{length-set}
 use Rattle.kernel_core.specs.declared.error.Errno.TheVariants.{EBADF, EINVAL, EMFILE}
@@ -11,7 +11,7 @@ use Rattle.kernel_model.specs.Came.{done, refused_if, with_some}
 use Rattle.kernel_model.specs.DescriptorRows.{after_duplicate, duplicate}
 use Rattle.kernel_model.specs.Descriptions.{opened}
 use Rattle.kernel_model.specs.State.{Files, Descriptors}
-use Rattle.kernel_model.specs.Table.{descriptor_limit, slot, number_at, lowest_free, leads_to, shared, shared_at, with_slot}
+use Rattle.kernel_model.specs.Table.{descriptor_limit, slot, number_at, lowest_free, leads_to, shared_at, with_slot}
 use Rattle.kernel_model.specs.declared.descriptor.Descriptor.{Descriptor}
 use Rattle.kernel_model.specs.declared.descriptor.Description.{Description}
 use Rattle.kernel_model.specs.declared.descriptor.Object.{Object}

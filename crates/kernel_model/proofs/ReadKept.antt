@@ -1,9 +1,9 @@
 -- A read keeps what files always are.
-use Rattle.std.proofs.Common.{◌≡◌, ℕ, ◌+◌, ◌-◌, ◌≤◌, ◌<◌, min, List, [], length, take, drop, set, Bool, true, false, ◌||◌, refl, sym, ◌∙◌, ap, subst, arith, length-drop}
+use Rattle.std.proofs.Common.{◌≡◌, ℕ, ◌+◌, ◌≤◌, ◌<◌, min, List, [], length, take, drop, Bool, true, false, ◌||◌, refl, sym, ◌∙◌, ap, subst, arith, length-drop}
 use Rattle.std.specs.Prelude.{Option, Some, None, is_some, option_map, unwrap_or, Ok, Err, not, ◌==◌, if◌then◌else◌}
 use Rattle.std.specs.FinMap.{get}
 use Rattle.std.proofs.lemmas.List.{length-set}
-use Rattle.kernel_core.specs.FileContent.{FileContent, IsContent, greatest_size, readable as readable_count}
+use Rattle.kernel_core.specs.FileContent.{FileContent, greatest_size, readable as readable_count}
 use Rattle.kernel_core.specs.FileSystem.{IsLiveContent}
 use Rattle.kernel_core.specs.NameCalls.{is_empty_list}
 use Rattle.kernel_core.specs.Nodes.{NodeContent, File, Directory, Link, Inode}
@@ -11,12 +11,12 @@ use Rattle.kernel_core.specs.declared.error.Errno.TheVariants.{EAGAIN, EBADF, EF
 use Rattle.kernel_model.proofs.Described.{slot_cases, within}
 use Rattle.kernel_model.proofs.DescribedRows.{moved_kept, open_facts}
 use Rattle.kernel_model.specs.Always.{IsFiles, IsPipe, IsOpen}
-use Rattle.kernel_model.specs.Came.{Came, Done, Refused, Waits, Did, Given, done, refused, refused_if, with_some, with_given}
+use Rattle.kernel_model.specs.Came.{Done, Refused, Given, done, refused_if, with_some}
 use Rattle.kernel_model.specs.Descriptions.{content_at, if_reads, node_of, opened, readable, reads}
-use Rattle.kernel_model.specs.Pipes.{PipeStep, becomes, stays, waits_after, after_step, pipe_at, pipe_size, read_pipe}
-use Rattle.kernel_model.specs.State.{Files, Flow, Pipe}
-use Rattle.kernel_model.specs.Table.{slot, with_slot}
-use Rattle.kernel_model.specs.Transfers.{after_pipe_read, file_bytes, moved_to, read, read_content, read_end, read_node, read_object, reading, transfer_limit, transferring}
+use Rattle.kernel_model.specs.Pipes.{becomes, stays, waits_after, pipe_at, pipe_size, read_pipe}
+use Rattle.kernel_model.specs.State.{Files, Pipe}
+use Rattle.kernel_model.specs.Table.{with_slot}
+use Rattle.kernel_model.specs.Transfers.{after_pipe_read, moved_to, read, read_content, read_end, read_node, read_object, reading, transfer_limit, transferring}
 use Rattle.kernel_model.specs.declared.descriptor.Description.{Description}
 use Rattle.kernel_model.specs.declared.descriptor.Object.{Object}
 use Rattle.kernel_model.specs.declared.descriptor.Object.TheVariants as objects
