@@ -2,8 +2,10 @@ pub mod Advances
 pub mod Advancing
 pub mod Described
 pub mod DescribedRows
+pub mod DuplicateKept
 pub mod Expiry
 pub mod LeastFree
 pub mod Posting
+pub mod ReadKept
 pub mod refusals
 pub mod rows

@@ -1,11 +1,13 @@
-//! What files always are, kept by rows that change a description (fcntl(2), ioctl(2), lseek(2)).
+//! What files always are, kept by rows on descriptors and descriptions (dup(2), fcntl(2), ioctl(2), lseek(2),
+//! read(2)).
 
-ghost use Rattle.std.specs.Prelude.{ℕ, ℤ, Bool};
+ghost use Rattle.std.specs.Prelude.{ℕ, ℤ, Bool, List, Option};
 ghost use Rattle.kernel_model.specs.Always.{IsFiles};
 ghost use Rattle.kernel_model.specs.Came.{Given};
 ghost use Rattle.kernel_model.specs.ContentRows.{seek};
-ghost use Rattle.kernel_model.specs.DescriptorRows.{set_nonblock, set_status_flags};
+ghost use Rattle.kernel_model.specs.DescriptorRows.{duplicate, set_nonblock, set_status_flags};
 ghost use Rattle.kernel_model.specs.State.{Files};
+ghost use Rattle.kernel_model.specs.Transfers.{read};
 
 /// A description gets other flags.
 pub fn changing_flags_keeps_files()
@@ -16,4 +18,14 @@ pub fn changing_flags_keeps_files()
 /// A description gets another position.
 pub fn seeking_keeps_files()
     ensures { (files : Files) (fd : ℕ) → IsFiles files → (offset : ℤ) (origin : ℕ) → IsFiles (seek files fd offset origin).state }
+{}
+
+/// A description gets one more descriptor.
+pub fn duplicating_keeps_files()
+    ensures { (files : Files) (fd : ℕ) (from : Option ℕ) (cloexec : Bool) → IsFiles files → IsFiles (duplicate files fd from cloexec).state }
+{}
+
+/// A read, of a stream, a pipe or a file.
+pub fn reading_keeps_files()
+    ensures { (files : Files) → IsFiles files → (left : List ℕ) (fd : ℕ) (asked : Given ℕ) (room : ℕ) → IsFiles (read files left fd asked room).state.files }
 {}
