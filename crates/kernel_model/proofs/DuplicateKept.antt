@@ -17,7 +17,7 @@ use Rattle.kernel_model.specs.declared.descriptor.Description.{Description}
 use Rattle.kernel_model.specs.declared.descriptor.Object.{Object}
 use Rattle.kernel_model.specs.declared.descriptor.Object.TheVariants as objects
 
-any_more : {A : Type 0} (test : A → Bool) (xs : List A) (i : ℕ) (y d : A) → test (get_or xs i d) ≡ false → list_any test xs ≡ true → list_any test (set xs i y) ≡ true
+pub any_more : {A : Type 0} (test : A → Bool) (xs : List A) (i : ℕ) (y d : A) → test (get_or xs i d) ≡ false → list_any test xs ≡ true → list_any test (set xs i y) ≡ true
 any_more test [] i y d e h = h
 any_more test (x ∷ xs) zero y d e h =
     let rest : list_any test xs ≡ true = sym (ap (λ b. b || list_any test xs) e) ∙ h in

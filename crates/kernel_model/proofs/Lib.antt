@@ -5,6 +5,7 @@ pub mod DescribedRows
 pub mod DuplicateKept
 pub mod Expiry
 pub mod LeastFree
+pub mod Pigeons
 pub mod Posting
 pub mod ReadKept
 pub mod refusals

@@ -1,5 +1,5 @@
-use Rattle.kernel_model.proofs.LeastFree.{new_place_is_least}
+use Rattle.kernel_model.proofs.Pigeons.{description_place}
 use Rattle.kernel_model.proofs.laws.least_numbers.a_new_description_has_the_least_number.Goals as goal
 
 pub returns : goal.returns
-returns c = new_place_is_least
+returns c = description_place
