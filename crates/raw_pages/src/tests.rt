@@ -123,7 +123,13 @@ fn a_write_may_test_the_page_first(rt: HostRuntime) -> Result<(), Fail> {
 fn a_page_moves_with_its_bytes(rt: HostRuntime) -> Result<(), Fail> {
     let mut store = sample(rt.alloc())?;
     store.write(1023, 0, b"page").ok().ok_or("not written")?;
+    if store.is_mapped(300_000) {
+        return Err(Fail::from("the place is taken"));
+    }
     store.move_page(1023, 300_000).ok().ok_or("not moved")?;
+    if store.is_mapped(6) {
+        return Err(Fail::from("the place is taken"));
+    }
     store.move_page(5, 6).ok().ok_or("not moved")?;
     assert_eq!(rt;
         (store.prot(1023), store.prot(300_000), store.prot(6)),
