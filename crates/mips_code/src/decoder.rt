@@ -1,7 +1,7 @@
 //! From a word to its instruction: one function for each part of the table.
 
 ghost use Rattle.std.specs.Prelude.{◌≡◌};
-ghost use Rattle.mips_code.specs.inside.Mnemonics.{read_as};
+ghost use Rattle.mips_code.specs.inside.Mnemonics.{read_as, row_of_opcode};
 ghost use Rattle.mips_code.specs.Instructions.{instruction_of, find_special, find_row, plain_rows, memory_rows, special_rows, arithmetic_rows, regimm_rows, special2_rows, special3_rows};
 
 use crate::fields::{function_of, opcode_of, rd_of, rs_of, rt_of, sa_of};
@@ -12,23 +12,57 @@ use crate::mnemonic::{Mnemonic, with_fields};
 pub fn look_up(word: u32) -> Option<Insn>
     ensures { result ≡ instruction_of word }
 {
-    match mnemonic_of(word) {
+    match mnemonic_at(opcode_of(word), word) {
         Some(mnemonic) => Some(with_fields(mnemonic, word)),
         None => None,
     }
 }
 
-/// The name of the row that a word is in.
-fn mnemonic_of(word: u32) -> Option<Mnemonic>
-    ensures { read_as result word ≡ instruction_of word }
+/// The name of the row that a word of this opcode is in: that of the opcode, or one of the rows of SPECIAL, REGIMM,
+/// SPECIAL2 and SPECIAL3.
+#[tactic(auto, unfolding(crate::specs::Instructions::plain_rows, crate::specs::Instructions::memory_rows, crate::specs::Instructions::immediate_form))]
+fn mnemonic_at(opcode: u8, word: u32) -> Option<Mnemonic>
+    ensures { read_as result word ≡ row_of_opcode opcode word }
 {
-    match opcode_of(word) {
+    match opcode {
         0 => find_special_row(function_of(word), word),
         1 => regimm(rt_of(word), word),
+        2 => Some(Mnemonic::J),
+        3 => Some(Mnemonic::Jal),
+        4 => Some(Mnemonic::Beq),
+        5 => Some(Mnemonic::Bne),
+        6 if rt_of(word) == 0 => Some(Mnemonic::Blez),
+        7 if rt_of(word) == 0 => Some(Mnemonic::Bgtz),
+        8 => Some(Mnemonic::Addi),
+        9 => Some(Mnemonic::Addiu),
+        10 => Some(Mnemonic::Slti),
+        11 => Some(Mnemonic::Sltiu),
+        12 => Some(Mnemonic::Andi),
+        13 => Some(Mnemonic::Ori),
+        14 => Some(Mnemonic::Xori),
+        15 if rs_of(word) == 0 => Some(Mnemonic::Lui),
+        20 => Some(Mnemonic::Beql),
+        21 => Some(Mnemonic::Bnel),
+        22 if rt_of(word) == 0 => Some(Mnemonic::Blezl),
+        23 if rt_of(word) == 0 => Some(Mnemonic::Bgtzl),
         28 => special2(function_of(word), word),
         31 => special3(function_of(word), word),
-        opcode if opcode < 32 => plain(opcode, word),
-        opcode => memory(opcode, word),
+        32 => Some(Mnemonic::Lb),
+        33 => Some(Mnemonic::Lh),
+        34 => Some(Mnemonic::Lwl),
+        35 => Some(Mnemonic::Lw),
+        36 => Some(Mnemonic::Lbu),
+        37 => Some(Mnemonic::Lhu),
+        38 => Some(Mnemonic::Lwr),
+        40 => Some(Mnemonic::Sb),
+        41 => Some(Mnemonic::Sh),
+        42 => Some(Mnemonic::Swl),
+        43 => Some(Mnemonic::Sw),
+        46 => Some(Mnemonic::Swr),
+        48 => Some(Mnemonic::Ll),
+        51 => Some(Mnemonic::Pref),
+        56 => Some(Mnemonic::Sc),
+        _ => None,
     }
 }
 
@@ -160,60 +194,6 @@ fn special3(function: u8, word: u32) -> Option<Mnemonic>
         32 if rs == 0 && sa == 16 => Some(Mnemonic::Seb),
         32 if rs == 0 && sa == 24 => Some(Mnemonic::Seh),
         59 if rs == 0 && sa == 0 => Some(Mnemonic::Rdhwr),
-        _ => None,
-    }
-}
-
-/// The rows that opcodes below 32 alone pick.
-#[tactic(auto, unfolding(crate::specs::Instructions::plain_rows, crate::specs::Instructions::immediate_form))]
-fn plain(opcode: u8, word: u32) -> Option<Mnemonic>
-    ensures { read_as result word ≡ find_row plain_rows opcode word }
-{
-    let (rs, rt) = (rs_of(word), rt_of(word));
-    match opcode {
-        2 => Some(Mnemonic::J),
-        3 => Some(Mnemonic::Jal),
-        4 => Some(Mnemonic::Beq),
-        5 => Some(Mnemonic::Bne),
-        6 if rt == 0 => Some(Mnemonic::Blez),
-        7 if rt == 0 => Some(Mnemonic::Bgtz),
-        8 => Some(Mnemonic::Addi),
-        9 => Some(Mnemonic::Addiu),
-        10 => Some(Mnemonic::Slti),
-        11 => Some(Mnemonic::Sltiu),
-        12 => Some(Mnemonic::Andi),
-        13 => Some(Mnemonic::Ori),
-        14 => Some(Mnemonic::Xori),
-        15 if rs == 0 => Some(Mnemonic::Lui),
-        20 => Some(Mnemonic::Beql),
-        21 => Some(Mnemonic::Bnel),
-        22 if rt == 0 => Some(Mnemonic::Blezl),
-        23 if rt == 0 => Some(Mnemonic::Bgtzl),
-        _ => None,
-    }
-}
-
-/// The rows that opcodes from 32 alone pick.
-#[tactic(auto, unfolding(crate::specs::Instructions::memory_rows, crate::specs::Instructions::immediate_form))]
-fn memory(opcode: u8, word: u32) -> Option<Mnemonic>
-    ensures { read_as result word ≡ find_row memory_rows opcode word }
-{
-    match opcode {
-        32 => Some(Mnemonic::Lb),
-        33 => Some(Mnemonic::Lh),
-        34 => Some(Mnemonic::Lwl),
-        35 => Some(Mnemonic::Lw),
-        36 => Some(Mnemonic::Lbu),
-        37 => Some(Mnemonic::Lhu),
-        38 => Some(Mnemonic::Lwr),
-        40 => Some(Mnemonic::Sb),
-        41 => Some(Mnemonic::Sh),
-        42 => Some(Mnemonic::Swl),
-        43 => Some(Mnemonic::Sw),
-        46 => Some(Mnemonic::Swr),
-        48 => Some(Mnemonic::Ll),
-        51 => Some(Mnemonic::Pref),
-        56 => Some(Mnemonic::Sc),
         _ => None,
     }
 }

@@ -1,10 +1,10 @@
 -- The names of the rows, and the instruction that each stands for with the fields of a word.
-use Rattle.std.specs.Prelude.{ℕ, Option, Some, None}
+use Rattle.std.specs.Prelude.{ℕ, ◌==◌, Option, Some, None, if◌then◌else◌}
 use Rattle.mips_code.specs.declared.insn.Insn.{Insn}
 use Rattle.mips_code.specs.declared.insn.Insn.TheVariants as insn
 use Rattle.mips_code.specs.declared.mnemonic.Mnemonic.{Mnemonic}
 use Rattle.mips_code.specs.declared.mnemonic.Mnemonic.TheVariants.{J, Jal, Beq, Bne, Blez, Bgtz, Addi, Addiu, Slti, Sltiu, Andi, Ori, Xori, Lui, Beql, Bnel, Blezl, Bgtzl, Lb, Lh, Lwl, Lw, Lbu, Lhu, Lwr, Sb, Sh, Swl, Sw, Swr, Ll, Pref, Sc, Sll, Srl, Rotr, Sra, Sllv, Srlv, Rotrv, Srav, Jr, Jalr, Movz, Movn, Syscall, Break, Sync, Mfhi, Mthi, Mflo, Mtlo, Mult, Multu, Div, Divu, Add, Addu, Sub, Subu, And, Or, Xor, Nor, Slt, Sltu, Tge, Tgeu, Tlt, Tltu, Teq, Tne, Bltz, Bgez, Bltzl, Bgezl, Tgei, Tgeiu, Tlti, Tltiu, Teqi, Tnei, Bltzal, Bgezal, Bltzall, Bgezall, Synci, Madd, Maddu, Mul, Msub, Msubu, Clz, Clo, Ext, Ins, Wsbh, Seb, Seh, Rdhwr}
-use Rattle.mips_code.specs.Instructions.{rs, rt, rd, sa, target, immediate, signed_immediate, long_code, short_code}
+use Rattle.mips_code.specs.Instructions.{find_plain, find_row, find_special, function, regimm_rows, special2_rows, special3_rows, rs, rt, rd, sa, target, immediate, signed_immediate, long_code, short_code}
 
 abbrev pub with_fields : Mnemonic → ℕ → Insn
 with_fields J word = insn.J (target word)
@@ -112,3 +112,12 @@ with_fields Rdhwr word = insn.Rdhwr (rt word) (rd word)
 abbrev pub read_as : Option Mnemonic → ℕ → Option Insn
 read_as (Some mnemonic) word = Some (with_fields mnemonic word)
 read_as None word = None
+
+-- what the rows of an opcode read of the word
+abbrev pub row_of_opcode : ℕ → ℕ → Option Insn
+row_of_opcode number word =
+    if number == 0 then find_special (function word) word
+    else if number == 1 then find_row regimm_rows (rt word) word
+    else if number == 28 then find_row special2_rows (function word) word
+    else if number == 31 then find_row special3_rows (function word) word
+    else find_plain number word
