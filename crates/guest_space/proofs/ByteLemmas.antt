@@ -4,8 +4,8 @@ use Rattle.std.proofs.Math.Seq.{drop-cons}
 use Rattle.std.specs.FinMap.{get, insert}
 use Rattle.guest_space.specs.Memory.{MappedPage, Pages}
 use Rattle.guest_space.specs.Bytes.{byte_at, bytes_at, page_byte, with_byte, with_bytes, page_with_byte, pages_with_byte}
-use Rattle.guest_space.specs.Pieces.{with_piece, pages_with_piece}
-use Rattle.guest_space.proofs.Puts.{get-insert_same, insert-insert}
+use Rattle.raw_pages.specs.Pages.{with_piece, pages_with_piece}
+use Rattle.raw_pages.proofs.Puts.{get-insert_same, insert-insert}
 
 module _ (pages : Pages) where
   pub bytes_at-same : {a b m n : ℕ} → a ≡ b → m ≡ n → bytes_at pages a m ≡ bytes_at pages b n

@@ -50,6 +50,29 @@ module _ (access : Access) (pages : Pages) where
       ap (λ o. first_denied access pages a (bytes_before a (suc n) o)) (first_denied-suc access pages a n)
       ∙ free_here a n (refusal access pages a) refl (λ _. prefix-free n (a + 1))
 
+module _ (access : Access) (pages : Pages) where
+  part_here : (a k m : ℕ) (o : Option Why) → refusal access pages a ≡ o → denied_or a o (first_denied access pages (a + 1) m) ≡ None
+      → (first_denied access pages (a + 1) m ≡ None → first_denied access pages (a + 1) k ≡ None) → denied_or a o (first_denied access pages (a + 1) k) ≡ None
+  part_here a k m (Some why) is none later = absurd (cc)
+  part_here a k m None is none later = later none
+
+  -- where none of some bytes is denied, none of the first ones is
+  pub none_denied-part : (k m a : ℕ) → first_denied access pages a (k + m) ≡ None → first_denied access pages a k ≡ None
+  none_denied-part zero m a none = first_denied-zero access pages a
+  none_denied-part (suc k) m a none =
+      let longer : suc k + m ≡ suc (k + m) = omega arith in
+      first_denied-suc access pages a k
+      ∙ part_here a k (k + m) (refusal access pages a) refl
+      (sym (first_denied-suc access pages a (k + m)) ∙ first_denied-same access pages refl (sym longer) ∙ none)
+      (none_denied-part k m (a + 1))
+
+  -- of the first bytes of a prefix none is denied
+  pub prefix-part : (n a k : ℕ) → k ≤ bytes_before a n (first_denied access pages a n) → first_denied access pages a k ≡ None
+  prefix-part n a k within =
+      let size = bytes_before a n (first_denied access pages a n) in
+      let whole : k + (size - k) ≡ size = omega arith in
+      none_denied-part k (size - k) a (first_denied-same access pages refl whole ∙ prefix-free access pages n a)
+
 -- of the bytes of a readable prefix none is denied
 pub readable_prefix-free : (pages : Pages) (n a : ℕ) → first_denied Load pages a (readable_prefix pages a n) ≡ None
 unfolding readable_prefix

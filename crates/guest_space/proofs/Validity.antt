@@ -1,14 +1,18 @@
 -- What is built from valid pages is valid.
-use Rattle.std.proofs.Common.{◌≡◌, ◌≤◌, ◌<◌, ◌+◌, ◌/◌, ◌%◌, zero, suc, ℕ, Bool, true, false, cond, List, [], ◌∷◌, Option, Some, None, set, get_or, replicate, refl, sym, ◌∙◌, subst, arith}
+use Rattle.std.proofs.Common.{◌≡◌, ◌≤◌, ◌<◌, ◌+◌, ◌/◌, ◌%◌, zero, suc, ℕ, Bool, true, false, cond, List, [], ◌∷◌, Option, Some, None, set, get_or, take, replicate, not, ◌-◌, refl, sym, ap, ◌∙◌, subst, arith}
 use Rattle.std.proofs.Math.ListN.{length-set, length-replicate}
 use Rattle.std.proofs.lemmas.Map.Lookups.{exact_unsigned}
 use Rattle.std.proofs.lemmas.Map.Views.{tells_apart}
 use Rattle.std.specs.Ordering.{nat_cmp, eq_by_cmp}
 use Rattle.std.specs.Cmp.{nat_cmp_total}
-use Rattle.std.specs.FinMap.{get, insert, empty, get-insert, get-empty}
+use Rattle.std.proofs.lemmas.Bool.Decides.{nat_tests}
+use Rattle.std.specs.declared.cmp.Ordering.TheVariants.{Equal}
+use Rattle.std.specs.FinMap.{get, insert, empty, get-insert, get-empty, get-retain_keys, nat_cmp-IsAntisymmetric}
+use Rattle.guest_space.specs.Remapping.{is_in, without, AreMoved}
 use Rattle.guest_space.specs.Memory.{MappedPage, Pages, IsPage, IsValid}
 use Rattle.guest_space.specs.Bytes.{with_byte, with_bytes, page_with_byte, pages_with_byte}
-use Rattle.guest_space.specs.Mapping.{zero_bytes, zero_page, with_zeros, with_protection, pages_with_protection}
+use Rattle.raw_pages.specs.Pages.{zero_bytes}
+use Rattle.guest_space.specs.Mapping.{zero_page, with_zeros, with_protection, pages_with_protection}
 
 abbrev pub AreBytes : List ℕ → Type 0
 AreBytes bs = (place : ℕ) → get_or bs place 0 < 256
@@ -81,3 +85,49 @@ unfolding with_protection
 valid-with_protection pages first zero protection valid bits = valid
 valid-with_protection pages first (suc count) protection valid bits =
     protection_go _ (first + count) protection _ (valid-with_protection pages first count protection valid bits) bits refl
+
+module _ (pages : Pages) (first count q : ℕ) where
+  not_same : (q x : ℕ) → nat_cmp q x ≡ Equal → not (is_in first count x) ≡ not (is_in first count q)
+  not_same q x tied = ap (λ n. not (is_in first count n)) (sym (nat_cmp-IsAntisymmetric q x tied))
+
+  swapped : {A : Type 0} (b : Bool) (x y : A) → cond (not b) x y ≡ cond b y x
+  swapped true x y = refl
+  swapped false x y = refl
+
+  -- what is found where a range was taken away
+  pub get-without : get (without pages first count) q ≡ cond (is_in first count q) None (get pages q)
+  unfolding without
+  get-without =
+      get-retain_keys pages (λ n. not (is_in first count n)) q (λ x tied. not_same q x tied) ∙ swapped (is_in first count q) (get pages q) None
+
+without_go : (pages : Pages) (number : ℕ) (page : MappedPage) (b : Bool) → IsValid pages → cond b None (get pages number) ≡ Some page → IsPage number page
+unfolding IsValid
+without_go pages number page true valid found = absurd (cc)
+without_go pages number page false valid found = valid number page found
+
+pub valid-without : (pages : Pages) (first count : ℕ) → IsValid pages → IsValid (without pages first count)
+unfolding IsValid
+valid-without pages first count valid number page found =
+    without_go pages number page (is_in first count number) valid (sym (get-without pages first count number) ∙ found)
+
+moved_go : (pages : Pages) (first to number limit : ℕ) (page : MappedPage) (a b : Bool) → IsValid pages → (a ≡ true → number < 524280)
+    → cond a (get pages (first + (number - to))) (cond b None (get pages number)) ≡ Some page → IsPage number page
+unfolding IsValid
+moved_go pages first to number limit page true b valid inside found =
+    let old = valid (first + (number - to)) page found in
+    record { inside = inside refl; three_bits = old.three_bits; whole = old.whole; are_bytes = old.are_bytes }
+moved_go pages first to number limit page false true valid inside found = absurd (cc)
+moved_go pages first to number limit page false false valid inside found = valid number page found
+
+pub valid-moved : (before after : Pages) (first to count : ℕ) → IsValid before → AreMoved before after first to count → to + count ≤ 524280 → IsValid after
+unfolding IsValid
+valid-moved before after first to count valid moved room number page found =
+    moved_go before first to number 0 page (is_in to count number) (is_in first count number) valid
+    (λ inside. let below : number < to + count = grind (arith, nat_tests) in omega arith)
+    (sym (moved number) ∙ found)
+
+pub take_are_bytes : (k : ℕ) (bs : List ℕ) → AreBytes bs → AreBytes (take k bs)
+take_are_bytes zero bs bytes place = omega arith
+take_are_bytes (suc k) [] bytes place = omega arith
+take_are_bytes (suc k) (b ∷ bs) bytes zero = bytes zero
+take_are_bytes (suc k) (b ∷ bs) bytes (suc place) = take_are_bytes k bs (λ n. bytes (suc n)) place

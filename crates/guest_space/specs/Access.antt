@@ -2,10 +2,11 @@
 -- A page with any of read, write and execute may be loaded and fetched; a store needs write. User
 -- space ends at 0x7FFF8000, the end of the 32-bit MIPS address space of Linux (TASK_SIZE32). The
 -- names of the three reasons and their order are this project's own.
+pub use Rattle.raw_pages.specs.Pages.{is_ready}
 pub use Rattle.guest_space.specs.declared.access.Access.{Access}
 pub use Rattle.guest_space.specs.declared.access.Denied.{Denied}
 pub use Rattle.guest_space.specs.declared.access.Why.{Why}
-use Rattle.std.specs.Prelude.{ℕ, zero, suc, ◌+◌, ◌-◌, ◌/◌, ◌%◌, Bool, not, ◌==◌, false, nat_le, if◌then◌else◌, Option, Some, None, Result, Ok, Err}
+use Rattle.std.specs.Prelude.{ℕ, zero, suc, ◌+◌, ◌-◌, ◌/◌, ◌%◌, Bool, not, ◌==◌, nat_le, if◌then◌else◌, Option, Some, None, Result, Ok, Err}
 use Rattle.std.specs.FinMap.{get}
 use Rattle.guest_space.specs.declared.access.Access.TheVariants.{Load, Store}
 use Rattle.guest_space.specs.declared.access.Why.TheVariants.{Absent, Forbidden, Beyond}
@@ -59,8 +60,3 @@ writable_prefix pages address count = bytes_before address count (first_denied S
 abbrev pub unless_denied : {T : Type 0} → Option Denied → T → Result T Denied
 unless_denied None value = Ok value
 unless_denied (Some denied) value = Err denied
-
--- whether the page was written since it was mapped; an absent page was not
-abbrev pub is_ready : Option MappedPage → Bool
-is_ready None = false
-is_ready (Some page) = page.ready

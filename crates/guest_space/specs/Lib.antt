@@ -1,6 +1,9 @@
 pub mod Access
 pub mod Answers
+pub mod Break
 pub mod Bytes
 pub mod Mapping
 pub mod Memory
-pub mod Pieces
+pub mod Places
+pub mod Remapping
+pub mod inside

@@ -1,16 +1,9 @@
 -- Pages that are mapped as zeros, and pages that get another protection (mmap(2) with MAP_FIXED and
 -- MAP_ANONYMOUS, and mprotect(2)). A range of pages is its first number and a count.
-use Rattle.std.specs.Prelude.{ℕ, zero, suc, ◌+◌, false, List, replicate, Option, Some, None, is_some, if◌then◌else◌}
+use Rattle.std.specs.Prelude.{ℕ, zero, suc, ◌+◌, is_some, if◌then◌else◌}
 use Rattle.std.specs.FinMap.{get, insert}
-use Rattle.guest_space.specs.Memory.{MappedPage, Pages}
-
--- 4096 zeros
-unfoldable pub zero_bytes : List ℕ
-zero_bytes = replicate 4096 0
-
--- a page of zeros that was not written
-abbrev pub zero_page : ℕ → MappedPage
-zero_page protection = record { protection = protection; ready = false; bytes = zero_bytes }
+pub use Rattle.raw_pages.specs.Pages.{zero_bytes, zero_page, pages_with_protection}
+use Rattle.guest_space.specs.Memory.{Pages}
 
 -- the pages with a page of zeros at each number of the range, whatever stood there
 unfoldable pub with_zeros : Pages → ℕ → ℕ → ℕ → Pages
@@ -32,11 +25,6 @@ page_limit = 131072
 unfoldable pub mapped_run : Pages → ℕ → ℕ → ℕ
 mapped_run pages first zero = 0
 mapped_run pages first (suc count) = if is_some (get pages first) then mapped_run pages (first + 1) count + 1 else 0
-
--- the pages with `page`, where there is one, at another protection
-abbrev pub pages_with_protection : Pages → ℕ → Option MappedPage → ℕ → Pages
-pages_with_protection pages number None protection = pages
-pages_with_protection pages number (Some page) protection = insert pages number (record page { protection = protection })
 
 -- the pages with this protection at each number of the range that is mapped
 unfoldable pub with_protection : Pages → ℕ → ℕ → ℕ → Pages

@@ -1,29 +1,10 @@
 -- Guest memory as contracts see it: a finite map from page numbers to pages, and the program break.
 -- A page has 4096 bytes, and the byte at an address stands in the page address / 4096 at the place
 -- address % 4096. (Linux manual page mmap(2); the sizes are this project's own.)
-use Rattle.std.specs.Prelude.{◌≡◌, ℕ, ◌<◌, ◌≤◌, Bool, List, length, slice_index, Some, refl}
-use Rattle.std.specs.Coded.{Coded, code_by, coded×, coded_ℕ, coded_bool, coded_list}
-use Rattle.std.specs.Ordering.{nat_cmp}
-use Rattle.std.specs.FinMap.{FinMap, code, get}
-
--- One page: its protection, whether it was written since it was mapped, and its bytes.
--- The protection adds up PROT_READ 1, PROT_WRITE 2 and PROT_EXEC 4 (asm-generic/mman-common.h).
-pub record MappedPage : Type 0 where
-  pub protection : ℕ
-  pub ready : Bool
-  pub bytes : List ℕ
-
-abbrev pub mapped_page_code : Coded MappedPage
-mapped_page_code =
-    code_by (ℕ × (Bool × List ℕ)) (coded× coded_ℕ (coded× coded_bool (coded_list coded_ℕ)))
-    (λ p. (p.protection, (p.ready, p.bytes))) (λ t. record { protection = t.0; ready = t.1.0; bytes = t.1.1 }) (λ _. refl)
-
--- the mapped pages by their numbers
-abbrev pub Pages : Type 0
-Pages = FinMap nat_cmp MappedPage
-
-abbrev pub pages_code : Coded Pages
-pages_code = code coded_ℕ mapped_page_code
+use Rattle.std.specs.Prelude.{◌≡◌, ℕ, ◌<◌, ◌≤◌, length, slice_index, Some, refl}
+use Rattle.std.specs.Coded.{Coded, code_by, coded×, coded_ℕ}
+use Rattle.std.specs.FinMap.{get}
+pub use Rattle.raw_pages.specs.Pages.{MappedPage, mapped_page_code, Pages, pages_code}
 
 -- A page that a memory may have at a number: the number lies in user space, which has 524,280 pages,
 -- the protection has three bits, and there are 4096 bytes.

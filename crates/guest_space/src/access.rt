@@ -1,6 +1,6 @@
 //! What is done with a byte of memory, why it may not be, and the errors of the calls.
 
-use std::alloc::AllocError;
+use kernel_core::NoMemory;
 
 /// What is done with a byte: `Load` is for loads and fetches, `Store` for stores.
 #[derive(Clone, Copy)]
@@ -58,13 +58,24 @@ impl From<Denied> for StoreError {
     }
 }
 
-impl From<AllocError> for MapError {
+impl From<NoMemory> for StoreError {
+    ghost use Rattle.std.specs.Prelude.{◌≡◌};
+    ghost use Rattle.guest_space.specs.declared.access.StoreError.TheVariants as error;
+
+    ghost from_gives = { λ _ e. e ≡ error.NoMemory };
+
+    fn from(_error: NoMemory) -> StoreError {
+        StoreError::NoMemory
+    }
+}
+
+impl From<NoMemory> for MapError {
     ghost use Rattle.std.specs.Prelude.{◌≡◌};
     ghost use Rattle.guest_space.specs.declared.access.MapError.TheVariants as error;
 
     ghost from_gives = { λ _ e. e ≡ error.NoMemory };
 
-    fn from(_error: AllocError) -> MapError {
+    fn from(_error: NoMemory) -> MapError {
         MapError::NoMemory
     }
 }

@@ -2,9 +2,8 @@
 #![tactic(auto)]
 
 mod access;
-mod page;
-mod page_store;
 mod range;
+mod resize;
 mod space;
 mod walk;
 

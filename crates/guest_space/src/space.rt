@@ -1,23 +1,27 @@
 //! The guest's memory as the calls of the machine see it.
-ghost use Rattle.std.specs.Prelude.{◌≡◌, ◌+◌, ◌*◌, ◌<◌, ◌≤◌, ◌^◌, ◌↔◌, length, IfOk, OnOk, OnErr, IfErr, IsErrOf};
+ghost use Rattle.std.specs.Prelude.{◌≡◌, ◌+◌, ◌*◌, ◌%◌, ◌<◌, ◌≤◌, ◌^◌, ◌↔◌, IsTrue, None, ℕ, length, IfOk, OnOk, OnErr, IfErr, IsErrOf};
 ghost use Rattle.std.specs.FinMap as map;
 ghost use Rattle.guest_space.specs.Access.{first_denied, bytes_before, readable_prefix, writable_prefix, unless_denied, user_end};
 ghost use Rattle.guest_space.specs.Answers.{IsStoreAnswer, LeavesPrefix, LeavesMapped};
 ghost use Rattle.guest_space.specs.Bytes.{bytes_at, read, written, copied_out, are_ready};
 ghost use Rattle.guest_space.specs.Memory.{IsValid};
 ghost use Rattle.guest_space.specs.Mapping.{with_zeros, with_protection, mapped_run, page_limit};
+ghost use Rattle.guest_space.specs.Places.{IsFree, IsGreatestPlace};
+ghost use Rattle.guest_space.specs.Remapping.{without, IsRemapAnswer};
+ghost use Rattle.guest_space.specs.Break.{with_break};
 
 use crate::access::{Access, Denied, MapError, StoreError};
-use crate::page::PAGE_SIZE;
-use crate::page_store::PageStore;
-use crate::range::{absent_pages, map_zeros, mapped_pages, protect_pages};
-use crate::walk::{first_denied, load_in_page, number, read_bytes, write_bytes};
+use crate::range::{
+    absent_pages, greatest_place, is_free, map_zeros, mapped_pages, protect_pages, unmap_pages,
+};
+use crate::resize::{PAGE_LIMIT, new_break, resize};
+use crate::walk::{
+    PAGE_SIZE, first_denied, load_in_page, number, read_bytes, store_bytes, write_bytes,
+};
 use kernel_core::NoMemory;
+use raw_pages::PageStore;
 use std::alloc::Global;
 use std::marker::Model;
-
-/// The greatest number of pages that may be mapped at a time.
-const PAGE_LIMIT: usize = 131_072;
 
 /// The memory of a guest program. Contracts see it as a `Memory` of `specs/Memory.antt`: a finite map
 /// from page numbers to pages, the program break and the place where the break began. Addresses have
@@ -27,7 +31,6 @@ pub struct Space {
     pages: PageStore,
     program_break: u32,
     break_start: u32,
-    alloc: Global,
 }
 
 impl Model for Space {
@@ -48,11 +51,11 @@ impl Space {
         ensures empty { IfOk result (λ s. s ≡ record { pages = map.empty; program_break = 0; break_start = 0 }) }
         ensures valid { IfOk result (λ s. IsValid s.pages) }
     {
+        let pages = PageStore::new(alloc)?;
         Ok(Space {
-            pages: PageStore::new(alloc),
+            pages,
             program_break: 0,
             break_start: 0,
-            alloc,
         })
     }
 
@@ -102,8 +105,8 @@ impl Space {
             (first_denied Access.Store self.old.pages addr n) (are_ready self.old.pages addr n) result }
         ensures valid { IsValid self.new.pages }
     {
-        let bytes = value.to_be_bytes();
-        self.write(addr, &bytes[4 - n as usize..])?;
+        let word = value.to_be_bytes();
+        store_bytes(&mut self.pages, addr, &word[4 - n as usize..])?;
         Ok(())
     }
 
@@ -112,6 +115,8 @@ impl Space {
     pub fn readable(&self, addr: u32, n: u32) -> u32
         ensures value { result ≡ readable_prefix self.now.pages addr n }
         ensures within { 0 < result → addr + result ≤ user_end }
+        ensures bound { result ≤ n }
+        ensures free { (k : ℕ) → k ≤ result → first_denied Access.Load self.now.pages addr k ≡ None }
     {
         self.prefix(Access::Load, addr, n)
     }
@@ -120,6 +125,8 @@ impl Space {
     pub fn writable(&self, addr: u32, n: u32) -> u32
         ensures value { result ≡ writable_prefix self.now.pages addr n }
         ensures within { 0 < result → addr + result ≤ user_end }
+        ensures bound { result ≤ n }
+        ensures free { (k : ℕ) → k ≤ result → first_denied Access.Store self.now.pages addr k ≡ None }
     {
         self.prefix(Access::Store, addr, n)
     }
@@ -148,7 +155,10 @@ impl Space {
             (are_ready self.old.pages addr (length bytes.now)) result }
         ensures valid { IsValid self.new.pages }
     {
-        self.write(addr, bytes)?;
+        if let Some(denied) = first_denied(&self.pages, Access::Store, addr, bytes.len()) {
+            return Err(StoreError::Denied(denied));
+        }
+        write_bytes(&mut self.pages, addr, bytes)?;
         Ok(())
     }
 
@@ -167,7 +177,7 @@ impl Space {
         if self.pages.len() + absent_pages(&self.pages, first, count) > PAGE_LIMIT {
             return Err(MapError::Full);
         }
-        map_zeros(&mut self.pages, self.alloc, first, count, prot)?;
+        map_zeros(&mut self.pages, first, count, prot)?;
         Ok(())
     }
 
@@ -185,25 +195,80 @@ impl Space {
         run
     }
 
-    /// Writes the bytes from `addr` on, or none with the first byte that may not be stored to. The pages
-    /// have their memory since they were mapped.
-    fn write(&mut self, addr: u32, bytes: &[u8]) -> Result<(), Denied>
-        ensures answer { result ≡ unless_denied (first_denied Access.Store self.old.pages addr (length bytes.now)) tt }
-        ensures ok { OnOk result (self.new ≡ copied_out self.old addr bytes.now) }
-        ensures err { OnErr result (self.new ≡ self.old) }
+    /// Takes the pages of the range away, where they are mapped (munmap(2)). It takes no memory.
+    pub fn unmap(&mut self, first: u32, count: u32)
+        requires { first + count ≤ 524280 }
+        ensures changed { self.new ≡ record self.old { pages = without self.old.pages first count } }
         ensures valid { IsValid self.new.pages }
     {
-        if let Some(denied) = first_denied(&self.pages, Access::Store, addr, bytes.len()) {
-            return Err(denied);
-        }
-        write_bytes(&mut self.pages, addr, bytes);
-        Ok(())
+        unmap_pages(&mut self.pages, first, count);
+    }
+
+    /// The number of pages that are mapped from `first` on before the first absent one, at most `count`. It
+    /// takes no memory.
+    pub fn mapped(&self, first: u32, count: u32) -> u32
+        requires { first + count ≤ 524280 }
+        ensures value { result ≡ mapped_run self.now.pages first count }
+        ensures bound { result ≤ count }
+    {
+        mapped_pages(&self.pages, first, count)
+    }
+
+    /// Whether none of the pages is mapped. It takes no memory.
+    pub fn is_free(&self, first: u32, count: u32) -> bool
+        requires { first + count ≤ 524280 }
+        ensures { IsTrue result ↔ IsFree self.now.pages first count }
+    {
+        is_free(&self.pages, first, count)
+    }
+
+    /// The greatest first page of a free run of so many pages that lies between 0x10000000 and 0x70000000, and
+    /// None where there is none. (The rule is this project's own; mmap(2) leaves the choice to the kernel.)
+    /// It costs by the mapped pages and the tables that hold them, not by the free ones, and takes no memory.
+    pub fn place(&self, pages: u32) -> Option<u32>
+        requires { 0 < pages }
+        ensures { IsGreatestPlace self.now.pages pages result }
+    {
+        greatest_place(&self.pages, pages)
+    }
+
+    /// Gives the range of `old` mapped pages from `first` on the size of `new` pages, and answers its first
+    /// page afterwards (mremap(2)). A smaller range is cut. A greater one grows by pages of zeros with the
+    /// protection of its last page: where it stands, if the pages that follow are free and lie below
+    /// 0x7F7F0000; else, if it may move, at the greatest place for `new` pages. Full comes exactly where more
+    /// than 131,072 pages would be mapped, NoPlace exactly where it can't grow and may not move or has no
+    /// place; neither changes anything. After NoMemory nothing is promised of the pages.
+    pub fn remap(&mut self, first: u32, old: u32, new: u32, may_move: bool) -> Result<u32, MapError>
+        requires end { first + old ≤ 524280 }
+        requires some_old { 0 < old }
+        requires some_new { 0 < new }
+        requires mapped { mapped_run self.old.pages first old ≡ old }
+        ensures answer { IsRemapAnswer result self.old.pages self.new.pages first old new may_move }
+        ensures others { self.new ≡ record self.old { pages = self.new.pages } }
+        ensures valid { IsValid self.new.pages }
+    {
+        resize(&mut self.pages, first, old, new, may_move)
+    }
+
+    /// Makes `to` the program break, and answers the break (brk(2)). The break stays where `to` lies below
+    /// the break's start or above 0x70000000, where a page to be added is mapped already, and where more than
+    /// 131,072 pages would be mapped. The pages between both breaks are mapped as zeros to read and write, or
+    /// taken away. After NoMemory nothing is promised of the pages.
+    pub fn brk(&mut self, to: u32) -> Result<u32, NoMemory>
+        ensures answer { IfOk result (λ now. now ≡ (with_break self.old to).program_break) }
+        ensures ok { OnOk result (self.new ≡ with_break self.old to) }
+        ensures valid { IsValid self.new.pages }
+    {
+        self.program_break = new_break(&mut self.pages, self.break_start, self.program_break, to)?;
+        Ok(self.program_break)
     }
 
     /// The bytes before the first that may not be used so.
     fn prefix(&self, access: Access, addr: u32, n: u32) -> u32
         ensures value { result ≡ bytes_before addr n (first_denied access self.now.pages addr n) }
         ensures within { 0 < result → addr + result ≤ user_end }
+        ensures bound { result ≤ n }
+        ensures free { (k : ℕ) → k ≤ result → first_denied access self.now.pages addr k ≡ None }
     {
         match first_denied(&self.pages, access, addr, n as usize) {
             None => n,

@@ -149,3 +149,159 @@ fn maps_and_protects(rt: HostRuntime) -> Result<(), Fail> {
     assert_eq!(rt; space.protect(0x15, 2, 1), 0);
     Ok(())
 }
+
+/// The words that tell an answer of a change of size, and the first page.
+fn remap_answer(answer: Result<u32, MapError>) -> (&'static str, u32) {
+    match answer {
+        Ok(first) => ("at", first),
+        Err(MapError::Full) => ("full", 0),
+        Err(MapError::NoPlace) => ("no place", 0),
+        Err(MapError::NoMemory) => ("no memory", 0),
+    }
+}
+
+#[test]
+fn unmaps_and_counts(rt: HostRuntime) -> Result<(), Fail> {
+    let mut space = sample(rt.alloc())?;
+    for (first, count, mapped, free) in [
+        (0x10, 8, 5, false),
+        (0xF, 8, 0, false),
+        (0xE, 2, 0, true),
+        (0x15, 0x7_FFE2, 0, true),
+        (0x15, 0x7_FFE3, 0, false),
+        (0x12, 0, 0, true),
+    ] {
+        assert_eq!(rt;
+            (space.mapped(first, count), space.is_free(first, count)),
+            (mapped, free)
+        );
+    }
+    assert_eq!(rt; store_answer(space.store(0x1_0000, 1, 9)), ("written", 0));
+    space.unmap(0x10, 1);
+    space.unmap(0x12, 2);
+    for (first, count, mapped, free) in [
+        (0x10, 1, 0, true),
+        (0x11, 4, 1, false),
+        (0x14, 1, 1, false),
+    ] {
+        assert_eq!(rt;
+            (space.mapped(first, count), space.is_free(first, count)),
+            (mapped, free)
+        );
+    }
+    assert_eq!(rt; load_answer(space.load(0x1_0000, 1)), ("absent", 0x1_0000));
+    assert_eq!(rt; map_answer(space.map(0x10, 1, 1)), "mapped");
+    assert_eq!(rt; load_answer(space.load(0x1_0000, 1)), ("value", 0));
+    Ok(())
+}
+
+#[test]
+fn the_page_limit_from_both_sides(rt: HostRuntime) -> Result<(), Fail> {
+    let mut space = Space::new(rt.alloc()).ok().ok_or("no memory")?;
+    assert_eq!(rt; map_answer(space.map(0x100, 131_071, 3)), "mapped");
+    assert_eq!(rt; map_answer(space.map(0x7_0000, 2, 3)), "full");
+    assert_eq!(rt; remap_answer(space.remap(0x100, 1, 3, true)), ("full", 0));
+    assert_eq!(rt; map_answer(space.map(0x7_0000, 1, 3)), "mapped");
+    assert_eq!(rt; map_answer(space.map(0x7_0000, 2, 3)), "full");
+    assert_eq!(rt; map_answer(space.map(0x100, 0x1_0000, 3)), "mapped");
+    assert_eq!(rt;
+        remap_answer(space.remap(0x7_0000, 1, 2, false)),
+        ("full", 0)
+    );
+    assert_eq!(rt; space.brk(0x1000).ok(), Some(0));
+    space.unmap(0x100, 1);
+    assert_eq!(rt; space.brk(0x1000).ok(), Some(0x1000));
+    Ok(())
+}
+
+#[test]
+fn the_greatest_place(rt: HostRuntime) -> Result<(), Fail> {
+    let mut space = sample(rt.alloc())?;
+    assert_eq!(rt; space.place(1), Some(0x6_FFFF));
+    assert_eq!(rt; space.place(0x6_0000), Some(0x1_0000));
+    assert_eq!(rt; space.place(0x6_0001), None);
+    assert_eq!(rt; space.place(u32::MAX), None);
+    assert_eq!(rt; map_answer(space.map(0x6_FFFD, 1, 1)), "mapped");
+    for (pages, first) in [
+        (1, 0x6_FFFF),
+        (2, 0x6_FFFE),
+        (3, 0x6_FFFA),
+        (0x5_FFFD, 0x1_0000),
+    ] {
+        assert_eq!(rt; space.place(pages), Some(first));
+    }
+    assert_eq!(rt; space.place(0x5_FFFE), None);
+    assert_eq!(rt; map_answer(space.map(0x1_0000, 1, 1)), "mapped");
+    assert_eq!(rt; space.place(0x5_FFFC), Some(0x1_0001));
+    assert_eq!(rt; space.place(0x5_FFFD), None);
+    Ok(())
+}
+
+#[test]
+fn ranges_get_another_size(rt: HostRuntime) -> Result<(), Fail> {
+    let mut space = sample(rt.alloc())?;
+    assert_eq!(rt;
+        store_answer(space.store(0x1_1000, 4, 0x5566_7788)),
+        ("written", 0)
+    );
+    assert_eq!(rt;
+        remap_answer(space.remap(0x10, 2, 3, false)),
+        ("no place", 0)
+    );
+    assert_eq!(rt; remap_answer(space.remap(0x14, 1, 3, false)), ("at", 0x14));
+    assert_eq!(rt;
+        load_answer(space.load(0x1_6FFF, 1)),
+        ("forbidden", 0x1_6FFF)
+    );
+    assert_eq!(rt;
+        remap_answer(space.remap(0x10, 2, 3, true)),
+        ("at", 0x6_FFFD)
+    );
+    assert_eq!(rt;
+        load_answer(space.load(0x6_FFFE_000, 4)),
+        ("value", 0x5566_7788)
+    );
+    assert_eq!(rt; load_answer(space.load(0x6_FFFF_FFC, 4)), ("value", 0));
+    assert_eq!(rt; load_answer(space.load(0x1_1000, 4)), ("absent", 0x1_1000));
+    assert_eq!(rt;
+        remap_answer(space.remap(0x6_FFFD, 3, 1, false)),
+        ("at", 0x6_FFFD)
+    );
+    assert_eq!(rt;
+        load_answer(space.load(0x6_FFFE_000, 4)),
+        ("absent", 0x6FFF_E000)
+    );
+    assert_eq!(rt; map_answer(space.map(0x7_F7EE, 1, 3)), "mapped");
+    assert_eq!(rt;
+        remap_answer(space.remap(0x7_F7EE, 1, 3, false)),
+        ("no place", 0)
+    );
+    assert_eq!(rt;
+        remap_answer(space.remap(0x7_F7EE, 1, 2, false)),
+        ("at", 0x7_F7EE)
+    );
+    Ok(())
+}
+
+#[test]
+fn moves_the_break(rt: HostRuntime) -> Result<(), Fail> {
+    let mut space = sample(rt.alloc())?;
+    for (to, now) in [
+        (0x1_FFFF, 0x2_0000),
+        (0x2_0001, 0x2_0001),
+        (0x2_2000, 0x2_2000),
+        (0x7000_0001, 0x2_2000),
+        (0x2_1000, 0x2_1000),
+        (0x2_0000, 0x2_0000),
+        (0x2_1800, 0x2_1800),
+    ] {
+        assert_eq!(rt; space.brk(to).ok(), Some(now));
+        assert_eq!(rt; space.mapped(0x20, 8), (now + 0xFFF) / 0x1000 - 0x20);
+    }
+    assert_eq!(rt; store_answer(space.store(0x2_1FFC, 4, 7)), ("written", 0));
+    assert_eq!(rt; map_answer(space.map(0x23, 1, 1)), "mapped");
+    assert_eq!(rt; space.brk(0x2_3001).ok(), Some(0x2_1800));
+    assert_eq!(rt; space.brk(0x2_3000).ok(), Some(0x2_3000));
+    assert_eq!(rt; load_answer(space.load(0x2_1FFC, 4)), ("value", 7));
+    Ok(())
+}

@@ -1,14 +1,21 @@
 //! Bytes of a page store: which may be used, and reads and writes of them, a page at a time.
-ghost use Rattle.std.specs.Prelude.{◌≡◌, ◌+◌, ◌*◌, ◌<◌, ◌≤◌, ◌/◌, ◌%◌, ◌^◌, length, IfOk, IfErr, IfNone};
+ghost use Rattle.std.specs.Prelude.{◌≡◌, ◌+◌, ◌*◌, ◌<◌, ◌≤◌, ◌/◌, ◌%◌, ◌^◌, ℕ, length, take, slice_range, true, false, OnOk, OnErr, IfOk, IfErr, IfNone};
 ghost use Rattle.std.specs.FinMap as map;
+ghost use Rattle.raw_pages.specs.Pages.{is_ready, shown_bytes, zero_bytes};
+ghost use Rattle.guest_space.specs.Memory.{IsValid};
+ghost use Rattle.guest_space.specs.inside.Pieces.{with_both};
 ghost use Rattle.byteorder.specs.Endian.{big_number};
 ghost use Rattle.guest_space.specs.Access.{refusal, allows, first_denied, unless_denied, user_end};
-ghost use Rattle.guest_space.specs.Bytes.{bytes_at, with_bytes};
+ghost use Rattle.guest_space.specs.Bytes.{bytes_at, with_bytes, are_ready};
+ghost use Rattle.guest_space.specs.Answers.{IsStoreAnswer};
 
-use crate::access::{Access, Denied, Why};
-use crate::page::{PAGE_SIZE, Page};
-use crate::page_store::PageStore;
+use crate::access::{Access, Denied, StoreError, Why};
 use byteorder::{BigEndian, ByteOrder};
+use kernel_core::NoMemory;
+use raw_pages::{Page, PageStore, WriteError};
+
+/// The number of bytes of a page.
+pub(crate) const PAGE_SIZE: u32 = 4096;
 
 /// The first address past user space.
 const USER_END: u32 = 0x7FFF_8000;
@@ -96,11 +103,38 @@ pub(crate) fn load_in_page(pages: &PageStore, addr: u32, n: u32) -> Result<u32, 
         (first_denied Access.Load pages.now addr n) (big_number n (bytes_at pages.now addr n)) }
     ensures fits { IfOk result (λ value. value < 256 ^ n) }
 {
-    let place = (addr % PAGE_SIZE) as usize;
     match usable_page(pages, Access::Load, addr) {
-        Ok(page) => Ok(number(&page.bytes()[place..place + n as usize])),
+        Ok(page) => Ok(number_in_page(page, (addr % PAGE_SIZE) as usize, n)),
         Err(why) => Err(Denied { addr, why }),
     }
+}
+
+/// The big-endian number of one to four bytes of a page.
+fn number_in_page(page: &Page, place: usize, n: u32) -> u32
+    requires low { 1 ≤ n }
+    requires high { n ≤ 4 }
+    requires room { place + n ≤ 4096 }
+    ensures value { result ≡ big_number n (slice_range page.now.bytes place (place + n)) }
+    ensures fits { result < 256 ^ n }
+    ensures whole { length page.now.bytes ≡ 4096 }
+{
+    match n {
+        1 => u32::from(page.byte(place)),
+        2 => u32::from(BigEndian::read_u16(&page.half(place))),
+        3 => three_bytes(page, place),
+        _ => BigEndian::read_u32(&page.word(place)),
+    }
+}
+
+fn three_bytes(page: &Page, place: usize) -> u32
+    requires { place + 3 ≤ 4096 }
+    ensures value { result ≡ big_number 3 (slice_range page.now.bytes place (place + 3)) }
+    ensures fits { result < 256 ^ 3 }
+    ensures whole { length page.now.bytes ≡ 4096 }
+{
+    let mut bytes = [0; 3];
+    page.read(place, &mut bytes);
+    number(&bytes)
 }
 
 /// Reads a piece of bytes that lies in one page. Where no page is the bytes are 0.
@@ -108,11 +142,7 @@ fn read_piece(pages: &PageStore, addr: u32, piece: &mut [u8])
     requires { addr % 4096 + length piece.old ≤ 4096 }
     ensures { piece.new ≡ bytes_at pages.now addr (length piece.old) }
 {
-    let place = (addr % PAGE_SIZE) as usize;
-    match pages.page(addr / PAGE_SIZE) {
-        Some(page) => piece.copy_from_slice(&page.bytes()[place..place + piece.len()]),
-        None => piece.fill(0),
-    }
+    pages.read(addr / PAGE_SIZE, addr % PAGE_SIZE, piece);
 }
 
 /// Reads the bytes from `addr` on. Where no page is they are 0.
@@ -129,17 +159,152 @@ pub(crate) fn read_bytes(pages: &PageStore, addr: u32, buf: &mut [u8])
     }
 }
 
-/// Writes the bytes from `addr` on, where pages are.
-pub(crate) fn write_bytes(pages: &mut PageStore, addr: u32, bytes: &[u8])
+/// Writes the bytes from `addr` on, where pages are. After want of memory for a page that isn't ready a
+/// first part of them is written.
+pub(crate) fn write_bytes(pages: &mut PageStore, addr: u32, bytes: &[u8]) -> Result<(), NoMemory>
     requires { addr + length bytes.now ≤ 2 ^ 32 }
-    ensures { pages.new ≡ with_bytes pages.old addr bytes.now }
+    ensures ok { OnOk result (pages.new ≡ with_bytes pages.old addr bytes.now) }
+    ensures part { OnErr result ((k : ℕ) × (k ≤ length bytes.now) × (pages.new ≡ with_bytes pages.old addr (take k bytes.now))) }
+    ensures ready { OnErr result (are_ready pages.old addr (length bytes.now) ≡ false) }
+    ensures valid { IsValid pages.old → IsValid pages.new }
 {
     let mut done = 0;
     while done < bytes.len() {
         let at = addr + done as u32;
         let place = at % PAGE_SIZE;
         let size = (bytes.len() - done).min((PAGE_SIZE - place) as usize);
-        pages.write(at / PAGE_SIZE, place as usize, &bytes[done..done + size]);
+        pages.write(at / PAGE_SIZE, place, &bytes[done..done + size])?;
         done += size;
     }
+    Ok(())
+}
+
+/// Writes one to four bytes: all of them, or none.
+pub(crate) fn store_bytes(pages: &mut PageStore, addr: u32, bytes: &[u8]) -> Result<(), StoreError>
+    requires some { 0 < length bytes.now }
+    requires short { length bytes.now ≤ 4 }
+    ensures ok { OnOk result (pages.new ≡ with_bytes pages.old addr bytes.now) }
+    ensures err { OnErr result (pages.new ≡ pages.old) }
+    ensures answer { IsStoreAnswer (first_denied Access.Store pages.old addr (length bytes.now))
+        (are_ready pages.old addr (length bytes.now)) result }
+    ensures valid { IsValid pages.old → IsValid pages.new }
+{
+    if addr % PAGE_SIZE + bytes.len() as u32 <= PAGE_SIZE {
+        return store_in_page(pages, addr, bytes);
+    }
+    store_across_pages(pages, addr, bytes)
+}
+
+/// Writes one to four bytes that lie in one page, by one look-up: all of them, or none.
+fn store_in_page(pages: &mut PageStore, addr: u32, bytes: &[u8]) -> Result<(), StoreError>
+    requires some { 0 < length bytes.now }
+    requires room { addr % 4096 + length bytes.now ≤ 4096 }
+    ensures ok { OnOk result (pages.new ≡ with_bytes pages.old addr bytes.now) }
+    ensures err { OnErr result (pages.new ≡ pages.old) }
+    ensures answer { IsStoreAnswer (first_denied Access.Store pages.old addr (length bytes.now))
+        (are_ready pages.old addr (length bytes.now)) result }
+    ensures valid { IsValid pages.old → IsValid pages.new }
+{
+    if addr >= USER_END {
+        return Err(StoreError::Denied(Denied {
+            addr,
+            why: Why::Beyond,
+        }));
+    }
+    match pages.write_if_allowed(addr / PAGE_SIZE, addr % PAGE_SIZE, bytes) {
+        Ok(()) => Ok(()),
+        Err(WriteError::Absent) => Err(StoreError::Denied(Denied {
+            addr,
+            why: Why::Absent,
+        })),
+        Err(WriteError::Forbidden) => Err(StoreError::Denied(Denied {
+            addr,
+            why: Why::Forbidden,
+        })),
+        Err(WriteError::NoMemory) => Err(StoreError::NoMemory),
+    }
+}
+
+/// Writes bytes of two neighbouring pages: all of them, or none.
+fn write_across(pages: &mut PageStore, addr: u32, bytes: &[u8]) -> Result<(), NoMemory>
+    requires across { 4096 < addr % 4096 + length bytes.now }
+    requires short { length bytes.now ≤ 4 }
+    requires inside { addr + length bytes.now ≤ 2 ^ 32 }
+    ensures ok { OnOk result (pages.new ≡ with_bytes pages.old addr bytes.now) }
+    ensures err { OnErr result (pages.new ≡ pages.old) }
+    ensures ready { OnErr result (are_ready pages.old addr (length bytes.now) ≡ false) }
+{
+    let page = addr / PAGE_SIZE;
+    let place = addr % PAGE_SIZE;
+    let front = &bytes[..(PAGE_SIZE - place) as usize];
+    let back = &bytes[(PAGE_SIZE - place) as usize..];
+    if pages.ready(page + 1) {
+        write_with_ready_next(pages, page, place, front, back)?;
+    } else {
+        write_with_unready_next(pages, page, place, front, back)?;
+    }
+    Ok(())
+}
+
+/// Writes the end of a page and the begin of the next one, which is ready.
+fn write_with_ready_next(
+    pages: &mut PageStore,
+    page: u32,
+    place: u32,
+    front: &[u8],
+    back: &[u8],
+) -> Result<(), NoMemory>
+    requires number { page + 1 < 1048576 }
+    requires front { place + length front.now ≤ 4096 }
+    requires back { length back.now ≤ 4096 }
+    requires ready { is_ready (map.get pages.old (page + 1)) ≡ true }
+    ensures ok { OnOk result (pages.new ≡ with_both pages.old page place front.now back.now) }
+    ensures err { OnErr result (pages.new ≡ pages.old) }
+    ensures unready { OnErr result (is_ready (map.get pages.old page) ≡ false) }
+{
+    pages.write(page, place, front)?;
+    pages.write(page + 1, 0, back)?;
+    Ok(())
+}
+
+/// The same where the next page isn't ready. It is written first, and cleared again where there is no memory
+/// for the first page.
+fn write_with_unready_next(
+    pages: &mut PageStore,
+    page: u32,
+    place: u32,
+    front: &[u8],
+    back: &[u8],
+) -> Result<(), NoMemory>
+    requires number { page + 1 < 1048576 }
+    requires front { place + length front.now ≤ 4096 }
+    requires back { length back.now ≤ 4096 }
+    requires unready { is_ready (map.get pages.old (page + 1)) ≡ false }
+    requires zeros { shown_bytes (map.get pages.old (page + 1)) ≡ zero_bytes }
+    ensures ok { OnOk result (pages.new ≡ with_both pages.old page place front.now back.now) }
+    ensures err { OnErr result (pages.new ≡ pages.old) }
+{
+    pages.write(page + 1, 0, back)?;
+    if let Err(no_memory) = pages.write(page, place, front) {
+        pages.clear(page + 1);
+        return Err(no_memory);
+    }
+    Ok(())
+}
+
+/// Writes two to four bytes of two neighbouring pages: all of them, or none.
+fn store_across_pages(pages: &mut PageStore, addr: u32, bytes: &[u8]) -> Result<(), StoreError>
+    requires across { 4096 < addr % 4096 + length bytes.now }
+    requires short { length bytes.now ≤ 4 }
+    ensures ok { OnOk result (pages.new ≡ with_bytes pages.old addr bytes.now) }
+    ensures err { OnErr result (pages.new ≡ pages.old) }
+    ensures answer { IsStoreAnswer (first_denied Access.Store pages.old addr (length bytes.now))
+        (are_ready pages.old addr (length bytes.now)) result }
+    ensures valid { IsValid pages.old → IsValid pages.new }
+{
+    if let Some(denied) = first_denied(pages, Access::Store, addr, bytes.len()) {
+        return Err(StoreError::Denied(denied));
+    }
+    write_across(pages, addr, bytes)?;
+    Ok(())
 }

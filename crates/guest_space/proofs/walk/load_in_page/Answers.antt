@@ -4,7 +4,7 @@ use Rattle.guest_space.specs.declared.access.Access.TheVariants.{Load}
 use Rattle.guest_space.specs.Access.{unless_denied}
 use Rattle.guest_space.specs.Bytes.{bytes_at}
 use Rattle.guest_space.proofs.Prefixes.{first_denied-same, first_denied-page, first_denied-zero, first_denied-here}
-use Rattle.guest_space.proofs.ByteLemmas.{bytes_at-page, length-bytes_at}
+use Rattle.guest_space.proofs.ByteLemmas.{bytes_at-page}
 use Rattle.guest_space.proofs.walk.load_in_page.Goals as goal
 
 pub returns-in-Ok-clause-value : goal.returns-in-Ok-clause-value
@@ -13,18 +13,15 @@ returns-in-Ok-clause-value c =
     let addr = c.args.addr in
     let n = c.args.n in
     let place = addr % 4096 in
-    let part = take (place + n - place) (drop place c.bytes.result.now) in
     let exact : place + n - place ≡ n = omega arith in
     let piece =
-    ap (λ k. take k (drop place c.bytes.result.now)) exact
-    ∙ ap (λ s. take n (drop place s)) c.bytes.ensures.value
-    ∙ sym (bytes_at-page pages addr n c.in-Ok.page.now c.in-Ok.ensures.allowed.1 c.requires.room (ap length (sym c.bytes.ensures.value) ∙ c.bytes.ensures.whole)) in
-    let long = ap length piece ∙ length-bytes_at pages n addr in
+    ap (λ k. take k (drop place c.in-Ok.page.now.bytes)) exact
+    ∙ sym (bytes_at-page pages addr n c.in-Ok.page.now c.in-Ok.ensures.allowed.1 c.requires.room c.number_in_page.ensures.whole) in
     let free =
     first_denied-same Load pages {a = addr} {b = addr} {m = n} {n = n + 0} refl (omega arith)
     ∙ first_denied-page Load pages addr n 0 c.in-Ok.ensures.allowed.0 c.requires.room
     ∙ first_denied-zero Load pages (addr + n) in
-    ap Ok (c.number.ensures.value ∙ ap (λ k. big_number k part) long ∙ ap (big_number n) piece)
+    ap Ok (c.number_in_page.ensures.value ∙ ap (big_number n) piece)
     ∙ ap (λ o. unless_denied o (big_number n (bytes_at pages addr n))) (sym free)
 
 pub returns-in-Err-clause-value : goal.returns-in-Err-clause-value

@@ -1,7 +1,7 @@
 use Rattle.std.proofs.Common.{◌≡◌, ◌+◌, ◌++◌, ap, sym, ◌∙◌, arith, length}
 use Rattle.std.proofs.lemmas.Slice.{take-put_mid}
 use Rattle.guest_space.specs.Bytes.{bytes_at}
-use Rattle.guest_space.proofs.Puts.{length-part}
+use Rattle.raw_pages.proofs.Puts.{length-part}
 use Rattle.guest_space.proofs.ByteLemmas.{bytes_at-append, bytes_at-zero, length-bytes_at}
 use Rattle.guest_space.proofs.walk.read_bytes.Goals as goal
 

@@ -4,7 +4,7 @@ use Rattle.guest_space.proofs.Validity.{valid-empty}
 use Rattle.guest_space.proofs.space.Space.new.Goals as goal
 
 pub invariant_of-result : goal.invariant_of-result
-invariant_of-result c = subst IsValid (sym c.new.ensures) valid-empty
+invariant_of-result c = subst IsValid (sym c.in_ok-pages.ensures) valid-empty
 
 pub returns-clause-valid : goal.returns-clause-valid
-returns-clause-valid c = subst IsValid (sym c.new.ensures) valid-empty
+returns-clause-valid c = subst IsValid (sym c.in_ok-pages.ensures) valid-empty

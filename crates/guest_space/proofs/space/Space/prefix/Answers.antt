@@ -1,4 +1,7 @@
-use Rattle.std.proofs.Common.{sym, arith}
+use Rattle.std.proofs.Common.{sym, ap, ◌∙◌, arith}
+use Rattle.guest_space.specs.Access.{bytes_before, first_denied}
+use Rattle.guest_space.specs.Memory.{Memory}
+use Rattle.guest_space.proofs.Uses.{prefix-part}
 use Rattle.guest_space.proofs.Prefixes.{denied-stands, none_denied-within}
 use Rattle.guest_space.proofs.space.Space.prefix.Goals as goal
 
@@ -12,3 +15,20 @@ pub returns-in-Some-clause-within : goal.returns-in-Some-clause-within
 returns-in-Some-clause-within c =
     let stands = denied-stands _ _ _ _ _ (sym c.in-Some.ensures.value) in
     λ more. omega (arith, stands.from, stands.inside (omega (arith, stands.from)))
+
+pub returns-in-None-clause-free : goal.returns-in-None-clause-free
+returns-in-None-clause-free c =
+    λ k within. sym (ap (λ (m : Memory). first_denied c.args.access m.pages c.args.addr k) c.self.view_is)
+    ∙ prefix-part c.args.access c.self.inside.pages c.args.n c.args.addr k
+    (omega (arith, ap (bytes_before c.args.addr c.args.n) c.in-None.ensures.value))
+
+pub returns-in-Some-clause-bound : goal.returns-in-Some-clause-bound
+returns-in-Some-clause-bound c =
+    let stands = denied-stands _ _ _ _ _ (sym c.in-Some.ensures.value) in
+    omega (arith, stands.from, stands.below)
+
+pub returns-in-Some-clause-free : goal.returns-in-Some-clause-free
+returns-in-Some-clause-free c =
+    λ k within. sym (ap (λ (m : Memory). first_denied c.args.access m.pages c.args.addr k) c.self.view_is)
+    ∙ prefix-part c.args.access c.self.inside.pages c.args.n c.args.addr k
+    (omega (arith, ap (bytes_before c.args.addr c.args.n) c.in-Some.ensures.value))
