@@ -150,9 +150,18 @@ fn maps_and_protects(rt: HostRuntime) -> Result<(), Fail> {
     Ok(())
 }
 
-/// The words that tell an answer of a change of size, and the first page.
-fn remap_answer(answer: Result<u32, MapError>) -> (&'static str, u32) {
-    match answer {
+/// The words that tell the answer of a change of size, and the first page.
+fn remapped(
+    space: &mut Space,
+    first: u32,
+    old: u32,
+    new: u32,
+    may_move: bool,
+) -> (&'static str, u32) {
+    if first > 0x7_FFE0 || old == 0 || old > 16 || new == 0 || space.mapped(first, old) != old {
+        return ("no range", 0);
+    }
+    match space.remap(first, old, new, may_move) {
         Ok(first) => ("at", first),
         Err(MapError::Full) => ("full", 0),
         Err(MapError::NoPlace) => ("no place", 0),
@@ -200,14 +209,11 @@ fn the_page_limit_from_both_sides(rt: HostRuntime) -> Result<(), Fail> {
     let mut space = Space::new(rt.alloc()).ok().ok_or("no memory")?;
     assert_eq!(rt; map_answer(space.map(0x100, 131_071, 3)), "mapped");
     assert_eq!(rt; map_answer(space.map(0x7_0000, 2, 3)), "full");
-    assert_eq!(rt; remap_answer(space.remap(0x100, 1, 3, true)), ("full", 0));
+    assert_eq!(rt; remapped(&mut space, 0x100, 1, 3, true), ("full", 0));
     assert_eq!(rt; map_answer(space.map(0x7_0000, 1, 3)), "mapped");
     assert_eq!(rt; map_answer(space.map(0x7_0000, 2, 3)), "full");
     assert_eq!(rt; map_answer(space.map(0x100, 0x1_0000, 3)), "mapped");
-    assert_eq!(rt;
-        remap_answer(space.remap(0x7_0000, 1, 2, false)),
-        ("full", 0)
-    );
+    assert_eq!(rt; remapped(&mut space, 0x7_0000, 1, 2, false), ("full", 0));
     assert_eq!(rt; space.brk(0x1000).ok(), Some(0));
     space.unmap(0x100, 1);
     assert_eq!(rt; space.brk(0x1000).ok(), Some(0x1000));
@@ -244,19 +250,13 @@ fn ranges_get_another_size(rt: HostRuntime) -> Result<(), Fail> {
         store_answer(space.store(0x1_1000, 4, 0x5566_7788)),
         ("written", 0)
     );
-    assert_eq!(rt;
-        remap_answer(space.remap(0x10, 2, 3, false)),
-        ("no place", 0)
-    );
-    assert_eq!(rt; remap_answer(space.remap(0x14, 1, 3, false)), ("at", 0x14));
+    assert_eq!(rt; remapped(&mut space, 0x10, 2, 3, false), ("no place", 0));
+    assert_eq!(rt; remapped(&mut space, 0x14, 1, 3, false), ("at", 0x14));
     assert_eq!(rt;
         load_answer(space.load(0x1_6FFF, 1)),
         ("forbidden", 0x1_6FFF)
     );
-    assert_eq!(rt;
-        remap_answer(space.remap(0x10, 2, 3, true)),
-        ("at", 0x6_FFFD)
-    );
+    assert_eq!(rt; remapped(&mut space, 0x10, 2, 3, true), ("at", 0x6_FFFD));
     assert_eq!(rt;
         load_answer(space.load(0x6_FFFE_000, 4)),
         ("value", 0x5566_7788)
@@ -264,7 +264,7 @@ fn ranges_get_another_size(rt: HostRuntime) -> Result<(), Fail> {
     assert_eq!(rt; load_answer(space.load(0x6_FFFF_FFC, 4)), ("value", 0));
     assert_eq!(rt; load_answer(space.load(0x1_1000, 4)), ("absent", 0x1_1000));
     assert_eq!(rt;
-        remap_answer(space.remap(0x6_FFFD, 3, 1, false)),
+        remapped(&mut space, 0x6_FFFD, 3, 1, false),
         ("at", 0x6_FFFD)
     );
     assert_eq!(rt;
@@ -273,11 +273,11 @@ fn ranges_get_another_size(rt: HostRuntime) -> Result<(), Fail> {
     );
     assert_eq!(rt; map_answer(space.map(0x7_F7EE, 1, 3)), "mapped");
     assert_eq!(rt;
-        remap_answer(space.remap(0x7_F7EE, 1, 3, false)),
+        remapped(&mut space, 0x7_F7EE, 1, 3, false),
         ("no place", 0)
     );
     assert_eq!(rt;
-        remap_answer(space.remap(0x7_F7EE, 1, 2, false)),
+        remapped(&mut space, 0x7_F7EE, 1, 2, false),
         ("at", 0x7_F7EE)
     );
     Ok(())
