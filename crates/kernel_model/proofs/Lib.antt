@@ -6,6 +6,7 @@ pub mod DuplicateKept
 pub mod Expiry
 pub mod LeastFree
 pub mod Pigeons
+pub mod PipeKept
 pub mod Posting
 pub mod ReadKept
 pub mod refusals

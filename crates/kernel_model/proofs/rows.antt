@@ -1,4 +1,5 @@
 pub mod Clocks
+pub mod Contents
 pub mod Descriptors
 pub mod Names
 pub mod Signals

@@ -19,10 +19,10 @@ use Rattle.kernel_model.specs.Paths.{Working, Descriptor, walk}
 use Rattle.kernel_model.specs.Shared.{OpenSet}
 use Rattle.kernel_model.specs.State.{Files}
 
-inode : ℕ → ℕ → NodeContent → Inode
+unfoldable pub inode : ℕ → ℕ → NodeContent → Inode
 inode mode links content = record { mode = mode; access = pos 0; modified = pos 0; changed = pos 0; links = links; holds = 0; content = content }
 
-entry : ℕ → List ℕ → ℕ → DirEntry
+unfoldable pub entry : ℕ → List ℕ → ℕ → DirEntry
 entry cookie name node = record { cookie = cookie; name = name; node = node }
 
 root_inode : Inode

@@ -1,11 +1,11 @@
-//! What files always are, kept by rows on descriptors and descriptions (dup(2), fcntl(2), ioctl(2), lseek(2),
-//! read(2)).
+//! What files always are, kept by rows on descriptors and descriptions (dup(2), pipe(2), fcntl(2), ioctl(2),
+//! lseek(2), read(2)).
 
 ghost use Rattle.std.specs.Prelude.{ℕ, ℤ, Bool, List, Option};
 ghost use Rattle.kernel_model.specs.Always.{IsFiles};
 ghost use Rattle.kernel_model.specs.Came.{Given};
 ghost use Rattle.kernel_model.specs.ContentRows.{seek};
-ghost use Rattle.kernel_model.specs.DescriptorRows.{duplicate, set_nonblock, set_status_flags};
+ghost use Rattle.kernel_model.specs.DescriptorRows.{PipeFlags, duplicate, make_pipe, set_nonblock, set_status_flags};
 ghost use Rattle.kernel_model.specs.State.{Files};
 ghost use Rattle.kernel_model.specs.Transfers.{read};
 
@@ -28,4 +28,9 @@ pub fn duplicating_keeps_files()
 /// A read, of a stream, a pipe or a file.
 pub fn reading_keeps_files()
     ensures { (files : Files) → IsFiles files → (left : List ℕ) (fd : ℕ) (asked : Given ℕ) (room : ℕ) → IsFiles (read files left fd asked room).state.files }
+{}
+
+/// A pipe is made, with its two descriptions and descriptors.
+pub fn making_a_pipe_keeps_files()
+    ensures { (files : Files) (flags : Option PipeFlags) → IsFiles files → IsFiles (make_pipe files flags).state }
 {}
