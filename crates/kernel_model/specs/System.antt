@@ -88,7 +88,6 @@ random_bytes kernel asked room flags =
 abbrev pub system_names : List (List ℕ)
 system_names = codes "Linux" ∷ codes "o32" ∷ codes "5.10.0" ∷ codes "#1" ∷ codes "mips" ∷ codes "(none)" ∷ []
 
--- getpid(2), gettid(2), set_tid_address(2) and getpgid(2) give `own_id`, getppid(2) `parent_id`, and the four calls on users and groups
--- this
+-- getpid(2), gettid(2) and set_tid_address(2) give `own_id`, getppid(2) `parent_id`, and the four calls on users and groups this
 abbrev pub user_id : ℕ
 user_id = 0

@@ -177,7 +177,7 @@ write_object files limit now fd description bytes (objects.WriteEnd pipe) =
 write_object files limit now fd description bytes (objects.Node node) =
     widened writing (write_node files limit now fd description node bytes)
 
--- write(2), writev(2): EBADF where the descriptor isn't open for writing. That EPIPE posts a signal stands with the signals.
+-- write(2), writev(2): EBADF where the descriptor isn't open for writing. That EPIPE posts a signal stands in `Whole`.
 unfoldable pub write : Files → Option ℕ → ℤ → ℕ → Given ℕ → List ℕ → Did Writing ℕ
 write files limit now fd asked bytes =
     with_some (writing files) EBADF (writable files fd) (λ description.
