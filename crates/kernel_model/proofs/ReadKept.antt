@@ -163,18 +163,18 @@ module _ (files : Files) (is : IsFiles files) where
   pub read_kept : (left : List ℕ) (fd : ℕ) (asked : Given ℕ) (room : ℕ) → IsFiles (read files left fd asked room).state.files
   unfolding read
   read_kept left fd asked room = by (readable files fd) refl where
-    moved : (description : Description) → opened files fd ≡ Some description → (a b : Bool)
-        → IsFiles (if a then done (reading left files) [] else refused_if b EFAULT (reading left files) (read_object files left fd description (min room transfer_limit) description.object)).state.files
-    moved description e true b = is
-    moved description e false true = is
-    moved description e false false = read_object_kept left fd description (min room transfer_limit) e description.object refl
+    moved : (description : Description) → opened files fd ≡ Some description → (most : ℕ) (a b : Bool)
+        → IsFiles (if a then done (reading left files) [] else refused_if b EFAULT (reading left files) (read_object files left fd description most description.object)).state.files
+    moved description e most true b = is
+    moved description e most false true = is
+    moved description e most false false = read_object_kept left fd description most e description.object refl
 
     counted : (description : Description) → opened files fd ≡ Some description → (given : Given ℕ)
-        → IsFiles (transferring (reading left files) given room [] (read_object files left fd description (min room transfer_limit) description.object)).state.files
+        → IsFiles (transferring (reading left files) given room [] (λ most. read_object files left fd description most description.object)).state.files
     counted description e (Err error) = is
-    counted description e (Ok count) = moved description e (count == 0) (room == 0)
+    counted description e (Ok count) = moved description e (min (min count room) transfer_limit) (count == 0) (room == 0)
 
     by : (found : Option Description) → readable files fd ≡ found
-        → IsFiles (with_some (reading left files) EBADF found (λ description. transferring (reading left files) asked room [] (read_object files left fd description (min room transfer_limit) description.object))).state.files
+        → IsFiles (with_some (reading left files) EBADF found (λ description. transferring (reading left files) asked room [] (λ most. read_object files left fd description most description.object))).state.files
     by None e = is
     by (Some description) e = counted description (reads_opened (opened files fd) description e) asked

@@ -45,9 +45,9 @@ pub pending_stays : (kernel : Kernel) (size : ℕ) → StaysIfRefused kernel (pe
 unfolding pending
 pending_stays kernel size = search stays depth 14
 
-pub accept_stays : (kernel : Kernel) (order : List Sig) (set : Given SignalSet) (time : Option (Given TimeSpec)) (size : ℕ) → StaysIfRefused kernel (accept kernel order set time size)
+pub accept_stays : (kernel : Kernel) (order : List Sig) (waitable : SignalSet → SignalSet) (set : Given SignalSet) (time : Option (Given TimeSpec)) (size : ℕ) → StaysIfRefused kernel (accept kernel order waitable set time size)
 unfolding accept
-accept_stays kernel order set time size = search (stays, signal_stays, until_stays) depth 14
+accept_stays kernel order waitable set time size = search (stays, signal_stays, until_stays) depth 14
 
 pub suspend_stays : (kernel : Kernel) (size : ℕ) (set : Given SignalSet) → StaysIfRefused kernel (suspend kernel size set)
 unfolding suspend

@@ -241,6 +241,18 @@ module _ (kernel : Kernel) (nodes : Nodes) where
   unfolding select at_1000 ready
   select_closed = refl
 
+  -- descriptors from the count on are not looked at, closed or not
+  select_counted : select at_1000 (Ok None) (pos 2) (Ok (record { read = 0 ∷ 2 ∷ 3 ∷ []; write = 2 ∷ 4 ∷ []; except = 2 ∷ [] }))
+      ≡ done at_1000 (record { read = 0 ∷ []; write = []; except = [] })
+  unfolding select at_1000 ready
+  select_counted = refl
+
+  -- a count above 1024 is 1024
+  select_beyond : select at_1000 (Ok None) (pos 2000) (Ok (record { read = 0 ∷ 1024 ∷ []; write = []; except = [] }))
+      ≡ done at_1000 (record { read = 0 ∷ []; write = []; except = [] })
+  unfolding select at_1000 ready
+  select_beyond = refl
+
   select_negative : select at_1000 (Ok None) (negsuc 0) (Err EFAULT) ≡ refused at_1000 EINVAL
   unfolding select
   select_negative = refl
@@ -292,6 +304,10 @@ module _ (kernel : Kernel) (nodes : Nodes) where
   four_bytes : random_bytes at_1000 3 3 0 ≡ done (record at_1000 { chance = record { bytes = 1 ∷ 2 ∷ []; at = 1 } }) (1 ∷ 2 ∷ 1 ∷ [])
   unfolding random_bytes at_1000 round
   four_bytes = refl
+
+  no_more_than_asked : random_bytes at_1000 1 3 0 ≡ done (record at_1000 { chance = record { bytes = 1 ∷ 2 ∷ []; at = 1 } }) (1 ∷ [])
+  unfolding random_bytes at_1000 round
+  no_more_than_asked = refl
 
   both_flags : random_bytes at_1000 3 0 6 ≡ refused at_1000 EINVAL
   unfolding random_bytes

@@ -44,6 +44,12 @@ module _ (nodes : Nodes) (limit : Option ℕ) (now : ℤ) where
   unfolding read
   first_bytes = refl
 
+  -- no more than was asked, whatever there is room for
+  less_than_room : read (small nodes []) (120 ∷ 121 ∷ 122 ∷ []) 0 (Ok 2) 3
+      ≡ done (reading (122 ∷ []) (record (small nodes []) { flow = record (flow []) { moved = record { taken = 2; out = 0; err = 0 } } })) (120 ∷ 121 ∷ [])
+  unfolding read
+  less_than_room = refl
+
   at_the_end : read (small nodes []) [] 0 (Ok 8) 8 ≡ done (reading [] (small nodes [])) []
   unfolding read
   at_the_end = refl
@@ -101,6 +107,11 @@ module _ (nodes : Nodes) (limit : Option ℕ) (now : ℤ) where
       ≡ done (record { files = record (small nodes []) { flow = record (flow []) { moved = record { taken = 0; out = 3; err = 0 } } }; sent = record { out = 72 ∷ 105 ∷ 10 ∷ []; err = [] } }) 3
   unfolding write
   sent_in_part = refl
+
+  sent_as_asked : write (small nodes []) limit now 1 (Ok 2) (72 ∷ 105 ∷ 10 ∷ [])
+      ≡ done (record { files = record (small nodes []) { flow = record (flow []) { moved = record { taken = 0; out = 2; err = 0 } } }; sent = record { out = 72 ∷ 105 ∷ []; err = [] } }) 2
+  unfolding write
+  sent_as_asked = refl
 
   write_none : write (small nodes []) limit now 1 (Ok 0) [] ≡ done (writing (small nodes [])) 0
   unfolding write

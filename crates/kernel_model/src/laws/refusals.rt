@@ -103,7 +103,7 @@ pub fn a_refused_row_on_signals_changes_nothing()
     ensures set_action { (kernel : Kernel) (size : ℕ) (signal : Option Sig) (action : Option (Given Action)) → StaysIfRefused kernel (set_action kernel size signal action) }
     ensures change_mask { (kernel : Kernel) (size : ℕ) (how : Option MaskChange) (set : Option (Given SignalSet)) → StaysIfRefused kernel (change_mask kernel size how set) }
     ensures pending { (kernel : Kernel) (size : ℕ) → StaysIfRefused kernel (pending kernel size) }
-    ensures accept { (kernel : Kernel) (order : List Sig) (set : Given SignalSet) (time : Option (Given TimeSpec)) (size : ℕ) → StaysIfRefused kernel (accept kernel order set time size) }
+    ensures accept { (kernel : Kernel) (order : List Sig) (waitable : SignalSet → SignalSet) (set : Given SignalSet) (time : Option (Given TimeSpec)) (size : ℕ) → StaysIfRefused kernel (accept kernel order waitable set time size) }
     ensures suspend { (kernel : Kernel) (size : ℕ) (set : Given SignalSet) → StaysIfRefused kernel (suspend kernel size set) }
     ensures pause { (kernel : Kernel) → StaysIfRefused kernel (pause kernel) }
     ensures set_stack { (kernel : Kernel) (sp : Option ℕ) (stack : Option (Given SigStack)) → StaysIfRefused kernel (set_stack kernel sp stack) }
