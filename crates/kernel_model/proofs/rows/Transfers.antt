@@ -1,5 +1,5 @@
 -- Worked rows on reading and writing at streams and pipes.
-use Rattle.std.specs.Prelude.{◌≡◌, ℕ, ℤ, pos, negsuc, true, false, List, [], ◌∷◌, replicate, Option, None, Ok, Err, refl}
+use Rattle.std.specs.Prelude.{◌≡◌, ℕ, ℤ, pos, negsuc, true, false, List, [], ◌∷◌, ◌++◌, length, take, Option, None, Ok, Err, refl}
 use Rattle.kernel_core.specs.Nodes.{Nodes}
 use Rattle.kernel_core.specs.declared.error.Errno.TheVariants.{EAGAIN, EBADF, EFAULT, EINVAL, EPIPE, ESPIPE}
 use Rattle.kernel_model.proofs.rows.Small.{small, flow, pipe}
@@ -8,10 +8,6 @@ use Rattle.kernel_model.specs.Pipes.{becomes, stays, waits_after, read_pipe, wri
 use Rattle.kernel_model.specs.Transfers.{reading, writing, read, read_at, write, write_at}
 
 -- One pipe
-
--- so many bytes 5
-fives : ℕ → List ℕ
-fives count = replicate count 5
 
 read_part : read_pipe (pipe (1 ∷ 2 ∷ 3 ∷ [])) false 2 ≡ becomes (pipe (3 ∷ [])) (Done (1 ∷ 2 ∷ []))
 read_part = refl
@@ -36,6 +32,35 @@ write_fits = refl
 
 write_without_readers : write_pipe (record (pipe []) { readers = false }) true (2 ∷ []) ≡ stays (Refused EPIPE)
 write_without_readers = refl
+
+-- A write into a pipe with so many bytes: 4096 go whole or not at all, and of more those that fit.
+module _ (held more : List ℕ) where
+  all_that_fits : length held ≡ 61_440 → length more ≡ 4096 → write_pipe (pipe held) false more ≡ becomes (pipe (held ++ more)) (Done 4096)
+  all_that_fits l m = simp (l, m) refl
+
+  one_byte_short : length held ≡ 61_441 → length more ≡ 4096 → write_pipe (pipe held) false more ≡ stays (waits_after 0)
+  one_byte_short l m = simp (l, m) refl
+
+  one_byte_short_nonblock : length held ≡ 61_441 → length more ≡ 4096 → write_pipe (pipe held) true more ≡ stays (Refused EAGAIN)
+  one_byte_short_nonblock l m = simp (l, m) refl
+
+  one_byte_more : length held ≡ 61_440 → length more ≡ 4097 → write_pipe (pipe held) false more ≡ becomes (pipe (held ++ take 4096 more)) (waits_after 4096)
+  one_byte_more l m = simp (l, m) refl
+
+  one_byte_more_nonblock : length held ≡ 61_440 → length more ≡ 4097 → write_pipe (pipe held) true more ≡ becomes (pipe (held ++ take 4096 more)) (Done 4096)
+  one_byte_more_nonblock l m = simp (l, m) refl
+
+  no_room : length held ≡ 65_536 → length more ≡ 4097 → write_pipe (pipe held) false more ≡ stays (waits_after 0)
+  no_room l m = simp (l, m) refl
+
+  no_room_nonblock : length held ≡ 65_536 → length more ≡ 4097 → write_pipe (pipe held) true more ≡ stays (Refused EAGAIN)
+  no_room_nonblock l m = simp (l, m) refl
+
+  more_than_a_pipe : length more ≡ 70_000 → write_pipe (pipe []) false more ≡ becomes (pipe (take 65_536 more)) (waits_after 65_536)
+  more_than_a_pipe m = simp m refl
+
+  more_than_a_pipe_nonblock : length more ≡ 70_000 → write_pipe (pipe []) true more ≡ becomes (pipe (take 65_536 more)) (Done 65_536)
+  more_than_a_pipe_nonblock m = simp m refl
 
 module _ (nodes : Nodes) (limit : Option ℕ) (now : ℤ) where
   -- the input
