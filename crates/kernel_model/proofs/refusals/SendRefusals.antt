@@ -7,7 +7,7 @@ use Rattle.kernel_model.proofs.refusals.Checks.{stays}
 use Rattle.kernel_model.specs.Came.{Given}
 use Rattle.kernel_model.specs.Laws.{StaysUnlessDone}
 use Rattle.kernel_model.specs.Shared.{Info}
-use Rattle.kernel_model.specs.SignalRows.{Named, Nothing, Signal, Unlisted, Posted, SentInfo, after_removal, appended, is_dropped, is_standard, kill, kill_thread, kill_thread_of, pends, post, posted, posted_after, queue, queue_limit, queued, send, send_named, sent_as, with_signals}
+use Rattle.kernel_model.specs.SignalRows.{Named, Nothing, Signal, Unlisted, Posted, SentInfo, after_removal, appended, is_dropped, is_standard, kill, kill_thread, kill_thread_of, pends, post, posted, queue, queue_limit, queued, send, send_named, sent_as, with_signals}
 use Rattle.kernel_model.specs.State.{Kernel, Signals}
 use Rattle.kernel_model.specs.declared.signal.Post.{Post}
 use Rattle.kernel_model.specs.declared.signal.Post.TheVariants as posts
