@@ -90,6 +90,13 @@ one_too_many : (post full (scheduled_info thirty_four None) false).post ≡ Full
 unfolding post thirty_four full
 one_too_many = refl
 
+one_below : Signals
+one_below = with_pending first_signals thirty_four (replicate 1023 (scheduled_info thirty_four None))
+
+the_last_one : (post one_below (scheduled_info thirty_four None) false).post ≡ Queued
+unfolding post thirty_four one_below
+the_last_one = refl
+
 module _ (kernel : Kernel) where
   -- Sending
 

@@ -1,11 +1,16 @@
 -- Worked rows on reading and writing at streams and pipes.
-use Rattle.std.specs.Prelude.{◌≡◌, ℕ, ℤ, pos, negsuc, true, false, List, [], ◌∷◌, ◌++◌, length, take, Option, None, Ok, Err, refl}
+use Rattle.std.specs.Prelude.{◌≡◌, ℕ, ℤ, pos, negsuc, true, false, List, [], ◌∷◌, ◌++◌, length, take, Option, Some, None, Ok, Err, refl}
 use Rattle.kernel_core.specs.Nodes.{Nodes}
 use Rattle.kernel_core.specs.declared.error.Errno.TheVariants.{EAGAIN, EBADF, EFAULT, EINVAL, EPIPE, ESPIPE}
+use Rattle.kernel_core.specs.declared.signal.Sig.TheVariants as sigs
 use Rattle.kernel_model.proofs.rows.Small.{small, flow, pipe}
+use Rattle.kernel_model.specs.Begin.{first_signals}
 use Rattle.kernel_model.specs.Came.{Done, Refused, done, refused, waits}
-use Rattle.kernel_model.specs.Pipes.{becomes, stays, waits_after, read_pipe, write_pipe}
+use Rattle.kernel_model.specs.Pipes.{nothing, becomes, stays, waits_after, read_pipe, write_pipe}
+use Rattle.kernel_model.specs.SignalRows.{appended, kill_info, post}
+use Rattle.kernel_model.specs.State.{Kernel}
 use Rattle.kernel_model.specs.Transfers.{reading, writing, read, read_at, write, write_at}
+use Rattle.kernel_model.specs.Whole.{kernel_write}
 
 -- One pipe
 
@@ -157,3 +162,16 @@ module _ (nodes : Nodes) (limit : Option ℕ) (now : ℤ) where
   write_at_a_place_of_a_pipe : write_at (small nodes []) limit now 4 (pos 0) (Ok 1) (2 ∷ []) ≡ refused (small nodes []) ESPIPE
   unfolding write_at
   write_at_a_place_of_a_pipe = refl
+
+-- SIGPIPE with EPIPE
+module _ (kernel : Kernel) (nodes : Nodes) where
+  without_readers : Kernel
+  without_readers = record kernel {
+    files = record (small nodes []) { flow = record (flow []) { pipes = Some (record (pipe []) { readers = false }) ∷ None ∷ [] } };
+    signals = first_signals;
+  }
+
+  posts_sigpipe : kernel_write without_readers None 4 (Ok 1) (2 ∷ [])
+      ≡ refused (record { kernel = record without_readers { signals = appended first_signals (kill_info sigs.Pipe) }; sent = nothing }) EPIPE
+  unfolding kernel_write write post without_readers
+  posts_sigpipe = refl
