@@ -30,11 +30,14 @@ pub advance_kept : (kernel : Kernel) (to : ℕ) (kept : Bool) → IsKernel kerne
 unfolding advance
 advance_kept kernel to kept is = by (gone_off to kernel.timer) refl where
   by : (gone : Option Timer) → gone_off to kernel.timer ≡ gone → IsKernel (after_expiry (record kernel { clock = to }) kept gone)
-  by None e = record { files = is.files; timer = is.timer; signals = is.signals; limits = is.limits; chance = is.chance }
+  by None e = record { files = is.files; timer = is.timer; signals = is.signals; limits = is.limits; each_limit = is.each_limit; nofile = is.nofile; chance = is.chance; chance_bytes = is.chance_bytes }
   by (Some timer) e = record {
     files = is.files;
     timer = gone_off_is to kernel.timer.period kernel.timer.due timer is.timer.1 e;
     signals = post_kept kernel.signals timer_info kept is.signals;
     limits = is.limits;
+    each_limit = is.each_limit;
+    nofile = is.nofile;
     chance = is.chance;
+    chance_bytes = is.chance_bytes;
   }

@@ -4,7 +4,7 @@ use Rattle.std.specs.Prelude.{Option, Some, None, is_some, option_and_then, unwr
 use Rattle.std.specs.List.{list_any}
 use Rattle.std.proofs.lemmas.List.{length-set, get_or-set_same, get_or-set_other}
 use Rattle.std.proofs.lemmas.List.Sums.{sum_by-set}
-use Rattle.kernel_model.specs.Always.{IsFiles, IsTable, IsPipe, IsOpen, any_open, has_open, is_node, is_read_end, is_write_end}
+use Rattle.kernel_model.specs.Always.{IsFiles, IsTable, IsPipe, IsOpen, any_open, has_open, is_node, is_read_end, is_write_end, fits_object}
 use Rattle.kernel_model.specs.Descriptions.{kept_flags, opened}
 use Rattle.kernel_model.specs.Pipes.{pipe_at}
 use Rattle.kernel_model.specs.State.{Files, Pipe}
@@ -53,7 +53,8 @@ count_set test xs i y d low e =
     omega (arith, sums, same)
 
 module _ (files : Files) (is : IsFiles files) (number : ℕ) (old item : Description) (there : slot files.table.live number ≡ Some old)
-    (same : item.object ≡ old.object) (position : IsOpen files item item.object) (kept : kept_flags item.flags ≡ item.flags) where
+    (same : item.object ≡ old.object) (position : IsOpen files item item.object) (kept : kept_flags item.flags ≡ item.flags)
+    (access : item.flags.access ≡ old.flags.access) where
   abbrev changed : Files
   changed = record files { table = record files.table { live = with_slot files.table.live number (Some item) } }
 
@@ -84,6 +85,7 @@ module _ (files : Files) (is : IsFiles files) (number : ℕ) (old item : Descrip
       let p = is.pipes at pipe h in
       record {
         small = p.small;
+        are_bytes = p.are_bytes;
         used = p.used;
         readers = p.readers ∙ sym (any_same (is_read_end at));
         writers = p.writers ∙ sym (any_same (is_write_end at));
@@ -101,14 +103,23 @@ module _ (files : Files) (is : IsFiles files) (number : ℕ) (old item : Descrip
       (λ e g. subst (λ d. kept_flags d.flags ≡ d.flags) (ap (λ o. unwrap_or o item) g) kept)
       (λ e g. is.kept m description g) h
 
+  fits_is : (m : ℕ) (description : Description) → slot changed.table.live m ≡ Some description → fits_object files.nodes description.flags.access description.object ≡ true
+  fits_is m description h =
+      slot_cases files.table.live number m (Some item) low (λ o. o ≡ Some description → fits_object files.nodes description.flags.access description.object ≡ true)
+      (λ e g. subst (λ d. fits_object files.nodes d.flags.access d.object ≡ true) (ap (λ o. unwrap_or o item) g)
+      (ap (λ a. fits_object files.nodes a item.object) access ∙ ap (λ o. fits_object files.nodes old.flags.access o) same ∙ is.fits number old there))
+      (λ e g. is.fits m description g) h
+
   pub changed_is : IsFiles changed
   changed_is = record {
     nodes = is.nodes;
     table = table_is;
     places = is.places;
     pipes = pipe_is;
+    moved = is.moved;
     opens = opens_is;
     kept = kept_is;
+    fits = fits_is;
     directory = is.directory;
     holds = λ node. is.holds node
         ∙ ap (λ n. n + (if files.directory == node then 1 else 0)) (sym (count_set (has_open (is_node node)) files.table.live number (Some item) None low (has_same (is_node node))));
@@ -117,10 +128,11 @@ module _ (files : Files) (is : IsFiles files) (number : ℕ) (old item : Descrip
 
 -- the same where a descriptor leads to it
 pub described_kept : (files : Files) (fd : ℕ) (old item : Description) → IsFiles files → opened files fd ≡ Some old → item.object ≡ old.object
-    → IsOpen files item item.object → kept_flags item.flags ≡ item.flags → IsFiles (record files { table = with_description files.table fd item })
-described_kept files fd old item is open_as same position kept = by (number_at files.table fd) refl where
+    → IsOpen files item item.object → kept_flags item.flags ≡ item.flags → item.flags.access ≡ old.flags.access
+    → IsFiles (record files { table = with_description files.table fd item })
+described_kept files fd old item is open_as same position kept access = by (number_at files.table fd) refl where
   by : (found : Option ℕ) → number_at files.table fd ≡ found → IsFiles (record files { table = with_description files.table fd item })
   by None e = absurd (let none : None ≡ Some old = sym (ap (λ o. option_and_then (λ n. slot files.table.live n) o) e) ∙ open_as in cc)
   by (Some number) e =
       subst (λ o. IsFiles (record files { table = changed_at files.table o item })) (sym e)
-      (changed_is files is number old item (sym (ap (λ o. option_and_then (λ n. slot files.table.live n) o) e) ∙ open_as) same position kept)
+      (changed_is files is number old item (sym (ap (λ o. option_and_then (λ n. slot files.table.live n) o) e) ∙ open_as) same position kept access)

@@ -36,7 +36,7 @@ module _ (files : Files) (fd : ℕ) (is : IsFiles files) where
   flags_kept description append nonblock e =
       let facts = open_facts files fd description is e in
       described_kept files fd description (record description { flags = record description.flags { append = append; nonblock = nonblock } }) is e refl
-      facts.0 (ap (λ (f : OpenSet). record f { append = append; nonblock = nonblock }) facts.1)
+      facts.0 (ap (λ (f : OpenSet). record f { append = append; nonblock = nonblock }) facts.1) refl
 
   pub set_status_flags_kept : (append nonblock : Bool) → IsFiles (set_status_flags files fd append nonblock).state
   unfolding set_status_flags
@@ -69,7 +69,7 @@ module _ (files : Files) (fd : ℕ) (is : IsFiles files) where
   moved_kept description node position e node_is small =
       let facts = open_facts files fd description is e in
       described_kept files fd description (record description { position = position }) is e refl
-      (at_position description description.object node position node_is small facts.0) facts.1
+      (at_position description description.object node position node_is small facts.0) facts.1 refl
 
   small_place : (place : ℤ) → not (is_position place) ≡ false → nat_abs place ≤ greatest_size
   small_place place e = by (int_lt place (pos 0)) (nat_le (nat_abs place) greatest_size) refl e where

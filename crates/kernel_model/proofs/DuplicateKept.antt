@@ -50,9 +50,11 @@ with_fds files fds is t = record {
   nodes = is.nodes;
   table = t;
   places = is.places;
-  pipes = λ at pipe h. let p = is.pipes at pipe h in record { small = p.small; used = p.used; readers = p.readers; writers = p.writers };
+  pipes = λ at pipe h. let p = is.pipes at pipe h in record { small = p.small; are_bytes = p.are_bytes; used = p.used; readers = p.readers; writers = p.writers };
+  moved = is.moved;
   opens = λ at description h. open_as description description.object (is.opens at description h);
   kept = is.kept;
+  fits = is.fits;
   directory = is.directory;
   holds = is.holds;
   umask = is.umask;

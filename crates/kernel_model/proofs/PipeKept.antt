@@ -10,7 +10,7 @@ use Rattle.kernel_model.proofs.Described.{slot_cases, any_set, count_set}
 use Rattle.kernel_model.proofs.DuplicateKept.{any_more}
 use Rattle.kernel_model.proofs.LeastFree.{least_free}
 use Rattle.kernel_model.proofs.Pigeons.{description_place, pipe_place}
-use Rattle.kernel_model.specs.Always.{IsFiles, IsTable, IsPipe, IsOpen, any_open, has_open, is_node, is_read_end, is_write_end}
+use Rattle.kernel_model.specs.Always.{IsFiles, IsTable, IsPipe, IsOpen, any_open, has_open, is_node, is_read_end, is_write_end, fits_object}
 use Rattle.kernel_model.specs.Came.{done, with_some}
 use Rattle.kernel_model.specs.DescriptorRows.{PipeFlags, ends, end_flags, after_pipe, make_pipe}
 use Rattle.kernel_model.specs.Descriptions.{description_of, kept_flags, no_flags}
@@ -146,12 +146,13 @@ module _ (files : Files) (is : IsFiles files) (flags : PipeFlags) (read write : 
   pipe_is at pipe h =
       slot_cases files.flow.pipes number at (Some new_pipe) place.within (λ o. o ≡ Some pipe → IsPipe after at pipe)
       (λ e g.
-      let mine : IsPipe after number new_pipe = record { small = omega arith; used = refl; readers = sym readers_are; writers = sym writers_are } in
+      let mine : IsPipe after number new_pipe = record { small = omega arith; are_bytes = λ k d h. absurd (omega (arith, h)); used = refl; readers = sym readers_are; writers = sym writers_are } in
       subst (λ n. IsPipe after n pipe) (sym e) (subst (λ q. IsPipe after number q) (ap (λ o. unwrap_or o new_pipe) g) mine))
       (λ e g.
       let p = is.pipes at pipe g in
       record {
         small = p.small;
+        are_bytes = p.are_bytes;
         used = p.used;
         readers = p.readers ∙ sym (any_kept (is_read_end at) (apart at number e) refl);
         writers = p.writers ∙ sym (any_kept (is_write_end at) refl (apart at number e));
@@ -181,8 +182,10 @@ module _ (files : Files) (is : IsFiles files) (flags : PipeFlags) (read write : 
     table = inserted_table with_reading first_table write writing flags.cloexec second_free.within second_free.free second_place;
     places = length-set files.flow.pipes number (Some new_pipe) ∙ is.places;
     pipes = pipe_is;
+    moved = is.moved;
     opens = each (λ d. IsOpen after d d.object) (there, refl) (there, refl) (λ m d e. still_open d d.object (is.opens m d e));
     kept = each (λ d. kept_flags d.flags ≡ d.flags) refl refl is.kept;
+    fits = each (λ d. fits_object files.nodes d.flags.access d.object ≡ true) refl refl is.fits;
     directory = is.directory;
     holds = λ node. is.holds node ∙ ap (λ n. n + (if files.directory == node then 1 else 0))
         (sym (count_same with_reading first_table write writing flags.cloexec second_free.within second_free.free second_place (is_node node) refl

@@ -60,6 +60,9 @@ module _ (signals : Signals) (signal : Sig) (infos : List Info) (is : AreSignals
     each = each;
     few = few;
     mask = is.mask;
+    stack = is.stack;
+    kill = is.kill;
+    stop = is.stop;
   }
 
 -- a standard signal isn't queued

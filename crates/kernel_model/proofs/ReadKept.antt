@@ -1,8 +1,9 @@
 -- A read keeps what files always are.
-use Rattle.std.proofs.Common.{◌≡◌, ℕ, ◌+◌, ◌≤◌, ◌<◌, min, List, [], length, take, drop, Bool, true, false, ◌||◌, refl, sym, ◌∙◌, ap, subst, arith, length-drop}
-use Rattle.std.specs.Prelude.{Option, Some, None, is_some, option_map, unwrap_or, Ok, Err, not, ◌==◌, if◌then◌else◌}
+use Rattle.std.proofs.Common.{◌≡◌, ℕ, ◌+◌, ◌≤◌, ◌<◌, ◌^◌, min, List, [], length, take, drop, Bool, true, false, ◌||◌, refl, sym, ◌∙◌, ap, subst, arith, length-drop}
+use Rattle.std.specs.Prelude.{All, Option, Some, None, is_some, option_map, unwrap_or, Ok, Err, not, ◌==◌, if◌then◌else◌}
 use Rattle.std.specs.FinMap.{get}
 use Rattle.std.proofs.lemmas.List.{length-set}
+use Rattle.std.proofs.lemmas.List.Elements.{All-drop}
 use Rattle.kernel_core.specs.FileContent.{FileContent, greatest_size, readable as readable_count}
 use Rattle.kernel_core.specs.FileSystem.{IsLiveContent}
 use Rattle.kernel_core.specs.NameCalls.{is_empty_list}
@@ -10,10 +11,10 @@ use Rattle.kernel_core.specs.Nodes.{NodeContent, File, Directory, Link, Inode}
 use Rattle.kernel_core.specs.declared.error.Errno.TheVariants.{EAGAIN, EBADF, EFAULT}
 use Rattle.kernel_model.proofs.Described.{slot_cases, within}
 use Rattle.kernel_model.proofs.DescribedRows.{moved_kept, open_facts}
-use Rattle.kernel_model.specs.Always.{IsFiles, IsPipe, IsOpen}
+use Rattle.kernel_model.specs.Always.{AreMoved, IsFiles, IsPipe, IsOpen}
 use Rattle.kernel_model.specs.Came.{Done, Refused, Given, done, refused_if, with_some}
 use Rattle.kernel_model.specs.Descriptions.{content_at, if_reads, node_of, opened, readable, reads}
-use Rattle.kernel_model.specs.Pipes.{becomes, stays, waits_after, pipe_at, pipe_size, read_pipe}
+use Rattle.kernel_model.specs.Pipes.{becomes, counted, stays, waits_after, pipe_at, pipe_size, read_pipe}
 use Rattle.kernel_model.specs.State.{Files, Pipe}
 use Rattle.kernel_model.specs.Table.{with_slot}
 use Rattle.kernel_model.specs.Transfers.{after_pipe_read, moved_to, read, read_content, read_end, read_node, read_object, reading, transfer_limit, transferring}
@@ -32,23 +33,29 @@ open_moved files moved description (objects.ReadEnd pipe) h = h
 open_moved files moved description (objects.WriteEnd pipe) h = h
 open_moved files moved description (objects.Node node) h = h
 
-pub counted_kept : (files : Files) (moved : Moved) → IsFiles files → IsFiles (record files { flow = record files.flow { moved = moved } })
-counted_kept files moved is = record {
+pub counted_kept : (files : Files) (moved : Moved) → IsFiles files → AreMoved moved → IsFiles (record files { flow = record files.flow { moved = moved } })
+counted_kept files moved is few = record {
   nodes = is.nodes;
   table = is.table;
   places = is.places;
-  pipes = λ at pipe h. let p = is.pipes at pipe h in record { small = p.small; used = p.used; readers = p.readers; writers = p.writers };
+  pipes = λ at pipe h. let p = is.pipes at pipe h in record { small = p.small; are_bytes = p.are_bytes; used = p.used; readers = p.readers; writers = p.writers };
+  moved = few;
   opens = λ at description h. open_moved files moved description description.object (is.opens at description h);
   kept = is.kept;
+  fits = is.fits;
   directory = is.directory;
   holds = is.holds;
   umask = is.umask;
 }
 
+few_more : (number more : ℕ) → counted number more < 2 ^ 128
+few_more number more = omega arith
+
 -- Other bytes in a pipe, whose ends stay as they are
 
 module _ (files : Files) (is : IsFiles files) (number : ℕ) (old new : Pipe) (there : pipe_at files.flow number ≡ Some old)
-    (readers : new.readers ≡ old.readers) (writers : new.writers ≡ old.writers) (small : length new.bytes ≤ pipe_size) where
+    (readers : new.readers ≡ old.readers) (writers : new.writers ≡ old.writers) (small : length new.bytes ≤ pipe_size)
+    (are_bytes : All (λ byte. byte < 256) new.bytes) where
   abbrev piped : Files
   piped = record files { flow = record files.flow { pipes = with_slot files.flow.pipes number (Some new) } }
 
@@ -73,6 +80,7 @@ module _ (files : Files) (is : IsFiles files) (number : ℕ) (old new : Pipe) (t
       let p = is.pipes number old there in
       let mine : IsPipe files number new = record {
         small = small;
+        are_bytes = are_bytes;
         used = ap (λ b. b || new.writers) readers ∙ ap (λ b. old.readers || b) writers ∙ p.used;
         readers = readers ∙ p.readers;
         writers = writers ∙ p.writers;
@@ -85,9 +93,11 @@ module _ (files : Files) (is : IsFiles files) (number : ℕ) (old new : Pipe) (t
     nodes = is.nodes;
     table = is.table;
     places = length-set files.flow.pipes number (Some new) ∙ is.places;
-    pipes = λ at pipe h. let p = pipe_is at pipe h in record { small = p.small; used = p.used; readers = p.readers; writers = p.writers };
+    pipes = λ at pipe h. let p = pipe_is at pipe h in record { small = p.small; are_bytes = p.are_bytes; used = p.used; readers = p.readers; writers = p.writers };
+    moved = is.moved;
     opens = λ at description h. open_piped description description.object (is.opens at description h);
     kept = is.kept;
+    fits = is.fits;
     directory = is.directory;
     holds = is.holds;
     umask = is.umask;
@@ -104,7 +114,7 @@ module _ (files : Files) (is : IsFiles files) where
         else (if b then stays (Done []) else (if c then stays (Refused EAGAIN) else stays (waits_after 0))))).state
     by true b c =
         piped_kept files is number pipe (record pipe { bytes = drop most pipe.bytes }) there refl refl
-        (omega (arith, length-drop most pipe.bytes, (is.pipes number pipe there).small))
+        (omega (arith, length-drop most pipe.bytes, (is.pipes number pipe there).small)) (All-drop (λ byte. byte < 256) most pipe.bytes (is.pipes number pipe there).are_bytes)
     by false true c = is
     by false false true = is
     by false false false = is
@@ -144,7 +154,8 @@ module _ (files : Files) (is : IsFiles files) where
 
   read_object_kept : (left : List ℕ) (fd : ℕ) (description : Description) (most : ℕ) → opened files fd ≡ Some description
       → (object : Object) → description.object ≡ object → IsFiles (read_object files left fd description most object).state.files
-  read_object_kept left fd description most e (objects.Stream streams.Input) o = counted_kept files _ is
+  read_object_kept left fd description most e (objects.Stream streams.Input) o =
+      counted_kept files _ is (few_more files.flow.moved.taken (min most (length left)), is.moved.1, is.moved.2)
   read_object_kept left fd description most e (objects.Stream streams.Out) o = is
   read_object_kept left fd description most e (objects.Stream streams.Err) o = is
   read_object_kept left fd description most e (objects.ReadEnd pipe) o = read_end_kept description pipe most
@@ -163,18 +174,18 @@ module _ (files : Files) (is : IsFiles files) where
   pub read_kept : (left : List ℕ) (fd : ℕ) (asked : Given ℕ) (room : ℕ) → IsFiles (read files left fd asked room).state.files
   unfolding read
   read_kept left fd asked room = by (readable files fd) refl where
-    moved : (description : Description) → opened files fd ≡ Some description → (a b : Bool)
-        → IsFiles (if a then done (reading left files) [] else refused_if b EFAULT (reading left files) (read_object files left fd description (min room transfer_limit) description.object)).state.files
-    moved description e true b = is
-    moved description e false true = is
-    moved description e false false = read_object_kept left fd description (min room transfer_limit) e description.object refl
+    moved : (description : Description) → opened files fd ≡ Some description → (most : ℕ) (a b : Bool)
+        → IsFiles (if a then done (reading left files) [] else refused_if b EFAULT (reading left files) (read_object files left fd description most description.object)).state.files
+    moved description e most true b = is
+    moved description e most false true = is
+    moved description e most false false = read_object_kept left fd description most e description.object refl
 
     counted : (description : Description) → opened files fd ≡ Some description → (given : Given ℕ)
-        → IsFiles (transferring (reading left files) given room [] (read_object files left fd description (min room transfer_limit) description.object)).state.files
+        → IsFiles (transferring (reading left files) given room [] (λ most. read_object files left fd description most description.object)).state.files
     counted description e (Err error) = is
-    counted description e (Ok count) = moved description e (count == 0) (room == 0)
+    counted description e (Ok count) = moved description e (min (min count room) transfer_limit) (count == 0) (room == 0)
 
     by : (found : Option Description) → readable files fd ≡ found
-        → IsFiles (with_some (reading left files) EBADF found (λ description. transferring (reading left files) asked room [] (read_object files left fd description (min room transfer_limit) description.object))).state.files
+        → IsFiles (with_some (reading left files) EBADF found (λ description. transferring (reading left files) asked room [] (λ most. read_object files left fd description most description.object))).state.files
     by None e = is
     by (Some description) e = counted description (reads_opened (opened files fd) description e) asked

@@ -5,5 +5,6 @@ pub mod DescriptorRefusals
 pub mod NameRefusals
 pub mod NodeRefusals
 pub mod OtherRefusals
+pub mod SendRefusals
 pub mod SignalRefusals
 pub mod TransferRefusals

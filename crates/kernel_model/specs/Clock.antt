@@ -16,6 +16,10 @@ second = 1_000_000_000
 abbrev pub microsecond : ℕ
 microsecond = 1000
 
+-- a time in microseconds is that in nanoseconds, rounded down
+abbrev pub in_microseconds : ℕ → ℕ
+in_microseconds time = time / microsecond
+
 -- a deadline, a timer's time or a period past 2^63 - 1 counts as that
 abbrev pub capped : ℕ → ℕ
 capped time = min time (2 ^ 63 - 1)
@@ -95,6 +99,10 @@ waits_until kernel (Some until) ended = if nat_le until kernel.clock then ended 
 -- the deadline of a wait of this length
 abbrev pub deadline : Kernel → Option ℕ → Option ℕ
 deadline kernel length = option_map (λ n. capped (kernel.clock + n)) length
+
+-- how much is left, at a time of the clock, of a wait of this length that began in this state; at least 0, and none without an end
+abbrev pub left_of_wait : Kernel → ℕ → Option ℕ → Option ℕ
+left_of_wait kernel clock length = option_map (λ until. time_left clock until) (deadline kernel length)
 
 -- Sleeping
 

@@ -54,7 +54,7 @@ seek files fd offset origin =
 -- Status
 
 -- What stat(2) tells: the device, and that of a terminal; the mode with its type bits; the size in bytes and in units of 512 bytes; the
--- times in nanoseconds since the Epoch. Owner and group are 0 and the block size is 4096.
+-- times in nanoseconds since the Epoch. Owner, group and block size are the same in every status, and stand below it.
 pub record Status : Type 0 where
   pub device : ℕ
   pub number : ℕ
@@ -66,6 +66,15 @@ pub record Status : Type 0 where
   pub access : ℤ
   pub modified : ℤ
   pub changed : ℤ
+
+abbrev pub status_owner : ℕ
+status_owner = 0
+
+abbrev pub status_group : ℕ
+status_group = 0
+
+abbrev pub status_block_size : ℕ
+status_block_size = 4096
 
 -- nodes lie on device 1, streams and pipes on device 2
 abbrev pub node_status : ℕ → Inode → Status

@@ -1,5 +1,5 @@
 -- What a description may be used for, and what its object is (open(2), fcntl(2)).
-use Rattle.std.specs.Prelude.{ℕ, Bool, true, false, Option, Some, None, is_some, option_map, if◌then◌else◌}
+use Rattle.std.specs.Prelude.{ℕ, Bool, true, false, Option, Some, None, is_some, option_map, option_and_then, if◌then◌else◌}
 use Rattle.std.specs.FinMap.{get}
 use Rattle.kernel_core.specs.Nodes.{Nodes, NodeContent, listing_at}
 use Rattle.kernel_core.specs.declared.open_flags.Access.TheVariants as accesses
@@ -9,6 +9,8 @@ use Rattle.kernel_model.specs.Table.{description_at}
 use Rattle.kernel_model.specs.declared.descriptor.Description.{Description}
 use Rattle.kernel_model.specs.declared.descriptor.Object.{Object}
 use Rattle.kernel_model.specs.declared.descriptor.Object.TheVariants as objects
+use Rattle.kernel_model.specs.declared.stream.Stream.{Stream}
+use Rattle.kernel_model.specs.declared.stream.Stream.TheVariants as streams
 
 -- Access modes
 
@@ -93,3 +95,19 @@ if_directory nodes (Some node) = if is_some (listing_at nodes node) then Some no
 
 abbrev pub open_directory : Nodes → Object → Option ℕ
 open_directory nodes object = if_directory nodes (node_of object)
+
+-- which output stream a descriptor has open: 1 for the output, 2 for the error output, and none for anything else
+
+abbrev pub output_number : Stream → Option ℕ
+output_number streams.Input = None
+output_number streams.Out = Some 1
+output_number streams.Err = Some 2
+
+abbrev pub output_at : Object → Option ℕ
+output_at (objects.Stream stream) = output_number stream
+output_at (objects.ReadEnd pipe) = None
+output_at (objects.WriteEnd pipe) = None
+output_at (objects.Node node) = None
+
+abbrev pub output_of : Files → ℕ → Option ℕ
+output_of files fd = option_and_then (λ d. output_at d.object) (opened files fd)

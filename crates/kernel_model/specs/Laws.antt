@@ -10,12 +10,12 @@ pub record IsLeastFree {A : Type 0} (slots : List (Option A)) (from number : ℕ
   pub free : slot slots number ≡ None
   pub taken : (lower : ℕ) → from ≤ lower → lower < number → is_some (slot slots lower) ≡ true
 
--- where a row is refused, its state is this one
+-- where a row is refused, or waits with nothing done yet, its state is this one
 
 abbrev pub StaysAt : {S V : Type 0} → S → S → Came V → Type 0
 StaysAt old new (Done value) = ⊤
 StaysAt old new (Refused error) = new ≡ old
-StaysAt old new (Waits wake) = ⊤
+StaysAt old new (Waits wake) = wake.done ≡ 0 → new ≡ old
 
-pub record StaysIfRefused {S V : Type 0} (state : S) (did : Did S V) : Type 0 where
+pub record StaysUnlessDone {S V : Type 0} (state : S) (did : Did S V) : Type 0 where
   pub stays : StaysAt state did.state did.came

@@ -9,6 +9,7 @@ use Rattle.kernel_core.specs.Nodes.{Nodes, Inode, NodeContent, File, Directory, 
 use Rattle.kernel_core.specs.ValidTree.{root}
 use Rattle.kernel_core.specs.declared.tree.DirEntry.{DirEntry}
 use Rattle.kernel_core.specs.declared.error.Errno.TheVariants.{EACCES, EBADF, EINVAL, EISDIR, ENOENT, ENOTDIR, ERANGE}
+use Rattle.kernel_model.specs.Clock.{second, is_below}
 use Rattle.kernel_model.specs.Came.{Did, Given, done, refused, refused_if, refused_by, with_given, with_some, given_or_none}
 use Rattle.kernel_model.specs.ContentRows.{Status, status, status_at}
 use Rattle.kernel_model.specs.Descriptions.{opened, writable, node_of, content_at}
@@ -103,15 +104,11 @@ utime_omit = pos 0x3FFFFFFE
 abbrev pub is_same : ℤ → ℤ → Bool
 is_same left right = not (int_lt left right) && not (int_lt right left)
 
--- a part of a second
-abbrev pub is_fraction : ℤ → ℕ → Bool
-is_fraction part whole = not (int_lt part (pos 0)) && int_lt part (pos whole)
-
 abbrev pub time_change : ℤ → TimeSpec → TimeChange
 time_change now time =
     if is_same time.nanoseconds utime_now then SetTo now
     else (if is_same time.nanoseconds utime_omit then Leave
-    else (if is_fraction time.nanoseconds 1_000_000_000 then SetTo (time.seconds *ℤ pos 1_000_000_000 +ℤ time.nanoseconds)
+    else (if is_below time.nanoseconds second then SetTo (time.seconds *ℤ pos second +ℤ time.nanoseconds)
     else Wrong))
 
 abbrev pub is_wrong : TimeChange → Bool

@@ -123,10 +123,10 @@ counted number more = min (number + more) (2 ^ 128 - 1)
 abbrev pub more_taken : Flow → ℕ → Flow
 more_taken flow count = record flow { moved = record flow.moved { taken = counted flow.moved.taken count } }
 
-abbrev pub moved_to : Stream → Moved → ℕ → Moved
-moved_to streams.Input moved count = moved
-moved_to streams.Out moved count = record moved { out = counted moved.out count }
-moved_to streams.Err moved count = record moved { err = counted moved.err count }
+abbrev pub more_moved : Stream → Moved → ℕ → Moved
+more_moved streams.Input moved count = moved
+more_moved streams.Out moved count = record moved { out = counted moved.out count }
+more_moved streams.Err moved count = record moved { err = counted moved.err count }
 
 abbrev pub more_sent : Flow → Stream → ℕ → Flow
-more_sent flow stream count = record flow { moved = moved_to stream flow.moved count }
+more_sent flow stream count = record flow { moved = more_moved stream flow.moved count }

@@ -105,7 +105,7 @@ abbrev pub poll_ready : Kernel → Option ℕ → List PollSet → Did Kernel (L
 poll_ready kernel wait events =
     if list_any is_any events then done kernel events else waits_until kernel (deadline kernel wait) (done kernel events)
 
--- poll(2), ppoll(2)
+-- poll(2), ppoll(2) of `count` entries: so many does the list have that was read
 unfoldable pub poll : Kernel → Given (Option ℕ) → ℕ → Given (List PollEntry) → Did Kernel (List PollSet)
 poll kernel wait count entries =
     with_given kernel wait (λ wait.
@@ -115,7 +115,7 @@ poll kernel wait count entries =
 
 -- select
 
--- the three sets, each the descriptors that it names
+-- the three sets, each the descriptors that it names, rising
 pub record Sets : Type 0 where
   pub read : List ℕ
   pub write : List ℕ
@@ -149,18 +149,30 @@ set_count sets = length sets.read + length sets.write + length sets.except
 abbrev pub counted_fds : ℤ → ℕ
 counted_fds count = min (nat_abs count) 1024
 
+-- the sets without the descriptors that are not counted
+
+abbrev pub first_fds : ℕ → List ℕ → List ℕ
+first_fds count fds = filter (λ fd. nat_lt fd count) fds
+
+abbrev pub counted_sets : ℕ → Sets → Sets
+counted_sets count sets = record { read = first_fds count sets.read; write = first_fds count sets.write; except = first_fds count sets.except }
+
 abbrev pub select_ready : Kernel → Option ℕ → Sets → Did Kernel Sets
 select_ready kernel wait sets =
     if nat_lt 0 (set_count sets) then done kernel sets else waits_until kernel (deadline kernel wait) (done kernel sets)
 
--- select(2), pselect(2). A set is read of the first `counted_fds` descriptors.
+abbrev pub select_of : Kernel → Option ℕ → Sets → Did Kernel Sets
+select_of kernel wait sets =
+    refused_if (names_any_closed kernel.files sets) EBADF kernel (
+    select_ready kernel wait (ready_sets kernel.files sets))
+
+-- select(2), pselect(2): of each set the first `counted_fds` descriptors count
 unfoldable pub select : Kernel → Given (Option ℕ) → ℤ → Given Sets → Did Kernel Sets
 select kernel wait count sets =
     with_given kernel wait (λ wait.
     refused_if (int_lt count (pos 0)) EINVAL kernel (
     with_given kernel sets (λ sets.
-    refused_if (names_any_closed kernel.files sets) EBADF kernel (
-    select_ready kernel wait (ready_sets kernel.files sets)))))
+    select_of kernel wait (counted_sets (counted_fds count) sets))))
 
 -- How long they wait
 

@@ -310,13 +310,14 @@ abbrev pub first_pending : Signals → List Sig → SignalSet → Option Sig
 first_pending signals order set = find (λ signal. has set signal && pends signals signal) order
 
 -- rt_sigtimedwait(2): of the set's signals that pend it takes the first in the order of a world's numbers. EAGAIN where none pends when
--- the time is over.
-unfoldable pub accept : Kernel → List Sig → Given SignalSet → Option (Given TimeSpec) → ℕ → Did Kernel Info
-accept kernel order set time size =
+-- the time is over. `order` has all 128 signals, each once, by the world's numbers from the lowest on. `waitable` takes out of the set
+-- what can't be waited for: one world takes out KILL and STOP (`blockable`), another nothing.
+unfoldable pub accept : Kernel → List Sig → (SignalSet → SignalSet) → Given SignalSet → Option (Given TimeSpec) → ℕ → Did Kernel Info
+accept kernel order waitable set time size =
     refused_if (not (size == set_size)) EINVAL kernel (
     with_given kernel set (λ set.
     with_given kernel (checked_or_none length_of time) (λ length.
-    accept_signal kernel (first_pending kernel.signals order set) (
+    accept_signal kernel (first_pending kernel.signals order (waitable set)) (
     waits_until kernel (deadline kernel length) (refused kernel EAGAIN)))))
 
 -- sigsuspend(2): it waits without end. That the mask stands while it does, and is put back, is with whoever ends the wait.

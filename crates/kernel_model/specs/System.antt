@@ -1,5 +1,5 @@
 -- Limits, chance, names and ids (getrlimit(2), getrandom(2), uname(2), getpid(2)).
-use Rattle.std.specs.Prelude.{ℕ, zero, suc, ◌+◌, ◌-◌, ◌/◌, ◌%◌, ◌^◌, ◌==◌, min, ℤ, Bool, ◌&&◌, ◌||◌, not, List, [], ◌∷◌, length, slice_index, slice_index_or, slice_set, Option, Some, None, codes, nat_lt, Ok}
+use Rattle.std.specs.Prelude.{ℕ, zero, suc, ◌+◌, ◌-◌, ◌/◌, ◌%◌, ◌^◌, ◌==◌, ℤ, Bool, ◌&&◌, ◌||◌, not, List, [], ◌∷◌, length, slice_index, slice_index_or, slice_set, Option, Some, None, codes, nat_lt, Ok}
 use Rattle.kernel_core.specs.declared.error.Errno.TheVariants.{EINVAL, EPERM, ESRCH}
 use Rattle.kernel_core.specs.declared.resource.Resource.{Resource}
 use Rattle.kernel_core.specs.declared.resource.Resource.TheVariants as resources
@@ -7,7 +7,7 @@ use Rattle.kernel_model.specs.Came.{Did, Given, done, refused_if, with_given, wi
 use Rattle.kernel_model.specs.SignalRows.{own_id, is_id}
 use Rattle.kernel_model.specs.State.{Kernel, Chance}
 use Rattle.kernel_model.specs.Table.{descriptor_limit}
-use Rattle.kernel_model.specs.Transfers.{transfer_limit, transferring}
+use Rattle.kernel_model.specs.Transfers.{transferring}
 use Rattle.kernel_model.specs.declared.limit.Limit.{Limit}
 
 -- Limits
@@ -74,12 +74,11 @@ after_chance chance count = record chance { at = (chance.at + count) % length ch
 abbrev pub are_random_flags : ℕ → Bool
 are_random_flags flags = not (nat_lt 7 flags) && not ((flags / 2 % 2 == 1) && (flags / 4 % 2 == 1))
 
--- getrandom(2) of `asked` bytes, of which the first `room` can be stored
+-- getrandom(2) of `asked` bytes, where `room` bytes from the first on can be stored
 unfoldable pub random_bytes : Kernel → ℕ → ℕ → ℕ → Did Kernel (List ℕ)
 random_bytes kernel asked room flags =
     refused_if (not (are_random_flags flags)) EINVAL kernel (
-    transferring kernel (Ok asked) room [] (
-    let count = min room transfer_limit in
+    transferring kernel (Ok asked) room [] (λ count.
     done (record kernel { chance = after_chance kernel.chance count }) (round kernel.chance.bytes kernel.chance.at count)))
 
 -- Names and ids
@@ -88,7 +87,6 @@ random_bytes kernel asked room flags =
 abbrev pub system_names : List (List ℕ)
 system_names = codes "Linux" ∷ codes "o32" ∷ codes "5.10.0" ∷ codes "#1" ∷ codes "mips" ∷ codes "(none)" ∷ []
 
--- getpid(2), gettid(2), set_tid_address(2) and getpgid(2) give `own_id`, getppid(2) `parent_id`, and the four calls on users and groups
--- this
+-- getpid(2), gettid(2) and set_tid_address(2) give `own_id`, getppid(2) `parent_id`, and the four calls on users and groups this
 abbrev pub user_id : ℕ
 user_id = 0

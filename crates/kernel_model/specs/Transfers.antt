@@ -1,7 +1,8 @@
 -- Reading and writing (read(2), write(2), readv(2), writev(2), pread(2), pwrite(2)).
 --
--- `asked` is how many bytes the program names, or what was wrong with its vector. Of these, `room` is how many from the first on can be
--- stored, and `bytes` are those from the first on that can be loaded. `left` is what is left of the input.
+-- `asked` is how many bytes the program names, or what was wrong with its vector. `room` is how many bytes from the first on can be
+-- stored, and `bytes` are those from the first on that can be loaded; of both, no more count than were asked. `left` is what is left of
+-- the input.
 use Rattle.std.specs.Prelude.{ℕ, ◌+◌, ◌-◌, ◌==◌, min, ℤ, pos, Bool, false, List, [], length, take, drop, Option, Some, None, nat_le, nat_abs, int_lt, if◌then◌else◌}
 use Rattle.kernel_core.specs.FileContent.{FileContent, readable as readable_count, bytes_at}
 use Rattle.kernel_core.specs.NodeCalls.{write_length, write_refusal, after_write}
@@ -38,12 +39,12 @@ reading left files = record { files = files; left = left }
 abbrev pub writing : Files → Writing
 writing files = record { files = files; sent = nothing }
 
--- a transfer of no byte is done with this; one whose first byte can't be accessed is EFAULT
-abbrev pub transferring : {S V : Type 0} → S → Given ℕ → ℕ → V → Did S V → Did S V
+-- A transfer of no byte is done with this; one whose first byte can't be accessed is EFAULT. The rest gets how many bytes count at most.
+abbrev pub transferring : {S V : Type 0} → S → Given ℕ → ℕ → V → (ℕ → Did S V) → Did S V
 transferring state asked accessible none rest =
     with_given state asked (λ count.
     if count == 0 then done state none
-    else refused_if (accessible == 0) EFAULT state rest)
+    else refused_if (accessible == 0) EFAULT state (rest (min (min count accessible) transfer_limit)))
 
 -- A description whose position moves
 
@@ -96,8 +97,8 @@ read_object files left fd description most (objects.Node node) = widened (readin
 unfoldable pub read : Files → List ℕ → ℕ → Given ℕ → ℕ → Did Reading (List ℕ)
 read files left fd asked room =
     with_some (reading left files) EBADF (readable files fd) (λ description.
-    transferring (reading left files) asked room [] (
-    read_object files left fd description (min room transfer_limit) description.object))
+    transferring (reading left files) asked room [] (λ most.
+    read_object files left fd description most description.object))
 
 -- a transfer at a place is for nodes alone
 abbrev pub at_place : {V : Type 0} → {S : Type 0} → S → ℤ → Object → (ℕ → ℕ → Did S V) → Did S V
@@ -110,8 +111,8 @@ unfoldable pub read_at : Files → ℕ → ℤ → Given ℕ → ℕ → Did Fil
 read_at files fd place asked room =
     with_some files EBADF (readable files fd) (λ description.
     at_place files place description.object (λ at node.
-    transferring files asked room [] (
-    read_content files at (min room transfer_limit) (λ _. files) (content_at files.nodes node))))
+    transferring files asked room [] (λ most.
+    read_content files at most (λ _. files) (content_at files.nodes node))))
 
 -- Writing
 
@@ -177,17 +178,17 @@ write_object files limit now fd description bytes (objects.WriteEnd pipe) =
 write_object files limit now fd description bytes (objects.Node node) =
     widened writing (write_node files limit now fd description node bytes)
 
--- write(2), writev(2): EBADF where the descriptor isn't open for writing. That EPIPE posts a signal stands with the signals.
+-- write(2), writev(2): EBADF where the descriptor isn't open for writing. That EPIPE posts a signal stands in `Whole`.
 unfoldable pub write : Files → Option ℕ → ℤ → ℕ → Given ℕ → List ℕ → Did Writing ℕ
 write files limit now fd asked bytes =
     with_some (writing files) EBADF (writable files fd) (λ description.
-    transferring (writing files) asked (length bytes) 0 (
-    write_object files limit now fd description (take transfer_limit bytes) description.object))
+    transferring (writing files) asked (length bytes) 0 (λ most.
+    write_object files limit now fd description (take most bytes) description.object))
 
 -- pwrite(2): under APPEND it writes at the end too, and the description's position stays
 unfoldable pub write_at : Files → Option ℕ → ℤ → ℕ → ℤ → Given ℕ → List ℕ → Did Files ℕ
 write_at files limit now fd place asked bytes =
     with_some files EBADF (writable files fd) (λ description.
     at_place files place description.object (λ at node.
-    transferring files asked (length bytes) 0 (
-    write_content files limit now description node at (take transfer_limit bytes) (λ files _. files) (file_at files.nodes node))))
+    transferring files asked (length bytes) 0 (λ most.
+    write_content files limit now description node at (take most bytes) (λ files _. files) (file_at files.nodes node))))

@@ -1,6 +1,6 @@
 -- The rows on files as rows of the whole kernel: they mark nodes with the real time, and a write to a pipe that nobody reads posts
 -- SIGPIPE.
-use Rattle.std.specs.Prelude.{ℕ, Bool, true, false, List, Option, if◌then◌else◌}
+use Rattle.std.specs.Prelude.{ℕ, ℤ, Bool, true, false, List, Option, if◌then◌else◌}
 use Rattle.kernel_core.specs.declared.error.Errno.{Errno}
 use Rattle.kernel_core.specs.declared.error.Errno.TheVariants as errors
 use Rattle.kernel_core.specs.declared.signal.Sig.TheVariants as sigs
@@ -17,6 +17,11 @@ with_files kernel files = record kernel { files = files }
 -- a row on files, as a row of the kernel
 abbrev pub on_files : {V : Type 0} → Kernel → Did Files V → Did Kernel V
 on_files kernel did = widened (with_files kernel) did
+
+-- A row on files that marks nodes with the time, as a row of the kernel: every row with an argument `now` but those that write. For
+-- instance mkdir(2) is `marked kernel (λ files now. make_directory files now base path mode)`.
+abbrev pub marked : {V : Type 0} → Kernel → (Files → ℤ → Did Files V) → Did Kernel V
+marked kernel row = on_files kernel (row kernel.files (now kernel))
 
 -- a row of the kernel that may read the input, and one that may write to an output
 pub record KernelReading : Type 0 where

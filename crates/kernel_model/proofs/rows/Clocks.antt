@@ -6,7 +6,7 @@ use Rattle.kernel_core.specs.declared.resource.Resource.TheVariants.{Nofile, Cpu
 use Rattle.kernel_model.proofs.rows.Small.{small}
 use Rattle.kernel_model.specs.Begin.{first_signals, first_limits}
 use Rattle.kernel_model.specs.Came.{done, refused, waits}
-use Rattle.kernel_model.specs.Clock.{second, read_clock, resolution, sleep, arm_timer, read_timer, alarm, unarmed, gone_off, next_time, rounded_seconds}
+use Rattle.kernel_model.specs.Clock.{second, read_clock, resolution, sleep, arm_timer, read_timer, alarm, unarmed, gone_off, next_time, rounded_seconds, left_of_wait, in_microseconds}
 use Rattle.kernel_model.specs.Readiness.{no_events, ready, ready_for, poll, PollEntry, poll_wait, select, select_length, masked_wait}
 use Rattle.kernel_model.specs.SignalRows.{advance, post, timer_info, appended}
 use Rattle.kernel_model.specs.State.{Kernel, Timer}
@@ -55,6 +55,9 @@ half_a_second_is_one = refl
 
 less_is_one_too : rounded_seconds 1 ≡ 1
 less_is_one_too = refl
+
+microseconds_down : in_microseconds 1999 ≡ 1
+microseconds_down = refl
 
 one_and_less_than_a_half : rounded_seconds 1_499_999_999 ≡ 1
 one_and_less_than_a_half = refl
@@ -198,6 +201,18 @@ module _ (kernel : Kernel) (nodes : Nodes) where
   unfolding poll at_1000 ready asks_input
   poll_waits = refl
 
+  -- what is left of that wait, and once it is over
+  poll_left : left_of_wait at_1000 5_000_400 (Some 5_000_000) ≡ Some 600
+  unfolding at_1000
+  poll_left = refl
+
+  poll_over : left_of_wait at_1000 5_001_001 (Some 5_000_000) ≡ Some 0
+  unfolding at_1000
+  poll_over = refl
+
+  left_without_end : left_of_wait at_1000 5_000_000 None ≡ None
+  left_without_end = refl
+
   poll_without_end : poll at_1000 (poll_wait (negsuc 0)) 1 (Ok (asks_input ∷ [])) ≡ waits at_1000 None
   unfolding poll at_1000 ready asks_input
   poll_without_end = refl
@@ -240,6 +255,18 @@ module _ (kernel : Kernel) (nodes : Nodes) where
   select_closed : select at_1000 (Ok None) (pos 6) (Ok (record { read = []; write = []; except = 2 ∷ [] })) ≡ refused at_1000 EBADF
   unfolding select at_1000 ready
   select_closed = refl
+
+  -- descriptors from the count on are not looked at, closed or not
+  select_counted : select at_1000 (Ok None) (pos 2) (Ok (record { read = 0 ∷ 2 ∷ 3 ∷ []; write = 2 ∷ 4 ∷ []; except = 2 ∷ [] }))
+      ≡ done at_1000 (record { read = 0 ∷ []; write = []; except = [] })
+  unfolding select at_1000 ready
+  select_counted = refl
+
+  -- a count above 1024 is 1024
+  select_beyond : select at_1000 (Ok None) (pos 2000) (Ok (record { read = 0 ∷ 1024 ∷ []; write = []; except = [] }))
+      ≡ done at_1000 (record { read = 0 ∷ []; write = []; except = [] })
+  unfolding select at_1000 ready
+  select_beyond = refl
 
   select_negative : select at_1000 (Ok None) (negsuc 0) (Err EFAULT) ≡ refused at_1000 EINVAL
   unfolding select
@@ -292,6 +319,10 @@ module _ (kernel : Kernel) (nodes : Nodes) where
   four_bytes : random_bytes at_1000 3 3 0 ≡ done (record at_1000 { chance = record { bytes = 1 ∷ 2 ∷ []; at = 1 } }) (1 ∷ 2 ∷ 1 ∷ [])
   unfolding random_bytes at_1000 round
   four_bytes = refl
+
+  no_more_than_asked : random_bytes at_1000 1 3 0 ≡ done (record at_1000 { chance = record { bytes = 1 ∷ 2 ∷ []; at = 1 } }) (1 ∷ [])
+  unfolding random_bytes at_1000 round
+  no_more_than_asked = refl
 
   both_flags : random_bytes at_1000 3 0 6 ≡ refused at_1000 EINVAL
   unfolding random_bytes

@@ -1,10 +1,13 @@
 -- Worked rows on files and directories that are open: 2 is the directory with `a` and `bb`, or a file.
 use Rattle.std.specs.Prelude.{◌≡◌, ℕ, ◌+◌, ◌*◌, ◌/◌, ℤ, pos, negsuc, List, [], ◌∷◌, codes, Some, None, Ok, refl}
-use Rattle.std.specs.FinMap.{get}
-use Rattle.kernel_core.specs.FileContent.{no_content}
+use Rattle.std.specs.FinMap.{get, get-empty}
+use Rattle.std.specs.Ordering.{nat_cmp}
+use Rattle.kernel_core.specs.FileContent.{no_content, longest_write, absent_blocks}
+use Rattle.kernel_core.specs.NodeCalls.{after_write}
 use Rattle.kernel_core.specs.Nodes.{Nodes, Inode, File, Directory}
 use Rattle.kernel_core.specs.Queries.{FileKind}
-use Rattle.kernel_core.specs.declared.error.Errno.TheVariants.{EFAULT, EFBIG, EINVAL, EISDIR, ENOENT, ENOTDIR, EOVERFLOW}
+use Rattle.kernel_core.specs.Totals.{live_blocks}
+use Rattle.kernel_core.specs.declared.error.Errno.TheVariants.{EFAULT, EFBIG, EINVAL, EISDIR, ENOENT, ENOSPC, ENOTDIR, EOVERFLOW}
 use Rattle.kernel_core.specs.declared.open_flags.Access.TheVariants.{ReadWrite}
 use Rattle.kernel_model.proofs.rows.Names.{inode, entry}
 use Rattle.kernel_model.proofs.rows.Small.{small, to, to_on_exec, input, output, read_end, write_end}
@@ -113,3 +116,24 @@ module _ (nodes : Nodes) (kept : get nodes 8 ≡ Some file) (other : get nodes 9
     past_the_limit : (now : ℤ) → write (opened_at nodes 0x7FFFFFFF) (Some 0x7FFFFFFF) now 2 (Ok 1) (1 ∷ []) ≡ refused (writing (opened_at nodes 0x7FFFFFFF)) EFBIG
     unfolding write opened_at at file inode
     past_the_limit now = simp is refl
+
+    -- past the greatest size of a file
+    past_the_end : (now : ℤ) → write (opened_at nodes 17592186044415) None now 2 (Ok 2) (1 ∷ 2 ∷ []) ≡ refused (writing (opened_at nodes 17592186044415)) EFBIG
+    unfolding write opened_at at file inode
+    past_the_end now = simp is refl
+
+    -- what passes the limit is cut
+    up_to_the_limit : (now : ℤ) → live_blocks nodes ≡ 0 → write (opened_at nodes 0x7FFFFFFD) (Some 0x7FFFFFFF) now 2 (Ok 3) (1 ∷ 2 ∷ 3 ∷ [])
+        ≡ done (writing (record (opened_at nodes 0x7FFFFFFF) { nodes = after_write nodes 5 0x7FFFFFFD (1 ∷ 2 ∷ []) now })) 2
+    unfolding write opened_at at file inode longest_write absent_blocks
+    up_to_the_limit now none = simp (is, none, get-empty {X = List ℕ} nat_cmp) refl
+
+    -- up to the greatest size of a file
+    up_to_the_end : (now : ℤ) → live_blocks nodes ≡ 0 → write (opened_at nodes 17592186044415) None now 2 (Ok 1) (1 ∷ [])
+        ≡ done (writing (record (opened_at nodes 17592186044416) { nodes = after_write nodes 5 17592186044415 (1 ∷ []) now })) 1
+    unfolding write opened_at at file inode longest_write absent_blocks
+    up_to_the_end now none = simp (is, none, get-empty {X = List ℕ} nat_cmp) refl
+
+    no_block : (now : ℤ) → live_blocks nodes ≡ 65_536 → write (opened_at nodes 0) None now 2 (Ok 1) (1 ∷ []) ≡ refused (writing (opened_at nodes 0)) ENOSPC
+    unfolding write opened_at at file inode longest_write absent_blocks
+    no_block now full = simp (is, full, get-empty {X = List ℕ} nat_cmp) refl

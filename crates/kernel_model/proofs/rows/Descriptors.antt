@@ -4,11 +4,13 @@ use Rattle.kernel_core.specs.Nodes.{Nodes}
 use Rattle.kernel_core.specs.declared.error.Errno.TheVariants.{EBADF, EINVAL, EMFILE, ENOTTY}
 use Rattle.kernel_core.specs.declared.open_flags.Access.TheVariants.{Read, Write}
 use Rattle.kernel_model.proofs.rows.Small.{small, to, to_on_exec, input, output, read_end, write_end, flow}
+use Rattle.kernel_model.specs.Begin.{stream_description}
 use Rattle.kernel_model.specs.Came.{done, refused}
-use Rattle.kernel_model.specs.Descriptions.{no_flags, description_of}
+use Rattle.kernel_model.specs.Descriptions.{no_flags, description_of, output_of}
 use Rattle.kernel_model.specs.DescriptorRows.{close, after_close, duplicate, duplicate_onto, duplicate_onto_with, make_pipe, ends, close_on_exec, set_close_on_exec, status_flags, set_status_flags, unlisted_command, unlisted_request}
 use Rattle.kernel_model.specs.Table.{closed, last_description}
 use Rattle.kernel_model.specs.declared.descriptor.Object.TheVariants.{ReadEnd, WriteEnd}
+use Rattle.kernel_model.specs.declared.stream.Stream.TheVariants.{Err}
 
 module _ (nodes : Nodes) where
   -- a descriptor that isn't open
@@ -176,6 +178,22 @@ module _ (nodes : Nodes) where
   }) tt
   unfolding set_status_flags
   nonblock_on = refl
+
+  -- which output a descriptor leads to
+  output_of_output : output_of (small nodes []) 1 ≡ Some 1
+  output_of_output = refl
+
+  output_of_error : output_of (record (small nodes []) { table = record (small nodes []).table { live = Some input ∷ Some (stream_description Err Write) ∷ [] } }) 1 ≡ Some 2
+  output_of_error = refl
+
+  output_of_input : output_of (small nodes []) 0 ≡ None
+  output_of_input = refl
+
+  output_of_closed : output_of (small nodes []) 2 ≡ None
+  output_of_closed = refl
+
+  output_of_pipe : output_of (small nodes []) 4 ≡ None
+  output_of_pipe = refl
 
   other_command : unlisted_command (small nodes []) 1 ≡ refused (small nodes []) EINVAL
   unfolding unlisted_command

@@ -7,7 +7,7 @@ use Rattle.kernel_core.specs.declared.signal.Sig.TheVariants.{Hup, Kill, Stop, C
 use Rattle.kernel_model.specs.Begin.{first_signals}
 use Rattle.kernel_model.specs.Came.{done, refused, waits}
 use Rattle.kernel_model.specs.SignalRows.{post, posted, appended, with_pending, pending_at, pends, kill_info, scheduled_info, no_action, ignore_handler, after_action, action_at, kill, kill_thread, kill_thread_of, queue, Nothing, Signal, Unlisted, set_action, change_mask, pending, accept, suspend, set_stack, no_stack, with_signals}
-use Rattle.kernel_model.specs.SignalSets.{has, only, union, without, no_signals, unblockable}
+use Rattle.kernel_model.specs.SignalSets.{has, only, union, without, no_signals, unblockable, blockable}
 use Rattle.kernel_model.specs.State.{Kernel, Signals}
 use Rattle.kernel_model.specs.declared.signal.SigStack.{SigStack}
 use Rattle.kernel_model.specs.declared.signal.Post.TheVariants.{Queued, Dropped, Full}
@@ -89,6 +89,13 @@ full = with_pending first_signals thirty_four (replicate 1024 (scheduled_info th
 one_too_many : (post full (scheduled_info thirty_four None) false).post ≡ Full
 unfolding post thirty_four full
 one_too_many = refl
+
+one_below : Signals
+one_below = with_pending first_signals thirty_four (replicate 1023 (scheduled_info thirty_four None))
+
+the_last_one : (post one_below (scheduled_info thirty_four None) false).post ≡ Queued
+unfolding post thirty_four one_below
+the_last_one = refl
 
 module _ (kernel : Kernel) where
   -- Sending
@@ -192,24 +199,35 @@ module _ (kernel : Kernel) where
 
   -- Accepting
 
-  accept_first_of_order : accept (with_signals from (appended (appended first_signals (kill_info Usr1)) (kill_info Alrm))) (Alrm ∷ Usr1 ∷ []) (Ok (union (only Usr1) (only Alrm))) None 16
+  accept_first_of_order : accept (with_signals from (appended (appended first_signals (kill_info Usr1)) (kill_info Alrm))) (Alrm ∷ Usr1 ∷ []) blockable (Ok (union (only Usr1) (only Alrm))) None 16
       ≡ done (with_signals from (appended first_signals (kill_info Usr1))) (kill_info Alrm)
   unfolding accept from
   accept_first_of_order = refl
 
-  accept_at_once : accept from (Alrm ∷ Usr1 ∷ []) (Ok (only Usr1)) (Some (Ok (record { seconds = pos 0; nanoseconds = pos 0 }))) 16 ≡ refused from EAGAIN
+  -- STOP that pends, where a world takes it out of the set, and where not
+  accept_without_stop : accept (with_signals from (appended first_signals (kill_info Stop))) (Stop ∷ Usr1 ∷ []) blockable (Ok (union (only Usr1) (only Stop))) None 16
+      ≡ waits (with_signals from (appended first_signals (kill_info Stop))) None
+  unfolding accept from
+  accept_without_stop = refl
+
+  accept_stop : accept (with_signals from (appended first_signals (kill_info Stop))) (Stop ∷ Usr1 ∷ []) (λ set. set) (Ok (union (only Usr1) (only Stop))) None 16
+      ≡ done from (kill_info Stop)
+  unfolding accept from
+  accept_stop = refl
+
+  accept_at_once : accept from (Alrm ∷ Usr1 ∷ []) blockable (Ok (only Usr1)) (Some (Ok (record { seconds = pos 0; nanoseconds = pos 0 }))) 16 ≡ refused from EAGAIN
   unfolding accept from
   accept_at_once = refl
 
-  accept_waits : accept from (Alrm ∷ Usr1 ∷ []) (Ok (only Usr1)) None 16 ≡ waits from None
+  accept_waits : accept from (Alrm ∷ Usr1 ∷ []) blockable (Ok (only Usr1)) None 16 ≡ waits from None
   unfolding accept from
   accept_waits = refl
 
-  accept_wrong_time : accept from [] (Ok (only Usr1)) (Some (Ok (record { seconds = pos 0; nanoseconds = pos 1_000_000_000 }))) 16 ≡ refused from EINVAL
+  accept_wrong_time : accept from [] blockable (Ok (only Usr1)) (Some (Ok (record { seconds = pos 0; nanoseconds = pos 1_000_000_000 }))) 16 ≡ refused from EINVAL
   unfolding accept from
   accept_wrong_time = refl
 
-  accept_unreadable : accept from [] (Err EFAULT) None 16 ≡ refused from EFAULT
+  accept_unreadable : accept from [] blockable (Err EFAULT) None 16 ≡ refused from EFAULT
   unfolding accept from
   accept_unreadable = refl
 

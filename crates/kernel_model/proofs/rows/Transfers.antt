@@ -1,17 +1,18 @@
 -- Worked rows on reading and writing at streams and pipes.
-use Rattle.std.specs.Prelude.{◌≡◌, ℕ, ℤ, pos, negsuc, true, false, List, [], ◌∷◌, replicate, Option, None, Ok, Err, refl}
+use Rattle.std.specs.Prelude.{◌≡◌, ℕ, ℤ, pos, negsuc, true, false, List, [], ◌∷◌, ◌++◌, length, take, Option, Some, None, Ok, Err, refl}
 use Rattle.kernel_core.specs.Nodes.{Nodes}
 use Rattle.kernel_core.specs.declared.error.Errno.TheVariants.{EAGAIN, EBADF, EFAULT, EINVAL, EPIPE, ESPIPE}
+use Rattle.kernel_core.specs.declared.signal.Sig.TheVariants as sigs
 use Rattle.kernel_model.proofs.rows.Small.{small, flow, pipe}
+use Rattle.kernel_model.specs.Begin.{first_signals}
 use Rattle.kernel_model.specs.Came.{Done, Refused, done, refused, waits}
-use Rattle.kernel_model.specs.Pipes.{becomes, stays, waits_after, read_pipe, write_pipe}
+use Rattle.kernel_model.specs.Pipes.{nothing, becomes, stays, waits_after, read_pipe, write_pipe}
+use Rattle.kernel_model.specs.SignalRows.{appended, kill_info, post}
+use Rattle.kernel_model.specs.State.{Kernel}
 use Rattle.kernel_model.specs.Transfers.{reading, writing, read, read_at, write, write_at}
+use Rattle.kernel_model.specs.Whole.{kernel_write}
 
 -- One pipe
-
--- so many bytes 5
-fives : ℕ → List ℕ
-fives count = replicate count 5
 
 read_part : read_pipe (pipe (1 ∷ 2 ∷ 3 ∷ [])) false 2 ≡ becomes (pipe (3 ∷ [])) (Done (1 ∷ 2 ∷ []))
 read_part = refl
@@ -37,12 +38,47 @@ write_fits = refl
 write_without_readers : write_pipe (record (pipe []) { readers = false }) true (2 ∷ []) ≡ stays (Refused EPIPE)
 write_without_readers = refl
 
+-- A write into a pipe with so many bytes: 4096 go whole or not at all, and of more those that fit.
+module _ (held more : List ℕ) where
+  all_that_fits : length held ≡ 61_440 → length more ≡ 4096 → write_pipe (pipe held) false more ≡ becomes (pipe (held ++ more)) (Done 4096)
+  all_that_fits l m = simp (l, m) refl
+
+  one_byte_short : length held ≡ 61_441 → length more ≡ 4096 → write_pipe (pipe held) false more ≡ stays (waits_after 0)
+  one_byte_short l m = simp (l, m) refl
+
+  one_byte_short_nonblock : length held ≡ 61_441 → length more ≡ 4096 → write_pipe (pipe held) true more ≡ stays (Refused EAGAIN)
+  one_byte_short_nonblock l m = simp (l, m) refl
+
+  one_byte_more : length held ≡ 61_440 → length more ≡ 4097 → write_pipe (pipe held) false more ≡ becomes (pipe (held ++ take 4096 more)) (waits_after 4096)
+  one_byte_more l m = simp (l, m) refl
+
+  one_byte_more_nonblock : length held ≡ 61_440 → length more ≡ 4097 → write_pipe (pipe held) true more ≡ becomes (pipe (held ++ take 4096 more)) (Done 4096)
+  one_byte_more_nonblock l m = simp (l, m) refl
+
+  no_room : length held ≡ 65_536 → length more ≡ 4097 → write_pipe (pipe held) false more ≡ stays (waits_after 0)
+  no_room l m = simp (l, m) refl
+
+  no_room_nonblock : length held ≡ 65_536 → length more ≡ 4097 → write_pipe (pipe held) true more ≡ stays (Refused EAGAIN)
+  no_room_nonblock l m = simp (l, m) refl
+
+  more_than_a_pipe : length more ≡ 70_000 → write_pipe (pipe []) false more ≡ becomes (pipe (take 65_536 more)) (waits_after 65_536)
+  more_than_a_pipe m = simp m refl
+
+  more_than_a_pipe_nonblock : length more ≡ 70_000 → write_pipe (pipe []) true more ≡ becomes (pipe (take 65_536 more)) (Done 65_536)
+  more_than_a_pipe_nonblock m = simp m refl
+
 module _ (nodes : Nodes) (limit : Option ℕ) (now : ℤ) where
   -- the input
   first_bytes : read (small nodes []) (120 ∷ 121 ∷ 122 ∷ []) 0 (Ok 2) 2
       ≡ done (reading (122 ∷ []) (record (small nodes []) { flow = record (flow []) { moved = record { taken = 2; out = 0; err = 0 } } })) (120 ∷ 121 ∷ [])
   unfolding read
   first_bytes = refl
+
+  -- no more than was asked, whatever there is room for
+  less_than_room : read (small nodes []) (120 ∷ 121 ∷ 122 ∷ []) 0 (Ok 2) 3
+      ≡ done (reading (122 ∷ []) (record (small nodes []) { flow = record (flow []) { moved = record { taken = 2; out = 0; err = 0 } } })) (120 ∷ 121 ∷ [])
+  unfolding read
+  less_than_room = refl
 
   at_the_end : read (small nodes []) [] 0 (Ok 8) 8 ≡ done (reading [] (small nodes [])) []
   unfolding read
@@ -102,6 +138,11 @@ module _ (nodes : Nodes) (limit : Option ℕ) (now : ℤ) where
   unfolding write
   sent_in_part = refl
 
+  sent_as_asked : write (small nodes []) limit now 1 (Ok 2) (72 ∷ 105 ∷ 10 ∷ [])
+      ≡ done (record { files = record (small nodes []) { flow = record (flow []) { moved = record { taken = 0; out = 2; err = 0 } } }; sent = record { out = 72 ∷ 105 ∷ []; err = [] } }) 2
+  unfolding write
+  sent_as_asked = refl
+
   write_none : write (small nodes []) limit now 1 (Ok 0) [] ≡ done (writing (small nodes [])) 0
   unfolding write
   write_none = refl
@@ -121,3 +162,16 @@ module _ (nodes : Nodes) (limit : Option ℕ) (now : ℤ) where
   write_at_a_place_of_a_pipe : write_at (small nodes []) limit now 4 (pos 0) (Ok 1) (2 ∷ []) ≡ refused (small nodes []) ESPIPE
   unfolding write_at
   write_at_a_place_of_a_pipe = refl
+
+-- SIGPIPE with EPIPE
+module _ (kernel : Kernel) (nodes : Nodes) where
+  without_readers : Kernel
+  without_readers = record kernel {
+    files = record (small nodes []) { flow = record (flow []) { pipes = Some (record (pipe []) { readers = false }) ∷ None ∷ [] } };
+    signals = first_signals;
+  }
+
+  posts_sigpipe : kernel_write without_readers None 4 (Ok 1) (2 ∷ [])
+      ≡ refused (record { kernel = record without_readers { signals = appended first_signals (kill_info sigs.Pipe) }; sent = nothing }) EPIPE
+  unfolding kernel_write write post without_readers
+  posts_sigpipe = refl
