@@ -13,17 +13,13 @@ import resource
 import subprocess
 import sys
 
+sys.path.insert(0, str(pathlib.Path(__file__).resolve().parent))
+
+from processes import processor_name  # noqa: E402
+
 COUNTS = [16_384, 32_768, 65_536]
 REPETITIONS = 3
 LIMIT = 2.3
-
-
-def processor_name():
-    with open("/proc/cpuinfo") as lines:
-        for line in lines:
-            if line.startswith("model name"):
-                return line.split(":", 1)[1].strip()
-    return "unknown processor"
 
 
 def built_program(top):
