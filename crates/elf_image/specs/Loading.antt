@@ -1,4 +1,5 @@
 -- What a file that breaks no rule asks for, and what a plan keeps.
+-- Source: System V gABI, "Program Header" and "Program Loading", and mmap(2) for protections.
 use Rattle.std.specs.Prelude.{◌≡◌, ℕ, ◌+◌, ◌-◌, ◌*◌, ◌/◌, ◌%◌, ◌<◌, ◌≤◌, Bool, false, ◌&&◌, List, Option, Some, None, nat_le, length, map, take, drop}
 use Rattle.std.specs.List.{find, All, AllPairs}
 use Rattle.elf_image.specs.Span.{Span, overlaps, pages_touched}

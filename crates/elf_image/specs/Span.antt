@@ -1,4 +1,5 @@
 -- Parts of the guest's memory, and the pages of 4096 bytes that they touch.
+-- Source: System V gABI, "Program Loading", for pages and segments. The size of a page is this project's own.
 use Rattle.std.specs.Prelude.{ℕ, zero, suc, ◌+◌, ◌*◌, Bool, ◌&&◌, List, nat_lt, if◌then◌else◌}
 use Rattle.std.specs.List.{list_any}
 

@@ -91,7 +91,7 @@ unfoldable pub unused_from : ℕ → Nodes → ℕ → ℕ
 unused_from zero nodes number = number
 unused_from (suc more) nodes number = if is_some (get nodes number) then unused_from more nodes (number + 1) else number
 
--- the least number from 2 on that no live node has, which is one of the first that are more than the live nodes
+-- the least number from 2 on that no live node has (at most as many numbers are taken as there are live nodes)
 abbrev pub new_number : Nodes → ℕ
 new_number nodes = unused_from (len nodes) nodes 2
 

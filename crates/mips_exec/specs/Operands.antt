@@ -1,4 +1,5 @@
 -- The operands of an instruction.
+-- Source: MIPS32 Architecture for Programmers, Volume II, Release 2, "CPU Instruction Formats".
 -- Register numbers, shift counts and places in a word are taken modulo 32 all through the table. The fields of a
 -- decoded word have 5 bits, so nothing changes for them, and the table needs no premise on what it is given.
 use Rattle.std.specs.Prelude.{ℕ, ℤ, Bool, ◌%◌, if◌then◌else◌}

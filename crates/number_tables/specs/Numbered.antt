@@ -1,4 +1,4 @@
--- Looking a value up by its number.
+-- Looking a value up by its number. (The look-up is this project's own; the tables that it looks in name their sources.)
 use Rattle.std.specs.Prelude.{ℕ, ◌==◌, Option, Some, None, List, [], ◌∷◌, if◌then◌else◌}
 
 -- the first of a list that has this number, and where none has it the last argument but one

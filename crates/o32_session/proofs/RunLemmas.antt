@@ -89,11 +89,11 @@ no_budget : (m : Machine) → (turn_of m).over ≡ Some Budget → ⊥
 unfolding turn_of
 no_budget m over = no_budget_of_fault m.processor m.memory m.fault over
 
-pub over_so : (m machine : Machine) (budget k : ℕ) (end : Finish) → (turn_of machine).over ≡ Some end → k ≤ budget →
+pub over_answer : (m machine : Machine) (budget k : ℕ) (end : Finish) → (turn_of machine).over ≡ Some end → k ≤ budget →
     EndsIn m k end → IsOverAt m budget k end
-over_so m machine budget k (Exited status) over within ends = (within, ends)
-over_so m machine budget k (Killed signal) over within ends = (within, ends)
-over_so m machine budget k Budget over within ends = absurd (no_budget machine over)
+over_answer m machine budget k (Exited status) over within ends = (within, ends)
+over_answer m machine budget k (Killed signal) over within ends = (within, ends)
+over_answer m machine budget k Budget over within ends = absurd (no_budget machine over)
 
 output_next : (m machine : Machine) (k : ℕ) → (state_at m k).machine ≡ machine → (state_at m k).over ≡ None →
     output_at m k ++ (turn_of machine).output ≡ output_at m (k + 1)

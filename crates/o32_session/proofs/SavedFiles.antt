@@ -7,10 +7,10 @@ use Rattle.elf_image.specs.Rules.{first_failure}
 use Rattle.elf_image.specs.Loading.{plan_of}
 use Rattle.elf_image.specs.declared.refusal.ElfRefusal.{ElfRefusal}
 use Rattle.elf_image.specs.declared.load_plan.Plan.{Plan}
-use Rattle.start_stack.specs.Stack.{start_size}
+use Rattle.start_stack.specs.Stack.{start_size, start_limit}
 use Rattle.o32_session.specs.Machine.{Machine}
 use Rattle.o32_session.specs.Words.{Line, Reading, Asks, WrongAt}
-use Rattle.o32_session.specs.Asked.{Asked, Refuse, Run, Names, names_of, Found, Absent, Long, Bytes, IsOpened, AsksOf, AsksUnless, AsksFor, arguments_of, asked_of_plan, first_machine, start_limit}
+use Rattle.o32_session.specs.Asked.{Asked, Refuse, Run, Names, names_of, Found, Absent, Long, Bytes, IsOpened, AsksOf, AsksUnless, AsksFor, arguments_of, asked_of_plan, first_machine}
 use Rattle.o32_session.specs.Saved.{Stored, StandsOrBegins, SavesTree, SavesTreeInPart}
 use Rattle.o32_session.specs.SavedFile.{IsFinalText, StandsOrHasPart, IsFileAfter, SavesTo, SavesReading}
 use Rattle.o32_session.specs.Session.{Seen, Answers, IsEarly, no_names, AnswersReading}

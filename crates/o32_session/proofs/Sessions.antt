@@ -13,15 +13,15 @@ use Rattle.fs_image.specs.Meaning as images
 use Rattle.fs_image.specs.declared.refusal.ImageRefusal.{ImageRefusal}
 use Rattle.elf_image.specs.Loading.{plan_of}
 use Rattle.elf_image.specs.declared.load_plan.Plan.{Plan}
-use Rattle.start_stack.specs.Stack.{start_size}
+use Rattle.start_stack.specs.Stack.{start_size, start_limit}
 use Rattle.o32_session.specs.inside.Ends.{end_of_stop}
 use Rattle.o32_session.specs.Machine.{Machine}
 use Rattle.o32_session.specs.Run.{IsOverAt, output_at}
-use Rattle.o32_session.specs.inside.Prepared.{RefusesSo, EndsWithoutRun, IsPrepared, turned_reading}
-use Rattle.o32_session.specs.inside.Runs.{RanSo, EndsOnlyIfRose, IsSavedSo, end_of_save, EndsSo, RanIntoAnswer}
+use Rattle.o32_session.specs.inside.Prepared.{EndsRefused, EndsWithoutRun, IsPrepared, turned_reading}
+use Rattle.o32_session.specs.inside.Runs.{RunsTo, EndsOnlyIfRose, SavesOrStops, end_of_save, EndsWithSave, RanIntoAnswer}
 use Rattle.o32_session.specs.declared.answer.Answer.{Answer}
 use Rattle.o32_session.specs.Words.{Line, Reading, Asks, WrongAt, read_words, word_at}
-use Rattle.o32_session.specs.Asked.{Asked, Refuse, Run, Names, names_of, Found, Bytes, found_at, IsOpened, IsOpenedBy, AsksOf, AsksUnless, AsksFor, arguments_of, asked_of_plan, asked_of_tree, first_machine, empty_tree, image_limit, start_limit}
+use Rattle.o32_session.specs.Asked.{Asked, Refuse, Run, Names, names_of, Found, Bytes, found_at, IsOpened, IsOpenedBy, AsksOf, AsksUnless, AsksFor, arguments_of, asked_of_plan, asked_of_tree, first_machine, empty_tree, image_limit}
 use Rattle.o32_session.specs.Saved.{Stored, after_turned, turned_by}
 use Rattle.o32_session.specs.Session.{Seen, DoesNothing, Answers, IsEarly, no_names, AnswersReading, AsksForRun, HasImage, IsRunEnd}
 use Rattle.o32_session.specs.declared.answer.Refusal.{Refusal}
@@ -59,7 +59,7 @@ nothing_done old err faults store same none = record {
 
 -- a refusal with its line
 refused : (refusal : Refusal) (names : Names) (end : End) (old : Seen) (err : Option (List ℕ)) (faults : ℕ)
-    (store : Stored) → RefusesSo refusal end old.err err → (end ≡ WriteFault → Rose old.err_faults faults) →
+    (store : Stored) → EndsRefused refusal end old.err err → (end ≡ WriteFault → Rose old.err_faults faults) →
     store ≡ after_turned old.store (turned_by names refusal) → Answers (Refuse refusal) names old (beside old err faults store) 0 end
 refused refusal names (Refused given) old err faults store so cause loads = record {
   same = so.0;
@@ -83,7 +83,7 @@ pub unrun : (words : List (List ℕ)) (reading : Reading) (reason : NotRun) (end
     store ≡ after_turned old.store (turned_reading {T = Ready} words reading (Err reason)) →
     AnswersReading words reading old (beside old err faults store) 0 end
 unrun words (WrongAt word) (reasons.Refused refusal) end old err faults store is so cause loads =
-    inr (refused (Usage word) no_names end old err faults store (subst (λ r. RefusesSo r end old.err err) is so) cause loads)
+    inr (refused (Usage word) no_names end old err faults store (subst (λ r. EndsRefused r end old.err err) is so) cause loads)
 unrun words (WrongAt word) reasons.ReadFault end old err faults store is so cause loads = absurd is
 unrun words (WrongAt word) reasons.NoMemory end old err faults store is so cause loads =
     inl (so.0, nothing_done old err faults store so.1 loads)
@@ -101,17 +101,17 @@ abbrev above : Seen → Option (List ℕ) → ℕ → Stored → Seen
 above old out out_faults store = record old { out = out; out_faults = out_faults; store = store }
 
 -- the run is over, and what follows it says the answer
-over_so : (machine : Machine) (budget : ℕ) (tree : Tree) (names : Names) (old : Seen) (out : Option (List ℕ)) (faults : ℕ)
+over_answer : (machine : Machine) (budget : ℕ) (tree : Tree) (names : Names) (old : Seen) (out : Option (List ℕ)) (faults : ℕ)
     (store : Stored) (turns : ℕ) (finish : Finish) (saved : Result (Unit {0}) DevError) → IsOverAt machine budget turns finish →
-    GainsText old.out out (output_at machine turns) → IsSavedSo names.save tree saved old.store store →
+    GainsText old.out out (output_at machine turns) → SavesOrStops names.save tree saved old.store store →
     Answers (Run machine budget tree) names old (above old out faults store) turns (end_of_save finish saved)
-over_so machine budget tree names old out faults store turns (finishes.Exited status) (Ok done) over wrote saved =
+over_answer machine budget tree names old out faults store turns (finishes.Exited status) (Ok done) over wrote saved =
     record { over = over; wrote = record { to_out = wrote; to_err = GainsText-nothing old.err }; saved = saved }
-over_so machine budget tree names old out faults store turns (finishes.Killed signal) (Ok done) over wrote saved =
+over_answer machine budget tree names old out faults store turns (finishes.Killed signal) (Ok done) over wrote saved =
     record { over = over; wrote = record { to_out = wrote; to_err = GainsText-nothing old.err }; saved = saved }
-over_so machine budget tree names old out faults store turns finishes.Budget (Ok done) over wrote saved =
+over_answer machine budget tree names old out faults store turns finishes.Budget (Ok done) over wrote saved =
     record { over = over; wrote = record { to_out = wrote; to_err = GainsText-nothing old.err }; saved = saved }
-over_so machine budget tree names old out faults store turns finish (Err device.Failed) over wrote saved =
+over_answer machine budget tree names old out faults store turns finish (Err device.Failed) over wrote saved =
     inr (
       record {
         over = (finish, over);
@@ -120,7 +120,7 @@ over_so machine budget tree names old out faults store turns finish (Err device.
       },
       saved.1,
     )
-over_so machine budget tree names old out faults store turns finish (Err device.NoMemory) over wrote saved =
+over_answer machine budget tree names old out faults store turns finish (Err device.NoMemory) over wrote saved =
     inr (record {
       over = (finish, over);
       wrote = record { to_out = wrote; to_err = GainsText-nothing old.err };
@@ -128,29 +128,29 @@ over_so machine budget tree names old out faults store turns finish (Err device.
     })
 
 -- the run stopped early
-stopped_so : (machine : Machine) (budget : ℕ) (tree : Tree) (names : Names) (old : Seen) (out : Option (List ℕ)) (faults : ℕ)
-    (store : Stored) (turns : ℕ) (stop : Stop) → RanSo machine budget turns (Err stop) old.out out →
+stopped_answer : (machine : Machine) (budget : ℕ) (tree : Tree) (names : Names) (old : Seen) (out : Option (List ℕ)) (faults : ℕ)
+    (store : Stored) (turns : ℕ) (stop : Stop) → RunsTo machine budget turns (Err stop) old.out out →
     EndsOnlyIfRose (Err stop) old.out_faults faults → store ≡ old.store →
     Answers (Run machine budget tree) names old (above old out faults store) turns (end_of_stop stop)
-stopped_so machine budget tree names old out faults store turns stops.WriteFault so cause stands = inl (
+stopped_answer machine budget tree names old out faults store turns stops.WriteFault so cause stands = inl (
   record { goes_on = so.0; to_out = so.1.0; to_err = GainsText-nothing old.err; stands = stands },
   cause,
   so.1.1,
 )
-stopped_so machine budget tree names old out faults store turns stops.ReadFault so cause stands = absurd cause
-stopped_so machine budget tree names old out faults store turns stops.NoMemory so cause stands =
+stopped_answer machine budget tree names old out faults store turns stops.ReadFault so cause stands = absurd cause
+stopped_answer machine budget tree names old out faults store turns stops.NoMemory so cause stands =
     inl (record { goes_on = so.0; to_out = so.1.0; to_err = GainsText-nothing old.err; stands = stands })
 
 ran_so : (machine : Machine) (budget : ℕ) (tree : Tree) (names : Names) (old : Seen) (out : Option (List ℕ)) (faults : ℕ)
-    (store : Stored) (turns : ℕ) (run : Result Finish Stop) (end : End) → RanSo machine budget turns run old.out out →
-    EndsOnlyIfRose run old.out_faults faults → EndsSo names.save tree run end old.store store →
+    (store : Stored) (turns : ℕ) (run : Result Finish Stop) (end : End) → RunsTo machine budget turns run old.out out →
+    EndsOnlyIfRose run old.out_faults faults → EndsWithSave names.save tree run end old.store store →
     Answers (Run machine budget tree) names old (above old out faults store) turns end
 ran_so machine budget tree names old out faults store turns (Ok finish) end so cause ends =
     subst (λ e. Answers (Run machine budget tree) names old (above old out faults store) turns e) (sym ends.1)
-    (over_so machine budget tree names old out faults store turns finish ends.0 so.0 so.1 ends.2)
+    (over_answer machine budget tree names old out faults store turns finish ends.0 so.0 so.1 ends.2)
 ran_so machine budget tree names old out faults store turns (Err stop) end so cause ends =
     subst (λ e. Answers (Run machine budget tree) names old (above old out faults store) turns e) (sym ends.0)
-    (stopped_so machine budget tree names old out faults store turns stop so cause ends.1)
+    (stopped_answer machine budget tree names old out faults store turns stop so cause ends.1)
 
 -- There is a run, and the answer is what it came to.
 pub run_answers : (words : List (List ℕ)) (reading : Reading) (ready : Ready) (answer : Answer) (old : Seen)
@@ -164,8 +164,8 @@ run_answers words (Asks line) ready answer old out faults middle store is so loa
   is.0,
   ran_so ready.machine ready.budget ready.tree (names_of words line) old out faults store answer.turns so.end answer.end so.ran
       so.cause
-      (subst (λ s. EndsSo (names_of words line).save ready.tree so.end answer.end s store) (loads ∙ none_turned old.store)
-      (subst (λ n. EndsSo (option_map (word_at words) n) ready.tree so.end answer.end middle store) is.1 so.ends)),
+      (subst (λ s. EndsWithSave (names_of words line).save ready.tree so.end answer.end s store) (loads ∙ none_turned old.store)
+      (subst (λ n. EndsWithSave (option_map (word_at words) n) ready.tree so.end answer.end middle store) is.1 so.ends)),
 )
 
 -- A run is asked for

@@ -12,7 +12,7 @@ use Rattle.elf_image.specs.Rules as elf
 use Rattle.elf_image.specs.Loading.{plan_of}
 use Rattle.elf_image.specs.declared.refusal.ElfRefusal.{ElfRefusal}
 use Rattle.elf_image.specs.declared.load_plan.Plan.{Plan}
-use Rattle.start_stack.specs.Stack.{start_size}
+use Rattle.start_stack.specs.Stack.{start_size, start_limit}
 use Rattle.start_stack.specs.Start.{start_memory, start_processor}
 use Rattle.o32_session.specs.Words.{Line, word_at}
 use Rattle.o32_session.specs.Machine.{Machine}
@@ -97,10 +97,6 @@ IsOpened files None opened = opened ≡ Ok empty_tree
 IsOpened files (Some name) opened = (found : Found) × IsFound files image_limit name found × IsOpenedBy found opened
 
 -- The run
-
--- the most bytes that the strings and words of the first stack may take
-abbrev pub start_limit : ℕ
-start_limit = 131072
 
 -- sixteen random bytes for the guest, which are zeros so far
 abbrev pub random_bytes : List ℕ

@@ -1,4 +1,5 @@
 -- The machine of a run, and one turn of it.
+-- Source: MIPS32 Architecture for Programmers, Volume II, Release 2, for a step; signal(7) for a fault's signal, which kills. That it kills in the turn after its own is this project's own.
 use Rattle.std.specs.Prelude.{ℕ, List, [], Option, Some, None}
 use Rattle.kernel_core.specs.declared.signal.Sig.{Sig}
 use Rattle.number_tables.specs.Signals.{o32_signal}

@@ -1,4 +1,4 @@
--- A whole run: the state after k turns, and how the run for a budget is over.
+-- A whole run: the state after k turns, and how the run for a budget is over. (Turns and budgets are this project's own.)
 use Rattle.std.specs.Prelude.{ℕ, zero, suc, ◌≡◌, ◌<◌, ◌≤◌, List, [], ◌++◌, Option, Some, None}
 use Rattle.o32_session.specs.Machine.{Machine, turn_of}
 use Rattle.o32_session.specs.declared.answer.Finish.{Finish}

@@ -8,9 +8,9 @@ use Rattle.kernel_core.specs.declared.tree.Tree.{Tree}
 use Rattle.fs_image.specs.Meaning as images
 use Rattle.elf_image.specs.Rules as elf
 use Rattle.elf_image.specs.Loading.{plan_of}
-use Rattle.start_stack.specs.Stack.{start_size}
+use Rattle.start_stack.specs.Stack.{start_size, start_limit}
 use Rattle.o32_session.specs.Words.{Line, Reading, Asks, WrongAt, read_words}
-use Rattle.o32_session.specs.Asked.{Asked, Refuse, Run, Names, names_of, Bytes, found_at, program_limit, image_limit, AsksFor, arguments_of, start_limit, first_machine}
+use Rattle.o32_session.specs.Asked.{Asked, Refuse, Run, Names, names_of, Bytes, found_at, program_limit, image_limit, AsksFor, arguments_of, first_machine}
 use Rattle.o32_session.specs.Saved.{Stored, after_turned, turned_by, SavesTree, SavesTreeInPart}
 use Rattle.o32_session.specs.Machine.{Machine, turn_of}
 use Rattle.o32_session.specs.Run.{IsOverAt, GoesOnAt, output_at, state_at}

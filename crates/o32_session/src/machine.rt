@@ -11,6 +11,7 @@ ghost use Rattle.o32_session.specs.inside.Turns.{TurnIs, OutcomeIs, WriteIs, Sto
 
 use crate::answer::Finish;
 use guest_space::Space;
+use kernel_core::limits::GREATEST_TRANSFER;
 use kernel_core::{Errno, NoMemory, Sig, Stop};
 use mips_exec::{Cpu, Stepped, step};
 use number_tables::O32Number;
@@ -60,9 +61,6 @@ const PROCESS: u32 = 100;
 
 /// The size of the head of a robust list (linux/futex.h).
 const ROBUST_LIST_SIZE: u32 = 12;
-
-/// The greatest number of bytes that one transfer moves (write(2)).
-const GREATEST_TRANSFER: u32 = 0x7FFF_F000;
 
 /// What a turn came to.
 #[derive(Clone, Copy)]

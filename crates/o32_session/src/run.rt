@@ -1,6 +1,6 @@
 //! A whole run, turn by turn.
 ghost use Rattle.std.specs.Prelude.{◌≤◌};
-ghost use Rattle.o32_session.specs.inside.Runs.{RanSo, EndsOnlyIfRose};
+ghost use Rattle.o32_session.specs.inside.Runs.{RunsTo, EndsOnlyIfRose};
 
 use crate::answer::Finish;
 use crate::machine::{Machine, Turn};
@@ -19,7 +19,7 @@ pub(crate) struct Ran {
 
 /// Runs the machine for at most `budget` turns.
 pub(crate) fn run<O: Sink>(alloc: Global, mut machine: Machine, budget: u64, out: &mut O) -> Ran
-    ensures run { RanSo machine budget result.turns result.end (O.written out.old) (O.written out.new) }
+    ensures run { RunsTo machine budget result.turns result.end (O.written out.old) (O.written out.new) }
     ensures cause { EndsOnlyIfRose result.end (O.faults out.old) (O.faults out.new) }
     ensures later { O.faults out.old ≤ O.faults out.new }
 {

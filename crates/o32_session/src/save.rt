@@ -3,7 +3,7 @@ ghost use Rattle.std.specs.Prelude.{◌≡◌, ◌≤◌, OnOk, OnErr, option_ma
 ghost use Rattle.kernel_core.specs.ValidTree.{IsValidTree};
 ghost use Rattle.fs_image.specs.Text.{text_of};
 ghost use Rattle.outside.specs.Causes.{FailsOnlyIfRose};
-ghost use Rattle.o32_session.specs.inside.Runs.{IsSavedSo};
+ghost use Rattle.o32_session.specs.inside.Runs.{SavesOrStops};
 ghost use Rattle.o32_session.specs.Saved.{stored_of, SavesText, SavesPart};
 ghost use Rattle.o32_session.specs.Words.{texts, word_at};
 
@@ -62,7 +62,7 @@ pub(crate) fn save_final<F: Store>(
     files: &mut F,
 ) -> Result<(), DevError>
     requires { IsValidTree tree.now }
-    ensures saved { IsSavedSo (option_map (word_at (texts words.now)) save) tree.now result
+    ensures saved { SavesOrStops (option_map (word_at (texts words.now)) save) tree.now result
         (stored_of F.files F.created F.turned_away F.write_faults files.old)
         (stored_of F.files F.created F.turned_away F.write_faults files.new) }
     ensures later { F.write_faults files.old ≤ F.write_faults files.new }

@@ -8,7 +8,7 @@ ghost use Rattle.o32_session.specs.Answers.{status_of};
 ghost use Rattle.o32_session.specs.inside.Ends.{end_of_stop};
 ghost use Rattle.o32_session.specs.Lines.{line_of};
 ghost use Rattle.o32_session.specs.Machine.{Machine};
-ghost use Rattle.o32_session.specs.inside.Prepared.{RefusesSo, EndsWithoutRun};
+ghost use Rattle.o32_session.specs.inside.Prepared.{EndsRefused, EndsWithoutRun};
 ghost use Rattle.o32_session.specs.inside.Runs.{RanIntoAnswer, end_of_save};
 ghost use Rattle.o32_session.specs.Session.{AnswersWords, AsksForRun, IsRunEnd, seen_of};
 ghost use Rattle.o32_session.specs.Saved.{stored_of};
@@ -62,7 +62,7 @@ fn put_line<E: Sink>(alloc: Global, refusal: Refusal, err: &mut E) -> Result<(),
 
 /// Answers a refusal with its line.
 fn refuse<E: Sink>(alloc: Global, refusal: Refusal, err: &mut E) -> End
-    ensures line { RefusesSo refusal result (E.written err.old) (E.written err.new) }
+    ensures line { EndsRefused refusal result (E.written err.old) (E.written err.new) }
     ensures cause { result ≡ End.WriteFault → Rose (E.faults err.old) (E.faults err.new) }
     ensures later { E.faults err.old ≤ E.faults err.new }
 {

@@ -31,6 +31,10 @@ word_count args env = length args + length env + 37
 abbrev pub start_size : List (List ℕ) → List (List ℕ) → ℕ
 start_size args env = length (strings (texts args env)) + 4 * word_count args env
 
+-- how many bytes they may take at most (this project's own)
+abbrev pub start_limit : ℕ
+start_limit = 131072
+
 -- where the strings begin: they end four bytes below the stack's end
 abbrev pub strings_at : List (List ℕ) → List (List ℕ) → ℕ
 strings_at args env = 0x7FFEFFFC - length (strings (texts args env))

@@ -1,7 +1,7 @@
 //! The text of the first stack, from the stack pointer to the end of its strings.
 
 ghost use Rattle.std.specs.Prelude.{◌≡◌, ℕ, ◌+◌, ◌-◌, ◌*◌, ◌/◌, ◌<◌, ◌≤◌, ◌++◌, ◌↔◌, length, take, map, replicate, string_bytes, vec_len, IsSome, IfSome, IsErrOf, IfOk, OnOk};
-ghost use Rattle.start_stack.specs.Stack.{texts, strings, aligned, word_count, start_size, strings_at, random_at, stack_pointer, auxiliary, words, word_bytes, stack_bytes};
+ghost use Rattle.start_stack.specs.Stack.{texts, strings, aligned, word_count, start_size, strings_at, random_at, stack_pointer, auxiliary, words, word_bytes, stack_bytes, start_limit};
 
 use crate::error::StartError;
 use crate::strings::{push_strings, room_left};
@@ -49,8 +49,8 @@ impl StackText {
         random: &[u8; 16],
     ) -> Result<StackText, StartError>
         requires { 0 < length args.now }
-        ensures too_long { IsErrOf result StartError.TooLong ↔ (131072 < start_size (map string_bytes args.now) (map string_bytes env.now)) }
-        ensures fits { OnOk result (start_size (map string_bytes args.now) (map string_bytes env.now) ≤ 131072) }
+        ensures too_long { IsErrOf result StartError.TooLong ↔ (start_limit < start_size (map string_bytes args.now) (map string_bytes env.now)) }
+        ensures fits { OnOk result (start_size (map string_bytes args.now) (map string_bytes env.now) ≤ start_limit) }
         ensures end { IfOk result (λ text. text.stack_pointer + length text.bytes.items ≡ 0x7FFEFFFC) }
         ensures stack_pointer { IfOk result (λ text. text.stack_pointer ≡ stack_pointer (map string_bytes args.now) (map string_bytes env.now)) }
         ensures bytes { IfOk result (λ text. text.bytes.items ≡ stack_bytes plan.now (map string_bytes args.now) (map string_bytes env.now) random.now) }
@@ -76,7 +76,7 @@ impl StackText {
 /// The sizes of strings and words, or `None` if they take more than the limit together.
 fn sizes_of(args: &[String], env: &[String]) -> Option<Sizes>
     requires { 0 < length args.now }
-    ensures fits { IsSome result ↔ (start_size (map string_bytes args.now) (map string_bytes env.now) ≤ 131072) }
+    ensures fits { IsSome result ↔ (start_size (map string_bytes args.now) (map string_bytes env.now) ≤ start_limit) }
     ensures strings { IfSome result (λ sizes. sizes.strings ≡ length (strings (texts (map string_bytes args.now) (map string_bytes env.now)))) }
     ensures words { IfSome result (λ sizes. sizes.words ≡ word_count (map string_bytes args.now) (map string_bytes env.now)) }
 {
@@ -94,7 +94,7 @@ fn sizes_of(args: &[String], env: &[String]) -> Option<Sizes>
 
 /// Where strings and words of these sizes stand.
 fn places_of(sizes: Sizes) -> Places
-    requires { sizes.strings + 4 * sizes.words ≤ 131072 }
+    requires { sizes.strings + 4 * sizes.words ≤ start_limit }
     ensures strings { result.strings ≡ 0x7FFEFFFC - sizes.strings }
     ensures random { result.random ≡ aligned (result.strings - 16) }
     ensures stack_pointer { result.stack_pointer ≡ aligned (result.random - 4 * sizes.words) }
@@ -124,7 +124,7 @@ fn push_start_words(
     env: &[String],
     places: Places,
 ) -> Result<(), AllocError>
-    requires fits { start_size (map string_bytes args.now) (map string_bytes env.now) ≤ 131072 }
+    requires fits { start_size (map string_bytes args.now) (map string_bytes env.now) ≤ start_limit }
     requires strings { places.strings ≡ strings_at (map string_bytes args.now) (map string_bytes env.now) }
     requires random { places.random ≡ random_at (map string_bytes args.now) (map string_bytes env.now) }
     ensures { OnOk result (bytes.new.items ≡ bytes.old.items ++ word_bytes (words plan.now (map string_bytes args.now) (map string_bytes env.now))) }

@@ -1,7 +1,7 @@
 //! The state in which a program starts.
 ghost use Rattle.std.specs.Prelude.{◌≡◌, ◌<◌, ◌↔◌, length, map, string_bytes, IsErrOf, IfOk};
 ghost use Rattle.elf_image.specs.Loading.{IsValidPlan};
-ghost use Rattle.start_stack.specs.Stack.{start_size};
+ghost use Rattle.start_stack.specs.Stack.{start_size, start_limit};
 ghost use Rattle.start_stack.specs.Start.{start_memory, start_processor};
 
 use crate::error::StartError;
@@ -41,7 +41,7 @@ pub fn build(
 ) -> Result<Start, StartError>
     requires valid { IsValidPlan plan.now }
     requires named { 0 < length args.now }
-    ensures too_long { IsErrOf result StartError.TooLong ↔ (131072 < start_size (map string_bytes args.now) (map string_bytes env.now)) }
+    ensures too_long { IsErrOf result StartError.TooLong ↔ (start_limit < start_size (map string_bytes args.now) (map string_bytes env.now)) }
     ensures space { IfOk result (λ start. start.space ≡ start_memory plan.now (map string_bytes args.now) (map string_bytes env.now) random) }
     ensures cpu { IfOk result (λ start. start.cpu ≡ start_processor plan.now (map string_bytes args.now) (map string_bytes env.now)) }
 {

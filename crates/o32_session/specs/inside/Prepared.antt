@@ -186,17 +186,17 @@ turned_reading words (Asks line) result = turned_if (turned_by (names_of words l
 -- The line of a refusal
 
 -- a refusal wrote its line, or a part of it where the device or memory gave out
-abbrev pub RefusesSo : Refusal → End → Option (List ℕ) → Option (List ℕ) → Type 0
-RefusesSo refusal (ends.Refused given) old new = (given ≡ refusal) × GainsText old new (line_of refusal)
-RefusesSo refusal ends.WriteFault old new = GainsBetween old new [] (line_of refusal)
-RefusesSo refusal ends.NoMemory old new = GainsBetween old new [] (line_of refusal)
-RefusesSo refusal ends.ReadFault old new = ⊥
-RefusesSo refusal (ends.Exited status) old new = ⊥
-RefusesSo refusal (ends.Killed signal) old new = ⊥
-RefusesSo refusal ends.Budget old new = ⊥
+abbrev pub EndsRefused : Refusal → End → Option (List ℕ) → Option (List ℕ) → Type 0
+EndsRefused refusal (ends.Refused given) old new = (given ≡ refusal) × GainsText old new (line_of refusal)
+EndsRefused refusal ends.WriteFault old new = GainsBetween old new [] (line_of refusal)
+EndsRefused refusal ends.NoMemory old new = GainsBetween old new [] (line_of refusal)
+EndsRefused refusal ends.ReadFault old new = ⊥
+EndsRefused refusal (ends.Exited status) old new = ⊥
+EndsRefused refusal (ends.Killed signal) old new = ⊥
+EndsRefused refusal ends.Budget old new = ⊥
 
 -- where nothing is run, a refusal writes its line, and a fault or want of memory nothing
 abbrev pub EndsWithoutRun : NotRun → End → Option (List ℕ) → Option (List ℕ) → Type 0
-EndsWithoutRun (Refused refusal) end old new = RefusesSo refusal end old new
+EndsWithoutRun (Refused refusal) end old new = EndsRefused refusal end old new
 EndsWithoutRun ReadFault end old new = (end ≡ ends.ReadFault) × (new ≡ old)
 EndsWithoutRun NoMemory end old new = (end ≡ ends.NoMemory) × (new ≡ old)

@@ -25,10 +25,10 @@ StopsWriting machine NoMemory = ⊤
 
 -- A run that is over wrote its whole output; one that stopped early wrote that of the turns finished, and a part of
 -- the next turn's.
-abbrev pub RanSo : Machine → ℕ → ℕ → Result Finish Stop → Option (List ℕ) → Option (List ℕ) → Type 0
-RanSo machine budget turns (Ok finish) old new =
+abbrev pub RunsTo : Machine → ℕ → ℕ → Result Finish Stop → Option (List ℕ) → Option (List ℕ) → Type 0
+RunsTo machine budget turns (Ok finish) old new =
     IsOverAt machine budget turns finish × GainsText old new (output_at machine turns)
-RanSo machine budget turns (Err stop) old new =
+RunsTo machine budget turns (Err stop) old new =
     GoesOnAt machine budget turns
     × (GainsBetween old new (output_at machine turns) (output_at machine (turns + 1))
     × StopsWriting (state_at machine turns).machine stop)
@@ -41,10 +41,10 @@ EndsOnlyIfRose (Err ReadFault) before now = ⊥
 EndsOnlyIfRose (Err NoMemory) before now = ⊤
 
 -- the final tree was saved where a file is named for it, or at most a part of it, with the cause of a fault
-abbrev pub IsSavedSo : Option (List ℕ) → Tree → Result (Unit {0}) DevError → Stored → Stored → Type 0
-IsSavedSo name tree (Ok done) old new = SavesTree name tree old new
-IsSavedSo name tree (Err device.Failed) old new = SavesTreeInPart name tree old new × Rose old.write_faults new.write_faults
-IsSavedSo name tree (Err device.NoMemory) old new = SavesTreeInPart name tree old new
+abbrev pub SavesOrStops : Option (List ℕ) → Tree → Result (Unit {0}) DevError → Stored → Stored → Type 0
+SavesOrStops name tree (Ok done) old new = SavesTree name tree old new
+SavesOrStops name tree (Err device.Failed) old new = SavesTreeInPart name tree old new × Rose old.write_faults new.write_faults
+SavesOrStops name tree (Err device.NoMemory) old new = SavesTreeInPart name tree old new
 
 -- the end of a run that is over so, by what came of the final tree
 abbrev pub end_of_save : Finish → Result (Unit {0}) DevError → End
@@ -53,16 +53,16 @@ end_of_save finish (Err device.Failed) = ends.WriteFault
 end_of_save finish (Err device.NoMemory) = ends.NoMemory
 
 -- what follows the end of a run: a save, or nothing
-abbrev pub EndsSo : Option (List ℕ) → Tree → Result Finish Stop → End → Stored → Stored → Type 0
-EndsSo name tree (Ok finish) end old new =
-    (saved : Result (Unit {0}) DevError) × (end ≡ end_of_save finish saved) × IsSavedSo name tree saved old new
-EndsSo name tree (Err stop) end old new = (end ≡ end_of_stop stop) × (new ≡ old)
+abbrev pub EndsWithSave : Option (List ℕ) → Tree → Result Finish Stop → End → Stored → Stored → Type 0
+EndsWithSave name tree (Ok finish) end old new =
+    (saved : Result (Unit {0}) DevError) × (end ≡ end_of_save finish saved) × SavesOrStops name tree saved old new
+EndsWithSave name tree (Err stop) end old new = (end ≡ end_of_stop stop) × (new ≡ old)
 
 -- the answer of a run, with its output before and after, and the count of faults of that
 pub record RanIntoAnswer (machine : Machine) (budget : ℕ) (tree : Tree) (name : Option (List ℕ)) (answer : Answer)
     (old_out new_out : Option (List ℕ)) (old_faults new_faults : ℕ) (old new : Stored) : Type 0 where
   pub end : Result Finish Stop
-  pub ran : RanSo machine budget answer.turns end old_out new_out
+  pub ran : RunsTo machine budget answer.turns end old_out new_out
   pub cause : EndsOnlyIfRose end old_faults new_faults
-  pub ends : EndsSo name tree end answer.end old new
+  pub ends : EndsWithSave name tree end answer.end old new
   pub status : answer.status ≡ status_of answer.end

@@ -23,7 +23,7 @@ over_of (Ended end) = Some end
 -- a turn that came to `turn` and left `machine` is the one that is defined, and wrote its output
 pub record TurnIs (defined : Machine.Turn) (turn : Turn) (machine : Machine.Machine) (old new : Option (List ℕ)) : Type 0 where
   pub machine_after : defined.machine ≡ machine
-  pub over_so : defined.over ≡ over_of turn
+  pub over_answer : defined.over ≡ over_of turn
   pub wrote : GainsText old new defined.output
 
 -- a write fault comes only where the count rose, and a read fault never: a turn reads no input
