@@ -1,5 +1,5 @@
 -- Parts of a page of zeros.
-use Rattle.std.proofs.Common.{◌≡◌, ◌≤◌, ◌<◌, ◌+◌, ◌-◌, ℕ, List, length, replicate, take, drop, get_or, slice_range, slice_index, ap, ◌∙◌, arith}
+use Rattle.std.proofs.Common.{◌≡◌, ◌≤◌, ◌<◌, ◌+◌, ◌-◌, ℕ, length, replicate, take, drop, slice_range, slice_index, ap, ◌∙◌, arith}
 use Rattle.std.proofs.lemmas.List.{take-replicate, drop-replicate, get_or-replicate, length-replicate}
 use Rattle.raw_pages.specs.Pages.{zero_bytes}
 

@@ -113,13 +113,13 @@ impl Leaf {
     }
 
     /// Makes the page one of zeros again, where it is mapped.
-    pub(crate) fn clear(&mut self, place: usize)
+    pub(crate) fn clear(&mut self, alloc: Global, place: usize)
         requires { place < 1024 }
         ensures now { self.new ≡ slice_set self.old place (option_map cleared_page (slice_index_or self.old place None)) }
         ensures whole { length self.old ≡ 1024 }
     {
         if let Some(page) = &mut self.entries[place] {
-            page.clear();
+            page.clear(alloc);
         }
     }
 

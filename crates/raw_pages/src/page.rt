@@ -4,17 +4,28 @@ ghost use Rattle.raw_pages.specs.Pages.{zero_page, zero_bytes, with_piece, clear
 
 use crate::piece::put;
 use crate::write_error::WriteError;
+use raw_frame::Frame;
 use std::alloc::{AllocError, Global};
 use std::marker::Model;
+use std::mem::replace;
 
 /// The number of bytes of a page.
 pub(crate) const PAGE_SIZE: usize = 4096;
 
 /// A mapped page. Contracts see it as a `MappedPage` of `specs/Pages.antt`.
-#[derive(Drop)]
 pub struct Page {
     protection: u8,
-    frame: Option<Box<[u8; 4096]>>,
+    frame: Frame<[u8; PAGE_SIZE]>,
+}
+
+impl Drop for Page {
+    fn drop(self) {
+        let Page {
+            protection: _,
+            frame,
+        } = self;
+        give_back(frame);
+    }
 }
 
 impl Model for Page {
@@ -26,17 +37,17 @@ impl Model for Page {
 
     ghost coded = { mapped_page_code };
 
-    ghost view = { λ p. record { protection = p.protection; ready = is_some p.frame; bytes = frame_bytes p.frame } };
+    ghost view = { λ p. record { protection = p.protection; ready = is_some p.frame.value; bytes = frame_bytes p.frame.value } };
 }
 
 impl Page {
     /// A page of zeros that was not written. It takes no memory.
-    pub(crate) fn zeros(protection: u8) -> Page
+    pub(crate) fn zeros(alloc: Global, protection: u8) -> Page
         ensures { result ≡ zero_page protection }
     {
         Page {
             protection,
-            frame: None,
+            frame: Frame::empty(alloc),
         }
     }
 
@@ -52,14 +63,14 @@ impl Page {
         ensures value { result ≡ self.now.ready }
         ensures zeros { result ≡ false → self.now.bytes ≡ zero_bytes }
     {
-        self.frame.is_some()
+        self.frame.is_full()
     }
 
     /// Gives the frame back: the page is one of zeros again.
-    pub(crate) fn clear(&mut self)
+    pub(crate) fn clear(&mut self, alloc: Global)
         ensures { self.new ≡ cleared_page self.old }
     {
-        self.frame = None;
+        give_back(replace(&mut self.frame, Frame::empty(alloc)));
     }
 
     pub(crate) fn protect(&mut self, protection: u8)
@@ -74,7 +85,7 @@ impl Page {
         ensures value { buf.new ≡ slice_range self.now.bytes at (at + length buf.old) }
         ensures whole { length self.now.bytes ≡ 4096 }
     {
-        match &self.frame {
+        match self.frame.get() {
             Some(frame) => buf.copy_from_slice(&frame[at..at + buf.len()]),
             None => buf.fill(0),
         }
@@ -86,7 +97,7 @@ impl Page {
         ensures value { result ≡ slice_index self.now.bytes at }
         ensures whole { length self.now.bytes ≡ 4096 }
     {
-        match &self.frame {
+        match self.frame.get() {
             Some(frame) => frame[at],
             None => 0,
         }
@@ -98,7 +109,7 @@ impl Page {
         ensures value { result ≡ slice_range self.now.bytes at (at + 2) }
         ensures whole { length self.now.bytes ≡ 4096 }
     {
-        match &self.frame {
+        match self.frame.get() {
             Some(frame) => [frame[at], frame[at + 1]],
             None => [0; 2],
         }
@@ -110,7 +121,7 @@ impl Page {
         ensures value { result ≡ slice_range self.now.bytes at (at + 4) }
         ensures whole { length self.now.bytes ≡ 4096 }
     {
-        match &self.frame {
+        match self.frame.get() {
             Some(frame) => [frame[at], frame[at + 1], frame[at + 2], frame[at + 3]],
             None => [0; 4],
         }
@@ -123,11 +134,24 @@ impl Page {
         ensures err { OnErr result (self.new ≡ self.old) }
         ensures ready { self.old.ready ≡ true → IsOk result }
     {
-        if let Some(frame) = &mut self.frame {
-            put_in_frame(frame.as_mut(), at, bytes);
-            return Ok(());
+        if !self.frame.is_full() {
+            return self.write_first(alloc, at, bytes);
         }
-        self.frame = Some(first_frame(alloc, at, bytes)?);
+        put_in_frame(self.frame.get_mut(), at, bytes);
+        Ok(())
+    }
+
+    /// The first write takes the frame. It stands apart, so that later ones don't pay for its zeros.
+    #[cold]
+    #[inline(never)]
+    fn write_first(&mut self, alloc: Global, at: usize, bytes: &[u8]) -> Result<(), AllocError>
+        requires inside { at + length bytes.now ≤ 4096 }
+        requires first { self.old.ready ≡ false }
+        ensures ok { OnOk result (self.new ≡ with_piece self.old at bytes.now) }
+        ensures err { OnErr result (self.new ≡ self.old) }
+    {
+        let block = first_block(alloc, at, bytes)?;
+        replace(&mut self.frame, Frame::full(block)).discard();
         Ok(())
     }
 
@@ -158,13 +182,22 @@ fn put_in_frame(frame: &mut [u8; PAGE_SIZE], at: usize, bytes: &[u8])
     put(frame.as_mut_slice(), at, bytes);
 }
 
-/// A frame of zeros with the bytes from the place on.
+/// Gives the frame's block back, where there is one.
+fn give_back(frame: Frame<[u8; PAGE_SIZE]>) {
+    if frame.is_full() {
+        drop(frame.into_box());
+    } else {
+        frame.discard();
+    }
+}
+
+/// A block of zeros with the bytes from the place on.
 #[tactic(auto, unfolding(crate::specs::Pages::zero_bytes))]
-fn first_frame(alloc: Global, at: usize, bytes: &[u8]) -> Result<Box<[u8; PAGE_SIZE]>, AllocError>
+fn first_block(alloc: Global, at: usize, bytes: &[u8]) -> Result<Box<[u8; PAGE_SIZE]>, AllocError>
     requires { at + length bytes.now ≤ 4096 }
-    ensures { IfOk result (λ frame. frame.value ≡ put_at zero_bytes at bytes.now) }
+    ensures { IfOk result (λ block. block.value ≡ put_at zero_bytes at bytes.now) }
 {
-    let mut frame = [0; PAGE_SIZE];
-    put_in_frame(&mut frame, at, bytes);
-    Ok(Box::new(alloc, frame)?)
+    let mut block = [0; PAGE_SIZE];
+    put_in_frame(&mut block, at, bytes);
+    Ok(Box::new(alloc, block)?)
 }

@@ -197,7 +197,7 @@ impl PageStore {
         requires { page < 1048576 }
         ensures { self.new ≡ pages_cleared self.old page (map.get self.old page) }
     {
-        table::clear(self.leaves.as_mut_slice(), page);
+        table::clear(self.leaves.as_mut_slice(), self.alloc, page);
     }
 
     /// Whether the page is mapped and was written since.

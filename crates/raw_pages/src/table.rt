@@ -61,7 +61,7 @@ pub(crate) fn map(
     ensures err { OnErr result (leaves.new ≡ leaves.old) }
 {
     make_leaf(leaves, alloc, number)?;
-    Ok(put(leaves, number, Page::zeros(protection)).is_none())
+    Ok(put(leaves, number, Page::zeros(alloc, protection)).is_none())
 }
 
 /// Puts the page at the number, whose table is there, and gives the one that stood there.
@@ -135,12 +135,12 @@ pub(crate) fn write_if_allowed(
 }
 
 /// Makes the number's page one of zeros again, where it is mapped.
-pub(crate) fn clear(leaves: &mut [Option<Leaf>], number: u32)
+pub(crate) fn clear(leaves: &mut [Option<Leaf>], alloc: Global, number: u32)
     requires { number / 1024 < length leaves.old }
     ensures { SetsEntry leaves.old leaves.new number (option_map cleared_page (entry_of leaves.old number)) }
 {
     if let Some(leaf) = &mut leaves[leaf_of(number)] {
-        leaf.clear(place_of(number));
+        leaf.clear(alloc, place_of(number));
     }
 }
 

@@ -1,4 +1,4 @@
-use Rattle.std.proofs.Common.{◌≡◌, ◌≤◌, ◌<◌, ℕ, Option, None, get_or}
+use Rattle.std.proofs.Common.{◌≡◌, ◌≤◌, ◌<◌, ℕ, None, get_or}
 use Rattle.raw_pages.proofs.leaf.last_entry.Given as goal
 
 abbrev pub invariant-loop-at : goal.invariant-loop-at

@@ -1,6 +1,5 @@
-use Rattle.std.proofs.Common.{◌≡◌, ◌+◌, ◌*◌, ◌/◌, ◌%◌, ◌<◌, ◌≤◌, ℕ, None, Some, IsSome, length, get_or, sym, ap, subst, ◌∙◌, arith, inl, inr}
+use Rattle.std.proofs.Common.{◌≡◌, ◌+◌, ◌*◌, ◌/◌, ◌%◌, ◌<◌, None, IsSome, length, get_or, sym, ap, subst, ◌∙◌, arith, inl, inr}
 use Rattle.std.proofs.lemmas.Bool.{cases_lt}
-use Rattle.raw_pages.specs.inside.Tables.{entry_of}
 use Rattle.raw_pages.proofs.Tables.{none_in-absent, entry_in-there}
 use Rattle.raw_pages.proofs.table.last_below.Goals as goal
 use Rattle.raw_pages.proofs.table.last_below.Goals.{in-Some+in_default-last_below, in_default}

@@ -1,4 +1,4 @@
-use Rattle.std.proofs.Common.{Some, None, refl, sym, ◌∙◌}
+use Rattle.std.proofs.Common.{None, refl, sym, ◌∙◌}
 use Rattle.raw_pages.proofs.Tables.{entry-found}
 use Rattle.raw_pages.proofs.table.page.Goals as goal
 

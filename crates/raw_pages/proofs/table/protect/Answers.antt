@@ -1,4 +1,4 @@
-use Rattle.std.proofs.Common.{None, refl, sym, ◌∙◌}
+use Rattle.std.proofs.Common.{None, refl}
 use Rattle.raw_pages.specs.Pages.{MappedPage, with_protection}
 use Rattle.raw_pages.proofs.Tables.{entry-found, entry-changed, entry-not_changed}
 use Rattle.raw_pages.proofs.table.protect.Goals as goal

@@ -1,4 +1,4 @@
-use Rattle.std.proofs.Common.{◌+◌, slice_range, length, None, ap, sym, ◌∙◌}
+use Rattle.std.proofs.Common.{◌+◌, slice_range, length, ap, sym, ◌∙◌}
 use Rattle.raw_pages.specs.Pages.{shown_bytes}
 use Rattle.raw_pages.proofs.Zeros.{zeros_whole, zeros_range}
 use Rattle.raw_pages.proofs.page_store.PageStore.read.Goals as goal

@@ -1,7 +1,7 @@
 use Rattle.std.proofs.Common.{Option, Some, None, refl, ap, sym, true, false, ◌≡◌, ◌∙◌, ℕ, List}
 use Rattle.std.specs.FinMap.{get}
 use Rattle.raw_pages.specs.Pages.{MappedPage, Pages, with_piece, pages_with_piece, is_ready}
-use Rattle.raw_pages.specs.inside.Tables.{changed, entry_of}
+use Rattle.raw_pages.specs.inside.Tables.{changed}
 use Rattle.raw_pages.proofs.Tables.{store-changed, view-changed, found-old}
 use Rattle.raw_pages.proofs.page_store.PageStore.write.Goals as goal
 

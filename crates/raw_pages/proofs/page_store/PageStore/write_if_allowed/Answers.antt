@@ -2,7 +2,7 @@ use Rattle.std.proofs.Common.{Option, Some, None, Ok, Err, refl, ap, sym, subst,
 use Rattle.std.proofs.lemmas.Result.{err_from_is_err_and}
 use Rattle.std.specs.FinMap.{get}
 use Rattle.raw_pages.specs.Pages.{MappedPage, Pages, with_piece, pages_with_piece, IsWriteAnswer}
-use Rattle.raw_pages.specs.inside.Tables.{changed, entry_of}
+use Rattle.raw_pages.specs.inside.Tables.{changed}
 use Rattle.raw_pages.proofs.Tables.{store-changed, view-changed, found-old}
 use Rattle.raw_pages.proofs.page_store.PageStore.write_if_allowed.Goals as goal
 

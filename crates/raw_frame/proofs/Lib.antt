@@ -1,0 +1,3 @@
+pub mod FrameValues
+pub mod Peers
+pub mod Values
