@@ -41,42 +41,55 @@ abbrev rt_frame_of_fault : List ℕ
 rt_frame_of_fault = rt_frame_bytes fault stack context mask
 
 size_of_frame : length frame ≡ 632
+unfolding frame_bytes
 size_of_frame = refl
 
 size_of_rt_frame : length rt_frame ≡ 784
+unfolding rt_frame_bytes
 size_of_rt_frame = refl
 
 pc_in_frame : bytes_at 32 8 frame ≡ 0 ∷ 0 ∷ 0 ∷ 0 ∷ 0 ∷ 0x40 ∷ 1 ∷ 0x10 ∷ []
+unfolding frame_bytes
 pc_in_frame = refl
 
 register_0_in_frame : bytes_at 40 8 frame ≡ 0xFF ∷ 0xFF ∷ 0xFF ∷ 0xFF ∷ 0x80 ∷ 0 ∷ 0 ∷ 0 ∷ []
+unfolding frame_bytes
 register_0_in_frame = refl
 
 register_1_in_frame : bytes_at 48 8 frame ≡ 0 ∷ 0 ∷ 0 ∷ 0 ∷ 1 ∷ 2 ∷ 3 ∷ 4 ∷ []
+unfolding frame_bytes
 register_1_in_frame = refl
 
 hi_and_lo_in_frame : bytes_at 576 16 frame ≡ replicate 8 0xFF ++ 0 ∷ 0 ∷ 0 ∷ 0 ∷ 0 ∷ 0 ∷ 0 ∷ 5 ∷ []
+unfolding frame_bytes
 hi_and_lo_in_frame = refl
 
 mask_in_frame : bytes_at 616 16 frame ≡ replicate 4 0xFF ++ 0x80 ∷ 0 ∷ 0 ∷ 1 ∷ 0 ∷ 0 ∷ 0 ∷ 0 ∷ 0 ∷ 0 ∷ 0 ∷ 5 ∷ []
+unfolding frame_bytes
 mask_in_frame = refl
 
 info_in_rt_frame : bytes_at 24 128 rt_frame ≡ siginfo_bytes sent
+unfolding rt_frame_bytes
 info_in_rt_frame = refl
 
 fault_in_rt_frame : bytes_at 24 128 rt_frame_of_fault ≡ siginfo_bytes fault
+unfolding rt_frame_bytes
 fault_in_rt_frame = refl
 
 stack_in_rt_frame : bytes_at 160 12 rt_frame ≡ 0x10 ∷ 0 ∷ 0 ∷ 0 ∷ 0 ∷ 0 ∷ 0x20 ∷ 0 ∷ 0 ∷ 0 ∷ 0 ∷ 2 ∷ []
+unfolding rt_frame_bytes
 stack_in_rt_frame = refl
 
 pc_in_rt_frame : bytes_at 184 8 rt_frame ≡ 0 ∷ 0 ∷ 0 ∷ 0 ∷ 0 ∷ 0x40 ∷ 1 ∷ 0x10 ∷ []
+unfolding rt_frame_bytes
 pc_in_rt_frame = refl
 
 register_1_in_rt_frame : bytes_at 200 8 rt_frame ≡ 0 ∷ 0 ∷ 0 ∷ 0 ∷ 1 ∷ 2 ∷ 3 ∷ 4 ∷ []
+unfolding rt_frame_bytes
 register_1_in_rt_frame = refl
 
 mask_in_rt_frame : bytes_at 768 16 rt_frame ≡ bytes_at 616 16 frame
+unfolding rt_frame_bytes frame_bytes
 mask_in_rt_frame = refl
 
 sent_siginfo : siginfo_bytes sent
@@ -88,23 +101,30 @@ fault_siginfo : siginfo_bytes fault
 fault_siginfo = refl
 
 context_back : frame_context frame ≡ context
+unfolding frame_context frame_bytes
 context_back = refl
 
 -- KILL and STOP are gone
 mask_back : frame_mask frame ≡ 0xFFBFFEFF ∷ 0x80000001 ∷ 0 ∷ 5 ∷ []
+unfolding frame_mask frame_bytes
 mask_back = refl
 
 context_back_in_rt : rt_frame_context rt_frame ≡ context
+unfolding rt_frame_context rt_frame_bytes
 context_back_in_rt = refl
 
 stack_back_in_rt : rt_frame_stack rt_frame ≡ stack
+unfolding rt_frame_stack rt_frame_bytes
 stack_back_in_rt = refl
 
 mask_back_in_rt : rt_frame_mask rt_frame ≡ 0xFFBFFEFF ∷ 0x80000001 ∷ 0 ∷ 5 ∷ []
+unfolding rt_frame_mask rt_frame_bytes
 mask_back_in_rt = refl
 
 stack_back_of_fault : rt_frame_stack rt_frame_of_fault ≡ stack
+unfolding rt_frame_stack rt_frame_bytes
 stack_back_of_fault = refl
 
 context_back_of_fault : rt_frame_context rt_frame_of_fault ≡ context
+unfolding rt_frame_context rt_frame_bytes
 context_back_of_fault = refl

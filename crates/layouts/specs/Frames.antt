@@ -87,10 +87,10 @@ abbrev pub siginfo_bytes : Information → List ℕ
 siginfo_bytes info = record_bytes (siginfo_of info) (siginfo_values info)
 
 -- the bytes of a frame
-abbrev pub frame_bytes : Context → List ℕ → List ℕ
+unfoldable pub frame_bytes : Context → List ℕ → List ℕ
 frame_bytes context mask = record_bytes frame (context_values context ++ map pos mask)
 
-abbrev pub rt_frame_bytes : Information → AlternateStack → Context → List ℕ → List ℕ
+unfoldable pub rt_frame_bytes : Information → AlternateStack → Context → List ℕ → List ℕ
 rt_frame_bytes info stack context mask =
     record_bytes (rt_frame_of (siginfo_of info))
     (siginfo_values info ++ stack_values stack ++ context_values context ++ map pos mask)
@@ -122,21 +122,21 @@ returned_mask [] = []
 returned_mask (first ∷ more) = bit_and first (2 ^ 32 - 1 - unblockable) ∷ more
 
 -- what a return reads in any bytes of a frame
-abbrev pub frame_context : List ℕ → Context
+unfoldable pub frame_context : List ℕ → Context
 frame_context bytes = context_of (words_in frame bytes)
 
-abbrev pub frame_mask : List ℕ → List ℕ
+unfoldable pub frame_mask : List ℕ → List ℕ
 frame_mask bytes = returned_mask (behind sigcontext (words_in frame bytes))
 
 -- the same of a frame with siginfo, which a return does not look at
 abbrev pub ucontext_words : List ℕ → List ℕ
 ucontext_words bytes = behind siginfo (words_in (rt_frame_of siginfo) bytes)
 
-abbrev pub rt_frame_stack : List ℕ → AlternateStack
+unfoldable pub rt_frame_stack : List ℕ → AlternateStack
 rt_frame_stack bytes = stack_of (ucontext_words bytes)
 
-abbrev pub rt_frame_context : List ℕ → Context
+unfoldable pub rt_frame_context : List ℕ → Context
 rt_frame_context bytes = context_of (behind stack (ucontext_words bytes))
 
-abbrev pub rt_frame_mask : List ℕ → List ℕ
+unfoldable pub rt_frame_mask : List ℕ → List ℕ
 rt_frame_mask bytes = returned_mask (behind sigcontext (behind stack (ucontext_words bytes)))

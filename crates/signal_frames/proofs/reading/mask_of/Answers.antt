@@ -1,0 +1,17 @@
+use Rattle.std.proofs.Common.{◌≡◌, ℕ, ◌+◌, ◌-◌, ◌*◌, ◌^◌, ◌<◌, ◌≤◌, List, [], ◌∷◌, ◌++◌, length, map, take, drop, get_or, ℤ, pos, to_z, of_z, refl, sym, ap, subst, ◌∙◌, arith}
+use Rattle.std.proofs.lemmas.Int.{ints}
+use mir.Syntax.{w128}
+use Rattle.layouts.specs.Number.{low_number}
+use Rattle.signal_frames.proofs.Steps.{mask-words}
+use Rattle.signal_frames.proofs.reading.mask_of.Goals as goal
+
+pub returns : goal.returns
+returns c =
+    let words = c.args.words.now in
+    let first : to_z w128 (of_z w128 (get_or words 0 (pos 0))) ≡ get_or words 0 (pos 0) = omega (arith, ints) in
+    let second : to_z w128 (of_z w128 (get_or words 1 (pos 0))) ≡ get_or words 1 (pos 0) = omega (arith, ints) in
+    let third : to_z w128 (of_z w128 (get_or words 2 (pos 0))) ≡ get_or words 2 (pos 0) = omega (arith, ints) in
+    let last : to_z w128 (of_z w128 (get_or words 3 (pos 0))) ≡ get_or words 3 (pos 0) = omega (arith, ints) in
+    mask-words words c.low_word.result c.low_word-2.result c.low_word-3.result c.low_word-4.result c.requires
+    (c.low_word.ensures ∙ ap (low_number 4) first) (c.low_word-2.ensures ∙ ap (low_number 4) second)
+    (c.low_word-3.ensures ∙ ap (low_number 4) third) (c.low_word-4.ensures ∙ ap (low_number 4) last)
