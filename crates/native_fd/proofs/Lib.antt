@@ -1,0 +1,4 @@
+pub mod DescriptionLemmas
+pub mod LinkLemmas
+pub mod LowestLemmas
+pub mod TableLemmas

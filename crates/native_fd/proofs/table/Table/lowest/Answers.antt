@@ -1,0 +1,7 @@
+use Rattle.std.proofs.Common.{subst}
+use Rattle.kernel_model.specs.Always.{IsTable}
+use Rattle.native_fd.proofs.TableLemmas.{IsTable-links}
+use Rattle.native_fd.proofs.table.Table.lowest.Goals as goal
+
+pub returns-clause-valid : goal.returns-clause-valid
+returns-clause-valid g c = subst (λ t. IsTable t) c.self.view_is (IsTable-links c.self.inside.links c.self.inside.descriptions c.self.invariant c.lowest.ensures.sized)
