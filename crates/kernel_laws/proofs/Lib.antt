@@ -1,0 +1,13 @@
+pub mod CloseKept
+pub mod Contents
+pub mod FirstState
+pub mod Keeps
+pub mod KernelParts
+pub mod Lists
+pub mod NodesKept
+pub mod OpenKept
+pub mod OtherKept
+pub mod Owing
+pub mod SignalWords
+pub mod SignalsKept
+pub mod WalkAgrees

@@ -1,0 +1,19 @@
+-- What a row is asked with: the numbers that a program's arguments can be. An argument that could not be read says nothing.
+use Rattle.std.specs.Prelude.{◌≡◌, ℕ, ◌<◌, ◌==◌, false, List, Option, Some, None, Ok, Err, slice_index, ⊤}
+use Rattle.std.specs.List.{list_any}
+use Rattle.kernel_model.specs.Came.{Given}
+
+-- of what was read
+abbrev pub WhereRead : {A : Type 0} → (A → Type 0) → Given A → Type 0
+WhereRead P (Ok value) = P value
+WhereRead P (Err error) = ⊤
+
+-- the same of an argument whose pointer may be null
+abbrev pub WhereGiven : {A : Type 0} → (A → Type 0) → Option (Given A) → Type 0
+WhereGiven P None = ⊤
+WhereGiven P (Some given) = WhereRead P given
+
+-- a path or a target as it was read, up to its NUL: bytes, and no NUL among them
+pub record IsText (text : List ℕ) : Type 0 where
+  pub are_bytes : (place : ℕ) → slice_index text place < 256
+  pub plain : list_any (λ byte. byte == 0) text ≡ false

@@ -1,0 +1,10 @@
+//! Each row of the kernel keeps what a state always is: laws over the definitions of `kernel_model`.
+//!
+//! Each law is the contract of a function that does nothing. (The rules are this project's own.)
+#![tactic(auto)]
+
+pub mod beginning;
+pub mod clocks;
+pub mod sending;
+pub mod signals;
+pub mod system;
