@@ -1,7 +1,7 @@
 -- The least free slot from one on, from what is known of each slot.
-use Rattle.std.proofs.Common.{◌≡◌, ℕ, zero, suc, ◌+◌, ◌-◌, ◌<◌, ◌≤◌, Bool, true, false, cond, not, nat_lt, List, [], ◌∷◌, drop, length, get_or, Option, Some, None, refl, sym, ap, subst, ◌∙◌, arith, length-drop}
-use Rattle.std.specs.Prelude.{is_some, is_none, option_map, position, MatchOption}
-use Rattle.std.specs.List.{prefix_len, position_or_len}
+use Rattle.std.proofs.Common.{◌≡◌, ℕ, zero, suc, ◌+◌, ◌-◌, ◌<◌, ◌≤◌, Bool, true, false, cond, not, nat_lt, List, [], ◌∷◌, drop, length, get_or, Option, Some, None, refl, sym, ap, ◌∙◌, arith, length-drop}
+use Rattle.std.specs.Prelude.{is_some, is_none, option_map, position}
+use Rattle.std.specs.List.{position_or_len}
 use Rattle.std.proofs.lemmas.Bool.{lt-ltb, le-ltb}
 use Rattle.std.proofs.lemmas.List.{get_or-drop}
 use Rattle.kernel_model.specs.Table.{slot, lowest_free}
@@ -57,6 +57,9 @@ module _ {A : Type 0} where
   lowest_free-none slots from taken =
       ap (option_map (λ n. from + n)) (position_none (λ s. is_none s) (drop from slots) None
       (λ j below. ap (λ s. is_none s) (get_or-drop from slots j None) ∙ some_not_none _ (taken (from + j) (omega arith) (omega (arith, below, length-drop from slots)))))
+
+  pub free-there : (slots : List (Option A)) (pool : List Bool) → ((k : ℕ) → is_taken_at pool k ≡ is_some (slot slots k)) → (k : ℕ) → is_taken_at pool k ≡ false → slot slots k ≡ None
+  free-there slots pool tells k free = not_some _ (sym (tells k) ∙ free)
 
   -- Slots whose pool tells which are taken; the pool has more places, which are free.
   module _ (slots : List (Option A)) (pool : List Bool) (small : length slots ≤ length pool) (tells : (k : ℕ) → is_taken_at pool k ≡ is_some (slot slots k)) (from : ℕ) where

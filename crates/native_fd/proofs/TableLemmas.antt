@@ -1,6 +1,6 @@
 -- The descriptions that live, after each change of the descriptors.
-use Rattle.std.proofs.Common.{◌≡◌, ◌≢◌, ℕ, ◌+◌, ◌<◌, ◌≤◌, Bool, true, false, cond, ◌==◌, nat_lt, List, length, set, Option, Some, None, refl, sym, ap, subst, ◌∙◌, inl, inr, arith}
-use Rattle.std.specs.Prelude.{is_some, option_map, option_and_then, unwrap_or}
+use Rattle.std.proofs.Common.{◌≡◌, ◌≢◌, ℕ, ◌+◌, ◌<◌, Bool, true, false, cond, ◌==◌, nat_lt, List, length, set, Option, Some, None, refl, sym, ap, subst, ◌∙◌, inl, inr, arith}
+use Rattle.std.specs.Prelude.{is_some, option_map, unwrap_or}
 use Rattle.std.specs.List.{list_any}
 use Rattle.std.proofs.Math.ListN.{length-set}
 use Rattle.std.proofs.lemmas.Bool.{cases_eq, cases_lt}
@@ -10,7 +10,7 @@ use Rattle.kernel_model.specs.Always.{IsTable}
 use Rattle.kernel_model.specs.Begin.{free_places}
 use Rattle.kernel_model.specs.State.{Descriptors}
 use Rattle.std.proofs.lemmas.Option.{same_Some}
-use Rattle.kernel_model.specs.Table.{slot, lowest_free, new_place, leads_to, number_at, closed, closed_at, last_at, last_description, set_cloexec}
+use Rattle.kernel_model.specs.Table.{slot, new_place, leads_to, number_at, closed, closed_at, last_at, last_description, set_cloexec}
 use Rattle.kernel_model.specs.declared.descriptor.Descriptor.{Descriptor}
 use Rattle.native_fd.specs.inside.Links.{AreLive, IsUnused, leading, left_alone}
 use Rattle.native_fd.proofs.LinkLemmas.{new, one, slot-free, length-free, leading-free, leading-set, leading-any, leading-some}

@@ -67,6 +67,8 @@ impl Links {
     /// The least descriptor that is not open, from one on.
     pub(crate) fn lowest(&self, from: u32) -> Option<u32>
         ensures lowest { result ≡ lowest_free self.now from }
+        ensures within { IfSome result (λ fd. fd < descriptor_limit) }
+        ensures free { IfSome result (λ fd. slot self.now fd ≡ None) }
         ensures sized { length self.now ≡ 1024 }
     {
         let fd = self.fds_taken.least_free_from(from)?;

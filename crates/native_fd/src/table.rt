@@ -1,5 +1,5 @@
 //! The table as callers see it.
-ghost use Rattle.std.specs.Prelude.{◌≡◌, ◌<◌, false, IfOk, OnOk, OnErr, None};
+ghost use Rattle.std.specs.Prelude.{◌≡◌, ◌<◌, false, IfOk, OnOk, OnErr, IfSome, None};
 ghost use Rattle.kernel_model.specs.Always.{IsTable};
 ghost use Rattle.kernel_model.specs.Table.{closed, cloexec_at, description_at, descriptor_limit, inserted, last_description, lowest_free, number_at, shared, slot, with_cloexec, with_description};
 ghost use Rattle.native_fd.specs.Table.{no_descriptors};
@@ -50,6 +50,8 @@ impl<T: Copy> Table<T> {
     /// logarithm, and no memory.
     pub fn lowest(&self, from: u32) -> Option<u32>
         ensures lowest { result ≡ lowest_free self.now.fds from }
+        ensures within { IfSome result (λ fd. fd < descriptor_limit) }
+        ensures free { IfSome result (λ fd. slot self.now.fds fd ≡ None) }
         ensures valid { IsTable self.now }
     {
         self.links.lowest(from)

@@ -1,6 +1,5 @@
-use Rattle.std.proofs.Common.{◌≡◌, ◌<◌, None, Some, length, map, ap, sym, ◌∙◌, arith}
+use Rattle.std.proofs.Common.{Some, ap, ◌∙◌}
 use Rattle.kernel_model.specs.Table.{slot, with_slot}
-use Rattle.native_fd.specs.inside.Descriptions.{item_at}
 use Rattle.native_fd.proofs.DescriptionLemmas.{AreKeyed-inserted, items-inserted, key-free, number-within}
 use Rattle.native_fd.proofs.descriptions.Descriptions.insert.Goals as goal
 

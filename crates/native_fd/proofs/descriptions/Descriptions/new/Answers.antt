@@ -1,5 +1,4 @@
 use Rattle.std.proofs.Common.{sym, ap, subst, ◌∙◌, map}
-use Rattle.kernel_model.specs.Begin.{free_places}
 use Rattle.native_fd.specs.inside.Descriptions.{AreKeyed, item_at}
 use Rattle.native_fd.proofs.DescriptionLemmas.{AreKeyed-none, items-free}
 use Rattle.native_fd.proofs.descriptions.Descriptions.new.Goals as goal

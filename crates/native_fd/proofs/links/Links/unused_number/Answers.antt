@@ -1,4 +1,4 @@
-use Rattle.std.proofs.Common.{◌≡◌, ℕ, Option, Some, None, ap, subst, ◌∙◌, refl}
+use Rattle.std.proofs.Common.{ℕ, Option, Some, None, ap, subst, ◌∙◌, refl}
 use Rattle.std.specs.Option.{IsSome, MatchOption}
 use Rattle.std.proofs.lemmas.Option.{MatchOption-at_some}
 use Rattle.kernel_model.specs.Table.{slot}

@@ -1,5 +1,5 @@
-use Rattle.std.proofs.Common.{◌≡◌, None, set, sym, ap, subst, ◌∙◌}
-use Rattle.kernel_model.specs.Table.{slot, closed, last_description}
+use Rattle.std.proofs.Common.{None, set, sym, ap, subst, ◌∙◌}
+use Rattle.kernel_model.specs.Table.{closed, last_description}
 use Rattle.native_fd.specs.inside.Links.{AreLive}
 use Rattle.native_fd.proofs.TableLemmas.{AreLive-kept, AreLive-last, closed-kept, closed-last, last-kept, last-gone}
 use Rattle.native_fd.proofs.table.Table.close.Goals as goal

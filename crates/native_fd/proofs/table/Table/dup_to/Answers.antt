@@ -1,7 +1,7 @@
-use Rattle.std.proofs.Common.{◌≡◌, ◌<◌, None, length, sym, ap, subst, ◌∙◌, arith, true}
+use Rattle.std.proofs.Common.{◌≡◌, None, length, sym, ap, subst, ◌∙◌, arith, true}
 use Rattle.std.specs.Prelude.{is_some}
 use Rattle.kernel_model.specs.State.{Descriptors}
-use Rattle.kernel_model.specs.Table.{slot, closed}
+use Rattle.kernel_model.specs.Table.{slot}
 use Rattle.native_fd.specs.inside.Links.{AreLive}
 use Rattle.native_fd.proofs.TableLemmas.{AreLive-shared, closed-free, leading-lives, number-lives, number-small}
 use Rattle.native_fd.proofs.table.Table.dup_to.Goals as goal

@@ -1,7 +1,6 @@
-use Rattle.std.proofs.Common.{◌≡◌, ◌<◌, false, None, Some, List, Option, length, set, sym, ap, subst, ◌∙◌, arith}
+use Rattle.std.proofs.Common.{◌≡◌, false, None, Some, set, sym, ap, subst, ◌∙◌, arith}
 use Rattle.kernel_model.specs.State.{Descriptors}
-use Rattle.kernel_model.specs.Table.{slot, inserted, new_place}
-use Rattle.kernel_model.specs.declared.descriptor.Descriptor.{Descriptor}
+use Rattle.kernel_model.specs.Table.{slot, inserted}
 use Rattle.native_fd.specs.inside.Links.{AreLive}
 use Rattle.native_fd.proofs.LinkLemmas.{new}
 use Rattle.native_fd.proofs.TableLemmas.{AreLive-inserted, new_place-unused, number-free}

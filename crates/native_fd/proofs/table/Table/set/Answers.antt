@@ -1,4 +1,4 @@
-use Rattle.std.proofs.Common.{◌≡◌, Some, sym, subst}
+use Rattle.std.proofs.Common.{sym, subst}
 use Rattle.native_fd.specs.inside.Links.{AreLive}
 use Rattle.native_fd.proofs.LinkLemmas.{leading-some}
 use Rattle.native_fd.proofs.TableLemmas.{live_some, AreLive-changed}
