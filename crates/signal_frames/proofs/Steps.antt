@@ -1,8 +1,8 @@
 -- What the writers and readers of frames rest on, over plain values.
-use Rattle.std.proofs.Common.{◌≡◌, ℕ, zero, suc, ◌+◌, ◌-◌, ◌*◌, ◌/◌, ◌^◌, ◌<◌, ◌≤◌, Bool, true, false, List, [], ◌∷◌, ◌++◌, length, map, take, drop, get_or, ℤ, pos, Option, Some, None, refl, sym, ap, subst, ◌∙◌, arith, append_assoc}
+use Rattle.std.proofs.Common.{◌≡◌, ℕ, zero, suc, ◌+◌, ◌/◌, ◌<◌, ◌≤◌, Bool, true, false, List, [], ◌∷◌, ◌++◌, length, map, take, drop, get_or, ℤ, pos, Option, Some, None, refl, sym, ap, ◌∙◌, arith, append_assoc}
 use Rattle.std.specs.Prelude.{nat_le, if◌then◌else◌}
 use Rattle.std.specs.FinMap.{get}
-use Rattle.std.specs.Prelude.{bit_and, Result, Ok, Err}
+use Rattle.std.specs.Prelude.{bit_and, Ok, Err}
 use Rattle.std.proofs.lemmas.Bool.{leb-false}
 use Rattle.std.proofs.lemmas.List.{take_all, drop-map, ext_get_or, get_or-drop, get_or-take, get_or-map, length-map, length-drop, length-take}
 use Rattle.guest_space.specs.declared.access.Denied.{Denied}

@@ -2,7 +2,7 @@
 use Rattle.std.specs.Prelude.{ℕ, List, ◌∷◌, drop}
 use Rattle.guest_space.specs.Bytes.{bytes_at}
 use Rattle.guest_space.specs.Memory.{Memory}
-use Rattle.layouts.specs.Frames.{Context, AlternateStack, frame_mask, rt_frame_mask, rt_frame_stack}
+use Rattle.layouts.specs.Frames.{Context, AlternateStack, rt_frame_mask, rt_frame_stack}
 use Rattle.layouts.specs.O32.{siginfo, frame, rt_frame_of}
 use Rattle.mips_exec.specs.Processor.{Processor, register}
 use Rattle.signal_frames.specs.declared.AltStack.{AltStack}

@@ -1,7 +1,7 @@
-use Rattle.std.proofs.Common.{◌≡◌, ℕ, ◌+◌, ◌-◌, ◌*◌, ◌^◌, ◌<◌, ◌≤◌, List, [], ◌∷◌, ◌++◌, length, map, take, drop, get_or, ℤ, pos, to_z, of_z, refl, sym, ap, subst, ◌∙◌, arith}
+use Rattle.std.proofs.Common.{◌≡◌, ℕ, List, ◌++◌, map, ℤ, pos, ap, ◌∙◌}
 use Rattle.layouts.specs.Frames.{Context, context_values, frame_bytes}
 use Rattle.layouts.specs.O32.{frame}
-use Rattle.layouts.specs.Shape.{Shape, shape, after_put_record}
+use Rattle.layouts.specs.Shape.{Shape, after_put_record}
 use Rattle.layouts.proofs.FrameLaws.{frame_in_range}
 use Rattle.signal_frames.specs.Entering.{context_of_processor}
 use Rattle.signal_frames.proofs.Steps.{written-in_range}

@@ -1,4 +1,4 @@
-use Rattle.std.proofs.Common.{◌≡◌, ℕ, ◌+◌, ◌-◌, ◌*◌, ◌^◌, ◌<◌, ◌≤◌, List, [], ◌∷◌, ◌++◌, length, map, take, drop, get_or, ℤ, pos, to_z, of_z, refl, sym, ap, subst, ◌∙◌, arith}
+use Rattle.std.proofs.Common.{◌≡◌, ℕ, List, ◌++◌, length, map, ℤ, pos, sym, ap, ◌∙◌}
 use Rattle.layouts.specs.Frames.{Context, Information, AlternateStack, context_values, stack_values, siginfo_values, siginfo_of, rt_frame_bytes}
 use Rattle.layouts.specs.O32.{rt_frame_of}
 use Rattle.layouts.specs.Shape.{Shape, shape, after_put_record}
