@@ -11,3 +11,7 @@ pub mod Owing
 pub mod SignalWords
 pub mod SignalsKept
 pub mod WalkAgrees
+pub mod WriteKept
+pub mod NodesRowsKept
+pub mod WalkedRows
+pub mod NamesKept
