@@ -15,3 +15,4 @@ pub mod WriteKept
 pub mod NodesRowsKept
 pub mod WalkedRows
 pub mod NamesKept
+pub mod OpenRowsKept

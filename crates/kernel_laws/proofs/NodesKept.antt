@@ -44,6 +44,18 @@ by_kind nodes number = inode_kind (get nodes number)
 pub same_directory : (old new : Nodes) (number : ℕ) → kind_at new number ≡ kind_at old number → is_directory new number ≡ is_directory old number
 same_directory old new number e = by_kind new number ∙ ap is_directory_kind e ∙ sym (by_kind old number)
 
+pub plain_file : (nodes : Nodes) (number : ℕ) → kind_at nodes number ≡ Some FileKind → is_directory nodes number ≡ false
+plain_file nodes number e = by_kind nodes number ∙ ap is_directory_kind e
+
+is_one : (kind : Option NodeKind) → is_directory_kind kind ≡ true → kind ≡ Some DirectoryKind
+is_one None e = absurd cc
+is_one (Some FileKind) e = absurd cc
+is_one (Some DirectoryKind) e = refl
+is_one (Some LinkKind) e = absurd cc
+
+pub directory_has_kind : (nodes : Nodes) (number : ℕ) → is_directory nodes number ≡ true → kind_at nodes number ≡ Some DirectoryKind
+directory_has_kind nodes number e = is_one (kind_at nodes number) (sym (by_kind nodes number) ∙ e)
+
 -- What descriptions hold stays of its kind.
 
 module _ (files : Files) (nodes : Nodes) (kinds : (number : ℕ) → 1 ≤ holders files number → kind_at nodes number ≡ kind_at files.nodes number) where
