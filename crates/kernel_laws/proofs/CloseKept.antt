@@ -279,7 +279,7 @@ module _ (table : Descriptors Description) (onto : ℕ) (low : onto < length tab
     by None = refl
     by (Some number) = get_or-set_other table.fds onto fd None None other
 
-shared_live : (files : Files) (fd onto : ℕ) (cloexec : Bool) → (after_duplicate files fd onto cloexec).table.live ≡ files.table.live
+pub shared_live : (files : Files) (fd onto : ℕ) (cloexec : Bool) → (after_duplicate files fd onto cloexec).table.live ≡ files.table.live
 shared_live files fd onto cloexec = by (number_at files.table fd) where
   by : (found : Option ℕ) → (shared_at files.table onto cloexec found).live ≡ files.table.live
   by None = refl

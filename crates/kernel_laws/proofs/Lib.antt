@@ -16,3 +16,4 @@ pub mod NodesRowsKept
 pub mod WalkedRows
 pub mod NamesKept
 pub mod OpenRowsKept
+pub mod EndsKept
