@@ -17,3 +17,5 @@ pub mod WalkedRows
 pub mod NamesKept
 pub mod OpenRowsKept
 pub mod EndsKept
+pub mod OpenThingsKept
+pub mod TransferEnds

@@ -19,7 +19,7 @@ use Rattle.kernel_model.proofs.DescribedRows.{moved_kept, open_facts}
 use Rattle.kernel_model.proofs.ReadKept.{counted_kept, piped_kept}
 use Rattle.kernel_model.specs.Always.{AreMoved, IsFiles, IsOpen}
 use Rattle.kernel_model.specs.Came.{Came, Did, Done, Given, Refused, Waits}
-use Rattle.kernel_model.specs.Descriptions.{if_writes, node_of, opened, writable, writes}
+use Rattle.kernel_model.specs.Descriptions.{if_reads, if_writes, node_of, opened, reads, writable, writes}
 use Rattle.kernel_model.specs.Pipes.{becomes, part_length, pipe_at, pipe_size, put, room, stays, waits_after, whole_write, write_none, write_part, write_pipe, write_some}
 use Rattle.kernel_model.specs.State.{Files, Pipe}
 use Rattle.kernel_model.specs.Transfers.{Writing, after_pipe_write, at_place, cut_to, limit_for, moved_to, starts_past, write, write_at, write_bytes, write_content, write_end, write_node, write_object, write_place, writing}
@@ -33,6 +33,13 @@ use Rattle.kernel_model.specs.declared.stream.Stream.TheVariants as streams
 cut_bytes : (bound : Option ℕ) (at : ℕ) (bytes : List ℕ) → AreBytes bytes → AreBytes (cut_to bound at bytes)
 cut_bytes None at bytes are = are
 cut_bytes (Some limit) at bytes are = take_are_bytes (limit - at) bytes are
+
+pub reads_opened : (found : Option Description) (description : Description) → if_reads found ≡ Some description → found ≡ Some description
+reads_opened None description e = absurd cc
+reads_opened (Some other) description e = by (reads other.flags.access) e where
+  by : (b : Bool) → (if b then Some other else None) ≡ Some description → Some other ≡ Some description
+  by true h = h
+  by false h = absurd cc
 
 pub writes_opened : (found : Option Description) (description : Description) → if_writes found ≡ Some description → found ≡ Some description
 writes_opened None description e = absurd cc
