@@ -1,5 +1,5 @@
 pub mod CloseKept
-pub mod Contents
+pub mod FileContents
 pub mod FirstState
 pub mod Keeps
 pub mod KernelParts
@@ -19,3 +19,4 @@ pub mod OpenRowsKept
 pub mod EndsKept
 pub mod OpenThingsKept
 pub mod TransferEnds
+pub mod WholeKept

@@ -17,17 +17,13 @@ use Rattle.kernel_laws.proofs.Keeps.{Keeps, keeps}
 use Rattle.kernel_laws.proofs.NodesKept.{nodes_kept}
 use Rattle.kernel_laws.proofs.WalkAgrees.{walk_agrees}
 use Rattle.kernel_laws.proofs.WalkedRows.{found_inode, read_is, text_is}
-use Rattle.kernel_laws.specs.Arguments.{IsText, WhereRead}
+use Rattle.kernel_laws.specs.Arguments.{IsShortText, IsText, WhereRead}
 use Rattle.kernel_model.specs.Always.{IsFiles}
 use Rattle.kernel_model.specs.Came.{Did, Given}
 use Rattle.kernel_model.specs.Modes.{permitted}
 use Rattle.kernel_model.specs.NameRows.{link, make_directory, make_link, remove_directory, remove_name, rename, unlink, with_nodes}
 use Rattle.kernel_model.specs.Paths.{Base, walk, walk_to_node}
 use Rattle.kernel_model.specs.State.{Files}
-
--- a target of a symbolic link has 4095 bytes at most
-abbrev pub IsShortText : List ℕ → Type 0
-IsShortText target = IsText target × (length target ≤ 4095)
 
 module _ (files : Files) (is : IsFiles files) (now : ℤ) (time : IsTime now) where
   abbrev new : ℕ
@@ -55,7 +51,7 @@ module _ (files : Files) (is : IsFiles files) (now : ℤ) (time : IsTime now) wh
     link_made target short path e place found free =
         let agrees = walk_agrees files is base path false (text_is given text path e) place found in
         let kept = symlink_keeps_holds files.nodes place new is_new now target in
-        nodes_kept files _ is (symlink_keeps files.nodes place new target now is.nodes agrees free is_new time short.0.are_bytes short.1 short.0.plain) kept.holds kept.kinds
+        nodes_kept files _ is (symlink_keeps files.nodes place new target now is.nodes agrees free is_new time short.text.are_bytes short.short short.text.plain) kept.holds kept.kinds
 
     target_made : (other : Given (List ℕ)) → WhereRead IsShortText other → (target : List ℕ) → other ≡ Ok target → (path : List ℕ) → given ≡ Ok path → (place : Place)
         → walk files base path false ≡ Ok place → symlink_refusal files.nodes place target ≡ None → IsFiles (with_nodes files (after_symlink files.nodes place new target now))

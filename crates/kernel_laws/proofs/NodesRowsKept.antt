@@ -11,11 +11,11 @@ use Rattle.kernel_core.specs.Nodes.{Nodes, NodeContent, File, Directory, Link, f
 use Rattle.kernel_core.specs.declared.error.Errno.TheVariants.{EFBIG}
 use Rattle.file_system_laws.proofs.HeldNodes.{mode_loses, keeps-lost, resize_loses, times_lose}
 use Rattle.file_system_laws.proofs.NodeLaws.{mode_keeps, times_keep}
-use Rattle.kernel_laws.proofs.Contents.{resize_is}
+use Rattle.kernel_laws.proofs.FileContents.{resize_is}
 use Rattle.kernel_laws.proofs.Keeps.{Keeps, keeps}
 use Rattle.kernel_laws.proofs.NodesKept.{nodes_kept}
 use Rattle.kernel_laws.proofs.WalkedRows.{file_of}
-use Rattle.kernel_laws.specs.Arguments.{WhereGiven}
+use Rattle.kernel_laws.specs.Arguments.{AreSeconds, WhereGiven}
 use Rattle.kernel_model.specs.Always.{IsFiles}
 use Rattle.kernel_model.specs.Came.{Did, Given, given_or_none}
 use Rattle.kernel_model.specs.Clock.{is_below, second}
@@ -79,9 +79,6 @@ module _ (files : Files) (is : IsFiles files) (now : ℤ) (time : IsTime now) wh
     by false false true e = set_is _ (nanoseconds_time spec.seconds spec.nanoseconds e fits)
     by false false false e = λ t h. absurd cc
 
-  abbrev AreSeconds : Times → Type 0
-  AreSeconds times = FitsSigned w64 times.access.seconds × FitsSigned w64 times.modified.seconds
-
   changes_are : (given : Option (Given Times)) → WhereGiven AreSeconds given → (times : Option Times) → given_or_none given ≡ Ok times
       → IsChange (time_changes now times).access × IsChange (time_changes now times).modified
   changes_are given fits None e = (set_is now time, set_is now time)
@@ -90,7 +87,7 @@ module _ (files : Files) (is : IsFiles files) (now : ℤ) (time : IsTime now) wh
   changes_are (Some (Ok other)) fits (Some times) e =
       let same : other ≡ times = cc in
       let known : AreSeconds times = subst AreSeconds same fits in
-      (change_is times.access known.0, change_is times.modified known.1)
+      (change_is times.access known.access, change_is times.modified known.modified)
 
   module _ (given : Option (Given Times)) (fits : WhereGiven AreSeconds given) where
     times_kept : (times : Option Times) → given_or_none given ≡ Ok times → (node : ℕ) → IsFiles (after_times files now (time_changes now times) node)

@@ -16,7 +16,7 @@ use Rattle.file_system_laws.proofs.HeldNodes.{content_kind, create_keeps_holds, 
 use Rattle.file_system_laws.proofs.Lookups.{get-insert_same}
 use Rattle.file_system_laws.proofs.Making.{create_keeps}
 use Rattle.file_system_laws.proofs.NewNumbers.{new_number_is_new}
-use Rattle.kernel_laws.proofs.Contents.{resize_is}
+use Rattle.kernel_laws.proofs.FileContents.{resize_is}
 use Rattle.kernel_laws.proofs.Keeps.{Keeps, keeps}
 use Rattle.kernel_laws.proofs.NodesKept.{directory_has_kind, nodes_kept, plain_file, same_directory}
 use Rattle.kernel_laws.proofs.OpenKept.{after_change_kept, after_open_ends, after_open_kept}

@@ -9,10 +9,9 @@ use Rattle.kernel_core.specs.FileSystem.{IsTime}
 use Rattle.kernel_core.specs.NodeCalls.{after_write, write_length, write_refusal}
 use Rattle.kernel_core.specs.Nodes.{Nodes, file_at}
 use Rattle.kernel_core.specs.declared.error.Errno.TheVariants.{EPIPE}
-
 use Rattle.file_blocks.proofs.Validity.{AreBytes, take_are_bytes}
 use Rattle.file_system_laws.proofs.HeldNodes.{keeps-lost, write_loses}
-use Rattle.kernel_laws.proofs.Contents.{bytes_of, is_content, write_end_small, write_is}
+use Rattle.kernel_laws.proofs.FileContents.{bytes_of, is_content, write_end_small, write_is}
 use Rattle.kernel_laws.proofs.Keeps.{Keeps, keeps, transferring_keeps, widened_keeps}
 use Rattle.kernel_laws.proofs.NodesKept.{nodes_kept}
 use Rattle.kernel_model.proofs.DescribedRows.{moved_kept, open_facts}
