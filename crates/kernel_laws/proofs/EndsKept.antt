@@ -1,37 +1,34 @@
 -- Each row on files leaves every end of a pipe one description at most.
-use Rattle.std.proofs.Common.{◌≡◌, ℕ, zero, suc, ◌+◌, ◌≤◌, List, [], ◌∷◌, length, get_or, set, Bool, true, false, refl, sym, ◌∙◌, ap, subst, arith, inl, inr}
-use Rattle.std.specs.Prelude.{Option, Some, None, is_some, option_and_then, option_map, unwrap_or, count_by, Ok, Err, ◌==◌, ℤ, if◌then◌else◌}
+use Rattle.std.proofs.Common.{◌≡◌, ℕ, suc, ◌+◌, ◌≤◌, List, [], ◌∷◌, length, Bool, true, false, refl, sym, ◌∙◌, ap, arith, inl, inr}
+use Rattle.std.specs.Prelude.{Option, Some, None, is_some, option_and_then, unwrap_or, count_by, ◌==◌, ℤ}
 use Rattle.std.proofs.lemmas.Bool.{cases_eq, eq-eqb, ne_eqb}
 use Rattle.std.proofs.lemmas.List.{set_past}
 use Rattle.std.proofs.lemmas.List.Sums.{sum_by-cons}
-use Rattle.kernel_core.specs.FileContent.{FileContent}
-use Rattle.kernel_core.specs.Nodes.{Nodes, NodeContent, File, Directory, Link, file_at}
+use Rattle.kernel_core.specs.Nodes.{Nodes, NodeContent, File, Directory, Link}
 use Rattle.kernel_core.specs.declared.open_flags.Access.TheVariants.{Read, Write}
 use Rattle.kernel_laws.proofs.CloseKept.{same_live, shared_live}
-use Rattle.kernel_laws.proofs.Keeps.{Keeps, keeps, transferring_keeps, widened_keeps}
+use Rattle.kernel_laws.proofs.Keeps.{Keeps, keeps}
 use Rattle.kernel_laws.proofs.Lists.{count_changed, one_if}
-use Rattle.kernel_laws.proofs.WriteKept.{writes_opened}
 use Rattle.kernel_laws.specs.Ends.{HasEndsOnce}
 use Rattle.kernel_model.proofs.Described.{count_set, within}
 use Rattle.kernel_model.proofs.LeastFree.{least_free}
 use Rattle.kernel_model.proofs.Pigeons.{pipe_place}
 use Rattle.kernel_model.specs.Always.{IsFiles, IsOpen, has_open, is_read_end, is_write_end}
-use Rattle.kernel_model.specs.Came.{Did, Given}
-use Rattle.kernel_model.specs.ContentRows.{Entry, Records, bytes_ready, entries, give_entries, on_terminal, seek, set_terminal_settings, status, sync, terminal_settings, window_size, with_settings}
+use Rattle.kernel_model.specs.Came.{Given}
+use Rattle.kernel_model.specs.ContentRows.{Records, bytes_ready, entries, seek, set_terminal_settings, status, sync, terminal_settings, window_size, with_settings}
 use Rattle.kernel_model.specs.DescriptorRows.{PipeFlags, after_duplicate, after_pipe, close_on_exec, duplicate, end_flags, ends, make_pipe, set_close_on_exec, set_nonblock, set_status_flags, status_flags, unlisted_command, unlisted_request, with_flags}
-use Rattle.kernel_model.specs.Descriptions.{content_at, description_of, if_reads, no_flags, opened, readable, reads, writable}
-use Rattle.kernel_model.specs.NameRows.{link, make_directory, make_link, read_link, remove_directory, remove_name, rename, unlink, with_nodes}
-use Rattle.kernel_model.specs.NodeRows.{StatusFlags, TimeChanges, Times, access, after_change, after_mode, after_times, after_truncate, change_directory, change_mode, change_open_mode, change_to_open, on_open_node, set_times, set_umask, status_at_path, status_by_path, status_of_base, times_on, truncate, truncate_content, truncate_open, working_directory}
+use Rattle.kernel_model.specs.Descriptions.{description_of, no_flags, opened}
+use Rattle.kernel_model.specs.NameRows.{link, make_directory, make_link, read_link, remove_name, rename, with_nodes}
+use Rattle.kernel_model.specs.NodeRows.{StatusFlags, TimeChanges, Times, access, after_change, after_mode, after_times, change_directory, change_mode, change_open_mode, change_to_open, on_open_node, set_times, set_umask, status_at_path, status_of_base, times_on, truncate, truncate_content, truncate_open, working_directory}
 use Rattle.kernel_model.specs.Paths.{Base, Descriptor, Working}
 use Rattle.kernel_model.specs.Pipes.{pipe_at}
 use Rattle.kernel_model.specs.Shared.{OpenSet}
-use Rattle.kernel_model.specs.State.{Files, Pipe}
+use Rattle.kernel_model.specs.State.{Files}
 use Rattle.kernel_model.specs.Table.{changed_at, lowest_free, new_place, number_at, slot, with_cloexec, with_description, with_slot}
-use Rattle.kernel_model.specs.Transfers.{Reading, Writing, moved_to, read, read_at, read_content, read_end, read_object, reading, write, write_at, write_bytes, write_content, write_end, write_object, writing}
+use Rattle.kernel_model.specs.Transfers.{moved_to}
 use Rattle.kernel_model.specs.declared.descriptor.Description.{Description}
 use Rattle.kernel_model.specs.declared.descriptor.Object.{Object}
 use Rattle.kernel_model.specs.declared.descriptor.Object.TheVariants as objects
-use Rattle.kernel_model.specs.declared.stream.Stream.TheVariants as streams
 use Rattle.kernel_model.specs.declared.terminal.Terminal.{Terminal}
 use Rattle.kernel_model.specs.declared.terminal.TerminalSettings.{TerminalSettings}
 

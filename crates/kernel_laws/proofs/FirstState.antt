@@ -1,9 +1,8 @@
 -- The first state is a kernel.
-use Rattle.std.proofs.Common.{◌≡◌, ℕ, zero, suc, ◌+◌, ◌*◌, ◌^◌, ◌<◌, ◌≤◌, List, [], ◌∷◌, length, replicate, set, Bool, true, false, refl, sym, ◌∙◌, ap, subst, arith, inl, inr, lit<}
+use Rattle.std.proofs.Common.{◌≡◌, ℕ, zero, suc, ◌+◌, ◌*◌, ◌^◌, ◌<◌, ◌≤◌, List, [], ◌∷◌, length, replicate, set, Bool, true, false, refl, sym, ◌∙◌, ap, subst, arith, inl}
 use Rattle.std.specs.Prelude.{All, Option, Some, None, is_some, option_map, unwrap_or, count_by, ◌==◌, if◌then◌else◌}
 use Rattle.std.specs.List.{list_any}
 use Rattle.std.specs.FinMap.{get}
-use Rattle.std.proofs.lemmas.Bool.{cases_eq, eq-eqb, ne_eqb}
 use Rattle.std.proofs.lemmas.List.{length-replicate, get_or-replicate}
 use Rattle.std.proofs.lemmas.List.Elements.{All-replicate, All-set}
 use Rattle.std.proofs.lemmas.List.Folds.{sum_by-replicate}
@@ -27,13 +26,12 @@ use Rattle.kernel_laws.proofs.OtherKept.{unarmed_is}
 use Rattle.kernel_laws.proofs.SignalsKept.{none_pending}
 use Rattle.kernel_laws.specs.Ends.{HasEndsOnce, IsMachine}
 use Rattle.kernel_model.specs.Always.{AreSignals, IsFiles, IsKernel, IsLimit, IsMask, IsOpen, IsPendingAt, IsTable, fits_object, has_open, is_node, is_read_end, is_write_end}
-use Rattle.kernel_model.specs.Begin.{Settings, first_files, first_flow, first_limits, first_signals, first_state, first_table, free_places, nofile_limit, stack_limit, stream_description}
+use Rattle.kernel_model.specs.Begin.{Settings, first_files, first_limits, first_signals, first_state, first_table, free_places, nofile_limit, stack_limit, stream_description}
 use Rattle.kernel_model.specs.Descriptions.{kept_flags}
-use Rattle.kernel_model.specs.Pipes.{pipe_at}
 use Rattle.kernel_model.specs.SignalRows.{no_action, queued}
 use Rattle.kernel_model.specs.SignalSets.{no_signals}
 use Rattle.kernel_model.specs.Shared.{Info}
-use Rattle.kernel_model.specs.State.{Files, Kernel, Pipe}
+use Rattle.kernel_model.specs.State.{Files, Pipe}
 use Rattle.kernel_model.specs.System.{unlimited}
 use Rattle.kernel_model.specs.Table.{descriptor_limit, leads_to, slot}
 use Rattle.kernel_model.specs.declared.descriptor.Descriptor.{Descriptor}

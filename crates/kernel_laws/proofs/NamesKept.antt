@@ -1,11 +1,8 @@
 -- The rows on names keep what files always are.
-use Rattle.std.proofs.Common.{◌≡◌, ℕ, ◌+◌, ◌-◌, ◌%◌, ◌≤◌, ◌<◌, List, length, Bool, true, false, refl, sym, ◌∙◌, ap, subst, arith}
-use Rattle.std.specs.Prelude.{Option, Some, None, Ok, Err, bit_and, slice_index, ◌==◌, ℤ, if◌then◌else◌}
-use Rattle.std.specs.List.{list_any}
-use Rattle.std.specs.FinMap.{get}
-use Rattle.kernel_core.specs.FileSystem.{IsFileSystem, IsTime}
+use Rattle.std.proofs.Common.{◌≡◌, ℕ, ◌%◌, List, Bool, false, arith}
+use Rattle.std.specs.Prelude.{Option, Some, None, Ok, ℤ}
+use Rattle.kernel_core.specs.FileSystem.{IsTime}
 use Rattle.kernel_core.specs.NameCalls.{IsNewNumber, after_link, after_mkdir, after_rename, after_rmdir, after_symlink, after_unlink, link_refusal, make_refusal, rename_refusal, rmdir_refusal, symlink_refusal, unlink_refusal}
-use Rattle.kernel_core.specs.Nodes.{Nodes, Inode}
 use Rattle.kernel_core.specs.PathWalk.{Place}
 use Rattle.kernel_core.specs.Queries.{new_number}
 use Rattle.file_system_laws.proofs.HeldNodes.{keeps-lost, link_loses, mkdir_keeps_holds, rename_loses, rmdir_loses, symlink_keeps_holds, unlink_loses}
@@ -19,9 +16,9 @@ use Rattle.kernel_laws.proofs.WalkAgrees.{walk_agrees}
 use Rattle.kernel_laws.proofs.WalkedRows.{found_inode, read_is, text_is}
 use Rattle.kernel_laws.specs.Arguments.{IsShortText, IsText, WhereRead}
 use Rattle.kernel_model.specs.Always.{IsFiles}
-use Rattle.kernel_model.specs.Came.{Did, Given}
+use Rattle.kernel_model.specs.Came.{Given}
 use Rattle.kernel_model.specs.Modes.{permitted}
-use Rattle.kernel_model.specs.NameRows.{link, make_directory, make_link, remove_directory, remove_name, rename, unlink, with_nodes}
+use Rattle.kernel_model.specs.NameRows.{link, make_directory, make_link, remove_name, rename, with_nodes}
 use Rattle.kernel_model.specs.Paths.{Base, walk, walk_to_node}
 use Rattle.kernel_model.specs.State.{Files}
 

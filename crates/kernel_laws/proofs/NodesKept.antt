@@ -1,5 +1,5 @@
 -- Nodes change, and keep their holds and kinds: what has a node open has it open still.
-use Rattle.std.proofs.Common.{◌≡◌, ℕ, ◌+◌, ◌<◌, ◌≤◌, length, Bool, true, false, ◌||◌, refl, sym, ◌∙◌, ap, subst, arith, inl, inr}
+use Rattle.std.proofs.Common.{◌≡◌, ℕ, ◌≤◌, Bool, true, false, ◌||◌, refl, sym, ◌∙◌, ap, arith, inl, inr}
 use Rattle.std.specs.Prelude.{Option, Some, None, is_some, count_by, not, option_map, ◌==◌, ◌⊎◌}
 use Rattle.std.specs.FinMap.{get}
 use Rattle.kernel_core.specs.FileSystem.{IsFileSystem}
@@ -9,7 +9,6 @@ use Rattle.file_system_laws.proofs.HeldNodes.{live_on}
 use Rattle.kernel_laws.proofs.Lists.{one_counts, one_if, same}
 use Rattle.kernel_model.proofs.Described.{within}
 use Rattle.kernel_model.specs.Always.{IsFiles, IsOpen, fits_object, has_open, holders, is_node, only_reads}
-use Rattle.kernel_model.specs.Shared.{Access}
 use Rattle.kernel_model.specs.State.{Files}
 use Rattle.kernel_model.specs.Table.{slot}
 use Rattle.kernel_model.specs.declared.descriptor.Description.{Description}

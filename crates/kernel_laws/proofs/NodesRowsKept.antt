@@ -1,13 +1,13 @@
 -- The rows on the node that a path or a descriptor names keep what files always are.
-use Rattle.std.proofs.Common.{◌≡◌, ℕ, ◌+◌, ◌*◌, ◌-◌, ◌%◌, ◌≤◌, ◌<◌, ◌^◌, List, Bool, true, false, ◌&&◌, ◌||◌, refl, sym, ◌∙◌, ap, subst, arith, inl, inr}
+use Rattle.std.proofs.Common.{◌≡◌, ℕ, ◌%◌, ◌≤◌, ◌<◌, List, Bool, true, false, ◌&&◌, refl, subst, arith}
 use Rattle.std.specs.Int.{w64}
-use Rattle.std.specs.Prelude.{Option, Some, None, Ok, Err, FitsSigned, nat_lt, nat_abs, not, int_lt, ℤ, pos, negsuc, ◌+ℤ◌, ◌*ℤ◌, ◌==◌, if◌then◌else◌}
+use Rattle.std.specs.Prelude.{Option, Some, None, Ok, Err, FitsSigned, nat_lt, not, int_lt, ℤ, pos, negsuc, ◌+ℤ◌, ◌*ℤ◌, if◌then◌else◌}
 use Rattle.std.proofs.lemmas.Bool.{leb-false, ltb-true}
 use Rattle.std.proofs.lemmas.Int.{ints}
 use Rattle.kernel_core.specs.FileContent.{FileContent, greatest_size}
 use Rattle.kernel_core.specs.FileSystem.{IsTime}
 use Rattle.kernel_core.specs.NodeCalls.{resize_refusal}
-use Rattle.kernel_core.specs.Nodes.{Nodes, NodeContent, File, Directory, Link, file_at, is_directory}
+use Rattle.kernel_core.specs.Nodes.{NodeContent, File, Directory, Link}
 use Rattle.kernel_core.specs.declared.error.Errno.TheVariants.{EFBIG}
 use Rattle.file_system_laws.proofs.HeldNodes.{mode_loses, keeps-lost, resize_loses, times_lose}
 use Rattle.file_system_laws.proofs.NodeLaws.{mode_keeps, times_keep}
@@ -17,10 +17,10 @@ use Rattle.kernel_laws.proofs.NodesKept.{nodes_kept}
 use Rattle.kernel_laws.proofs.WalkedRows.{file_of}
 use Rattle.kernel_laws.specs.Arguments.{AreSeconds, WhereGiven}
 use Rattle.kernel_model.specs.Always.{IsFiles}
-use Rattle.kernel_model.specs.Came.{Did, Given, given_or_none}
+use Rattle.kernel_model.specs.Came.{Given, given_or_none}
 use Rattle.kernel_model.specs.Clock.{is_below, second}
 use Rattle.kernel_model.specs.Descriptions.{content_at}
-use Rattle.kernel_model.specs.NodeRows.{Leave, SetTo, TimeChange, TimeChanges, Times, Wrong, after_mode, after_times, after_truncate, change_mode, change_open_mode, is_same, is_wrong, new_time, on_open_node, set_times, set_umask, time_change, time_changes, times_on, truncate, truncate_content, truncate_open, utime_now, utime_omit}
+use Rattle.kernel_model.specs.NodeRows.{Leave, SetTo, TimeChange, Times, Wrong, after_mode, after_times, after_truncate, change_mode, change_open_mode, is_same, new_time, on_open_node, set_times, time_change, time_changes, times_on, truncate, truncate_content, truncate_open, utime_now, utime_omit}
 use Rattle.kernel_model.specs.Paths.{Base, Descriptor, Working}
 use Rattle.kernel_model.specs.State.{Files}
 use Rattle.kernel_model.specs.declared.time.TimeSpec.{TimeSpec}

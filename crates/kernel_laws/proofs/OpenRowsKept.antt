@@ -1,16 +1,16 @@
 -- Opening, and another working directory, keep what files always are.
-use Rattle.std.proofs.Common.{◌≡◌, ℕ, ◌-◌, ◌%◌, ◌≤◌, List, Bool, true, false, ◌&&◌, ◌||◌, refl, sym, ◌∙◌, ap, subst, arith, inl, inr}
-use Rattle.std.specs.Prelude.{Option, Some, None, is_some, Ok, Err, not, option_map, bit_and, ℤ, ◌⊎◌, if◌then◌else◌}
-use Rattle.std.specs.FinMap.{get, insert}
+use Rattle.std.proofs.Common.{◌≡◌, ℕ, ◌%◌, List, Bool, true, false, ◌||◌, refl, sym, ◌∙◌, ap, arith, inl, inr}
+use Rattle.std.specs.Prelude.{Option, Some, None, Ok, not, option_map, ℤ, ◌⊎◌, if◌then◌else◌}
+use Rattle.std.specs.FinMap.{insert}
 use Rattle.std.proofs.lemmas.Bool.{or_parts}
-use Rattle.kernel_core.specs.FileContent.{FileContent, resized}
+use Rattle.kernel_core.specs.FileContent.{resized}
 use Rattle.kernel_core.specs.FileSystem.{IsTime}
-use Rattle.kernel_core.specs.NameCalls.{IsNewNumber, after_create, in_directory, make_refusal, new_file, relisted, with_entry}
+use Rattle.kernel_core.specs.NameCalls.{after_create, in_directory, make_refusal, new_file, relisted, with_entry}
 use Rattle.kernel_core.specs.NodeCalls.{after_resize, modified_at}
-use Rattle.kernel_core.specs.Nodes.{Nodes, NodeContent, File, Directory, Link, Listing, Inode, is_directory}
+use Rattle.kernel_core.specs.Nodes.{Nodes, NodeContent, File, Directory, Link, Listing, is_directory}
 use Rattle.kernel_core.specs.PathWalk.{Place}
-use Rattle.kernel_core.specs.Queries.{DirectoryKind, FileKind, LinkKind, NodeKind, kind_at, kind_of, new_number}
-use Rattle.kernel_core.specs.declared.error.Errno.TheVariants.{EISDIR, ELOOP, ENOTDIR, EOVERFLOW}
+use Rattle.kernel_core.specs.Queries.{DirectoryKind, FileKind, kind_at, kind_of, new_number}
+use Rattle.kernel_core.specs.declared.error.Errno.TheVariants.{EISDIR, ELOOP, ENOTDIR}
 use Rattle.kernel_core.specs.declared.open_flags.Access.TheVariants as accesses
 use Rattle.file_system_laws.proofs.HeldNodes.{content_kind, create_keeps_holds, keeps-lost, resize_loses, update-kind}
 use Rattle.file_system_laws.proofs.Lookups.{get-insert_same}
@@ -25,16 +25,15 @@ use Rattle.kernel_laws.proofs.WalkedRows.{file_of, kind_by_content, text_is}
 use Rattle.kernel_laws.specs.Arguments.{IsText, WhereRead}
 use Rattle.kernel_laws.specs.Ends.{HasEndsOnce}
 use Rattle.kernel_model.specs.Always.{IsFiles, fits_object, only_reads}
-use Rattle.kernel_model.specs.Came.{Did, Given}
+use Rattle.kernel_model.specs.Came.{Given}
 use Rattle.kernel_model.specs.Descriptions.{content_at, opened, writes}
 use Rattle.kernel_model.specs.Modes.{permitted}
 use Rattle.kernel_model.specs.NodeRows.{after_change, change_directory, change_to_open}
-use Rattle.kernel_model.specs.Opening.{after_open, create, follows, is_larger, kind_refusal, open_file, open_missing, open_node, open_place, truncated}
+use Rattle.kernel_model.specs.Opening.{after_open, create, follows, kind_refusal, open_file, open_place, truncated}
 use Rattle.kernel_model.specs.Paths.{Base, directory_of, walk}
 use Rattle.kernel_model.specs.Shared.{Access, OpenSet}
 use Rattle.kernel_model.specs.State.{Files}
 use Rattle.kernel_model.specs.Table.{lowest_free}
-use Rattle.kernel_model.specs.Transfers.{limit_for}
 use Rattle.kernel_model.specs.declared.descriptor.Object.TheVariants as objects
 
 abbrev IsOpened : Nodes → ℕ → Type 0

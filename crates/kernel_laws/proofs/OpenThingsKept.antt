@@ -1,24 +1,23 @@
 -- The rows on descriptors and on what they have open that change no node keep what files always are.
-use Rattle.std.proofs.Common.{◌≡◌, ℕ, zero, suc, ◌≤◌, ◌<◌, ◌%◌, ◌-◌, ◌⊎◌, List, [], ◌∷◌, length, get_or, set, Bool, true, false, ◌||◌, refl, sym, ◌∙◌, ap, subst, arith, inl, inr}
-use Rattle.std.specs.Prelude.{All, Option, Some, None, is_some, option_map, unwrap_or, filter, map, Ok, Err, nat_lt, ℤ, ◌==◌, if◌then◌else◌}
-use Rattle.std.specs.List.{list_any}
+use Rattle.std.proofs.Common.{◌≡◌, ℕ, zero, suc, ◌≤◌, ◌<◌, ◌%◌, ◌-◌, ◌⊎◌, List, [], ◌∷◌, length, Bool, true, false, ◌||◌, refl, sym, ◌∙◌, ap, subst, arith, inl, inr}
+use Rattle.std.specs.Prelude.{All, Option, Some, None, is_some, option_map, unwrap_or, filter, map, nat_lt, ℤ, if◌then◌else◌}
 use Rattle.std.proofs.lemmas.Bool.{cases_eq, cases_lt}
 use Rattle.std.proofs.lemmas.List.{length-set, get_or-set_same, get_or-set_other, set_past}
 use Rattle.std.proofs.lemmas.List.Elements.{All-filter}
 use Rattle.kernel_core.specs.FileContent.{greatest_size}
 use Rattle.kernel_core.specs.FileSystem.{IsLiveContent}
-use Rattle.kernel_core.specs.Nodes.{Nodes, Inode, Listing, NodeContent, File, Directory, Link, listing_at}
-use Rattle.kernel_core.specs.ValidTree.{IsEntry, greatest_cookie}
+use Rattle.kernel_core.specs.Nodes.{Listing, NodeContent, File, Directory, Link, listing_at}
+use Rattle.kernel_core.specs.ValidTree.{IsEntry}
 use Rattle.kernel_core.specs.declared.tree.DirEntry.{DirEntry}
 use Rattle.file_system_laws.proofs.Lookups.{directory_found}
 use Rattle.kernel_laws.proofs.Keeps.{Keeps, keeps, transferring_keeps}
 use Rattle.kernel_model.proofs.Described.{any_set}
 use Rattle.kernel_model.proofs.DescribedRows.{moved_kept, open_facts}
 use Rattle.kernel_model.specs.Always.{IsFiles, IsOpen, IsTable}
-use Rattle.kernel_model.specs.Came.{Did, Given}
-use Rattle.kernel_model.specs.ContentRows.{Entry, Records, all_entries, bytes_ready, entries, entry_of, fitting, give_entries, is_above, on_terminal, position_after, record_length, set_terminal_settings, status, sync, terminal_settings, window_size, with_settings}
+use Rattle.kernel_model.specs.Came.{Given}
+use Rattle.kernel_model.specs.ContentRows.{Entry, Records, all_entries, bytes_ready, entries, entry_of, fitting, is_above, position_after, record_length, set_terminal_settings, status, sync, terminal_settings, window_size, with_settings}
 use Rattle.kernel_model.specs.DescriptorRows.{close_on_exec, set_close_on_exec, status_flags, unlisted_command, unlisted_request}
-use Rattle.kernel_model.specs.Descriptions.{content_at, node_of, opened}
+use Rattle.kernel_model.specs.Descriptions.{node_of, opened}
 use Rattle.kernel_model.specs.NameRows.{read_link}
 use Rattle.kernel_model.specs.NodeRows.{StatusFlags, access, set_umask, status_at_path, status_of_base, working_directory}
 use Rattle.kernel_model.specs.Paths.{Base, Descriptor as Based, Working}

@@ -1,19 +1,18 @@
 -- Each transfer leaves every end of a pipe one description at most.
-use Rattle.std.proofs.Common.{◌≡◌, ℕ, ◌+◌, List, length, take, Bool, true, false, refl}
-use Rattle.std.specs.Prelude.{Option, Some, None, Ok, Err, ℤ}
+use Rattle.std.proofs.Common.{◌≡◌, ℕ, ◌+◌, List, take, refl}
+use Rattle.std.specs.Prelude.{Option, Some, None, ℤ}
 use Rattle.kernel_core.specs.FileContent.{FileContent}
-use Rattle.kernel_core.specs.NodeCalls.{after_write, write_length}
 use Rattle.kernel_core.specs.Nodes.{NodeContent, File, Directory, Link, Nodes, file_at}
 use Rattle.kernel_laws.proofs.CloseKept.{same_live}
 use Rattle.kernel_laws.proofs.EndsKept.{moved_ends}
 use Rattle.kernel_laws.proofs.Keeps.{Keeps, keeps, transferring_keeps}
 use Rattle.kernel_laws.proofs.WriteKept.{reads_opened, writes_opened}
 use Rattle.kernel_laws.specs.Ends.{HasEndsOnce}
-use Rattle.kernel_model.specs.Came.{Did, Given}
+use Rattle.kernel_model.specs.Came.{Given}
 use Rattle.kernel_model.specs.Descriptions.{content_at, opened, readable, writable}
-use Rattle.kernel_model.specs.Pipes.{PipeStep, pipe_at}
+use Rattle.kernel_model.specs.Pipes.{pipe_at}
 use Rattle.kernel_model.specs.State.{Files, Pipe}
-use Rattle.kernel_model.specs.Transfers.{Reading, Writing, moved_to, read, read_at, read_content, read_end, read_object, reading, write, write_at, write_bytes, write_content, write_end, write_object, writing}
+use Rattle.kernel_model.specs.Transfers.{Reading, Writing, moved_to, read, read_at, read_content, read_end, read_object, write, write_at, write_bytes, write_content, write_end, write_object}
 use Rattle.kernel_model.specs.declared.descriptor.Description.{Description}
 use Rattle.kernel_model.specs.declared.descriptor.Object.{Object}
 use Rattle.kernel_model.specs.declared.descriptor.Object.TheVariants as objects

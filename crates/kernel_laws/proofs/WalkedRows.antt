@@ -1,15 +1,15 @@
 -- What a row knows of the places and nodes that its paths lead to.
-use Rattle.std.proofs.Common.{◌≡◌, ℕ, Bool, true, false, List, refl, sym, ◌∙◌, ap, subst}
+use Rattle.std.proofs.Common.{◌≡◌, ℕ, Bool, true, List, refl, ap, subst}
 use Rattle.std.specs.Prelude.{Option, Some, None, is_some, ok_or, Result, Ok, Err, option_map, unwrap_or}
 use Rattle.std.specs.FinMap.{get}
 use Rattle.kernel_core.specs.FileContent.{FileContent}
-use Rattle.kernel_core.specs.Nodes.{Nodes, NodeContent, File, Directory, Link, Inode, file_at, file_in, in_inode}
-use Rattle.kernel_core.specs.PathWalk.{Agrees, Place}
-use Rattle.kernel_core.specs.Queries.{NodeKind, kind_at, kind_of}
+use Rattle.kernel_core.specs.Nodes.{Nodes, File, Inode, file_at, file_in, in_inode}
+use Rattle.kernel_core.specs.PathWalk.{Place}
+use Rattle.kernel_core.specs.Queries.{kind_at, kind_of}
 use Rattle.kernel_core.specs.declared.error.Errno.{Errno}
 use Rattle.kernel_core.specs.declared.error.Errno.TheVariants.{ENOENT}
 use Rattle.kernel_laws.proofs.WalkAgrees.{place_lives, walk_agrees}
-use Rattle.kernel_laws.specs.Arguments.{IsText, WhereGiven, WhereRead}
+use Rattle.kernel_laws.specs.Arguments.{IsText, WhereRead}
 use Rattle.kernel_model.specs.Always.{IsFiles}
 use Rattle.kernel_model.specs.Came.{Given}
 use Rattle.kernel_model.specs.Descriptions.{content_at}

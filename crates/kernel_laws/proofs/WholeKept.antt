@@ -2,7 +2,6 @@
 use Rattle.std.proofs.Common.{◌≡◌, ℕ, ◌<◌, List, [], ◌∷◌, Bool, true, false, refl, sym, subst}
 use Rattle.std.specs.Prelude.{All, Option, Some, None, nat_le, ℤ, if◌then◌else◌}
 use Rattle.kernel_core.specs.FileSystem.{IsTime}
-use Rattle.kernel_core.specs.declared.error.Errno.{Errno}
 use Rattle.kernel_core.specs.declared.mask.MaskChange.{MaskChange}
 use Rattle.kernel_core.specs.declared.resource.Resource.{Resource}
 use Rattle.kernel_core.specs.declared.signal.Sig.{Sig}
@@ -14,17 +13,16 @@ use Rattle.kernel_laws.proofs.WriteKept.{write_keeps}
 use Rattle.kernel_laws.specs.Ends.{AreFiles, HasEndsOnce, IsMachine}
 use Rattle.kernel_model.proofs.Posting.{post_kept}
 use Rattle.kernel_model.proofs.ReadKept.{read_kept}
-use Rattle.kernel_model.specs.Always.{IsFiles, IsKernel}
-use Rattle.kernel_model.specs.Came.{Came, Did, Done, Given, Refused, Waits, given_or_none}
+use Rattle.kernel_model.specs.Always.{IsKernel}
+use Rattle.kernel_model.specs.Came.{Came, Did, Done, Given, Refused, Waits}
 use Rattle.kernel_model.specs.Clock.{TimerSetting, alarm, arm_timer, gone_off, now, read_clock, read_timer, resolution, sleep, waits_until}
-use Rattle.kernel_model.specs.Pipes.{Sent}
 use Rattle.kernel_model.specs.Readiness.{PollEntry, Sets, poll, select}
 use Rattle.kernel_model.specs.Shared.{Info}
-use Rattle.kernel_model.specs.SignalRows.{Named, Nothing, Signal, Unlisted, SentInfo, accept, accept_first, accept_signal, advance, after_expiry, change_mask, kill, kill_info, kill_thread, kill_thread_of, pause, pending, pending_at, post, queue, send, send_named, sent_as, set_action, set_action_to, set_stack, set_stack_to, suspend}
+use Rattle.kernel_model.specs.SignalRows.{Named, Nothing, Signal, Unlisted, SentInfo, accept, accept_first, accept_signal, advance, after_expiry, change_mask, kill, kill_info, kill_thread, kill_thread_of, pause, pending, pending_at, post, queue, send_named, sent_as, set_action, set_action_to, set_stack, set_stack_to, suspend}
 use Rattle.kernel_model.specs.SignalSets.{SignalSet}
 use Rattle.kernel_model.specs.State.{Files, Kernel, Timer}
 use Rattle.kernel_model.specs.System.{random_bytes, set_limit, set_limit_to}
-use Rattle.kernel_model.specs.Transfers.{Writing, read, write}
+use Rattle.kernel_model.specs.Transfers.{write}
 use Rattle.kernel_model.specs.Whole.{is_broken_pipe, kernel_read, kernel_write, with_files, with_sigpipe}
 use Rattle.kernel_model.specs.declared.limit.Limit.{Limit}
 use Rattle.kernel_model.specs.declared.signal.Action.{Action}

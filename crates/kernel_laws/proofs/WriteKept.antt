@@ -1,6 +1,6 @@
 -- A write keeps what files always are, and a read and a write of the kernel what the kernel always is.
-use Rattle.std.proofs.Common.{◌≡◌, ℕ, zero, suc, ◌+◌, ◌-◌, ◌≤◌, ◌<◌, ◌^◌, min, List, [], ◌∷◌, ◌++◌, length, take, get_or, Bool, true, false, refl, sym, ◌∙◌, ap, subst, arith, length-append}
-use Rattle.std.specs.Prelude.{All, Option, Some, None, Ok, Err, not, nat_le, nat_abs, ◌==◌, ℤ, if◌then◌else◌}
+use Rattle.std.proofs.Common.{◌≡◌, ℕ, ◌+◌, ◌-◌, ◌≤◌, ◌<◌, List, length, take, Bool, true, false, refl, ap, arith, length-append}
+use Rattle.std.specs.Prelude.{All, Option, Some, None, not, nat_le, ◌==◌, ℤ, if◌then◌else◌}
 use Rattle.std.proofs.lemmas.Bool.{leb-true}
 use Rattle.std.proofs.lemmas.List.Elements.{All-append, All-take}
 use Rattle.std.proofs.lemmas.List.{length-take}
@@ -12,21 +12,19 @@ use Rattle.kernel_core.specs.declared.error.Errno.TheVariants.{EPIPE}
 use Rattle.file_blocks.proofs.Validity.{AreBytes, take_are_bytes}
 use Rattle.file_system_laws.proofs.HeldNodes.{keeps-lost, write_loses}
 use Rattle.kernel_laws.proofs.FileContents.{bytes_of, is_content, write_end_small, write_is}
-use Rattle.kernel_laws.proofs.Keeps.{Keeps, keeps, transferring_keeps, widened_keeps}
+use Rattle.kernel_laws.proofs.Keeps.{Keeps, keeps, transferring_keeps}
 use Rattle.kernel_laws.proofs.NodesKept.{nodes_kept}
 use Rattle.kernel_model.proofs.DescribedRows.{moved_kept, open_facts}
 use Rattle.kernel_model.proofs.ReadKept.{counted_kept, piped_kept}
-use Rattle.kernel_model.specs.Always.{AreMoved, IsFiles, IsOpen}
-use Rattle.kernel_model.specs.Came.{Came, Did, Done, Given, Refused, Waits}
+use Rattle.kernel_model.specs.Always.{IsFiles, IsOpen}
+use Rattle.kernel_model.specs.Came.{Done, Given, Refused}
 use Rattle.kernel_model.specs.Descriptions.{if_reads, if_writes, node_of, opened, reads, writable, writes}
-use Rattle.kernel_model.specs.Pipes.{becomes, part_length, pipe_at, pipe_size, put, room, stays, waits_after, whole_write, write_none, write_part, write_pipe, write_some}
+use Rattle.kernel_model.specs.Pipes.{becomes, part_length, pipe_at, put, room, stays, whole_write, write_none, write_part, write_pipe, write_some}
 use Rattle.kernel_model.specs.State.{Files, Pipe}
-use Rattle.kernel_model.specs.Transfers.{Writing, after_pipe_write, at_place, cut_to, limit_for, moved_to, starts_past, write, write_at, write_bytes, write_content, write_end, write_node, write_object, write_place, writing}
+use Rattle.kernel_model.specs.Transfers.{Writing, after_pipe_write, cut_to, limit_for, moved_to, write, write_at, write_bytes, write_content, write_end, write_node, write_object, write_place}
 use Rattle.kernel_model.specs.declared.descriptor.Description.{Description}
 use Rattle.kernel_model.specs.declared.descriptor.Object.{Object}
 use Rattle.kernel_model.specs.declared.descriptor.Object.TheVariants as objects
-use Rattle.kernel_model.specs.declared.stream.Moved.{Moved}
-use Rattle.kernel_model.specs.declared.stream.Stream.{Stream}
 use Rattle.kernel_model.specs.declared.stream.Stream.TheVariants as streams
 
 cut_bytes : (bound : Option ℕ) (at : ℕ) (bytes : List ℕ) → AreBytes bytes → AreBytes (cut_to bound at bytes)
