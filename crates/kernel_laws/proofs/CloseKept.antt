@@ -1,18 +1,17 @@
 -- A descriptor that is closed, and a descriptor that is put in the place of another, keep what files always are.
-use Rattle.std.proofs.Common.{◌≡◌, ◌≢◌, ℕ, ◌+◌, ◌<◌, ◌≤◌, length, Bool, true, false, ◌||◌, refl, sym, ◌∙◌, ap, subst, arith, inl, inr, suc}
+use Rattle.std.proofs.Common.{◌≡◌, ◌≢◌, ℕ, ◌+◌, ◌<◌, ◌≤◌, length, Bool, true, false, ◌||◌, refl, sym, ◌∙◌, ap, subst, arith, inl, inr}
 use Rattle.std.specs.Prelude.{Option, Some, None, is_some, option_and_then, option_map, unwrap_or, count_by, nat_le, ◌==◌, if◌then◌else◌}
 use Rattle.std.specs.List.{list_any}
 use Rattle.std.proofs.lemmas.Bool.{cases_eq, eq-eqb, leb-false}
 use Rattle.std.proofs.lemmas.List.{length-set, get_or-set_same, get_or-set_other}
 use Rattle.std.proofs.lemmas.List.Folds.{list_any_at}
 use Rattle.kernel_laws.proofs.Keeps.{Keeps, keeps}
-use Rattle.kernel_laws.proofs.Lists.{any_taken, apart, count_changed, none_counted, one_if, or_false, same}
-use Rattle.kernel_laws.proofs.Owing.{IsOwing, IsOwingPipe, IsThere, let_go_kept}
+use Rattle.kernel_laws.proofs.Lists.{any_taken, apart, count_changed, none_counted, one_if, same}
+use Rattle.kernel_laws.proofs.Owing.{IsOwing, IsThere, let_go_kept}
 use Rattle.kernel_laws.specs.Ends.{AreFiles, HasEndsOnce}
 use Rattle.kernel_model.proofs.Described.{any_set, slot_cases, within}
 use Rattle.kernel_model.proofs.DuplicateKept.{after_duplicate_kept}
-use Rattle.kernel_model.specs.Always.{IsFiles, IsOpen, IsTable, any_open, has_open, holders, is_node, is_read_end, is_write_end}
-use Rattle.kernel_model.specs.Came.{done}
+use Rattle.kernel_model.specs.Always.{IsFiles, IsOpen, IsTable, any_open, has_open, is_node, is_read_end, is_write_end}
 use Rattle.kernel_model.specs.DescriptorRows.{after_close, after_duplicate, after_duplicate_onto, after_last, close, duplicate_onto, duplicate_onto_with, let_go}
 use Rattle.kernel_model.specs.Descriptions.{opened}
 use Rattle.kernel_model.specs.State.{Files, Descriptors}
@@ -279,7 +278,7 @@ module _ (table : Descriptors Description) (onto : ℕ) (low : onto < length tab
     by None = refl
     by (Some number) = get_or-set_other table.fds onto fd None None other
 
-shared_live : (files : Files) (fd onto : ℕ) (cloexec : Bool) → (after_duplicate files fd onto cloexec).table.live ≡ files.table.live
+pub shared_live : (files : Files) (fd onto : ℕ) (cloexec : Bool) → (after_duplicate files fd onto cloexec).table.live ≡ files.table.live
 shared_live files fd onto cloexec = by (number_at files.table fd) where
   by : (found : Option ℕ) → (shared_at files.table onto cloexec found).live ≡ files.table.live
   by None = refl

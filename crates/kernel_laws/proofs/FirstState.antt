@@ -1,9 +1,8 @@
 -- The first state is a kernel.
-use Rattle.std.proofs.Common.{◌≡◌, ℕ, zero, suc, ◌+◌, ◌*◌, ◌^◌, ◌<◌, ◌≤◌, List, [], ◌∷◌, length, replicate, set, Bool, true, false, refl, sym, ◌∙◌, ap, subst, arith, inl, inr, lit<}
+use Rattle.std.proofs.Common.{◌≡◌, ℕ, zero, suc, ◌+◌, ◌*◌, ◌^◌, ◌<◌, ◌≤◌, List, [], ◌∷◌, length, replicate, set, Bool, true, false, refl, sym, ◌∙◌, ap, subst, arith, inl}
 use Rattle.std.specs.Prelude.{All, Option, Some, None, is_some, option_map, unwrap_or, count_by, ◌==◌, if◌then◌else◌}
 use Rattle.std.specs.List.{list_any}
 use Rattle.std.specs.FinMap.{get}
-use Rattle.std.proofs.lemmas.Bool.{cases_eq, eq-eqb, ne_eqb}
 use Rattle.std.proofs.lemmas.List.{length-replicate, get_or-replicate}
 use Rattle.std.proofs.lemmas.List.Elements.{All-replicate, All-set}
 use Rattle.std.proofs.lemmas.List.Folds.{sum_by-replicate}
@@ -22,20 +21,22 @@ use Rattle.file_system_laws.proofs.KeyedLists.{element, get-keyed}
 use Rattle.file_system_laws.proofs.Loading.{loaded_is_file_system}
 use Rattle.file_system_laws.proofs.Lookups.{listing_kept}
 use Rattle.file_system_laws.proofs.NodeLaws.{hold_keeps}
+use Rattle.kernel_laws.proofs.Lists.{either_way, one_if}
 use Rattle.kernel_laws.proofs.OtherKept.{unarmed_is}
 use Rattle.kernel_laws.proofs.SignalsKept.{none_pending}
-use Rattle.kernel_model.specs.Always.{AreSignals, IsFiles, IsKernel, IsLimit, IsMask, IsOpen, IsPendingAt, IsTable, fits_object, has_open, is_node}
-use Rattle.kernel_model.specs.Begin.{Settings, first_files, first_flow, first_limits, first_signals, first_state, first_table, free_places, nofile_limit, stack_limit, stream_description}
+use Rattle.kernel_laws.specs.Ends.{HasEndsOnce, IsMachine}
+use Rattle.kernel_model.specs.Always.{AreSignals, IsFiles, IsKernel, IsLimit, IsMask, IsOpen, IsPendingAt, IsTable, fits_object, has_open, is_node, is_read_end, is_write_end}
+use Rattle.kernel_model.specs.Begin.{Settings, first_files, first_limits, first_signals, first_state, first_table, free_places, nofile_limit, stack_limit, stream_description}
 use Rattle.kernel_model.specs.Descriptions.{kept_flags}
-use Rattle.kernel_model.specs.Pipes.{pipe_at}
 use Rattle.kernel_model.specs.SignalRows.{no_action, queued}
 use Rattle.kernel_model.specs.SignalSets.{no_signals}
 use Rattle.kernel_model.specs.Shared.{Info}
-use Rattle.kernel_model.specs.State.{Files, Kernel, Pipe}
+use Rattle.kernel_model.specs.State.{Files, Pipe}
 use Rattle.kernel_model.specs.System.{unlimited}
 use Rattle.kernel_model.specs.Table.{descriptor_limit, leads_to, slot}
 use Rattle.kernel_model.specs.declared.descriptor.Descriptor.{Descriptor}
 use Rattle.kernel_model.specs.declared.descriptor.Description.{Description}
+use Rattle.kernel_model.specs.declared.descriptor.Object.{Object}
 use Rattle.kernel_model.specs.declared.stream.Stream.TheVariants as streams
 use Rattle.kernel_model.specs.declared.terminal.Winsize.{Winsize}
 
@@ -53,9 +54,6 @@ places_long A n = length-replicate {A = Option A} n None
 
 none_there : (A : Type 0) (n k : ℕ) → is_some (slot (free_places {A = A} n) k) ≡ true → false ≡ true
 none_there A n k h = sym (ap (λ o. is_some o) (all_free {A = A} n k)) ∙ h
-
-abbrev one_if : Bool → ℕ
-one_if b = if b then 1 else 0
 
 no_one : {A : Type 0} (test : Option A → Bool) → test None ≡ false → (n : ℕ) → count_by test (free_places n) ≡ 0
 unfolding free_places
@@ -102,23 +100,32 @@ each_stream P a b c (suc zero) description h = subst P (ap (λ o. unwrap_or o ou
 each_stream P a b c (suc (suc zero)) description h = subst P (ap (λ o. unwrap_or o errors) h) c
 each_stream P a b c (suc (suc (suc number))) description h = absurd (let wrong : false ≡ true = none_there Description 1021 number (ap (λ o. is_some o) h) in cc)
 
-no_nodes : (node : ℕ) → count_by (has_open (is_node node)) first_table.live ≡ 0
-no_nodes node =
+none_open : (test : Object → Bool) → test input.object ≡ false → test output.object ≡ false → test errors.object ≡ false → count_by (has_open test) first_table.live ≡ 0
+none_open test a b c =
+    let first : one_if (has_open test (Some input)) ≡ 0 = ap one_if a in
+    let second : one_if (has_open test (Some output)) ≡ 0 = ap one_if b in
+    let third : one_if (has_open test (Some errors)) ≡ 0 = ap one_if c in
     omega (
       arith,
-      sum_by-cons (λ o. one_if (has_open (is_node node) o)) (Some input) (Some output ∷ Some errors ∷ free_places 1021),
-      sum_by-cons (λ o. one_if (has_open (is_node node) o)) (Some output) (Some errors ∷ free_places 1021),
-      sum_by-cons (λ o. one_if (has_open (is_node node) o)) (Some errors) (free_places 1021),
-      no_one (has_open (is_node node)) refl 1021,
+      first,
+      second,
+      third,
+      sum_by-cons (λ o. one_if (has_open test o)) (Some input) (Some output ∷ Some errors ∷ free_places 1021),
+      sum_by-cons (λ o. one_if (has_open test o)) (Some output) (Some errors ∷ free_places 1021),
+      sum_by-cons (λ o. one_if (has_open test o)) (Some errors) (free_places 1021),
+      no_one (has_open test) refl 1021,
     )
 
--- Nodes
+no_nodes : (node : ℕ) → count_by (has_open (is_node node)) first_table.live ≡ 0
+no_nodes node = none_open (is_node node) refl refl refl
 
-either_way : (a b : ℕ) → one_if (a == b) ≡ one_if (b == a)
-either_way a b = elim (cases_eq a b) [
-  | inl same ↦ ap one_if (eq-eqb a b same) ∙ sym (ap one_if (eq-eqb b a (sym same)))
-  | inr apart ↦ ap one_if (ne_eqb a b apart) ∙ sym (ap one_if (ne_eqb b a (λ e. apart (sym e))))
-]
+no_ends : (tree : Tree) (size : Option Winsize) → HasEndsOnce (first_files tree size)
+no_ends tree size = record {
+  reads = λ pipe. omega (arith, none_open (is_read_end pipe) refl refl refl);
+  writes = λ pipe. omega (arith, none_open (is_write_end pipe) refl refl refl);
+}
+
+-- Nodes
 
 has_listing : (listing : Option Listing) (parent : ℕ) → parent_of listing ≡ Some parent → is_some listing ≡ true
 has_listing None parent e = absurd cc
@@ -221,3 +228,10 @@ first_state_is tree settings valid some bytes = record {
   chance = omega (arith, some);
   chance_bytes = bytes;
 }
+
+pub first_state_machine : (tree : Tree) (settings : Settings) → IsValidTree tree → 1 ≤ length settings.random → All (λ byte. byte < 256) settings.random
+    → IsMachine (first_state tree settings)
+unfolding first_state
+first_state_machine tree settings valid some bytes =
+    let ends = no_ends tree settings.terminal in
+    record { always = first_state_is tree settings valid some bytes; ends = record { reads = ends.reads; writes = ends.writes } }

@@ -1,5 +1,5 @@
 pub mod CloseKept
-pub mod Contents
+pub mod FileContents
 pub mod FirstState
 pub mod Keeps
 pub mod KernelParts
@@ -11,3 +11,12 @@ pub mod Owing
 pub mod SignalWords
 pub mod SignalsKept
 pub mod WalkAgrees
+pub mod WriteKept
+pub mod NodesRowsKept
+pub mod WalkedRows
+pub mod NamesKept
+pub mod OpenRowsKept
+pub mod EndsKept
+pub mod OpenThingsKept
+pub mod TransferEnds
+pub mod WholeKept

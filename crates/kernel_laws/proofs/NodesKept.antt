@@ -1,5 +1,5 @@
 -- Nodes change, and keep their holds and kinds: what has a node open has it open still.
-use Rattle.std.proofs.Common.{◌≡◌, ℕ, ◌+◌, ◌<◌, ◌≤◌, length, Bool, true, false, ◌||◌, refl, sym, ◌∙◌, ap, subst, arith, inl, inr}
+use Rattle.std.proofs.Common.{◌≡◌, ℕ, ◌≤◌, Bool, true, false, ◌||◌, refl, sym, ◌∙◌, ap, arith, inl, inr}
 use Rattle.std.specs.Prelude.{Option, Some, None, is_some, count_by, not, option_map, ◌==◌, ◌⊎◌}
 use Rattle.std.specs.FinMap.{get}
 use Rattle.kernel_core.specs.FileSystem.{IsFileSystem}
@@ -9,7 +9,6 @@ use Rattle.file_system_laws.proofs.HeldNodes.{live_on}
 use Rattle.kernel_laws.proofs.Lists.{one_counts, one_if, same}
 use Rattle.kernel_model.proofs.Described.{within}
 use Rattle.kernel_model.specs.Always.{IsFiles, IsOpen, fits_object, has_open, holders, is_node, only_reads}
-use Rattle.kernel_model.specs.Shared.{Access}
 use Rattle.kernel_model.specs.State.{Files}
 use Rattle.kernel_model.specs.Table.{slot}
 use Rattle.kernel_model.specs.declared.descriptor.Description.{Description}
@@ -43,6 +42,18 @@ by_kind nodes number = inode_kind (get nodes number)
 
 pub same_directory : (old new : Nodes) (number : ℕ) → kind_at new number ≡ kind_at old number → is_directory new number ≡ is_directory old number
 same_directory old new number e = by_kind new number ∙ ap is_directory_kind e ∙ sym (by_kind old number)
+
+pub plain_file : (nodes : Nodes) (number : ℕ) → kind_at nodes number ≡ Some FileKind → is_directory nodes number ≡ false
+plain_file nodes number e = by_kind nodes number ∙ ap is_directory_kind e
+
+is_one : (kind : Option NodeKind) → is_directory_kind kind ≡ true → kind ≡ Some DirectoryKind
+is_one None e = absurd cc
+is_one (Some FileKind) e = absurd cc
+is_one (Some DirectoryKind) e = refl
+is_one (Some LinkKind) e = absurd cc
+
+pub directory_has_kind : (nodes : Nodes) (number : ℕ) → is_directory nodes number ≡ true → kind_at nodes number ≡ Some DirectoryKind
+directory_has_kind nodes number e = is_one (kind_at nodes number) (sym (by_kind nodes number) ∙ e)
 
 -- What descriptions hold stays of its kind.
 

@@ -1,10 +1,9 @@
 -- A node that is held once more, and gets a description or is the working directory.
-use Rattle.std.proofs.Common.{◌≡◌, ℕ, ◌+◌, ◌<◌, ◌≤◌, ◌^◌, length, Bool, true, false, ◌||◌, refl, sym, ◌∙◌, ap, subst, arith, inl, inr}
+use Rattle.std.proofs.Common.{◌≡◌, ℕ, ◌+◌, ◌≤◌, Bool, true, false, ◌||◌, refl, sym, ◌∙◌, ap, subst, arith, inl, inr}
 use Rattle.std.specs.Prelude.{Option, Some, None, is_some, count_by, option_map, unwrap_or, not, ◌==◌, ◌⊎◌, if◌then◌else◌}
-use Rattle.std.specs.List.{list_any}
 use Rattle.std.specs.FinMap.{get}
 use Rattle.std.proofs.lemmas.List.Sums.{count_by-le-length}
-use Rattle.kernel_core.specs.NodeCalls.{held, released}
+use Rattle.kernel_core.specs.NodeCalls.{held}
 use Rattle.kernel_core.specs.Nodes.{Nodes, Inode, is_directory, update}
 use Rattle.kernel_core.specs.Queries.{FileKind, DirectoryKind, NodeKind, holds_at, holds_in, kind_at, kind_of}
 use Rattle.file_system_laws.proofs.HeldNodes.{hold_counts, update-kind}
@@ -12,7 +11,7 @@ use Rattle.file_system_laws.proofs.NodeLaws.{hold_keeps}
 use Rattle.kernel_laws.proofs.Lists.{count_changed, either_way, one_if, one_or_none, or_false}
 use Rattle.kernel_laws.proofs.NodesKept.{directory_still, fits_still, open_still, same_directory}
 use Rattle.kernel_laws.proofs.Owing.{IsOwing, let_go_kept}
-use Rattle.kernel_laws.specs.Ends.{AreFiles, HasEndsOnce}
+use Rattle.kernel_laws.specs.Ends.{HasEndsOnce}
 use Rattle.kernel_model.proofs.Described.{any_set, count_set, slot_cases}
 use Rattle.kernel_model.proofs.LeastFree.{least_free}
 use Rattle.kernel_model.proofs.Pigeons.{description_place}
@@ -24,7 +23,7 @@ use Rattle.kernel_model.specs.NodeRows.{after_change}
 use Rattle.kernel_model.specs.Opening.{after_open}
 use Rattle.kernel_model.specs.Shared.{OpenSet}
 use Rattle.kernel_model.specs.State.{Files}
-use Rattle.kernel_model.specs.Table.{inserted, lowest_free, new_place, slot, with_slot}
+use Rattle.kernel_model.specs.Table.{inserted, lowest_free, new_place, slot}
 use Rattle.kernel_model.specs.declared.descriptor.Description.{Description}
 use Rattle.kernel_model.specs.declared.descriptor.Object.{Object}
 use Rattle.kernel_model.specs.declared.descriptor.Object.TheVariants as objects

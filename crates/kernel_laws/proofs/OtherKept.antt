@@ -1,19 +1,19 @@
 -- The rows on time, readiness, limits and chance keep the kernel.
 use Rattle.std.proofs.Common.{◌≡◌, ◌≢◌, ℕ, ◌+◌, ◌%◌, ◌^◌, ◌<◌, ◌≤◌, List, length, get_or, set, Bool, true, false, ◌&&◌, refl, sym, ◌∙◌, ap, subst, arith}
-use Rattle.std.specs.Prelude.{All, Option, Some, None, Ok, Err, nat_lt, ◌==◌, not, ℤ, unwrap_or, if◌then◌else◌}
+use Rattle.std.specs.Prelude.{Option, Some, None, Ok, Err, nat_lt, ◌==◌, ℤ, unwrap_or, if◌then◌else◌}
 use Rattle.std.proofs.lemmas.Bool.{leb-false, eqb-true}
 use Rattle.std.proofs.lemmas.List.{length-set, get_or-set_same, get_or-set_other}
 use Rattle.std.proofs.lemmas.List.Elements.{All-set}
 use Rattle.kernel_core.specs.declared.resource.Resource.{Resource}
-use Rattle.kernel_laws.proofs.Keeps.{Keeps, keeps, if_keeps, some_keeps, given_keeps, done_keeps, transferring_keeps}
+use Rattle.kernel_laws.proofs.Keeps.{Keeps, keeps, done_keeps, transferring_keeps}
 use Rattle.kernel_laws.proofs.KernelParts.{with_chance_kept, with_limits_kept, with_timer_kept}
 use Rattle.kernel_laws.proofs.SignalsKept.{until_keeps}
 use Rattle.kernel_laws.specs.Arguments.{WhereGiven}
 use Rattle.kernel_model.specs.Always.{IsKernel, IsLimit, IsTimer}
 use Rattle.kernel_model.specs.Came.{Given, given_or_none}
-use Rattle.kernel_model.specs.Clock.{TimerSetting, alarm, arm_timer, armed, capped, length_of_val, read_clock, read_timer, resolution, sleep, unarmed}
+use Rattle.kernel_model.specs.Clock.{TimerSetting, alarm, arm_timer, armed, capped, read_clock, read_timer, resolution, sleep, unarmed}
 use Rattle.kernel_model.specs.Readiness.{PollEntry, Sets, poll, select}
-use Rattle.kernel_model.specs.State.{Kernel, Timer}
+use Rattle.kernel_model.specs.State.{Kernel}
 use Rattle.kernel_model.specs.System.{is_nofile, random_bytes, resource_place, set_limit, set_limit_to, unlimited}
 use Rattle.kernel_model.specs.Table.{descriptor_limit}
 use Rattle.kernel_model.specs.declared.limit.Limit.{Limit}

@@ -1,9 +1,6 @@
 -- Files in which one object more is open than descriptions have: it is about to get a description, or has just lost its last one.
-use Rattle.std.proofs.Common.{◌≡◌, ◌≢◌, ℕ, ◌+◌, ◌-◌, ◌<◌, ◌≤◌, ◌^◌, length, Bool, true, false, ◌||◌, refl, sym, ◌∙◌, ap, subst, arith, inl, inr}
-use Rattle.std.specs.Prelude.{All, Option, Some, None, is_some, count_by, unwrap_or, not, ◌==◌, ◌⊎◌, ⊤, if◌then◌else◌}
-use Rattle.std.specs.List.{list_any}
-use Rattle.std.specs.FinMap.{get}
-use Rattle.std.proofs.lemmas.Bool.{cases_eq}
+use Rattle.std.proofs.Common.{◌≡◌, ◌≢◌, ℕ, ◌+◌, ◌-◌, ◌<◌, ◌≤◌, length, Bool, true, false, ◌||◌, refl, sym, ◌∙◌, ap, subst, arith}
+use Rattle.std.specs.Prelude.{All, Option, Some, None, is_some, unwrap_or, ◌==◌, ⊤, if◌then◌else◌}
 use Rattle.std.proofs.lemmas.List.{length-set}
 use Rattle.std.proofs.lemmas.List.Folds.{list_any_at}
 use Rattle.kernel_core.specs.FileSystem.{IsFileSystem}
@@ -12,14 +9,14 @@ use Rattle.kernel_core.specs.Nodes.{Nodes, is_directory}
 use Rattle.kernel_core.specs.Queries.{holds_at, kind_at}
 use Rattle.file_system_laws.proofs.HeldNodes.{live_on, release_counts, release_kinds}
 use Rattle.file_system_laws.proofs.NodeLaws.{release_keeps}
-use Rattle.kernel_laws.proofs.Lists.{apart, either_way, one_counts, one_if, or_false, same}
+use Rattle.kernel_laws.proofs.Lists.{apart, either_way, one_if, or_false, same}
 use Rattle.kernel_laws.proofs.NodesKept.{directory_still, fits_still, open_still}
 use Rattle.kernel_model.proofs.Described.{slot_cases, within}
 use Rattle.kernel_model.specs.Always.{AreMoved, IsFiles, IsOpen, IsPipe, IsTable, any_open, fits_object, has_open, holders, is_node, is_read_end, is_write_end}
 use Rattle.kernel_model.specs.DescriptorRows.{let_go}
 use Rattle.kernel_model.specs.Descriptions.{kept_flags}
 use Rattle.kernel_model.specs.Pipes.{kept_pipe, pipe_at, pipe_size, without_readers, without_writers}
-use Rattle.kernel_model.specs.State.{Files, Flow, Pipe}
+use Rattle.kernel_model.specs.State.{Files, Pipe}
 use Rattle.kernel_model.specs.Table.{descriptor_limit, slot, with_slot}
 use Rattle.kernel_model.specs.declared.descriptor.Description.{Description}
 use Rattle.kernel_model.specs.declared.descriptor.Object.{Object}

@@ -1,6 +1,6 @@
 -- The rows on signals keep the kernel.
-use Rattle.std.proofs.Common.{◌≡◌, ◌≢◌, ℕ, zero, suc, ◌+◌, ◌-◌, ◌<◌, ◌≤◌, List, [], ◌∷◌, length, drop, get_or, set, Bool, true, false, ◌&&◌, refl, sym, ◌∙◌, ap, subst, arith, length-drop, ◌⊎◌, inl, inr}
-use Rattle.std.specs.Prelude.{All, Option, Some, None, is_some, Ok, Err, sum_by, nat_lt, nat_le, ◌==◌, not, ℤ, if◌then◌else◌}
+use Rattle.std.proofs.Common.{◌≡◌, ℕ, suc, ◌+◌, ◌-◌, ◌<◌, ◌≤◌, List, [], ◌∷◌, length, drop, get_or, set, Bool, true, false, ◌&&◌, refl, sym, ◌∙◌, ap, subst, arith, length-drop, inl, inr}
+use Rattle.std.specs.Prelude.{Option, Some, None, is_some, Ok, Err, sum_by, nat_lt, nat_le, ◌==◌, not, ℤ, if◌then◌else◌}
 use Rattle.std.proofs.lemmas.Bool.{leb-false, cases_lt}
 use Rattle.std.proofs.lemmas.List.{length-set, get_or-set_other, get_or-drop, drop-set-lt, drop-set-add}
 use Rattle.std.proofs.lemmas.List.Elements.{All-set}
@@ -8,7 +8,7 @@ use Rattle.std.proofs.lemmas.List.Sums.{sum_by-set}
 use Rattle.kernel_core.specs.declared.mask.MaskChange.{MaskChange}
 use Rattle.kernel_core.specs.declared.mask.MaskChange.TheVariants as changes
 use Rattle.kernel_core.specs.declared.signal.Sig.{Sig}
-use Rattle.kernel_laws.proofs.Keeps.{Keeps, keeps, if_keeps, some_keeps, given_keeps, done_keeps, refused_keeps, waits_keeps, choice_keeps}
+use Rattle.kernel_laws.proofs.Keeps.{Keeps, keeps, done_keeps, waits_keeps, choice_keeps}
 use Rattle.kernel_laws.proofs.KernelParts.{with_signals_kept}
 use Rattle.kernel_laws.proofs.SignalWords.{blockable_mask, not_kill, not_stop, union_set, without_set}
 use Rattle.kernel_laws.specs.Arguments.{WhereGiven}
@@ -17,7 +17,7 @@ use Rattle.kernel_model.specs.Always.{AreSignals, IsKernel, IsMask, IsPendingAt,
 use Rattle.kernel_model.specs.Came.{Did, Given, given_or_none}
 use Rattle.kernel_model.specs.Clock.{waits_until}
 use Rattle.kernel_model.specs.Shared.{Info}
-use Rattle.kernel_model.specs.SignalRows.{Named, Nothing, Signal, Unlisted, SentInfo, accept, accept_first, accept_signal, after_action, change_mask, changed_mask, ignores, is_unblockable, kept_stack, kill, kill_thread, kill_thread_of, least_stack, no_action, no_stack, pause, pending, pending_at, post, queue, queued, queue_limit, send, send_named, sent_as, set_action, set_action_to, set_stack, set_stack_to, ss_disable, suspend, with_mask, with_pending, with_stack}
+use Rattle.kernel_model.specs.SignalRows.{Named, Nothing, Signal, Unlisted, SentInfo, accept, accept_first, accept_signal, after_action, change_mask, changed_mask, ignores, is_unblockable, kept_stack, kill, kill_thread, kill_thread_of, least_stack, no_action, no_stack, pause, pending, pending_at, queue, queued, queue_limit, send, send_named, sent_as, set_action, set_action_to, set_stack, set_stack_to, ss_disable, suspend, with_mask, with_pending, with_stack}
 use Rattle.kernel_model.specs.SignalSets.{SignalSet, blockable, place, standard_count}
 use Rattle.kernel_model.specs.State.{Kernel, Signals}
 use Rattle.kernel_model.specs.declared.signal.Action.{Action}

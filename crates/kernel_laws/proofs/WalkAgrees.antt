@@ -1,6 +1,6 @@
 -- A place that the walk of a path gives agrees with the nodes.
-use Rattle.std.proofs.Common.{◌≡◌, ℕ, zero, suc, ◌+◌, ◌<◌, ◌≤◌, Bool, true, false, List, [], ◌∷◌, ◌++◌, length, get_or, Option, Some, None, is_some, refl, sym, ◌∙◌, ap, subst, arith, inl, inr}
-use Rattle.std.specs.Prelude.{Result, Ok, Err, ◌||◌, ◌&&◌, not, ◌==◌, nat_lt, slice_index, ok_or, ⊤, ◌⊎◌, if◌then◌else◌}
+use Rattle.std.proofs.Common.{◌≡◌, ℕ, zero, suc, ◌<◌, ◌≤◌, Bool, true, false, List, [], ◌∷◌, ◌++◌, length, Option, Some, None, is_some, refl, sym, ◌∙◌, ap, subst, arith, inl, inr}
+use Rattle.std.specs.Prelude.{Result, Ok, Err, ◌||◌, ◌&&◌, not, ◌==◌, nat_lt, slice_index, ok_or, ⊤, if◌then◌else◌}
 use Rattle.std.specs.List.{list_any}
 use Rattle.std.specs.FinMap.{get}
 use Rattle.std.proofs.lemmas.Bool.{leb-false, or_parts}
@@ -8,8 +8,8 @@ use Rattle.std.proofs.lemmas.List.Folds.{list_any-append}
 use Rattle.kernel_core.specs.FileSystem.{IsFileSystem, IsLiveContent, parent_of}
 use Rattle.kernel_core.specs.Nodes.{Nodes, Inode, NodeContent, File, Directory, Link, Listing, in_inode, is_directory, listing_at, listing_in, target_at, target_in}
 use Rattle.kernel_core.specs.PathWalk.{Agrees, Place, begins_with_slash, closed, components, components_after, ends_with_slash, link_limit, name_limit, named}
-use Rattle.kernel_core.specs.Queries.{Wrong, listed_meaning, meaning, named_meaning, node_meaning, at_last, on_the_way, place, walked, walked_from, walked_through}
-use Rattle.kernel_core.specs.ValidTree.{IsTarget, is_no_name_byte, root}
+use Rattle.kernel_core.specs.Queries.{Wrong, listed_meaning, named_meaning, node_meaning, at_last, on_the_way, place, walked, walked_from, walked_through}
+use Rattle.kernel_core.specs.ValidTree.{is_no_name_byte, root}
 use Rattle.kernel_core.specs.declared.error.Errno.{Errno}
 use Rattle.kernel_core.specs.declared.error.Errno.TheVariants.{ELOOP, ENAMETOOLONG, ENOENT, ENOTDIR}
 use Rattle.file_system_laws.proofs.Places.{by_name, node_lives, parent_is_directory}

@@ -5,6 +5,12 @@
 
 pub mod beginning;
 pub mod clocks;
+pub mod contents;
+pub mod descriptors;
+pub mod machine;
+pub mod names;
+pub mod nodes;
 pub mod sending;
 pub mod signals;
 pub mod system;
+pub mod transfers;

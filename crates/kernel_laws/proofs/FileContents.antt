@@ -1,20 +1,18 @@
 -- The content of a file after a write and with another size: one that a file may have, and no more blocks than there are.
-use Rattle.std.proofs.Common.{◌≡◌, ◌≢◌, ℕ, zero, suc, ◌+◌, ◌-◌, ◌*◌, ◌/◌, ◌%◌, ◌<◌, ◌≤◌, Bool, true, false, cond, List, [], ◌∷◌, length, take, get_or, Option, Some, None, is_some, refl, sym, ◌∙◌, ap, subst, arith, inl, inr}
-use Rattle.std.specs.Prelude.{All, filter, nat_lt, nat_le, ◌==◌, ℤ, if◌then◌else◌}
+use Rattle.std.proofs.Common.{◌≡◌, ◌≢◌, ℕ, zero, suc, ◌+◌, ◌-◌, ◌*◌, ◌/◌, ◌%◌, ◌<◌, ◌≤◌, Bool, true, false, cond, List, [], ◌∷◌, length, take, Option, Some, None, is_some, refl, sym, ◌∙◌, ap, subst, arith, inl, inr}
+use Rattle.std.specs.Prelude.{All, nat_lt, nat_le, ◌==◌, ℤ, if◌then◌else◌}
 use Rattle.std.specs.Ordering.{nat_cmp}
-use Rattle.std.specs.Cmp.{nat_cmp_total}
-use Rattle.std.specs.FinMap.{FinMap, entries, entries_sorted, entries-from_sorted, from_sorted, get, get-entries, get-from_sorted, get-retain_keys, insert, len, len-entries, retain_keys}
+use Rattle.std.specs.FinMap.{entries, entries_sorted, entries-from_sorted, from_sorted, get, get-entries, get-from_sorted, get-retain_keys, insert, len, len-entries, retain_keys}
 use Rattle.std.specs.FinMap.Entries.{find-where_key, is_sorted-where_key, where_key}
 use Rattle.std.proofs.lemmas.Bool.{cases_eq, leb-false, leb-true}
 use Rattle.std.proofs.lemmas.List.Sums.{length-filter, count_by-le-length}
 use Rattle.std.proofs.lemmas.List.{length-take-le}
 use Rattle.std.proofs.lemmas.Map.Lookups.{exact_unsigned}
-use Rattle.kernel_core.specs.FileContent.{Blocks, FileContent, IsContent, absent_blocks, block_size, cut, greatest_size, kept_blocks, longest_write, new_blocks, resized, size_with, with_byte, with_bytes, with_zero_tail, written}
+use Rattle.kernel_core.specs.FileContent.{Blocks, FileContent, IsContent, absent_blocks, block_size, cut, greatest_size, kept_blocks, longest_write, new_blocks, size_with, with_byte, with_bytes, with_zero_tail, written}
 use Rattle.kernel_core.specs.FileSystem.{IsFileSystem, IsLiveContent, IsTime}
 use Rattle.kernel_core.specs.NodeCalls.{after_resize, after_write, write_length, write_refusal}
 use Rattle.kernel_core.specs.Nodes.{Nodes, File, Inode, file_at}
 use Rattle.kernel_core.specs.Totals.{spare_blocks}
-use Rattle.kernel_core.specs.declared.error.Errno.{Errno}
 use Rattle.kernel_core.specs.declared.error.Errno.TheVariants.{EFBIG, ENOSPC}
 use Rattle.file_blocks.proofs.Validity.{AreBytes, cut-valid, write-valid}
 use Rattle.file_system_laws.proofs.Lookups.{file_found, get-insert_other, get-insert_same, len-insert_new, len-insert_old, same_nodes}
