@@ -9,7 +9,7 @@ use mir.Val.{Val}
 use base.Logic.{never, fst∗}
 use base.Fml.{Lft, Share, fat, flft}
 use types.Logic.{Logic, sem}
-use types.Kit.{Item, Goal, Seq, Step, Soaks, step, ‵, ◌$◌, move, drop, rewrite, fsplit, fjoin, fpick, feq_i, feq_l}
+use types.Kit.{Item, Goal, Seq, Step, Soaks, step, ‵, ◌$◌, move, drop, rewrite, fsplit, fpick, feq_i, feq_l}
 use denote.RattleType.{RattleType}
 use denote.Copied.{plain_Copied}
 use denote.Memory.{cell_at, part_at, shared_of, hidden_shr}

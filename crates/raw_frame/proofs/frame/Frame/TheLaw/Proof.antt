@@ -1,7 +1,7 @@
 -- A `&` to a frame is made where one to its block's value is.
 use Rattle.std.specs.Prelude.{Option, Some, None}
 use base.Fraction.{full_share}
-use base.Fml.{Fml, Lft, Incl, ftrue, fsep, feq, Incl-trans}
+use base.Fml.{Lft, Incl, feq, Incl-trans}
 use contract.BorrowLft.{meet_⊑_left}
 use mathlib.Core.List.{[], ◌++◌}
 use mir.Raw.{raw as bare}

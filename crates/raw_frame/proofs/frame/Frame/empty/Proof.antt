@@ -1,13 +1,13 @@
 -- `empty` makes a frame of the null pointer, which owns nothing.
 use Rattle.std.proofs.Common.{List, [], ◌∷◌, ◌++◌, ◌≡◌, refl, sym, subst, lit<}
-use Rattle.std.specs.Prelude.{Option, None}
+use Rattle.std.specs.Prelude.{None}
 use mir.Syntax.{a_type}
 use mir.Val.{Val}
 use mir.MapTy.{inst_fn}
 use base.Logic.{SProp, ent, emp, id⊢}
-use base.Fml.{ftrue, fsep, flft}
+use base.Fml.{ftrue, flft}
 use prog.Wp.{WpFn}
-use types.Kit.{‵, raw, ◌⊛◌, ◌$◌, ◌∵◌, !, qed, by, move, keep, drop, split, fsplit, fjoin, feq_i, suffices, use0, use1, rewrite}
+use types.Kit.{‵, raw, ◌⊛◌, ◌$◌, ◌∵◌, !, qed, by, move, keep, drop, split, fjoin, feq_i, suffices, use0, use1}
 use types.Run.{lit, no_more, and_then, returns, enter}
 use types.ByLocal.{alloc_all, pass_all, free_all, look_at, get, sets}
 use types.Part.{agg}
@@ -16,7 +16,7 @@ use contract.Running.{tables}
 use denote.Exit.{yes}
 use denote.RattleType.{RattleType, owns}
 use denote.RawPtr.{Ptr, null_ptr}
-use denote.Signature.{types_at, type_at, plain}
+use denote.Signature.{types_at, plain}
 use denote.Steps.{nothing}
 use denote.Param.{param, layouts}
 use denote.Param.Laws.{param_laws}
@@ -26,7 +26,7 @@ use Rattle.std.proofs.raw_atomic.Walks.{proved_at, leaves}
 use Rattle.std.specs.contracts.alloc.Global as heap
 use Rattle.std.proofs.alloc.Global.TheLaws as heap_laws
 use Rattle.raw_frame.specs.contracts.frame.Frame as frame
-use Rattle.raw_frame.proofs.FrameValues.{pointer_good, FrameRow, Data, word, data_made}
+use Rattle.raw_frame.proofs.FrameValues.{FrameRow, Data, word, data_made}
 use Rattle.raw_frame.specs.contracts.frame.Frame.empty.{ended, clauses}
 use Rattle.raw_frame.specs.contracts.frame.Frame.empty.Key.{name as #self}
 use Rattle.raw_frame.proofs.frame.Frame.empty.Statement.{statement}

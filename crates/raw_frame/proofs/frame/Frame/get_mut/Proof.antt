@@ -1,6 +1,6 @@
 -- `get_mut` lends the block's value, and the frame follows it.
-use Rattle.std.proofs.Common.{◌≡◌, ℕ, ◌+◌, List, [], ◌∷◌, ◌++◌, refl, sym, ap, ◌∙◌, subst}
-use Rattle.std.specs.Prelude.{Option, Some, None, IsSome}
+use Rattle.std.proofs.Common.{◌≡◌, ℕ, List, [], ◌∷◌, refl, sym, ap, ◌∙◌}
+use Rattle.std.specs.Prelude.{Option, Some, IsSome}
 use seplogic.Ra.Ura.{Ura}
 use mir.Raw.{raw as bare}
 use mir.Syntax.{a_type, named}
@@ -8,10 +8,9 @@ use mir.Val.{Val, vptr}
 use mir.MapTy.{inst_fn}
 use base.Fraction.{full_share}
 use base.Logic.{SProp, ent, sep, emp, never, id⊢, fst∗}
-use base.Fml.{GName, Lft, Share, Fml, ftrue, fex, fsep, flft}
-use prog.Wp.{WpFn}
+use base.Fml.{GName, Lft, Share, Fml, ftrue, fsep, flft}
 use types.Logic.{Logic, sem}
-use types.Kit.{‵, raw, ◌⊛◌, some, later, at_ret, ◌$◌, ◌∵◌, !, qed, by, move, keep, drop, split, split3, join, group, fsplit, fsplit3, fjoin, fpick, fpack, pick, await, suffices, use0, use1, rewrite, done}
+use types.Kit.{‵, raw, ◌⊛◌, some, later, at_ret, ◌$◌, ◌∵◌, !, qed, by, move, keep, drop, split, split3, join, group, fsplit, fsplit3, fjoin, fpick, fpack, pick, await, use0, use1, rewrite, done}
 use types.Part.{whole, sub, look_in}
 use types.Run.{stop, fld, hop, of_opd, addr, first, blocks, exec, returns, enter}
 use types.ByLocal.{alloc_all, pass_all, free_all, look_at, get, through, sets, sets_last, env}
@@ -19,7 +18,6 @@ use contract.Monad.{fact, fact_i}
 use contract.BorrowLft.{◌⊑◌}
 use contract.Running.{tables}
 use denote.Exit.{no}
-use denote.Builtin.{RefMutOf}
 use denote.Follow.{follows, Part, lends_Part}
 use denote.RattleType.{RattleType, owns}
 use denote.Laws.{Is, shows}
@@ -36,7 +34,7 @@ use Rattle.std.proofs.alloc.Shapes.{after}
 use Rattle.std.proofs.raw_atomic.Walks.{proved, leaves}
 use Rattle.std.specs.Box.Ownership.{box_owns}
 use Rattle.std.specs.contracts.impls.GlobalAllocator.TheImpl.{ghosts}
-use Rattle.raw_frame.specs.Frames.{testable, frame_owns}
+use Rattle.raw_frame.specs.Frames.{frame_owns}
 use Rattle.raw_frame.specs.Lends.{with_value}
 use Rattle.raw_frame.specs.contracts.frame.Frame as frame
 use Rattle.raw_frame.proofs.FrameValues.{some_of, FrameRow, Data, word, word_is}

@@ -1,11 +1,11 @@
 -- `into_loose` moves the two fields, and what the frame owns goes with them.
 use Rattle.std.proofs.Common.{List, [], ◌∷◌, ◌++◌, ◌≡◌, refl, sym, subst}
-use Rattle.std.specs.Prelude.{Option, Some, None, IsSome}
+use Rattle.std.specs.Prelude.{Option, Some, IsSome}
 use mir.Syntax.{a_type}
 use mir.Val.{Val}
 use mir.MapTy.{inst_fn}
 use base.Logic.{SProp, ent, emp, id⊢}
-use base.Fml.{ftrue, fsep, flft}
+use base.Fml.{ftrue, flft}
 use prog.Wp.{WpFn}
 use types.Kit.{‵, raw, ◌⊛◌, ◌$◌, ◌∵◌, !, qed, by, move, keep, drop, split, fsplit, fjoin, suffices, use0, use1, rewrite}
 use types.Run.{stop, fld, of_opd, no_more, and_then, returns, enter}
@@ -16,19 +16,16 @@ use contract.BorrowLft.{◌⊑◌}
 use contract.Running.{tables}
 use denote.Exit.{no}
 use denote.RattleType.{RattleType, owns}
-use denote.Laws.{Is, shows}
 use denote.Signature.{types_at, type_at, plain}
-use denote.Steps.{nothing, heard, peeks}
+use denote.Steps.{nothing, heard}
 use denote.Param.{param, layouts}
 use denote.Param.Laws.{param_laws}
-use denote.Struct.Owning.{to}
 use denote.Triple.Walked.{Stays, stay_dropped, walk_of}
 use Rattle.std.proofs.alloc.Calls.{Goes-blank}
 use Rattle.std.proofs.raw_atomic.Walks.{proved_at, leaves}
 use Rattle.std.specs.contracts.impls.GlobalAllocator.TheImpl.{ghosts}
-use Rattle.raw_frame.specs.Frames.{testable, frame_owns}
-use Rattle.raw_frame.specs.contracts.frame.Frame as frame
-use Rattle.raw_frame.proofs.FrameValues.{pointer_good, some_of, FrameRow, Data, word, word_is, word_good}
+use Rattle.raw_frame.specs.Frames.{frame_owns}
+use Rattle.raw_frame.proofs.FrameValues.{pointer_good, some_of, FrameRow, word, word_is, word_good}
 use Rattle.raw_frame.specs.contracts.frame.Frame.into_loose.{ended, clauses}
 use Rattle.raw_frame.specs.contracts.frame.Frame.into_loose.Key.{name as #self}
 use Rattle.raw_frame.proofs.frame.Frame.into_loose.Statement.{statement}

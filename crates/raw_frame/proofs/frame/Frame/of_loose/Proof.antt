@@ -17,7 +17,7 @@ use denote.Exit.{no}
 use denote.RattleType.{RattleType, owns}
 use denote.Laws.{Is, shows}
 use denote.RawPtr.{Testable}
-use denote.Signature.{types_at, type_at, plain}
+use denote.Signature.{types_at, plain}
 use denote.Steps.{nothing, peeks}
 use denote.Param.{param, layouts}
 use denote.Param.Laws.{param_laws}
