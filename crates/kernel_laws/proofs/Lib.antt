@@ -20,3 +20,4 @@ pub mod EndsKept
 pub mod OpenThingsKept
 pub mod TransferEnds
 pub mod WholeKept
+pub mod rows

@@ -1,0 +1,7 @@
+pub mod Full
+pub mod Moved
+pub mod OnDirectories
+pub mod OnNodes
+pub mod OnStart
+pub mod OnTerminals
+pub mod Removed
