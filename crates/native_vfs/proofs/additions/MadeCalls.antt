@@ -18,14 +18,14 @@ use Rattle.file_system_laws.proofs.Lookups.{is_some-update, get-update_found, di
 use Rattle.file_system_laws.proofs.Making.{create_keeps, mkdir_keeps, symlink_keeps}
 use Rattle.directory_names.specs.Names.{Names, plain}
 use Rattle.native_vfs.specs.Answers.{Makes}
-use Rattle.native_vfs.specs.Keyed.{Keyed, AgreesAt, AreKeys, place_at, number_at}
+use Rattle.native_vfs.specs.Keyed.{Keyed, AgreesAt, place_at, number_at}
 use Rattle.native_vfs.specs.inside.Making.{IsMade}
 use Rattle.native_vfs.specs.inside.Steps.{IsSame, links_in, links_at}
-use Rattle.native_vfs.specs.inside.Stored.{Table, nodes_of, keyed_of, content_of, number_of_key, Leads, ContentLeads, IsKept, IsStep}
+use Rattle.native_vfs.specs.inside.Stored.{Table, nodes_of, keyed_of, content_of, number_of_key, Leads, ContentLeads, IsStep, IsKept}
 use Rattle.native_vfs.specs.declared.place.Place.{Place as KeyedPlace}
 use Rattle.native_vfs.specs.declared.stored.Stored.{Stored}
 use Rattle.native_vfs.specs.declared.stored.StoredContent.TheVariants as kept
-use Rattle.native_vfs.proofs.tables.Kept.{nodes-view, keys-view, valid-view, are-keys-view}
+use Rattle.native_vfs.proofs.tables.Kept.{IsWhole, nodes-view, keys-view}
 use Rattle.native_vfs.proofs.additions.MadeNodes.{agrees-nodes}
 use Rattle.native_vfs.proofs.tables.Reasons.{live-dir}
 use Rattle.native_vfs.proofs.tables.Tables.{keys-kept, distinct-kept, leads-kept, number-there, number_at-table}
@@ -40,13 +40,6 @@ module _ (table : Table) (system : Keyed) (view : keyed_of table ≡ system) whe
   pub agrees-kept : (at : KeyedPlace) → AgreesAt system at → AgreesAt (keyed_of table) at
   agrees-kept at agrees = subst (λ s. AgreesAt s at) (sym view) agrees
 
-  module _ (taken : List Bool) (entries blocks root : ℕ) (is : IsKept table taken entries blocks root) where
-    pub valid-seen : IsFileSystem system.nodes
-    valid-seen = subst (λ s. IsFileSystem s.nodes) view (valid-view table taken entries blocks root is)
-
-    pub are-keys-seen : AreKeys system
-    are-keys-seen = subst AreKeys view (are-keys-view table taken entries blocks root is)
-
 -- Where nothing changes
 
 module _ (old new : Table) (same : IsSame old new) where
@@ -57,8 +50,8 @@ module _ (old new : Table) (same : IsSame old new) where
       ∙ ap (λ keys. record (keyed_of old) { keys = keys }) same.keys
       ∙ view
 
-  pub kept-same : (taken after : List Bool) (entries blocks root : ℕ) → after ≡ taken → IsKept old taken entries blocks root → IsKept new after entries blocks root
-  kept-same taken after entries blocks root untaken is = subst (λ t. IsKept new t entries blocks root) (sym untaken) (record {
+  pub whole-same : (taken after : List Bool) (entries blocks root : ℕ) → after ≡ taken → IsWhole old taken entries blocks root → IsWhole new after entries blocks root
+  whole-same taken after entries blocks root untaken is = subst (λ t. IsWhole new t entries blocks root) (sym untaken) (record {
     distinct = distinct-kept old new same.numbers is.distinct;
     references = same.references is.references;
     system = subst IsFileSystem (sym same.nodes) is.system;
@@ -68,12 +61,22 @@ module _ (old new : Table) (same : IsSame old new) where
     top = leads-kept old new same.numbers _ is.top;
   })
 
+  pub kept-same : (entries left root : ℕ) → left ≡ entries → IsKept old entries root → IsKept new left root
+  kept-same entries left root uncounted is = record {
+    sound = record {
+      references = same.references is.sound.references;
+      system = subst IsFileSystem (sym same.nodes) is.sound.system;
+      entry_total = uncounted ∙ is.sound.entry_total ∙ ap live_entries (sym same.nodes);
+    };
+    top = leads-kept old new same.numbers _ is.top;
+  }
+
 -- Where a node was made
 
 module _ (old new : Table) (taken : List Bool) (key : ℕ) (after : ℕ → Nodes) (made : IsMade old new taken key after) where
-  pub kept-made : (before : List Bool) (entries blocks root : ℕ) → IsKept old before entries blocks root → IsFileSystem (after made.number) → IsNamed (nodes_of old) (after made.number) 1
-      → IsKept new taken (entries + 1) blocks root
-  kept-made before entries blocks root is system counts = record {
+  pub whole-made : (before : List Bool) (entries blocks root : ℕ) → IsWhole old before entries blocks root → IsFileSystem (after made.number) → IsNamed (nodes_of old) (after made.number) 1
+      → IsWhole new taken (entries + 1) blocks root
+  whole-made before entries blocks root is system counts = record {
     distinct = made.distinct;
     references = made.references is.references;
     system = subst IsFileSystem (sym made.nodes) system;
@@ -116,32 +119,32 @@ makes-seen old new taken key at after system view made =
 
 -- The calls
 
-module _ (old new : Table) (before taken : List Bool) (entries blocks root key : ℕ) (at : KeyedPlace) (now : ℤ) (is : IsKept old before entries blocks root) (agrees : AgreesAt (keyed_of old) at)
+module _ (old new : Table) (before taken : List Bool) (entries blocks root key : ℕ) (at : KeyedPlace) (now : ℤ) (is : IsWhole old before entries blocks root) (agrees : AgreesAt (keyed_of old) at)
     (time : IsTime now) where
   abbrev place : Place
   place = place_at (keyed_of old) at
 
   module _ (free : make_refusal (nodes_of old) (place_at (keyed_of old) at) ≡ None) (mode : ℕ) (small : mode ≤ greatest_mode) where
-    pub kept-created : IsMade old new taken key (λ number. after_create (nodes_of old) (place_at (keyed_of old) at) number mode now) → IsKept new taken (entries + 1) blocks root
-    kept-created made =
+    pub whole-created : IsMade old new taken key (λ number. after_create (nodes_of old) (place_at (keyed_of old) at) number mode now) → IsWhole new taken (entries + 1) blocks root
+    whole-created made =
         let there = agrees-nodes old at agrees in
-        kept-made old new taken key (λ number. after_create (nodes_of old) place number mode now) made before entries blocks root is
+        whole-made old new taken key (λ number. after_create (nodes_of old) place number mode now) made before entries blocks root is
         (create_keeps (nodes_of old) place made.number now is.system there free made.least time mode small)
         (create_counts (nodes_of old) place made.number now there.listing there.live made.least.unused mode)
 
-    pub kept-mkdir : IsMade old new taken key (λ number. after_mkdir (nodes_of old) (place_at (keyed_of old) at) number mode now) → IsKept new taken (entries + 1) blocks root
-    kept-mkdir made =
+    pub whole-mkdir : IsMade old new taken key (λ number. after_mkdir (nodes_of old) (place_at (keyed_of old) at) number mode now) → IsWhole new taken (entries + 1) blocks root
+    whole-mkdir made =
         let there = agrees-nodes old at agrees in
-        kept-made old new taken key (λ number. after_mkdir (nodes_of old) place number mode now) made before entries blocks root is
+        whole-made old new taken key (λ number. after_mkdir (nodes_of old) place number mode now) made before entries blocks root is
         (mkdir_keeps (nodes_of old) place made.number now is.system there free made.least time mode small)
         (mkdir_counts (nodes_of old) place made.number now there.listing there.live made.least.unused mode)
 
-  pub kept-symlink : (target : List ℕ) → symlink_refusal (nodes_of old) (place_at (keyed_of old) at) target ≡ None → ((place : ℕ) → slice_index target place < 256) → length target ≤ 4095
+  pub whole-symlink : (target : List ℕ) → symlink_refusal (nodes_of old) (place_at (keyed_of old) at) target ≡ None → ((place : ℕ) → slice_index target place < 256) → length target ≤ 4095
       → list_any (λ byte. eqb byte 0) target ≡ false → IsMade old new taken key (λ number. after_symlink (nodes_of old) (place_at (keyed_of old) at) number target now)
-      → IsKept new taken (entries + 1) blocks root
-  kept-symlink target free bytes short plain made =
+      → IsWhole new taken (entries + 1) blocks root
+  whole-symlink target free bytes short plain made =
       let there = agrees-nodes old at agrees in
-      kept-made old new taken key (λ number. after_symlink (nodes_of old) place number target now) made before entries blocks root is
+      whole-made old new taken key (λ number. after_symlink (nodes_of old) place number target now) made before entries blocks root is
       (symlink_keeps (nodes_of old) place made.number target now is.system there free made.least time bytes short plain)
       (symlink_counts (nodes_of old) place made.number now there.listing there.live made.least.unused target)
 
