@@ -166,7 +166,7 @@ fn make(
     requires free { names.make_refusal (nodes_of inodes.old.table) (place_at (keyed_of inodes.old.table) at.now) ≡ None }
     requires leads { ContentLeads inodes.old.table node.content }
     requires no_blocks { content_blocks (content_of node.content) ≡ 0 }
-    ensures made { IfOk result (λ key. IsMade inodes.old.table inodes.new.table inodes.new.numbers key (λ number. names.after_make (nodes_of inodes.old.table) (place_at (keyed_of inodes.old.table) at.now) number (names.new_inode node.mode node.links (content_of node.content) now) now)) }
+    ensures made { IfOk result (λ key. IsMade inodes.old.table inodes.new.table key (λ number. names.after_make (nodes_of inodes.old.table) (place_at (keyed_of inodes.old.table) at.now) number (names.new_inode node.mode node.links (content_of node.content) now) now)) }
     ensures same { OnErr result (IsSame inodes.old.table inodes.new.table) }
     ensures entries { inodes.new.entries ≡ inodes.old.entries }
 {
@@ -206,7 +206,7 @@ fn make_link(
 ) -> Result<usize, NoMemory>
     requires agrees { AgreesAt (keyed_of inodes.old.table) at.now }
     requires free { names.make_refusal (nodes_of inodes.old.table) (place_at (keyed_of inodes.old.table) at.now) ≡ None }
-    ensures made { IfOk result (λ key. IsMade inodes.old.table inodes.new.table inodes.new.numbers key (λ number. names.after_symlink (nodes_of inodes.old.table) (place_at (keyed_of inodes.old.table) at.now) number target.now now)) }
+    ensures made { IfOk result (λ key. IsMade inodes.old.table inodes.new.table key (λ number. names.after_symlink (nodes_of inodes.old.table) (place_at (keyed_of inodes.old.table) at.now) number target.now now)) }
     ensures same { OnErr result (IsSame inodes.old.table inodes.new.table) }
     ensures entries { inodes.new.entries ≡ inodes.old.entries }
 {

@@ -6,10 +6,8 @@ use Rattle.native_vfs.proofs.tables.Reasons.{live-dir}
 use Rattle.native_vfs.proofs.tables.Kept.{same-distinct, same-pool, same-blocks}
 use Rattle.native_vfs.proofs.tables.Tables.{distinct-kept, content-leads, leads-kept}
 use Rattle.kernel_core.specs.ValidTree.{IsName}
-use Rattle.native_vfs.specs.inside.Making.{IsMade}
-use Rattle.native_vfs.specs.inside.Stored.{nodes_of, keyed_of, content_of}
-use Rattle.native_vfs.specs.Keyed.{place_at}
-use Rattle.native_vfs.proofs.additions.MadeNodes.{not-all_taken, few-nodes, listing-dir, same-same, right-name, can-insert, new-number, on-err, made, made-blocks}
+use Rattle.native_vfs.specs.inside.Stored.{nodes_of, content_of, AgreesPool}
+use Rattle.native_vfs.proofs.additions.MadeNodes.{not-all_taken, few-nodes, listing-dir, same-same, right-name, can-insert, new-number, on-err, made, made-distinct, made-pool, made-blocks}
 use Rattle.native_vfs.proofs.making.make.Goals as goal
 
 pub free_place-place-requires : goal.free_place-place-requires
@@ -63,31 +61,27 @@ invariant_of-inodes-in-Break-branch-3 c =
     }
 
 pub invariant_of-inodes-2 : goal.invariant_of-inodes-2
-invariant_of-inodes-2 c =
-    let made_now =
-    subst
-    (λ taken. IsMade c.args.inodes.now.table c.add_name.new.table taken c.in_ok-key.key
-    (λ number. names.after_make (nodes_of c.args.inodes.now.table) (place_at (keyed_of c.args.inodes.now.table) c.args.at.now) number
-    (names.new_inode c.args.node.mode c.args.node.links (content_of c.args.node.content) c.args.now) c.args.now))
-    (sym c.take.ensures.taken)
-    (made c.args.inodes.now.table c.reserve_name.new.table c.insert.new.table c.in_ok-key.key _ c.args.at.now.dir (live-dir c.args.inodes.now.table c.args.at.now c.requires.agrees) c.reserve_name.ensures.same
-    (rw (to_z-of_z {w = w128} {z = c.args.now} c.ranges.now) at c.in_ok-key.ensures.ok) c.add_name.new.table c.args.now c.args.at.now refl
-    c.in_ok-name.name (c.in_ok-name.ensures ∙ c.as_slice.ensures) (rw (to_z-of_z {w = w128} {z = c.args.now} c.ranges.now) at c.add_name.ensures.step) c.args.inodes.now.numbers
-    c.free_place-place.result c.args.inodes.now.distinct c.args.inodes.now.pool c.free_place-place.ensures.whole c.free_place-place.ensures.least c.number_of-number.ensures) in
-    record {
-      distinct = made_now.distinct;
-      pool = made_now.pool;
-      block_total = made-blocks c.args.inodes.now.table c.add_name.new.table _ c.in_ok-key.key c.args.at.now _ c.args.now c.requires.no_blocks made_now c.args.inodes.now.blocks c.args.inodes.now.block_total;
-    }
+invariant_of-inodes-2 c = record {
+  distinct = made-distinct c.args.inodes.now.table c.reserve_name.new.table c.insert.new.table c.in_ok-key.key _ c.args.at.now.dir (live-dir c.args.inodes.now.table c.args.at.now c.requires.agrees) c.reserve_name.ensures.same
+      (rw (to_z-of_z {w = w128} {z = c.args.now} c.ranges.now) at c.in_ok-key.ensures.ok) c.add_name.new.table c.args.now c.args.at.now refl
+      c.in_ok-name.name (c.in_ok-name.ensures ∙ c.as_slice.ensures) (rw (to_z-of_z {w = w128} {z = c.args.now} c.ranges.now) at c.add_name.ensures.step) c.args.inodes.now.numbers
+      c.free_place-place.result c.args.inodes.now.distinct c.args.inodes.now.pool c.free_place-place.ensures.whole c.free_place-place.ensures.least c.number_of-number.ensures;
+  pool = subst (AgreesPool (nodes_of c.add_name.new.table)) (sym c.take.ensures.taken)
+      (made-pool c.args.inodes.now.table c.reserve_name.new.table c.insert.new.table c.in_ok-key.key _ c.args.at.now.dir (live-dir c.args.inodes.now.table c.args.at.now c.requires.agrees) c.reserve_name.ensures.same
+      (rw (to_z-of_z {w = w128} {z = c.args.now} c.ranges.now) at c.in_ok-key.ensures.ok) c.add_name.new.table c.args.now c.args.at.now refl
+      c.in_ok-name.name (c.in_ok-name.ensures ∙ c.as_slice.ensures) (rw (to_z-of_z {w = w128} {z = c.args.now} c.ranges.now) at c.add_name.ensures.step) c.args.inodes.now.numbers
+      c.free_place-place.result c.args.inodes.now.distinct c.args.inodes.now.pool c.free_place-place.ensures.whole c.free_place-place.ensures.least c.number_of-number.ensures);
+  block_total = made-blocks c.args.inodes.now.table c.add_name.new.table c.in_ok-key.key c.args.at.now
+      (names.new_inode c.args.node.mode c.args.node.links (content_of c.args.node.content) c.args.now) c.args.now c.requires.no_blocks
+      (made c.args.inodes.now.table c.reserve_name.new.table c.insert.new.table c.in_ok-key.key _ c.args.at.now.dir (live-dir c.args.inodes.now.table c.args.at.now c.requires.agrees) c.reserve_name.ensures.same
+      (rw (to_z-of_z {w = w128} {z = c.args.now} c.ranges.now) at c.in_ok-key.ensures.ok) c.add_name.new.table c.args.now c.args.at.now refl
+      c.in_ok-name.name (c.in_ok-name.ensures ∙ c.as_slice.ensures) (rw (to_z-of_z {w = w128} {z = c.args.now} c.ranges.now) at c.add_name.ensures.step) c.args.inodes.now.numbers
+      c.free_place-place.result c.args.inodes.now.distinct c.args.inodes.now.pool c.free_place-place.ensures.whole c.free_place-place.ensures.least c.number_of-number.ensures) c.args.inodes.now.blocks c.args.inodes.now.block_total;
+}
 
 pub returns-clause-made : goal.returns-clause-made
 returns-clause-made c =
-    subst
-    (λ taken. IsMade c.args.inodes.now.table c.add_name.new.table taken c.in_ok-key.key
-    (λ number. names.after_make (nodes_of c.args.inodes.now.table) (place_at (keyed_of c.args.inodes.now.table) c.args.at.now) number
-    (names.new_inode c.args.node.mode c.args.node.links (content_of c.args.node.content) c.args.now) c.args.now))
-    (sym c.take.ensures.taken)
-    (made c.args.inodes.now.table c.reserve_name.new.table c.insert.new.table c.in_ok-key.key _ c.args.at.now.dir (live-dir c.args.inodes.now.table c.args.at.now c.requires.agrees) c.reserve_name.ensures.same
+    made c.args.inodes.now.table c.reserve_name.new.table c.insert.new.table c.in_ok-key.key _ c.args.at.now.dir (live-dir c.args.inodes.now.table c.args.at.now c.requires.agrees) c.reserve_name.ensures.same
     (rw (to_z-of_z {w = w128} {z = c.args.now} c.ranges.now) at c.in_ok-key.ensures.ok) c.add_name.new.table c.args.now c.args.at.now refl
     c.in_ok-name.name (c.in_ok-name.ensures ∙ c.as_slice.ensures) (rw (to_z-of_z {w = w128} {z = c.args.now} c.ranges.now) at c.add_name.ensures.step) c.args.inodes.now.numbers
-    c.free_place-place.result c.args.inodes.now.distinct c.args.inodes.now.pool c.free_place-place.ensures.whole c.free_place-place.ensures.least c.number_of-number.ensures)
+    c.free_place-place.result c.args.inodes.now.distinct c.args.inodes.now.pool c.free_place-place.ensures.whole c.free_place-place.ensures.least c.number_of-number.ensures

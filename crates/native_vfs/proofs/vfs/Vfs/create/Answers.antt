@@ -10,8 +10,8 @@ use Rattle.kernel_core.specs.Nodes.{File}
 use Rattle.native_vfs.specs.inside.Making.{IsMade}
 use Rattle.native_vfs.specs.Keyed.{place_at}
 use Rattle.native_vfs.specs.inside.Stored.{nodes_of, keyed_of, IsKept}
-use Rattle.native_vfs.proofs.tables.Kept.{whole-of, kept-of, IsWhole, valid-view, are-keys-view, valid-sound}
-use Rattle.native_vfs.proofs.additions.MadeCalls.{refusal-seen, agrees-kept, view-same, makes-seen, whole-created, none-left, kept-same}
+use Rattle.native_vfs.proofs.tables.Kept.{valid-sound}
+use Rattle.native_vfs.proofs.additions.MadeCalls.{refusal-seen, agrees-kept, view-same, makes-seen, kept-created, none-left, kept-same}
 use Rattle.native_vfs.proofs.removals.Ends.{valid-seen, are-keys-seen}
 use Rattle.file_system_laws.proofs.HeldNodes.{create_keeps_holds}
 use Rattle.native_vfs.proofs.tables.HeldKeys.{held-same, held-made}
@@ -36,36 +36,36 @@ free : (c : goal.After-self-1) → names.make_refusal (nodes_of c.self.inside.in
 free c = sym c.make_refusal.ensures ∙ none-left c.make_refusal.result c.in_default.not-Some
 
 made : (c : goal.After-self-1)
-    → IsMade c.self.inside.inodes.table c.make.new.inodes.table c.make.new.inodes.numbers c.in_ok-key.key
+    → IsMade c.self.inside.inodes.table c.make.new.inodes.table c.in_ok-key.key
     (λ number. names.after_create (nodes_of c.self.inside.inodes.table) (place_at (keyed_of c.self.inside.inodes.table) c.args.at.now) number c.args.mode c.args.now)
 made c =
     subst
-    (λ (content : FileContent). IsMade c.self.inside.inodes.table c.make.new.inodes.table c.make.new.inodes.numbers c.in_ok-key.key
+    (λ (content : FileContent). IsMade c.self.inside.inodes.table c.make.new.inodes.table c.in_ok-key.key
     (λ number. names.after_make (nodes_of c.self.inside.inodes.table) (place_at (keyed_of c.self.inside.inodes.table) c.args.at.now) number (names.new_inode c.args.mode 1 (File content) c.args.now) c.args.now))
     c.new.ensures.value (rw (to_z-of_z {w = w128} {z = c.args.now} c.ranges.now) at c.in_ok-key.ensures.made)
 
-whole : (c : goal.After-self-1) → IsWhole c.make.new.inodes.table c.make.new.inodes.numbers (c.self.inside.inodes.entries + 1) c.self.inside.inodes.blocks c.self.inside.root
-whole c =
-    whole-created c.self.inside.inodes.table c.make.new.inodes.table c.self.inside.inodes.numbers c.make.new.inodes.numbers c.self.inside.inodes.entries c.self.inside.inodes.blocks c.self.inside.root c.in_ok-key.key c.args.at.now c.args.now
-    (whole-of c.self.inside.inodes c.self.inside.root c.self.invariant) (agrees-kept c.self.inside.inodes.table c.args.self.now c.self.view_is c.args.at.now c.requires.agrees) c.requires.time (free c) c.args.mode c.requires.mode (made c)
+kept : (c : goal.After-self-1) → IsKept c.make.new.inodes.table (c.self.inside.inodes.entries + 1) c.self.inside.root
+kept c =
+    kept-created c.self.inside.inodes.table c.make.new.inodes.table c.self.inside.inodes.entries c.self.inside.root c.in_ok-key.key c.args.at.now c.args.now
+    c.self.invariant (agrees-kept c.self.inside.inodes.table c.args.self.now c.self.view_is c.args.at.now c.requires.agrees) c.requires.time (free c) c.args.mode c.requires.mode (made c)
 
 pub invariant_of-self-2 : goal.invariant_of-self-2
 invariant_of-self-2 c =
-    subst (λ n. IsKept c.make.new.inodes.table (n + 1) c.self.inside.root) (sym c.in_ok-key.ensures.entries) (kept-of _ _ _ _ _ (whole c))
+    subst (λ n. IsKept c.make.new.inodes.table (n + 1) c.self.inside.root) (sym c.in_ok-key.ensures.entries) (kept c)
 
 pub returns-clause-answer : goal.returns-clause-answer
 returns-clause-answer c = sym (refusal-seen c.self.inside.inodes.table c.args.self.now c.self.view_is names.make_refusal c.args.at.now) ∙ free c
 
 pub returns-clause-made : goal.returns-clause-made
 returns-clause-made c =
-    makes-seen c.self.inside.inodes.table c.make.new.inodes.table c.make.new.inodes.numbers c.in_ok-key.key c.args.at.now (λ nodes place number. names.after_create nodes place number c.args.mode c.args.now) c.args.self.now
+    makes-seen c.self.inside.inodes.table c.make.new.inodes.table c.in_ok-key.key c.args.at.now (λ nodes place number. names.after_create nodes place number c.args.mode c.args.now) c.args.self.now
     c.self.view_is (made c)
 
 pub returns-clause-valid : goal.returns-clause-valid
-returns-clause-valid c = valid-view _ _ _ _ _ (whole c)
+returns-clause-valid c = valid-sound _ _ (kept c).sound
 
 pub returns-clause-keys : goal.returns-clause-keys
-returns-clause-keys c = are-keys-view _ _ _ _ _ (whole c)
+returns-clause-keys c = AreKeys-table _ c.make.new.inodes.distinct
 
 -- memory runs out
 

@@ -7,8 +7,8 @@ use Rattle.kernel_core.specs.Nodes.{NodeContent}
 use Rattle.native_vfs.specs.inside.Making.{IsMade}
 use Rattle.native_vfs.specs.Keyed.{place_at, number_at}
 use Rattle.native_vfs.specs.inside.Stored.{nodes_of, keyed_of, IsKept}
-use Rattle.native_vfs.proofs.tables.Kept.{step-distinct, pool-stepped, whole-of, kept-of, IsWhole, valid-view, are-keys-view, valid-sound, blocks-stepped}
-use Rattle.native_vfs.proofs.additions.MadeCalls.{refusal-seen, agrees-kept, view-same, makes-seen, whole-mkdir, made-step, above-live, above-number, above-few, empty-directory, empty-leads, none-left, kept-same}
+use Rattle.native_vfs.proofs.tables.Kept.{step-distinct, pool-stepped, valid-sound, blocks-stepped}
+use Rattle.native_vfs.proofs.additions.MadeCalls.{refusal-seen, agrees-kept, view-same, makes-seen, kept-mkdir, made-step, above-live, above-number, above-few, empty-directory, empty-leads, none-left, kept-same}
 use Rattle.native_vfs.proofs.removals.Ends.{valid-seen, are-keys-seen}
 use Rattle.native_vfs.proofs.tables.Reasons.{live-dir}
 use Rattle.native_vfs.proofs.tables.Tables.{number_at-table, AreKeys-table}
@@ -37,38 +37,38 @@ make-requires-clause-leads c =
 
 pub add_link-requires-clause-live : goal.add_link-requires-clause-live
 add_link-requires-clause-live c =
-    above-live c.self.inside.inodes.table c.make.new.inodes.table c.make.new.inodes.numbers c.in_ok-key.key c.args.at.now
+    above-live c.self.inside.inodes.table c.make.new.inodes.table c.in_ok-key.key c.args.at.now
     (agrees-kept c.self.inside.inodes.table c.args.self.now c.self.view_is c.args.at.now c.requires.agrees) _ _ c.in_ok-key.ensures.made
 
 pub add_link-requires-clause-few : goal.add_link-requires-clause-few
 add_link-requires-clause-few c =
-    above-few c.self.inside.inodes.table c.make.new.inodes.table c.make.new.inodes.numbers c.in_ok-key.key c.args.at.now
+    above-few c.self.inside.inodes.table c.make.new.inodes.table c.in_ok-key.key c.args.at.now
     (agrees-kept c.self.inside.inodes.table c.args.self.now c.self.view_is c.args.at.now c.requires.agrees) _ _ c.in_ok-key.ensures.made c.self.invariant.sound.system
 
 free : (c : goal.After-self-2-1) → names.make_refusal (nodes_of c.self.inside.inodes.table) (place_at (keyed_of c.self.inside.inodes.table) c.args.at.now) ≡ None
 free c = sym c.make_refusal.ensures ∙ none-left c.make_refusal.result c.in_default.not-Some
 
 made : (c : goal.After-self-2-1)
-    → IsMade c.self.inside.inodes.table c.add_link.new.table c.make.new.inodes.numbers c.in_ok-key.key
+    → IsMade c.self.inside.inodes.table c.add_link.new.table c.in_ok-key.key
     (λ number. names.after_mkdir (nodes_of c.self.inside.inodes.table) (place_at (keyed_of c.self.inside.inodes.table) c.args.at.now) number c.args.mode c.args.now)
 made c =
-    made-step c.self.inside.inodes.table c.make.new.inodes.table c.make.new.inodes.numbers c.in_ok-key.key
+    made-step c.self.inside.inodes.table c.make.new.inodes.table c.in_ok-key.key
     (λ number. names.after_make (nodes_of c.self.inside.inodes.table) (place_at (keyed_of c.self.inside.inodes.table) c.args.at.now) number
     (names.new_directory c.args.mode (number_at (keyed_of c.self.inside.inodes.table) c.args.at.now.dir) c.args.now) c.args.now)
     (subst
-    (λ (content : NodeContent). IsMade c.self.inside.inodes.table c.make.new.inodes.table c.make.new.inodes.numbers c.in_ok-key.key
+    (λ (content : NodeContent). IsMade c.self.inside.inodes.table c.make.new.inodes.table c.in_ok-key.key
     (λ number. names.after_make (nodes_of c.self.inside.inodes.table) (place_at (keyed_of c.self.inside.inodes.table) c.args.at.now) number (names.new_inode c.args.mode 2 content c.args.now) c.args.now))
     (empty-directory c.number.result (number_at (keyed_of c.self.inside.inodes.table) c.args.at.now.dir) c.args.at.now.dir c.new.result
     (c.number.ensures ∙ sym (number_at-table c.self.inside.inodes.table c.args.at.now.dir)) c.new.ensures.entries c.new.ensures.greatest)
     (rw (to_z-of_z {w = w128} {z = c.args.now} c.ranges.now) at c.in_ok-key.ensures.made))
     c.add_link.new.table c.args.at.now.dir (number_at (keyed_of c.self.inside.inodes.table) c.args.at.now.dir) names.one_link_more c.add_link.ensures.step
-    (above-number c.self.inside.inodes.table c.make.new.inodes.table c.make.new.inodes.numbers c.in_ok-key.key c.args.at.now
+    (above-number c.self.inside.inodes.table c.make.new.inodes.table c.in_ok-key.key c.args.at.now
     (agrees-kept c.self.inside.inodes.table c.args.self.now c.self.view_is c.args.at.now c.requires.agrees) _ _ c.in_ok-key.ensures.made)
 
-whole : (c : goal.After-self-2-1) → IsWhole c.add_link.new.table c.make.new.inodes.numbers (c.self.inside.inodes.entries + 1) c.self.inside.inodes.blocks c.self.inside.root
-whole c =
-    whole-mkdir c.self.inside.inodes.table c.add_link.new.table c.self.inside.inodes.numbers c.make.new.inodes.numbers c.self.inside.inodes.entries c.self.inside.inodes.blocks c.self.inside.root c.in_ok-key.key c.args.at.now c.args.now
-    (whole-of c.self.inside.inodes c.self.inside.root c.self.invariant) (agrees-kept c.self.inside.inodes.table c.args.self.now c.self.view_is c.args.at.now c.requires.agrees) c.requires.time (free c) c.args.mode c.requires.mode (made c)
+kept : (c : goal.After-self-2-1) → IsKept c.add_link.new.table (c.self.inside.inodes.entries + 1) c.self.inside.root
+kept c =
+    kept-mkdir c.self.inside.inodes.table c.add_link.new.table c.self.inside.inodes.entries c.self.inside.root c.in_ok-key.key c.args.at.now c.args.now
+    c.self.invariant (agrees-kept c.self.inside.inodes.table c.args.self.now c.self.view_is c.args.at.now c.requires.agrees) c.requires.time (free c) c.args.mode c.requires.mode (made c)
 
 pub invariant_of-self-inside : goal.invariant_of-self-inside
 invariant_of-self-inside c = record {
@@ -79,21 +79,21 @@ invariant_of-self-inside c = record {
 
 pub invariant_of-self-2 : goal.invariant_of-self-2
 invariant_of-self-2 c =
-    subst (λ n. IsKept c.add_link.new.table (n + 1) c.self.inside.root) (sym c.in_ok-key.ensures.entries) (kept-of _ _ _ _ _ (whole c))
+    subst (λ n. IsKept c.add_link.new.table (n + 1) c.self.inside.root) (sym c.in_ok-key.ensures.entries) (kept c)
 
 pub returns-clause-answer : goal.returns-clause-answer
 returns-clause-answer c = sym (refusal-seen c.self.inside.inodes.table c.args.self.now c.self.view_is names.make_refusal c.args.at.now) ∙ free c
 
 pub returns-clause-made : goal.returns-clause-made
 returns-clause-made c =
-    makes-seen c.self.inside.inodes.table c.add_link.new.table c.make.new.inodes.numbers c.in_ok-key.key c.args.at.now (λ nodes place number. names.after_mkdir nodes place number c.args.mode c.args.now) c.args.self.now
+    makes-seen c.self.inside.inodes.table c.add_link.new.table c.in_ok-key.key c.args.at.now (λ nodes place number. names.after_mkdir nodes place number c.args.mode c.args.now) c.args.self.now
     c.self.view_is (made c)
 
 pub returns-clause-valid : goal.returns-clause-valid
-returns-clause-valid c = valid-view _ _ _ _ _ (whole c)
+returns-clause-valid c = valid-sound _ _ (kept c).sound
 
 pub returns-clause-keys : goal.returns-clause-keys
-returns-clause-keys c = are-keys-view _ _ _ _ _ (whole c)
+returns-clause-keys c = AreKeys-table _ (step-distinct c.make.new.inodes.table c.add_link.new.table c.args.at.now.dir names.one_link_more c.add_link.ensures.step c.make.new.inodes.distinct)
 
 -- memory runs out
 

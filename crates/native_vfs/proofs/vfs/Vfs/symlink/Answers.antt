@@ -7,8 +7,8 @@ use Rattle.native_vfs.specs.Answers.{Makes}
 use Rattle.native_vfs.specs.inside.Making.{IsMade}
 use Rattle.native_vfs.specs.Keyed.{place_at}
 use Rattle.native_vfs.specs.inside.Stored.{nodes_of, keyed_of, IsKept}
-use Rattle.native_vfs.proofs.tables.Kept.{whole-of, kept-of, IsWhole, valid-view, are-keys-view, valid-sound}
-use Rattle.native_vfs.proofs.additions.MadeCalls.{refusal-seen, agrees-kept, view-same, makes-seen, whole-symlink, none-left, kept-same}
+use Rattle.native_vfs.proofs.tables.Kept.{valid-sound}
+use Rattle.native_vfs.proofs.additions.MadeCalls.{refusal-seen, agrees-kept, view-same, makes-seen, kept-symlink, none-left, kept-same}
 use Rattle.native_vfs.proofs.removals.Ends.{valid-seen, are-keys-seen}
 use Rattle.file_system_laws.proofs.HeldNodes.{symlink_keeps_holds}
 use Rattle.native_vfs.proofs.tables.HeldKeys.{held-same, held-made}
@@ -30,19 +30,19 @@ free : (c : goal.After-self-1) → names.symlink_refusal (nodes_of c.self.inside
 free c = sym c.symlink_refusal.ensures ∙ none-left c.symlink_refusal.result c.in_default.not-Some
 
 made : (c : goal.After-self-1)
-    → IsMade c.self.inside.inodes.table c.make_link.new.inodes.table c.make_link.new.inodes.numbers c.in_ok-make_link.field-0
+    → IsMade c.self.inside.inodes.table c.make_link.new.inodes.table c.in_ok-make_link.field-0
     (λ number. names.after_symlink (nodes_of c.self.inside.inodes.table) (place_at (keyed_of c.self.inside.inodes.table) c.args.at.now) number c.args.target.now c.args.now)
 made c = rw (to_z-of_z {w = w128} {z = c.args.now} c.ranges.now) at c.in_ok-make_link.ensures.made
 
-whole : (c : goal.After-self-1) → IsWhole c.make_link.new.inodes.table c.make_link.new.inodes.numbers (c.self.inside.inodes.entries + 1) c.self.inside.inodes.blocks c.self.inside.root
-whole c =
-    whole-symlink c.self.inside.inodes.table c.make_link.new.inodes.table c.self.inside.inodes.numbers c.make_link.new.inodes.numbers c.self.inside.inodes.entries c.self.inside.inodes.blocks c.self.inside.root c.in_ok-make_link.field-0 c.args.at.now
-    c.args.now (whole-of c.self.inside.inodes c.self.inside.root c.self.invariant) (agrees-kept c.self.inside.inodes.table c.args.self.now c.self.view_is c.args.at.now c.requires.agrees) c.requires.time c.args.target.now (free c)
+kept : (c : goal.After-self-1) → IsKept c.make_link.new.inodes.table (c.self.inside.inodes.entries + 1) c.self.inside.root
+kept c =
+    kept-symlink c.self.inside.inodes.table c.make_link.new.inodes.table c.self.inside.inodes.entries c.self.inside.root c.in_ok-make_link.field-0 c.args.at.now
+    c.args.now c.self.invariant (agrees-kept c.self.inside.inodes.table c.args.self.now c.self.view_is c.args.at.now c.requires.agrees) c.requires.time c.args.target.now (free c)
     (λ place. (c.type_inv.target place).fits) c.requires.short c.requires.plain (made c)
 
 pub invariant_of-self-2 : goal.invariant_of-self-2
 invariant_of-self-2 c =
-    subst (λ n. IsKept c.make_link.new.inodes.table (n + 1) c.self.inside.root) (sym c.in_ok-make_link.ensures.entries) (kept-of _ _ _ _ _ (whole c))
+    subst (λ n. IsKept c.make_link.new.inodes.table (n + 1) c.self.inside.root) (sym c.in_ok-make_link.ensures.entries) (kept c)
 
 pub returns-clause-answer : goal.returns-clause-answer
 returns-clause-answer c = sym (refusal-seen c.self.inside.inodes.table c.args.self.now c.self.view_is (λ nodes place. names.symlink_refusal nodes place c.args.target.now) c.args.at.now) ∙ free c
@@ -51,17 +51,17 @@ makes : (c : goal.After-self-1)
     → Makes c.args.self.now (keyed_of c.make_link.new.inodes.table) c.in_ok-make_link.field-0
     (λ number. names.after_symlink c.args.self.now.nodes (place_at c.args.self.now c.args.at.now) number c.args.target.now c.args.now)
 makes c =
-    makes-seen c.self.inside.inodes.table c.make_link.new.inodes.table c.make_link.new.inodes.numbers c.in_ok-make_link.field-0 c.args.at.now
+    makes-seen c.self.inside.inodes.table c.make_link.new.inodes.table c.in_ok-make_link.field-0 c.args.at.now
     (λ nodes place number. names.after_symlink nodes place number c.args.target.now c.args.now) c.args.self.now c.self.view_is (made c)
 
 pub returns-clause-made : goal.returns-clause-made
 returns-clause-made c = (c.in_ok-make_link.field-0, makes c)
 
 pub returns-clause-valid : goal.returns-clause-valid
-returns-clause-valid c = valid-view _ _ _ _ _ (whole c)
+returns-clause-valid c = valid-sound _ _ (kept c).sound
 
 pub returns-clause-keys : goal.returns-clause-keys
-returns-clause-keys c = are-keys-view _ _ _ _ _ (whole c)
+returns-clause-keys c = AreKeys-table _ c.make_link.new.inodes.distinct
 
 -- memory runs out
 
