@@ -11,14 +11,13 @@ ghost use Rattle.native_vfs.specs.Answers.{IsAnswer, IsSureAnswer, LeavesWritten
 ghost use Rattle.native_vfs.specs.Held.{KeepsHeld};
 ghost use Rattle.native_vfs.specs.Keyed.{AreKeys, IsLiveKey, number_at};
 ghost use Rattle.native_vfs.specs.inside.Steps.{IsFileStep, LeavesPart, file_written};
-ghost use Rattle.native_vfs.specs.inside.Stored.{nodes_of, number_of_key, HasDistinctNumbers};
+ghost use Rattle.native_vfs.specs.inside.Stored.{nodes_of, number_of_key};
 
 use crate::file_steps;
-use crate::stored::Stored;
+use crate::inodes::Inodes;
 use crate::vfs::Vfs;
 use kernel_core::limits::GREATEST_SIZE;
 use kernel_core::{CoreError, Errno};
-use slab::Slab;
 
 impl Vfs {
     /// Writes the bytes to a file from byte `at` on and answers how many (pwrite(2)): as many as there
@@ -47,7 +46,7 @@ impl Vfs {
         ensures valid { IsFileSystem self.new.nodes }
         ensures keys { AreKeys self.new }
     {
-        write_file(&mut self.table, &mut self.blocks, node, at, bytes, now)
+        write_file(&mut self.inodes, node, at, bytes, now)
     }
 
     /// Makes `to` a file's size in bytes (ftruncate(2)), and sets the times of its last modification and
@@ -66,31 +65,28 @@ impl Vfs {
         ensures valid { IsFileSystem self.new.nodes }
         ensures keys { AreKeys self.new }
     {
-        resize_file(&mut self.table, &mut self.blocks, node, to, now)
+        resize_file(&mut self.inodes, node, to, now)
     }
 }
 
 /// Writes to a file, where that is not refused.
 fn write_file(
-    table: &mut Slab<Stored>,
-    blocks: &mut u32,
+    inodes: &mut Inodes,
     key: usize,
     at: u64,
     bytes: &[u8],
     now: i128,
 ) -> Result<usize, CoreError>
-    requires live { IsSome (slab_get table.old key) }
-    requires distinct { HasDistinctNumbers table.old }
-    requires file { IsSome (file_at (nodes_of table.old) (number_of_key table.old key)) }
-    requires content { IfSome (file_at (nodes_of table.old) (number_of_key table.old key)) IsContent }
-    requires counted { blocks.old ≡ live_blocks (nodes_of table.old) }
-    requires few { live_blocks (nodes_of table.old) ≤ block_limit }
-    ensures answer { IfSome (file_at (nodes_of table.old) (number_of_key table.old key)) (λ content. IsAnswer (write_refusal (nodes_of table.old) content at (length bytes.now)) result) }
-    ensures count { IfSome (file_at (nodes_of table.old) (number_of_key table.old key)) (λ content. IfOk result (λ n. n ≡ write_length (nodes_of table.old) content at (length bytes.now))) }
-    ensures ok { IfOk result (λ n. IsFileStep table.old table.new key (file_written at (take n bytes.now) now)) }
-    ensures err { IfSome (file_at (nodes_of table.old) (number_of_key table.old key)) (λ content.
-        IfErr result (λ e. LeavesPart e table.old table.new key at bytes.now (write_length (nodes_of table.old) content at (length bytes.now)))) }
-    ensures counted { blocks.new ≡ live_blocks (nodes_of table.new) }
+    requires live { IsSome (slab_get inodes.old.table key) }
+    requires file { IsSome (file_at (nodes_of inodes.old.table) (number_of_key inodes.old.table key)) }
+    requires content { IfSome (file_at (nodes_of inodes.old.table) (number_of_key inodes.old.table key)) IsContent }
+    requires few { live_blocks (nodes_of inodes.old.table) ≤ block_limit }
+    ensures answer { IfSome (file_at (nodes_of inodes.old.table) (number_of_key inodes.old.table key)) (λ content. IsAnswer (write_refusal (nodes_of inodes.old.table) content at (length bytes.now)) result) }
+    ensures count { IfSome (file_at (nodes_of inodes.old.table) (number_of_key inodes.old.table key)) (λ content. IfOk result (λ n. n ≡ write_length (nodes_of inodes.old.table) content at (length bytes.now))) }
+    ensures ok { IfOk result (λ n. IsFileStep inodes.old.table inodes.new.table key (file_written at (take n bytes.now) now)) }
+    ensures err { IfSome (file_at (nodes_of inodes.old.table) (number_of_key inodes.old.table key)) (λ content.
+        IfErr result (λ e. LeavesPart e inodes.old.table inodes.new.table key at bytes.now (write_length (nodes_of inodes.old.table) content at (length bytes.now)))) }
+    ensures entries { inodes.new.entries ≡ inodes.old.entries }
 {
     if bytes.is_empty() {
         return Ok(0);
@@ -98,10 +94,10 @@ fn write_file(
     if ends_past(at, bytes.len()) {
         return Err(CoreError::Refused(Errno::EFBIG));
     }
-    if file_steps::is_full(table, *blocks, key, at) {
+    if file_steps::is_full(inodes, key, at) {
         return Err(CoreError::Refused(Errno::ENOSPC));
     }
-    let count = file_steps::write(table, blocks, key, at, bytes, now)?;
+    let count = file_steps::write(inodes, key, at, bytes, now)?;
     Ok(count)
 }
 
@@ -113,26 +109,18 @@ fn ends_past(at: u64, count: usize) -> bool
 }
 
 /// Gives a file another size, where that is not refused.
-fn resize_file(
-    table: &mut Slab<Stored>,
-    blocks: &mut u32,
-    key: usize,
-    to: u64,
-    now: i128,
-) -> Result<(), CoreError>
-    requires live { IsSome (slab_get table.old key) }
-    requires distinct { HasDistinctNumbers table.old }
-    requires file { IsSome (file_at (nodes_of table.old) (number_of_key table.old key)) }
-    requires counted { blocks.old ≡ live_blocks (nodes_of table.old) }
-    requires few { live_blocks (nodes_of table.old) ≤ block_limit }
+fn resize_file(inodes: &mut Inodes, key: usize, to: u64, now: i128) -> Result<(), CoreError>
+    requires live { IsSome (slab_get inodes.old.table key) }
+    requires file { IsSome (file_at (nodes_of inodes.old.table) (number_of_key inodes.old.table key)) }
+    requires few { live_blocks (nodes_of inodes.old.table) ≤ block_limit }
     ensures answer { IsSureAnswer (resize_refusal to) result }
-    ensures ok { OnOk result (IsFileStep table.old table.new key (modified_at now (λ content. resized content to))) }
-    ensures err { OnErr result (table.new ≡ table.old) }
-    ensures counted { blocks.new ≡ live_blocks (nodes_of table.new) }
+    ensures ok { OnOk result (IsFileStep inodes.old.table inodes.new.table key (modified_at now (λ content. resized content to))) }
+    ensures err { OnErr result (inodes.new.table ≡ inodes.old.table) }
+    ensures entries { inodes.new.entries ≡ inodes.old.entries }
 {
     if to > GREATEST_SIZE {
         return Err(CoreError::Refused(Errno::EFBIG));
     }
-    file_steps::set_size(table, blocks, key, to, now);
+    file_steps::set_size(inodes, key, to, now);
     Ok(())
 }

@@ -8,27 +8,25 @@ ghost use Rattle.kernel_core.specs.Nodes.{file_at, file_in};
 ghost use Rattle.kernel_core.specs.Totals.{content_blocks, live_blocks};
 ghost use Rattle.kernel_core.specs.ValidTree.{block_limit};
 ghost use Rattle.native_vfs.specs.inside.Steps.{IsFileStep, IsFileChange, file_written, content_written};
-ghost use Rattle.native_vfs.specs.inside.Stored.{nodes_of, content_of, number_of_key, HasDistinctNumbers};
+ghost use Rattle.native_vfs.specs.inside.Stored.{nodes_of, content_of, number_of_key};
 
+use crate::inodes::Inodes;
 use crate::stored::{Stored, StoredContent};
 use file_blocks::Content;
 use kernel_core::NoMemory;
 use kernel_core::limits::{BLOCK_LIMIT, BLOCK_SIZE};
-use slab::Slab;
 
 /// Whether a write to a file from `at` on has no block for its first byte, so that it can write none.
-pub(crate) fn is_full(table: &Slab<Stored>, blocks: u32, key: usize, at: u64) -> bool
-    requires live { IsSome (slab_get table.now key) }
-    requires distinct { HasDistinctNumbers table.now }
-    requires file { IsSome (file_at (nodes_of table.now) (number_of_key table.now key)) }
-    requires counted { blocks ≡ live_blocks (nodes_of table.now) }
-    requires few { live_blocks (nodes_of table.now) ≤ block_limit }
-    ensures { IfSome (file_at (nodes_of table.now) (number_of_key table.now key)) (λ content. (count : ℕ) → 0 < count → result ≡ (write_length (nodes_of table.now) content at count == 0)) }
+pub(crate) fn is_full(inodes: &Inodes, key: usize, at: u64) -> bool
+    requires live { IsSome (slab_get inodes.now.table key) }
+    requires file { IsSome (file_at (nodes_of inodes.now.table) (number_of_key inodes.now.table key)) }
+    requires few { live_blocks (nodes_of inodes.now.table) ≤ block_limit }
+    ensures { IfSome (file_at (nodes_of inodes.now.table) (number_of_key inodes.now.table key)) (λ content. (count : ℕ) → 0 < count → result ≡ (write_length (nodes_of inodes.now.table) content at count == 0)) }
 {
-    if blocks < BLOCK_LIMIT {
+    if inodes.blocks < BLOCK_LIMIT {
         return false;
     }
-    match &table[key].content {
+    match &inodes.table[key].content {
         StoredContent::File(content) => !keeps_block(content, at),
         _ => unreachable!(),
     }
@@ -49,28 +47,25 @@ fn keeps_block(content: &Content, at: u64) -> bool
 /// Where it has a byte, the times of the last modification and change are set. After NoMemory a first
 /// part of it is written, and the times are as they were.
 pub(crate) fn write(
-    table: &mut Slab<Stored>,
-    blocks: &mut u32,
+    inodes: &mut Inodes,
     key: usize,
     at: u64,
     bytes: &[u8],
     now: i128,
 ) -> Result<usize, NoMemory>
-    requires live { IsSome (slab_get table.old key) }
-    requires distinct { HasDistinctNumbers table.old }
-    requires file { IsSome (file_at (nodes_of table.old) (number_of_key table.old key)) }
+    requires live { IsSome (slab_get inodes.old.table key) }
+    requires file { IsSome (file_at (nodes_of inodes.old.table) (number_of_key inodes.old.table key)) }
     requires end { at + length bytes.now ≤ greatest_size }
-    requires counted { blocks.old ≡ live_blocks (nodes_of table.old) }
-    requires few { live_blocks (nodes_of table.old) ≤ block_limit }
-    ensures count { IfSome (file_at (nodes_of table.old) (number_of_key table.old key)) (λ content. IfOk result (λ n. n ≡ write_length (nodes_of table.old) content at (length bytes.now))) }
+    requires few { live_blocks (nodes_of inodes.old.table) ≤ block_limit }
+    ensures count { IfSome (file_at (nodes_of inodes.old.table) (number_of_key inodes.old.table key)) (λ content. IfOk result (λ n. n ≡ write_length (nodes_of inodes.old.table) content at (length bytes.now))) }
     ensures within { IfOk result (λ n. n ≤ length bytes.now) }
-    ensures ok { IfOk result (λ n. IsFileStep table.old table.new key (file_written at (take n bytes.now) now)) }
-    ensures err { IfSome (file_at (nodes_of table.old) (number_of_key table.old key)) (λ content. OnErr result ((k : ℕ) × (k ≤ write_length (nodes_of table.old) content at (length bytes.now))
-        × IsFileStep table.old table.new key (content_written at (take k bytes.now)))) }
-    ensures counted { blocks.new ≡ live_blocks (nodes_of table.new) }
+    ensures ok { IfOk result (λ n. IsFileStep inodes.old.table inodes.new.table key (file_written at (take n bytes.now) now)) }
+    ensures err { IfSome (file_at (nodes_of inodes.old.table) (number_of_key inodes.old.table key)) (λ content. OnErr result ((k : ℕ) × (k ≤ write_length (nodes_of inodes.old.table) content at (length bytes.now))
+        × IsFileStep inodes.old.table inodes.new.table key (content_written at (take k bytes.now)))) }
+    ensures entries { inodes.new.entries ≡ inodes.old.entries }
 {
-    let node = &mut table[key];
-    write_node(node, blocks, at, bytes, now)
+    let node = &mut inodes.table[key];
+    write_node(node, &mut inodes.blocks, at, bytes, now)
 }
 
 /// The same for the node of a file.
@@ -131,18 +126,16 @@ fn write_counted(
 }
 
 /// Gives a file another size, and sets the times of its last modification and change.
-pub(crate) fn set_size(table: &mut Slab<Stored>, blocks: &mut u32, key: usize, to: u64, now: i128)
-    requires live { IsSome (slab_get table.old key) }
-    requires distinct { HasDistinctNumbers table.old }
-    requires file { IsSome (file_at (nodes_of table.old) (number_of_key table.old key)) }
+pub(crate) fn set_size(inodes: &mut Inodes, key: usize, to: u64, now: i128)
+    requires live { IsSome (slab_get inodes.old.table key) }
+    requires file { IsSome (file_at (nodes_of inodes.old.table) (number_of_key inodes.old.table key)) }
     requires small { to ≤ greatest_size }
-    requires counted { blocks.old ≡ live_blocks (nodes_of table.old) }
-    requires few { live_blocks (nodes_of table.old) ≤ block_limit }
-    ensures step { IsFileStep table.old table.new key (modified_at now (λ content. resized content to)) }
-    ensures counted { blocks.new ≡ live_blocks (nodes_of table.new) }
+    requires few { live_blocks (nodes_of inodes.old.table) ≤ block_limit }
+    ensures step { IsFileStep inodes.old.table inodes.new.table key (modified_at now (λ content. resized content to)) }
+    ensures entries { inodes.new.entries ≡ inodes.old.entries }
 {
-    let node = &mut table[key];
-    resize_node(node, blocks, to, now);
+    let node = &mut inodes.table[key];
+    resize_node(node, &mut inodes.blocks, to, now);
 }
 
 /// The same for the node of a file.

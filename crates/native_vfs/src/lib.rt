@@ -3,6 +3,7 @@
 
 mod file_calls;
 mod file_steps;
+mod inodes;
 mod loading;
 mod making;
 mod node_calls;

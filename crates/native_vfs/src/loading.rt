@@ -15,6 +15,7 @@ ghost use Rattle.native_vfs.specs.inside.Loading as load;
 ghost use Rattle.native_vfs.specs.inside.Steps.{IsAddition};
 ghost use Rattle.native_vfs.specs.inside.Stored.{Table, nodes_of, inode_of, content_of, listing_of, HasDistinctNumbers, ContentLeads, DirectoryLeads, AgreesPool, Leads};
 
+use crate::inodes::Inodes;
 use crate::numbers::place_of;
 use crate::seconds::nanoseconds;
 use crate::steps::insert;
@@ -51,12 +52,16 @@ impl Vfs {
         let places = place_nodes(alloc, &mut table, &namings, nodes)?;
         name_nodes(alloc, &mut table, &places, &namings, nodes)?;
         let numbers = taken_numbers(alloc, nodes)?;
-        Ok(Vfs {
+        let root = node_ref(&places, ROOT).key;
+        let inodes = Inodes {
             table,
             numbers,
             entries: entry_count(nodes),
             blocks: block_count(nodes),
-            root: node_ref(&places, ROOT).key,
+        };
+        Ok(Vfs {
+            inodes,
+            root,
             alloc,
         })
     }

@@ -4,6 +4,7 @@ ghost use Rattle.std.specs.List.{list_any};
 ghost use Rattle.slab.specs.Slab.{get as slab_get};
 ghost use Rattle.kernel_core.specs.FileSystem.{IsFileSystem, IsTime};
 ghost use Rattle.kernel_core.specs.NameCalls as names;
+ghost use Rattle.kernel_core.specs.Totals.{content_blocks};
 ghost use Rattle.kernel_core.specs.ValidTree.{greatest_mode};
 ghost use Rattle.number_pool.specs.Places.{AreAllTaken, IsLeastFree};
 ghost use Rattle.native_vfs.specs.Answers.{IsAnswer, Makes};
@@ -11,8 +12,9 @@ ghost use Rattle.native_vfs.specs.Held.{KeepsHeld};
 ghost use Rattle.native_vfs.specs.Keyed.{AreKeys, AgreesAt, IsLiveKey, place_at, number_at};
 ghost use Rattle.native_vfs.specs.inside.Making.{IsMade, IsNamedAgain};
 ghost use Rattle.native_vfs.specs.inside.Steps.{IsSame};
-ghost use Rattle.native_vfs.specs.inside.Stored.{AgreesPool, ContentLeads, HasDistinctNumbers, content_of, keyed_of, nodes_of, number_of_key};
+ghost use Rattle.native_vfs.specs.inside.Stored.{ContentLeads, content_of, keyed_of, nodes_of, number_of_key};
 
+use crate::inodes::Inodes;
 use crate::numbers::number_of;
 use crate::place::Place;
 use crate::refusals::{link_refusal, make_refusal, symlink_refusal};
@@ -24,7 +26,6 @@ use directory_names::{Directory, NodeRef};
 use file_blocks::Content;
 use kernel_core::{Bytes, CoreError, NoMemory};
 use number_pool::NumberPool;
-use slab::Slab;
 use std::alloc::Global;
 
 impl Vfs {
@@ -44,7 +45,7 @@ impl Vfs {
         ensures valid { IsFileSystem self.new.nodes }
         ensures keys { AreKeys self.new }
     {
-        if let Some(error) = make_refusal(&self.table, self.entries, at) {
+        if let Some(error) = make_refusal(&self.inodes, at) {
             return Err(CoreError::Refused(error));
         }
         let file = NewNode {
@@ -52,15 +53,8 @@ impl Vfs {
             links: 1,
             content: StoredContent::File(Content::new(self.alloc)),
         };
-        let key = make(
-            &mut self.table,
-            &mut self.numbers,
-            at,
-            file,
-            now,
-            self.alloc,
-        )?;
-        self.entries += 1;
+        let key = make(&mut self.inodes, at, file, now, self.alloc)?;
+        self.inodes.entries += 1;
         Ok(key)
     }
 
@@ -80,11 +74,11 @@ impl Vfs {
         ensures valid { IsFileSystem self.new.nodes }
         ensures keys { AreKeys self.new }
     {
-        if let Some(error) = make_refusal(&self.table, self.entries, at) {
+        if let Some(error) = make_refusal(&self.inodes, at) {
             return Err(CoreError::Refused(error));
         }
         let above = NodeRef {
-            number: number(&self.table, at.dir),
+            number: number(&self.inodes.table, at.dir),
             key: at.dir,
         };
         let directory = NewNode {
@@ -95,16 +89,9 @@ impl Vfs {
                 names: Directory::new(self.alloc),
             }),
         };
-        let key = make(
-            &mut self.table,
-            &mut self.numbers,
-            at,
-            directory,
-            now,
-            self.alloc,
-        )?;
-        add_link(&mut self.table, at.dir);
-        self.entries += 1;
+        let key = make(&mut self.inodes, at, directory, now, self.alloc)?;
+        add_link(&mut self.inodes.table, at.dir);
+        self.inodes.entries += 1;
         Ok(key)
     }
 
@@ -125,18 +112,11 @@ impl Vfs {
         ensures valid { IsFileSystem self.new.nodes }
         ensures keys { AreKeys self.new }
     {
-        if let Some(error) = symlink_refusal(&self.table, self.entries, at, target) {
+        if let Some(error) = symlink_refusal(&self.inodes, at, target) {
             return Err(CoreError::Refused(error));
         }
-        make_link(
-            &mut self.table,
-            &mut self.numbers,
-            at,
-            target,
-            now,
-            self.alloc,
-        )?;
-        self.entries += 1;
+        make_link(&mut self.inodes, at, target, now, self.alloc)?;
+        self.inodes.entries += 1;
         Ok(())
     }
 
@@ -157,11 +137,11 @@ impl Vfs {
         ensures valid { IsFileSystem self.new.nodes }
         ensures keys { AreKeys self.new }
     {
-        if let Some(error) = link_refusal(&self.table, self.entries, node, at) {
+        if let Some(error) = link_refusal(&self.inodes, node, at) {
             return Err(CoreError::Refused(error));
         }
-        name_again(&mut self.table, node, at, now, self.alloc)?;
-        self.entries += 1;
+        name_again(&mut self.inodes, node, at, now, self.alloc)?;
+        self.inodes.entries += 1;
         Ok(())
     }
 }
@@ -176,26 +156,24 @@ struct NewNode {
 
 /// Makes a node under a name that may be made, and gives its key. After an error nothing has changed.
 fn make(
-    table: &mut Slab<Stored>,
-    numbers: &mut NumberPool,
+    inodes: &mut Inodes,
     at: &Place,
     node: NewNode,
     now: i128,
     alloc: Global,
 ) -> Result<usize, NoMemory>
-    requires distinct { HasDistinctNumbers table.old }
-    requires pool { AgreesPool (nodes_of table.old) numbers.old }
-    requires agrees { AgreesAt (keyed_of table.old) at.now }
-    requires free { names.make_refusal (nodes_of table.old) (place_at (keyed_of table.old) at.now) ≡ None }
-    requires leads { ContentLeads table.old node.content }
-    ensures made { IfOk result (λ key. IsMade table.old table.new numbers.new key (λ number. names.after_make (nodes_of table.old) (place_at (keyed_of table.old) at.now) number (names.new_inode node.mode node.links (content_of node.content) now) now)) }
-    ensures same { OnErr result (IsSame table.old table.new) }
-    ensures numbers { OnErr result (numbers.new ≡ numbers.old) }
+    requires agrees { AgreesAt (keyed_of inodes.old.table) at.now }
+    requires free { names.make_refusal (nodes_of inodes.old.table) (place_at (keyed_of inodes.old.table) at.now) ≡ None }
+    requires leads { ContentLeads inodes.old.table node.content }
+    requires no_blocks { content_blocks (content_of node.content) ≡ 0 }
+    ensures made { IfOk result (λ key. IsMade inodes.old.table inodes.new.table key (λ number. names.after_make (nodes_of inodes.old.table) (place_at (keyed_of inodes.old.table) at.now) number (names.new_inode node.mode node.links (content_of node.content) now) now)) }
+    ensures same { OnErr result (IsSame inodes.old.table inodes.new.table) }
+    ensures entries { inodes.new.entries ≡ inodes.old.entries }
 {
-    let place = free_place(numbers);
+    let place = free_place(&inodes.numbers);
     let number = number_of(place);
     let name = copied(alloc, at.name.as_slice())?;
-    reserve_name(table, at.dir)?;
+    reserve_name(&mut inodes.table, at.dir)?;
     let stored = Stored {
         number,
         mode: node.mode,
@@ -206,28 +184,31 @@ fn make(
         holds: 0,
         content: node.content,
     };
-    let key = insert(table, stored)?;
-    add_name(table, at.dir, name, NodeRef { number, key }, now);
-    numbers.take(place);
+    let key = insert(&mut inodes.table, stored)?;
+    add_name(
+        &mut inodes.table,
+        at.dir,
+        name,
+        NodeRef { number, key },
+        now,
+    );
+    inodes.numbers.take(place);
     Ok(key)
 }
 
 /// Makes a symbolic link under a name that may be made. After an error nothing has changed.
 fn make_link(
-    table: &mut Slab<Stored>,
-    numbers: &mut NumberPool,
+    inodes: &mut Inodes,
     at: &Place,
     target: &[u8],
     now: i128,
     alloc: Global,
 ) -> Result<usize, NoMemory>
-    requires distinct { HasDistinctNumbers table.old }
-    requires pool { AgreesPool (nodes_of table.old) numbers.old }
-    requires agrees { AgreesAt (keyed_of table.old) at.now }
-    requires free { names.make_refusal (nodes_of table.old) (place_at (keyed_of table.old) at.now) ≡ None }
-    ensures made { IfOk result (λ key. IsMade table.old table.new numbers.new key (λ number. names.after_symlink (nodes_of table.old) (place_at (keyed_of table.old) at.now) number target.now now)) }
-    ensures same { OnErr result (IsSame table.old table.new) }
-    ensures numbers { OnErr result (numbers.new ≡ numbers.old) }
+    requires agrees { AgreesAt (keyed_of inodes.old.table) at.now }
+    requires free { names.make_refusal (nodes_of inodes.old.table) (place_at (keyed_of inodes.old.table) at.now) ≡ None }
+    ensures made { IfOk result (λ key. IsMade inodes.old.table inodes.new.table key (λ number. names.after_symlink (nodes_of inodes.old.table) (place_at (keyed_of inodes.old.table) at.now) number target.now now)) }
+    ensures same { OnErr result (IsSame inodes.old.table inodes.new.table) }
+    ensures entries { inodes.new.entries ≡ inodes.old.entries }
 {
     let target = copied(alloc, target)?;
     let link = NewNode {
@@ -235,30 +216,36 @@ fn make_link(
         links: 1,
         content: StoredContent::Link(target),
     };
-    make(table, numbers, at, link, now, alloc)
+    make(inodes, at, link, now, alloc)
 }
 
 /// Gives a node a name that may be made as one more. After an error nothing has changed.
 fn name_again(
-    table: &mut Slab<Stored>,
+    inodes: &mut Inodes,
     node: usize,
     at: &Place,
     now: i128,
     alloc: Global,
 ) -> Result<(), NoMemory>
-    requires live { IsSome (slab_get table.old node) }
-    requires distinct { HasDistinctNumbers table.old }
-    requires system { IsFileSystem (nodes_of table.old) }
-    requires agrees { AgreesAt (keyed_of table.old) at.now }
-    requires free { names.link_refusal (nodes_of table.old) (number_of_key table.old node) (place_at (keyed_of table.old) at.now) ≡ None }
-    ensures named { OnOk result (IsNamedAgain table.old table.new (names.after_link (nodes_of table.old) (number_of_key table.old node) (place_at (keyed_of table.old) at.now) now)) }
-    ensures same { OnErr result (IsSame table.old table.new) }
+    requires live { IsSome (slab_get inodes.old.table node) }
+    requires system { IsFileSystem (nodes_of inodes.old.table) }
+    requires agrees { AgreesAt (keyed_of inodes.old.table) at.now }
+    requires free { names.link_refusal (nodes_of inodes.old.table) (number_of_key inodes.old.table node) (place_at (keyed_of inodes.old.table) at.now) ≡ None }
+    ensures named { OnOk result (IsNamedAgain inodes.old.table inodes.new.table (names.after_link (nodes_of inodes.old.table) (number_of_key inodes.old.table node) (place_at (keyed_of inodes.old.table) at.now) now)) }
+    ensures same { OnErr result (IsSame inodes.old.table inodes.new.table) }
+    ensures entries { inodes.new.entries ≡ inodes.old.entries }
 {
     let name = copied(alloc, at.name.as_slice())?;
-    reserve_name(table, at.dir)?;
-    let number = number(table, node);
-    link(table, node, now);
-    add_name(table, at.dir, name, NodeRef { number, key: node }, now);
+    reserve_name(&mut inodes.table, at.dir)?;
+    let number = number(&inodes.table, node);
+    link(&mut inodes.table, node, now);
+    add_name(
+        &mut inodes.table,
+        at.dir,
+        name,
+        NodeRef { number, key: node },
+        now,
+    );
     Ok(())
 }
 

@@ -25,7 +25,7 @@ impl Vfs {
         ensures valid { IsFileSystem self.new.nodes }
         ensures keys { AreKeys self.new }
     {
-        steps::hold(&mut self.table, node);
+        steps::hold(&mut self.inodes.table, node);
     }
 
     /// Releases one of a node's holds (close(2)). A node that has no name and no other hold goes, and its
@@ -39,8 +39,8 @@ impl Vfs {
         ensures valid { IsFileSystem self.new.nodes }
         ensures keys { AreKeys self.new }
     {
-        steps::let_go(&mut self.table, node);
-        settle(&mut self.table, &mut self.numbers, &mut self.blocks, node);
+        steps::let_go(&mut self.inodes.table, node);
+        settle(&mut self.inodes, node);
     }
 
     /// Sets the twelve mode bits of a node, and the time of its last change (chmod(2)). `node` is the key
@@ -56,7 +56,7 @@ impl Vfs {
         ensures valid { IsFileSystem self.new.nodes }
         ensures keys { AreKeys self.new }
     {
-        steps::set_mode(&mut self.table, node, mode, now);
+        steps::set_mode(&mut self.inodes.table, node, mode, now);
     }
 
     /// Sets the times of a node's last access and last modification where they are given, and that of
@@ -79,6 +79,6 @@ impl Vfs {
         ensures valid { IsFileSystem self.new.nodes }
         ensures keys { AreKeys self.new }
     {
-        steps::set_times(&mut self.table, node, access, modified, now);
+        steps::set_times(&mut self.inodes.table, node, access, modified, now);
     }
 }

@@ -48,7 +48,7 @@ impl Vfs {
         requires live { IsLiveKey self.now node }
         ensures { kind_at self.now.nodes (number_at self.now node) ≡ Some (kind_told result) }
     {
-        match &self.table[node].content {
+        match &self.inodes.table[node].content {
             StoredContent::File(_) => NodeKind::File,
             StoredContent::Directory(_) => NodeKind::Directory,
             StoredContent::Link(_) => NodeKind::Link,
@@ -60,7 +60,7 @@ impl Vfs {
         requires live { IsLiveKey self.now node }
         ensures { (inode : Inode) × (inode_at self.now node ≡ Some inode) × (result ≡ status_of (number_at self.now node) inode) }
     {
-        let stored = &self.table[node];
+        let stored = &self.inodes.table[node];
         describe(stored)
     }
 
@@ -73,7 +73,7 @@ impl Vfs {
         ensures count { IfSome (file_at self.now.nodes (number_at self.now node)) (λ content. result ≡ readable content at (length buf.old)) }
         ensures bytes { IfSome (file_at self.now.nodes (number_at self.now node)) (λ content. buf.new ≡ read_into content at buf.old) }
     {
-        match &self.table[node].content {
+        match &self.inodes.table[node].content {
             StoredContent::File(content) => content.read(at, buf),
             _ => unreachable!(),
         }
@@ -85,7 +85,7 @@ impl Vfs {
         requires link { IsSome (target_at self.now.nodes (number_at self.now node)) }
         ensures { target_at self.now.nodes (number_at self.now node) ≡ Some result.now }
     {
-        match &self.table[node].content {
+        match &self.inodes.table[node].content {
             StoredContent::Link(target) => target.as_slice(),
             _ => unreachable!(),
         }
@@ -99,7 +99,7 @@ impl Vfs {
         ensures parent { parent_at self.now.nodes (number_at self.now dir) ≡ Some (number_at self.now result) }
         ensures live { IsLiveKey self.now result }
     {
-        let StoredContent::Directory(directory) = &self.table[dir].content else {
+        let StoredContent::Directory(directory) = &self.inodes.table[dir].content else {
             unreachable!()
         };
         let Some(parent) = directory.parent else {
@@ -117,7 +117,7 @@ impl Vfs {
         ensures entry { option_map (shown_entry self.now) result ≡ entry_above (entries_in (listing_at self.now.nodes (number_at self.now dir))) cookie }
         ensures live { IfSome result (λ entry. IsLiveKey self.now entry.2) }
     {
-        match &self.table[dir].content {
+        match &self.inodes.table[dir].content {
             StoredContent::Directory(directory) => {
                 let entry = directory.names.entry_after(cookie)?;
                 Some((entry.cookie, entry.name, entry.node.key))

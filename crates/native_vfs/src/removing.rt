@@ -1,24 +1,21 @@
 //! The calls that take a name away.
-ghost use Rattle.std.specs.Prelude.{◌≡◌, ◌+◌, Some, OnOk, OnErr, true, false};
+ghost use Rattle.std.specs.Prelude.{◌≡◌, Some, OnOk, OnErr, true, false};
 ghost use Rattle.kernel_core.specs.FileSystem.{IsFileSystem, IsTime};
 ghost use Rattle.kernel_core.specs.NameCalls as names;
 ghost use Rattle.kernel_core.specs.Nodes.{is_directory};
-ghost use Rattle.kernel_core.specs.Totals.{live_entries};
 ghost use Rattle.native_vfs.specs.Answers.{IsSureAnswer, with_node};
 ghost use Rattle.native_vfs.specs.Held.{KeepsHeld};
 ghost use Rattle.native_vfs.specs.Keyed.{AreKeys, AgreesAt, KeepsKeys, place_at};
-ghost use Rattle.native_vfs.specs.inside.Removals.{IsLoss, IsSound};
-ghost use Rattle.native_vfs.specs.inside.Stored.{nodes_of, keyed_of, number_of_key};
+ghost use Rattle.native_vfs.specs.inside.Removals.{IsLoss};
+ghost use Rattle.native_vfs.specs.inside.Stored.{nodes_of, keyed_of, number_of_key, IsSound};
 
+use crate::inodes::Inodes;
 use crate::place::Place;
 use crate::refusals::{rmdir_refusal, unlink_refusal};
 use crate::settle::settle;
 use crate::steps::{drop_link, orphan, take_name, unlink};
-use crate::stored::Stored;
 use crate::vfs::Vfs;
 use kernel_core::CoreError;
-use number_pool::NumberPool;
-use slab::Slab;
 
 impl Vfs {
     /// Takes a name away from a file or symbolic link (unlink(2)), which goes where that was its last name
@@ -36,19 +33,11 @@ impl Vfs {
         ensures valid { IsFileSystem self.new.nodes }
         ensures keys { AreKeys self.new }
     {
-        if let Some(error) = unlink_refusal(&self.table, at) {
+        if let Some(error) = unlink_refusal(&self.inodes, at) {
             return Err(CoreError::Refused(error));
         }
         let Some(node) = at.node else { unreachable!() };
-        unlink_at(
-            &mut self.table,
-            &mut self.numbers,
-            &mut self.blocks,
-            at,
-            node,
-            now,
-        );
-        self.entries -= 1;
+        unlink_at(&mut self.inodes, at, node, now);
         Ok(())
     }
 
@@ -68,70 +57,48 @@ impl Vfs {
         ensures valid { IsFileSystem self.new.nodes }
         ensures keys { AreKeys self.new }
     {
-        if let Some(error) = rmdir_refusal(&self.table, at) {
+        if let Some(error) = rmdir_refusal(&self.inodes, at) {
             return Err(CoreError::Refused(error));
         }
         let Some(node) = at.node else { unreachable!() };
-        rmdir_at(
-            &mut self.table,
-            &mut self.numbers,
-            &mut self.blocks,
-            at,
-            node,
-            now,
-        );
-        self.entries -= 1;
+        rmdir_at(&mut self.inodes, at, node, now);
         Ok(())
     }
 }
 
 /// Takes a name away from a file or symbolic link.
-pub(crate) fn unlink_at(
-    table: &mut Slab<Stored>,
-    numbers: &mut NumberPool,
-    blocks: &mut u32,
-    at: &Place,
-    node: usize,
-    now: i128,
-)
-    requires sound { IsSound table.old numbers.old blocks.old }
-    requires agrees { AgreesAt (keyed_of table.old) at.now }
+pub(crate) fn unlink_at(inodes: &mut Inodes, at: &Place, node: usize, now: i128)
+    requires sound { IsSound inodes.old.table inodes.old.entries }
+    requires agrees { AgreesAt (keyed_of inodes.old.table) at.now }
     requires node { at.now.node ≡ Some node }
-    requires file { is_directory (nodes_of table.old) (number_of_key table.old node) ≡ false }
+    requires file { is_directory (nodes_of inodes.old.table) (number_of_key inodes.old.table node) ≡ false }
     requires time { IsTime now }
-    ensures nodes { nodes_of table.new ≡ names.after_unlink (nodes_of table.old) (place_at (keyed_of table.old) at.now) (number_of_key table.old node) now }
-    ensures sound { IsSound table.new numbers.new blocks.new }
-    ensures loss { IsLoss table.old table.new node }
-    ensures entries { live_entries (nodes_of table.new) + 1 ≡ live_entries (nodes_of table.old) }
+    ensures nodes { nodes_of inodes.new.table ≡ names.after_unlink (nodes_of inodes.old.table) (place_at (keyed_of inodes.old.table) at.now) (number_of_key inodes.old.table node) now }
+    ensures sound { IsSound inodes.new.table inodes.new.entries }
+    ensures loss { IsLoss inodes.old.table inodes.new.table node }
 {
-    take_name(table, at.dir, at.name.as_slice(), now);
-    unlink(table, node, now);
-    settle(table, numbers, blocks, node);
+    take_name(&mut inodes.table, at.dir, at.name.as_slice(), now);
+    unlink(&mut inodes.table, node, now);
+    settle(inodes, node);
+    inodes.entries -= 1;
 }
 
 /// Takes its name away from an empty directory.
-pub(crate) fn rmdir_at(
-    table: &mut Slab<Stored>,
-    numbers: &mut NumberPool,
-    blocks: &mut u32,
-    at: &Place,
-    node: usize,
-    now: i128,
-)
-    requires sound { IsSound table.old numbers.old blocks.old }
-    requires agrees { AgreesAt (keyed_of table.old) at.now }
+pub(crate) fn rmdir_at(inodes: &mut Inodes, at: &Place, node: usize, now: i128)
+    requires sound { IsSound inodes.old.table inodes.old.entries }
+    requires agrees { AgreesAt (keyed_of inodes.old.table) at.now }
     requires node { at.now.node ≡ Some node }
     requires entry { names.is_no_entry at.now.name ≡ false }
-    requires directory { is_directory (nodes_of table.old) (number_of_key table.old node) ≡ true }
-    requires empty { names.has_entries (nodes_of table.old) (number_of_key table.old node) ≡ false }
+    requires directory { is_directory (nodes_of inodes.old.table) (number_of_key inodes.old.table node) ≡ true }
+    requires empty { names.has_entries (nodes_of inodes.old.table) (number_of_key inodes.old.table node) ≡ false }
     requires time { IsTime now }
-    ensures nodes { nodes_of table.new ≡ names.after_rmdir (nodes_of table.old) (place_at (keyed_of table.old) at.now) (number_of_key table.old node) now }
-    ensures sound { IsSound table.new numbers.new blocks.new }
-    ensures loss { IsLoss table.old table.new node }
-    ensures entries { live_entries (nodes_of table.new) + 1 ≡ live_entries (nodes_of table.old) }
+    ensures nodes { nodes_of inodes.new.table ≡ names.after_rmdir (nodes_of inodes.old.table) (place_at (keyed_of inodes.old.table) at.now) (number_of_key inodes.old.table node) now }
+    ensures sound { IsSound inodes.new.table inodes.new.entries }
+    ensures loss { IsLoss inodes.old.table inodes.new.table node }
 {
-    take_name(table, at.dir, at.name.as_slice(), now);
-    drop_link(table, at.dir);
-    orphan(table, node);
-    settle(table, numbers, blocks, node);
+    take_name(&mut inodes.table, at.dir, at.name.as_slice(), now);
+    drop_link(&mut inodes.table, at.dir);
+    orphan(&mut inodes.table, node);
+    settle(inodes, node);
+    inodes.entries -= 1;
 }

@@ -4,16 +4,15 @@ ghost use Rattle.slab.specs.Slab.{get as slab_get};
 ghost use Rattle.kernel_core.specs.FileSystem.{IsFileSystem, IsTime};
 ghost use Rattle.kernel_core.specs.NameCalls as names;
 ghost use Rattle.kernel_core.specs.Nodes.{listing_at, update};
-ghost use Rattle.kernel_core.specs.Totals.{live_entries};
 ghost use Rattle.kernel_core.specs.ValidTree.{IsName};
 ghost use Rattle.native_vfs.specs.Answers.{IsAnswer, with_node};
 ghost use Rattle.native_vfs.specs.Held.{KeepsHeld};
 ghost use Rattle.native_vfs.specs.Keyed.{AreKeys, AgreesAt, KeepsKeys, place_at, number_at};
-ghost use Rattle.native_vfs.specs.inside.Removals.{IsSound};
 ghost use Rattle.native_vfs.specs.inside.Renames.{entry_moved, MayGive, IsCleared, Becomes};
 ghost use Rattle.native_vfs.specs.inside.Steps.{IsSame, links_at};
-ghost use Rattle.native_vfs.specs.inside.Stored.{nodes_of, keyed_of, number_of_key, HasDistinctNumbers, HasRoom, CanAdd};
+ghost use Rattle.native_vfs.specs.inside.Stored.{nodes_of, keyed_of, number_of_key, HasDistinctNumbers, HasRoom, CanAdd, IsSound};
 
+use crate::inodes::Inodes;
 use crate::place::Place;
 use crate::refusals::rename_refusal;
 use crate::removing::{rmdir_at, unlink_at};
@@ -25,7 +24,6 @@ use crate::table::{is_directory, number, stands_for};
 use crate::vfs::Vfs;
 use directory_names::NodeRef;
 use kernel_core::{Bytes, CoreError, NoMemory};
-use number_pool::NumberPool;
 use slab::Slab;
 use std::alloc::Global;
 
@@ -50,13 +48,13 @@ impl Vfs {
         ensures valid { IsFileSystem self.new.nodes }
         ensures keys { AreKeys self.new }
     {
-        if let Some(error) = rename_refusal(&self.table, from, to) {
+        if let Some(error) = rename_refusal(&self.inodes, from, to) {
             return Err(CoreError::Refused(error));
         }
         let Some(moved) = from.node else {
             unreachable!()
         };
-        if stands_for(&self.table, to, moved) {
+        if stands_for(&self.inodes.table, to, moved) {
             return Ok(());
         }
         self.move_entry(from, to, moved, now)?;
@@ -84,16 +82,9 @@ impl Vfs {
         ensures valid { IsFileSystem self.new.nodes }
         ensures keys { AreKeys self.new }
     {
-        let name = new_name(&mut self.table, to, self.alloc)?;
-        clear(
-            &mut self.table,
-            &mut self.numbers,
-            &mut self.blocks,
-            &mut self.entries,
-            to,
-            now,
-        );
-        move_name(&mut self.table, from, moved, to.dir, name, now);
+        let name = new_name(&mut self.inodes.table, to, self.alloc)?;
+        clear(&mut self.inodes, to, now);
+        move_name(&mut self.inodes.table, from, moved, to.dir, name, now);
         Ok(())
     }
 }
@@ -112,34 +103,24 @@ fn new_name(table: &mut Slab<Stored>, at: &Place, alloc: Global) -> Result<Bytes
 }
 
 /// Takes away a name that is to stand for another node, where it stands for one.
-fn clear(
-    table: &mut Slab<Stored>,
-    numbers: &mut NumberPool,
-    blocks: &mut u32,
-    entries: &mut u32,
-    at: &Place,
-    now: i128,
-)
-    requires sound { IsSound table.old numbers.old blocks.old }
-    requires counted { entries.old ≡ live_entries (nodes_of table.old) }
-    requires agrees { AgreesAt (keyed_of table.old) at.now }
+fn clear(inodes: &mut Inodes, at: &Place, now: i128)
+    requires sound { IsSound inodes.old.table inodes.old.entries }
+    requires agrees { AgreesAt (keyed_of inodes.old.table) at.now }
     requires entry { names.is_no_entry at.now.name ≡ false }
-    requires gives { MayGive (nodes_of table.old) (place_at (keyed_of table.old) at.now).node }
+    requires gives { MayGive (nodes_of inodes.old.table) (place_at (keyed_of inodes.old.table) at.now).node }
     requires time { IsTime now }
-    ensures nodes { nodes_of table.new ≡ names.replace_name (nodes_of table.old) (place_at (keyed_of table.old) at.now) (place_at (keyed_of table.old) at.now).node now }
-    ensures sound { IsSound table.new numbers.new blocks.new }
-    ensures cleared { IsCleared table.old table.new at.now.dir }
-    ensures counted { entries.new ≡ live_entries (nodes_of table.new) }
+    ensures nodes { nodes_of inodes.new.table ≡ names.replace_name (nodes_of inodes.old.table) (place_at (keyed_of inodes.old.table) at.now) (place_at (keyed_of inodes.old.table) at.now).node now }
+    ensures sound { IsSound inodes.new.table inodes.new.entries }
+    ensures cleared { IsCleared inodes.old.table inodes.new.table at.now.dir }
 {
     let Some(old) = at.node else {
         return;
     };
-    if is_directory(table, old) {
-        rmdir_at(table, numbers, blocks, at, old, now);
+    if is_directory(&inodes.table, old) {
+        rmdir_at(inodes, at, old, now);
     } else {
-        unlink_at(table, numbers, blocks, at, old, now);
+        unlink_at(inodes, at, old, now);
     }
-    *entries -= 1;
 }
 
 /// Moves a node's name to one that stands for nothing, in a directory that has room for it.

@@ -27,7 +27,7 @@ impl Vfs {
         ensures valid { IfOk result IsValidTree }
         ensures reached { IfOk result (λ t. (number : ℕ) → Contains (numbers t.nodes) number ↔ IsReached t.nodes number) }
     {
-        let linked = linked_nodes(self.alloc, &self.table)?;
+        let linked = linked_nodes(self.alloc, &self.inodes.table)?;
         let nodes = saved_nodes(self.alloc, &linked)?;
         Ok(Tree {
             nodes: Items::from(nodes),

@@ -3,42 +3,33 @@ ghost use Rattle.std.specs.Prelude.{◌≡◌, IsSome, true};
 ghost use Rattle.std.specs.FinMap.{get};
 ghost use Rattle.slab.specs.Slab.{get as slab_get};
 ghost use Rattle.kernel_core.specs.Nodes.{is_unused};
-ghost use Rattle.kernel_core.specs.Totals.{content_blocks, live_blocks};
+ghost use Rattle.kernel_core.specs.Totals.{content_blocks};
 ghost use Rattle.native_vfs.specs.inside.Steps.{IsSettled, IsUnnamed, GivesBack};
-ghost use Rattle.native_vfs.specs.inside.Stored.{nodes_of, content_of, number_of_key, HasDistinctNumbers, AgreesPool};
+ghost use Rattle.native_vfs.specs.inside.Stored.{nodes_of, content_of, number_of_key};
 
+use crate::inodes::Inodes;
 use crate::numbers::place_of;
 use crate::steps;
-use crate::stored::{Stored, StoredContent};
+use crate::stored::StoredContent;
 use number_pool::NumberPool;
-use slab::Slab;
 
 /// Where a node has no link and no hold it goes: its number is given back, and its blocks are counted no
 /// longer (unlink(2), close(2)). Else nothing changes.
-pub(crate) fn settle(
-    table: &mut Slab<Stored>,
-    numbers: &mut NumberPool,
-    blocks: &mut u32,
-    key: usize,
-)
-    requires live { IsSome (slab_get table.old key) }
-    requires distinct { HasDistinctNumbers table.old }
-    requires unnamed { is_unused (get (nodes_of table.old) (number_of_key table.old key)) ≡ true → IsUnnamed (nodes_of table.old) (number_of_key table.old key) }
-    requires pool { AgreesPool (nodes_of table.old) numbers.old }
-    requires blocks { blocks.old ≡ live_blocks (nodes_of table.old) }
-    ensures settled { IsSettled table.old table.new key }
-    ensures pool { AgreesPool (nodes_of table.new) numbers.new }
-    ensures blocks { blocks.new ≡ live_blocks (nodes_of table.new) }
+pub(crate) fn settle(inodes: &mut Inodes, key: usize)
+    requires live { IsSome (slab_get inodes.old.table key) }
+    requires unnamed { is_unused (get (nodes_of inodes.old.table) (number_of_key inodes.old.table key)) ≡ true → IsUnnamed (nodes_of inodes.old.table) (number_of_key inodes.old.table key) }
+    ensures settled { IsSettled inodes.old.table inodes.new.table key }
+    ensures entries { inodes.new.entries ≡ inodes.old.entries }
 {
-    let node = &table[key];
+    let node = &inodes.table[key];
     if node.links > 0 || node.holds > 0 {
         return;
     }
     let number = node.number;
     let kept = kept_blocks(&node.content);
-    steps::remove(table, key);
-    *blocks -= kept;
-    give_back(numbers, number);
+    steps::remove(&mut inodes.table, key);
+    inodes.blocks -= kept;
+    give_back(&mut inodes.numbers, number);
 }
 
 /// How many blocks a file keeps; what is no file keeps none.

@@ -1,8 +1,6 @@
 //! The file system.
 
-use crate::stored::Stored;
-use number_pool::NumberPool;
-use slab::Slab;
+use crate::inodes::Inodes;
 use std::alloc::Global;
 use std::marker::Model;
 
@@ -16,12 +14,8 @@ use std::marker::Model;
 /// and its keys are this project's own.)
 #[derive(Drop)]
 pub struct Vfs {
-    pub(crate) table: Slab<Stored>,
-    pub(crate) numbers: NumberPool,
-    /// How many entries all directories have.
-    pub(crate) entries: u32,
-    /// How many blocks all files keep.
-    pub(crate) blocks: u32,
+    pub(crate) inodes: Inodes,
+    /// The key of the root.
     pub(crate) root: usize,
     pub(crate) alloc: Global,
 }
@@ -34,7 +28,7 @@ impl Model for Vfs {
 
     ghost coded = { keyed_code };
 
-    ghost view = { λ v. keyed_of v.table };
+    ghost view = { λ v. keyed_of v.inodes.table };
 
-    ghost invariant = { λ v. IsKept v.table v.numbers v.entries v.blocks v.root };
+    ghost invariant = { λ v. IsKept v.inodes.table v.inodes.entries v.root };
 }

@@ -226,7 +226,7 @@ impl Vfs {
         ensures inode { inode_at self.now key ≡ Some (inode_of result.now) }
         ensures sound { IsSound self.now result.now.content }
     {
-        node(&self.table, key)
+        node(&self.inodes.table, key)
     }
 }
 

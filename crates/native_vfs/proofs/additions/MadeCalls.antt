@@ -18,14 +18,14 @@ use Rattle.file_system_laws.proofs.Lookups.{is_some-update, get-update_found, di
 use Rattle.file_system_laws.proofs.Making.{create_keeps, mkdir_keeps, symlink_keeps}
 use Rattle.directory_names.specs.Names.{Names, plain}
 use Rattle.native_vfs.specs.Answers.{Makes}
-use Rattle.native_vfs.specs.Keyed.{Keyed, AgreesAt, AreKeys, place_at, number_at}
+use Rattle.native_vfs.specs.Keyed.{Keyed, AgreesAt, place_at, number_at}
 use Rattle.native_vfs.specs.inside.Making.{IsMade}
 use Rattle.native_vfs.specs.inside.Steps.{IsSame, links_in, links_at}
-use Rattle.native_vfs.specs.inside.Stored.{Table, nodes_of, keyed_of, content_of, number_of_key, Leads, ContentLeads, IsKept, IsStep}
+use Rattle.native_vfs.specs.inside.Stored.{Table, nodes_of, keyed_of, content_of, number_of_key, Leads, ContentLeads, IsStep, IsKept}
 use Rattle.native_vfs.specs.declared.place.Place.{Place as KeyedPlace}
 use Rattle.native_vfs.specs.declared.stored.Stored.{Stored}
 use Rattle.native_vfs.specs.declared.stored.StoredContent.TheVariants as kept
-use Rattle.native_vfs.proofs.tables.Kept.{nodes-view, keys-view, valid-view, are-keys-view}
+use Rattle.native_vfs.proofs.tables.Kept.{nodes-view, keys-view}
 use Rattle.native_vfs.proofs.additions.MadeNodes.{agrees-nodes}
 use Rattle.native_vfs.proofs.tables.Reasons.{live-dir}
 use Rattle.native_vfs.proofs.tables.Tables.{keys-kept, distinct-kept, leads-kept, number-there, number_at-table}
@@ -40,13 +40,6 @@ module _ (table : Table) (system : Keyed) (view : keyed_of table ≡ system) whe
   pub agrees-kept : (at : KeyedPlace) → AgreesAt system at → AgreesAt (keyed_of table) at
   agrees-kept at agrees = subst (λ s. AgreesAt s at) (sym view) agrees
 
-  module _ (taken : List Bool) (entries blocks root : ℕ) (is : IsKept table taken entries blocks root) where
-    pub valid-seen : IsFileSystem system.nodes
-    valid-seen = subst (λ s. IsFileSystem s.nodes) view (valid-view table taken entries blocks root is)
-
-    pub are-keys-seen : AreKeys system
-    are-keys-seen = subst AreKeys view (are-keys-view table taken entries blocks root is)
-
 -- Where nothing changes
 
 module _ (old new : Table) (same : IsSame old new) where
@@ -57,35 +50,32 @@ module _ (old new : Table) (same : IsSame old new) where
       ∙ ap (λ keys. record (keyed_of old) { keys = keys }) same.keys
       ∙ view
 
-  pub kept-same : (taken after : List Bool) (entries blocks root : ℕ) → after ≡ taken → IsKept old taken entries blocks root → IsKept new after entries blocks root
-  kept-same taken after entries blocks root untaken is = subst (λ t. IsKept new t entries blocks root) (sym untaken) (record {
-    distinct = distinct-kept old new same.numbers is.distinct;
-    references = same.references is.references;
-    system = subst IsFileSystem (sym same.nodes) is.system;
-    pool = λ place below. is.pool place below ∙ ap (λ nodes. is_some (get nodes (place + 2))) (sym same.nodes);
-    entry_total = is.entry_total ∙ ap live_entries (sym same.nodes);
-    block_total = is.block_total ∙ ap live_blocks (sym same.nodes);
+  pub kept-same : (entries left root : ℕ) → left ≡ entries → IsKept old entries root → IsKept new left root
+  kept-same entries left root uncounted is = record {
+    sound = record {
+      references = same.references is.sound.references;
+      system = subst IsFileSystem (sym same.nodes) is.sound.system;
+      entry_total = uncounted ∙ is.sound.entry_total ∙ ap live_entries (sym same.nodes);
+    };
     top = leads-kept old new same.numbers _ is.top;
-  })
+  }
 
 -- Where a node was made
 
-module _ (old new : Table) (taken : List Bool) (key : ℕ) (after : ℕ → Nodes) (made : IsMade old new taken key after) where
-  pub kept-made : (before : List Bool) (entries blocks root : ℕ) → IsKept old before entries blocks root → IsFileSystem (after made.number) → IsNamed (nodes_of old) (after made.number) 1
-      → IsKept new taken (entries + 1) blocks root
-  kept-made before entries blocks root is system counts = record {
-    distinct = made.distinct;
-    references = made.references is.references;
-    system = subst IsFileSystem (sym made.nodes) system;
-    pool = made.pool;
-    entry_total = ap (λ n. n + 1) is.entry_total ∙ sym (ap live_entries made.nodes ∙ counts.entries);
-    block_total = is.block_total ∙ sym (ap live_blocks made.nodes ∙ counts.blocks);
+module _ (old new : Table) (key : ℕ) (after : ℕ → Nodes) (made : IsMade old new key after) where
+  pub kept-made : (entries root : ℕ) → IsKept old entries root → IsFileSystem (after made.number) → IsNamed (nodes_of old) (after made.number) 1 → IsKept new (entries + 1) root
+  kept-made entries root is system counts = record {
+    sound = record {
+      references = made.references is.sound.references;
+      system = subst IsFileSystem (sym made.nodes) system;
+      entry_total = ap (λ n. n + 1) is.sound.entry_total ∙ sym (ap live_entries made.nodes ∙ counts.entries);
+    };
     top = made.leads _ is.top;
   }
 
   -- a step on another node
   pub made-step : (last : Table) (other number : ℕ) (change : Inode → Inode) → IsStep new last other change → number_of_key new other ≡ number
-      → IsMade old last taken key (λ n. update (after n) number change)
+      → IsMade old last key (λ n. update (after n) number change)
   made-step last other number change step is =
       let nodes : nodes_of last ≡ update (after made.number) number change =
       step.nodes ∙ ap (λ n. update (nodes_of new) n change) is ∙ ap (λ nodes. update nodes number change) made.nodes in
@@ -95,17 +85,13 @@ module _ (old new : Table) (taken : List Bool) (key : ℕ) (after : ℕ → Node
         nodes = nodes;
         fresh = made.fresh;
         keys = keys-kept new last step.numbers ∙ made.keys;
-        distinct = distinct-kept new last step.numbers made.distinct;
         references = λ h. step.references (made.references h);
         leads = λ reference h. leads-kept new last step.numbers reference (made.leads reference h);
-        pool = λ place below.
-            made.pool place below
-            ∙ sym (ap (λ nodes. is_some (get nodes (place + 2))) step.nodes ∙ is_some-update (nodes_of new) (number_of_key new other) change (place + 2));
       }
 
-pub makes-seen : (old new : Table) (taken : List Bool) (key : ℕ) (at : KeyedPlace) (after : Nodes → Place → ℕ → Nodes) (system : Keyed) → keyed_of old ≡ system
-    → IsMade old new taken key (after (nodes_of old) (place_at (keyed_of old) at)) → Makes system (keyed_of new) key (after system.nodes (place_at system at))
-makes-seen old new taken key at after system view made =
+pub makes-seen : (old new : Table) (key : ℕ) (at : KeyedPlace) (after : Nodes → Place → ℕ → Nodes) (system : Keyed) → keyed_of old ≡ system
+    → IsMade old new key (after (nodes_of old) (place_at (keyed_of old) at)) → Makes system (keyed_of new) key (after system.nodes (place_at system at))
+makes-seen old new key at after system view made =
     subst (λ s. Makes s (keyed_of new) key (after s.nodes (place_at s at))) view (record {
       number = made.number;
       least = subst (λ nodes. IsNewNumber nodes made.number) (sym (nodes-view old)) made.least;
@@ -116,33 +102,33 @@ makes-seen old new taken key at after system view made =
 
 -- The calls
 
-module _ (old new : Table) (before taken : List Bool) (entries blocks root key : ℕ) (at : KeyedPlace) (now : ℤ) (is : IsKept old before entries blocks root) (agrees : AgreesAt (keyed_of old) at)
+module _ (old new : Table) (entries root key : ℕ) (at : KeyedPlace) (now : ℤ) (is : IsKept old entries root) (agrees : AgreesAt (keyed_of old) at)
     (time : IsTime now) where
   abbrev place : Place
   place = place_at (keyed_of old) at
 
   module _ (free : make_refusal (nodes_of old) (place_at (keyed_of old) at) ≡ None) (mode : ℕ) (small : mode ≤ greatest_mode) where
-    pub kept-created : IsMade old new taken key (λ number. after_create (nodes_of old) (place_at (keyed_of old) at) number mode now) → IsKept new taken (entries + 1) blocks root
+    pub kept-created : IsMade old new key (λ number. after_create (nodes_of old) (place_at (keyed_of old) at) number mode now) → IsKept new (entries + 1) root
     kept-created made =
         let there = agrees-nodes old at agrees in
-        kept-made old new taken key (λ number. after_create (nodes_of old) place number mode now) made before entries blocks root is
-        (create_keeps (nodes_of old) place made.number now is.system there free made.least time mode small)
+        kept-made old new key (λ number. after_create (nodes_of old) place number mode now) made entries root is
+        (create_keeps (nodes_of old) place made.number now is.sound.system there free made.least time mode small)
         (create_counts (nodes_of old) place made.number now there.listing there.live made.least.unused mode)
 
-    pub kept-mkdir : IsMade old new taken key (λ number. after_mkdir (nodes_of old) (place_at (keyed_of old) at) number mode now) → IsKept new taken (entries + 1) blocks root
+    pub kept-mkdir : IsMade old new key (λ number. after_mkdir (nodes_of old) (place_at (keyed_of old) at) number mode now) → IsKept new (entries + 1) root
     kept-mkdir made =
         let there = agrees-nodes old at agrees in
-        kept-made old new taken key (λ number. after_mkdir (nodes_of old) place number mode now) made before entries blocks root is
-        (mkdir_keeps (nodes_of old) place made.number now is.system there free made.least time mode small)
+        kept-made old new key (λ number. after_mkdir (nodes_of old) place number mode now) made entries root is
+        (mkdir_keeps (nodes_of old) place made.number now is.sound.system there free made.least time mode small)
         (mkdir_counts (nodes_of old) place made.number now there.listing there.live made.least.unused mode)
 
   pub kept-symlink : (target : List ℕ) → symlink_refusal (nodes_of old) (place_at (keyed_of old) at) target ≡ None → ((place : ℕ) → slice_index target place < 256) → length target ≤ 4095
-      → list_any (λ byte. eqb byte 0) target ≡ false → IsMade old new taken key (λ number. after_symlink (nodes_of old) (place_at (keyed_of old) at) number target now)
-      → IsKept new taken (entries + 1) blocks root
+      → list_any (λ byte. eqb byte 0) target ≡ false → IsMade old new key (λ number. after_symlink (nodes_of old) (place_at (keyed_of old) at) number target now)
+      → IsKept new (entries + 1) root
   kept-symlink target free bytes short plain made =
       let there = agrees-nodes old at agrees in
-      kept-made old new taken key (λ number. after_symlink (nodes_of old) place number target now) made before entries blocks root is
-      (symlink_keeps (nodes_of old) place made.number target now is.system there free made.least time bytes short plain)
+      kept-made old new key (λ number. after_symlink (nodes_of old) place number target now) made entries root is
+      (symlink_keeps (nodes_of old) place made.number target now is.sound.system there free made.least time bytes short plain)
       (symlink_counts (nodes_of old) place made.number now there.listing there.live made.least.unused target)
 
 -- a call that is not refused
@@ -156,8 +142,8 @@ pub some_at : {X : Type 0} (o : Option X) → IsSome o → (x : X) × (o ≡ Som
 some_at None some = let h : false ≡ true = some in absurd (cc)
 some_at (Some x) some = (x, refl)
 
-module _ (old new : Table) (taken : List Bool) (key : ℕ) (at : KeyedPlace) (agrees : AgreesAt (keyed_of old) at) (inode : Inode) (now : ℤ)
-    (made : IsMade old new taken key (λ number. after_make (nodes_of old) (place_at (keyed_of old) at) number inode now)) where
+module _ (old new : Table) (key : ℕ) (at : KeyedPlace) (agrees : AgreesAt (keyed_of old) at) (inode : Inode) (now : ℤ)
+    (made : IsMade old new key (λ number. after_make (nodes_of old) (place_at (keyed_of old) at) number inode now)) where
   node_above : (node : Stored) × (slab_get old at.dir ≡ Some node)
   node_above = some_at (slab_get old at.dir) (live-dir old at agrees)
 

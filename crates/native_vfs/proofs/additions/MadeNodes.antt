@@ -7,8 +7,9 @@ use Rattle.slab.specs.Slab.{get as slab_get}
 use Rattle.kernel_core.specs.NameCalls.{IsNewNumber, make_refusal, name_refusal, after_make, relisted, with_entry}
 use Rattle.kernel_core.specs.Nodes.{Nodes, Inode, Listing, listing_at, listing_in, in_inode, update}
 use Rattle.kernel_core.specs.PathWalk.{Agrees}
-use Rattle.kernel_core.specs.Totals.{nodes_full, entries_full}
+use Rattle.kernel_core.specs.Totals.{nodes_full, entries_full, content_blocks, live_blocks}
 use Rattle.kernel_core.specs.ValidTree.{IsName, node_limit}
+use Rattle.file_system_laws.proofs.Counts.{live_blocks-relisted, live_blocks-insert}
 use Rattle.file_system_laws.proofs.Lookups.{is_some-update, get-insert_same, get-insert_other}
 use Rattle.file_system_laws.proofs.Making.{IsFreePlace, not_refused}
 use Rattle.number_pool.specs.Places.{is_taken_at, AreAllTaken, IsLeastFree}
@@ -151,20 +152,32 @@ module _ (old reserved inserted : Table) (key : ℕ) (node : Stored) (dir : ℕ)
         ∙ ap (λ nodes. update nodes (number_at (keyed_of old) at.dir) (relisted now (with_entry name node.number))) nodes-inserted
         ∙ ap (λ name. update (insert (nodes_of old) node.number (inode_of node)) (number_at (keyed_of old) at.dir) (relisted now (with_entry name node.number))) at_name
 
-    pub made : IsMade old new (slice_set taken place true) key (λ number. after_make (nodes_of old) (place_at (keyed_of old) at) number (inode_of node) now)
+    pub made : IsMade old new key (λ number. after_make (nodes_of old) (place_at (keyed_of old) at) number (inode_of node) now)
     made = record {
       number = node.number;
       least = new-number (nodes_of old) taken agrees whole place node.number least is;
       nodes = nodes_made;
       fresh = ap (λ keys. get keys key) (sym same.keys) ∙ key-get reserved key ∙ ap (option_map (λ n. n.number)) insertion.free;
       keys = keys-kept inserted new addition.numbers ∙ insertion.keys ∙ ap (λ keys. insert keys key node.number) same.keys;
-      distinct = distinct-kept inserted new addition.numbers insertion.distinct;
       references = λ h. addition.references (insertion.references (same.references h));
       leads = λ reference h. leads-kept inserted new addition.numbers reference (leads-inserted reference h);
-      pool = subst (λ nodes. AgreesPool nodes (slice_set taken place true)) (sym nodes_made)
-          (pool-made (nodes_of old) taken agrees whole place node.number (number_at (keyed_of old) at.dir) (inode_of node) (relisted now (with_entry at.name node.number))
-          (let h = least.inside in omega (arith, h, whole)) is);
     }
+
+    pub made-distinct : HasDistinctNumbers new
+    made-distinct = distinct-kept inserted new addition.numbers insertion.distinct
+
+    pub made-pool : AgreesPool (nodes_of new) (slice_set taken place true)
+    made-pool = subst (λ nodes. AgreesPool nodes (slice_set taken place true)) (sym nodes_made)
+        (pool-made (nodes_of old) taken agrees whole place node.number (number_at (keyed_of old) at.dir) (inode_of node) (relisted now (with_entry at.name node.number))
+        (let h = least.inside in omega (arith, h, whole)) is)
+
+-- a node that keeps no block leaves their count
+pub made-blocks : (old new : Table) (key : ℕ) (at : KeyedPlace) (inode : Inode) (now : ℤ) → content_blocks inode.content ≡ 0
+    → IsMade old new key (λ number. after_make (nodes_of old) (place_at (keyed_of old) at) number inode now) → (blocks : ℕ) → blocks ≡ live_blocks (nodes_of old) → blocks ≡ live_blocks (nodes_of new)
+made-blocks old new key at inode now none made blocks counted =
+    counted ∙ sym (ap live_blocks made.nodes
+    ∙ live_blocks-relisted (insert (nodes_of old) made.number inode) (number_at (keyed_of old) at.dir) now (with_entry at.name made.number)
+    ∙ live_blocks-insert (nodes_of old) made.number inode made.least.unused none)
 
 -- what an error leaves
 pub on-err : {A E P : Type 0} (result : Result A E) → P → OnErr result P

@@ -16,9 +16,9 @@ use Rattle.file_system_laws.proofs.Making.{link_keeps}
 use Rattle.native_vfs.specs.Keyed.{Keyed, AgreesAt, place_at, number_at}
 use Rattle.native_vfs.specs.inside.Making.{IsNamedAgain}
 use Rattle.native_vfs.specs.inside.Steps.{IsSame, IsAddition, links_in, links_at}
-use Rattle.native_vfs.specs.inside.Stored.{Table, nodes_of, keyed_of, inode_of, number_of_key, HasDistinctNumbers, KeepsNumbers, CanAdd, IsKept, IsStep}
+use Rattle.native_vfs.specs.inside.Stored.{Table, nodes_of, keyed_of, inode_of, number_of_key, HasDistinctNumbers, KeepsNumbers, CanAdd, IsStep}
 use Rattle.native_vfs.specs.declared.place.Place.{Place as KeyedPlace}
-use Rattle.native_vfs.proofs.tables.Kept.{nodes-view, keys-view, nodes-seen, keys-seen, number-seen}
+use Rattle.native_vfs.proofs.tables.Kept.{IsWhole, nodes-view, keys-view, nodes-seen, keys-seen, number-seen}
 use Rattle.native_vfs.proofs.additions.MadeCalls.{some_at}
 use Rattle.native_vfs.proofs.additions.MadeNodes.{agrees-nodes, listing-dir, allowed}
 use Rattle.native_vfs.proofs.tables.Tables.{node-there, number-there, number_at-table, keys-kept, number-kept, distinct-kept, leads-kept}
@@ -91,9 +91,9 @@ module _ (old reserved linked : Table) (node : ℕ) (now : ℤ) (same : IsSame o
 -- What is kept, and what callers see
 
 module _ (old new : Table) (node : ℕ) (at : KeyedPlace) (now : ℤ) (named : IsNamedAgain old new (after_link (nodes_of old) (number_of_key old node) (place_at (keyed_of old) at) now)) where
-  pub kept-named : (taken : List Bool) (entries blocks root : ℕ) → IsKept old taken entries blocks root → (agrees : AgreesAt (keyed_of old) at)
-      → link_refusal (nodes_of old) (number_of_key old node) (place_at (keyed_of old) at) ≡ None → IsSome (slab_get old node) → IsTime now → IsKept new taken (entries + 1) blocks root
-  kept-named taken entries blocks root is agrees free live time =
+  pub whole-named : (taken : List Bool) (entries blocks root : ℕ) → IsWhole old taken entries blocks root → (agrees : AgreesAt (keyed_of old) at)
+      → link_refusal (nodes_of old) (number_of_key old node) (place_at (keyed_of old) at) ≡ None → IsSome (slab_get old node) → IsTime now → IsWhole new taken (entries + 1) blocks root
+  whole-named taken entries blocks root is agrees free live time =
       let there = agrees-nodes old at agrees in
       let inode = inode-there old node is.distinct live in
       let number = number_of_key old node in

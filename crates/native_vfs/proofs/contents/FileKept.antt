@@ -16,8 +16,8 @@ use Rattle.file_system_laws.proofs.Totals.{total-kept}
 use Rattle.native_vfs.specs.Answers.{LeavesWritten}
 use Rattle.native_vfs.specs.Keyed.{Keyed, number_at}
 use Rattle.native_vfs.specs.inside.Steps.{IsFileStep, LeavesPart, file_written, content_written}
-use Rattle.native_vfs.specs.inside.Stored.{Table, nodes_of, keyed_of, number_of_key, IsKept}
-use Rattle.native_vfs.proofs.tables.Kept.{nodes-seen, number-seen, nodes-stepped, keys-stepped, pool-stepped}
+use Rattle.native_vfs.specs.inside.Stored.{Table, nodes_of, keyed_of, number_of_key}
+use Rattle.native_vfs.proofs.tables.Kept.{IsWhole, nodes-seen, number-seen, nodes-stepped, keys-stepped, pool-stepped}
 use Rattle.native_vfs.proofs.tables.Tables.{distinct-kept, leads-kept, update_same}
 
 -- a change of a node that leaves all but its content, where it is a file, and its times
@@ -127,9 +127,9 @@ module _ (nodes : Nodes) (n : ℕ) (change : Inode → Inode) (only : IsContentO
 
 -- a step on a file's content, and the count of the blocks with it
 module _ (old new : Table) (key : ℕ) (change : Inode → Inode) (step : IsFileStep old new key change) (only : IsContentOnly change) where
-  pub kept-file : (taken : List Bool) (entries blocks left top : ℕ) → IsKept old taken entries blocks top → IsSome (file_at (nodes_of old) (number_of_key old key))
-      → left ≡ live_blocks (nodes_of new) → IsKept new taken entries left top
-  kept-file taken entries blocks left top is file counted =
+  pub whole-file : (taken : List Bool) (entries blocks left top : ℕ) → IsWhole old taken entries blocks top → IsSome (file_at (nodes_of old) (number_of_key old key))
+      → left ≡ live_blocks (nodes_of new) → IsWhole new taken entries left top
+  whole-file taken entries blocks left top is file counted =
       let s = step.step in
       let n = number_of_key old key in
       record {
@@ -209,13 +209,13 @@ written-step old new key at bytes now most time (Some content) some (Err (Stop s
 
 -- another size, where it is not refused
 module _ (old new : Table) (key to : ℕ) (now : ℤ) (r : Result (Unit {0}) CoreError) (ok : OnOk r (IsFileStep old new key (modified_at now (λ c. resized c to)))) (err : OnErr r (new ≡ old)) where
-  pub kept-resized : (taken : List Bool) (entries blocks left top : ℕ) → IsKept old taken entries blocks top → IsSome (file_at (nodes_of old) (number_of_key old key)) → IsTime now
-      → left ≡ live_blocks (nodes_of new) → IsKept new taken entries left top
-  kept-resized taken entries blocks left top is file time counted = by r ok err
+  pub whole-resized : (taken : List Bool) (entries blocks left top : ℕ) → IsWhole old taken entries blocks top → IsSome (file_at (nodes_of old) (number_of_key old key)) → IsTime now
+      → left ≡ live_blocks (nodes_of new) → IsWhole new taken entries left top
+  whole-resized taken entries blocks left top is file time counted = by r ok err
     where
-      by : (r : Result (Unit {0}) CoreError) → OnOk r (IsFileStep old new key (modified_at now (λ c. resized c to))) → OnErr r (new ≡ old) → IsKept new taken entries left top
-      by (Ok u) step same = kept-file old new key (modified_at now (λ c. resized c to)) step (modified-only now (λ c. resized c to) time) taken entries blocks left top is file counted
-      by (Err e) step same = subst (λ t. IsKept t taken entries left top) (sym same) (record {
+      by : (r : Result (Unit {0}) CoreError) → OnOk r (IsFileStep old new key (modified_at now (λ c. resized c to))) → OnErr r (new ≡ old) → IsWhole new taken entries left top
+      by (Ok u) step same = whole-file old new key (modified_at now (λ c. resized c to)) step (modified-only now (λ c. resized c to) time) taken entries blocks left top is file counted
+      by (Err e) step same = subst (λ t. IsWhole t taken entries left top) (sym same) (record {
         distinct = is.distinct;
         references = is.references;
         system = is.system;

@@ -1,5 +1,5 @@
 -- A file's content changes, and the blocks of all files are counted.
-use Rattle.std.proofs.Common.{◌≡◌, ℕ, ◌+◌, ◌≤◌, true, List, [], take, Option, Some, None, is_some, IsSome, IfSome, refl, sym, ap, subst, ◌∙◌, arith}
+use Rattle.std.proofs.Common.{◌≡◌, ℕ, ◌+◌, ◌≤◌, Bool, true, List, [], take, Option, Some, None, is_some, IsSome, IfSome, refl, sym, ap, subst, ◌∙◌, arith}
 use Rattle.std.specs.Prelude.{ℤ, IsSomeAnd}
 use Rattle.slab.specs.Slab.{get as slab_get, with_value}
 use Rattle.slab.proofs.SlabLemmas.{Updates-with_value}
@@ -9,11 +9,12 @@ use Rattle.kernel_core.specs.Totals.{content_blocks, live_blocks}
 use Rattle.kernel_core.specs.ValidTree.{block_limit}
 use Rattle.file_system_laws.proofs.Totals.{total-update, total-at_least}
 use Rattle.native_vfs.specs.inside.Steps.{IsFileChange, IsFileStep, file_written}
-use Rattle.native_vfs.specs.inside.Stored.{Table, nodes_of, inode_of, content_of, number_of_key, HasDistinctNumbers, ContentLeads, content_has_room, IsStep}
+use Rattle.native_vfs.specs.inside.Stored.{Table, nodes_of, inode_of, content_of, number_of_key, HasDistinctNumbers, KeepsNumbers, AgreesPool, ContentLeads, content_has_room, IsStep}
 use Rattle.native_vfs.specs.declared.stored.Stored.{Stored}
 use Rattle.native_vfs.specs.declared.stored.StoredContent.{StoredContent}
 use Rattle.native_vfs.specs.declared.stored.StoredContent.TheVariants as kept
-use Rattle.native_vfs.proofs.tables.Tables.{node-there, number-there, step-with_value, distinct-kept, updates-nodes, update_same}
+use Rattle.native_vfs.proofs.tables.Kept.{pool-numbers}
+use Rattle.native_vfs.proofs.tables.Tables.{node-there, number-there, step-with_value, distinct-kept, updates-nodes, updates-numbers, update_same}
 
 -- a write of no byte changes nothing
 written-none : (content : FileContent) (at : ℕ) → written content at [] ≡ content
@@ -57,7 +58,17 @@ module _ (table : Table) (key : ℕ) (before : Stored) (at : slab_get table key 
   pub blocks-there : content_blocks (content_of before.content) ≤ live_blocks (nodes_of table)
   blocks-there = total-at_least (λ i. content_blocks i.content) (nodes_of table) before.number (inode_of before) (node-there table key before distinct at)
 
-  -- what all files keep after the node was written in its place
+  -- the node is written in its place
+  pub numbers-there : (after : Stored) → after.number ≡ before.number → KeepsNumbers table (with_value table key after)
+  numbers-there after same = updates-numbers table (with_value table key after) key before after at (Updates-with_value table key after (ap is_some at)) same
+
+  pub distinct-there : (after : Stored) → after.number ≡ before.number → HasDistinctNumbers (with_value table key after)
+  distinct-there after same = distinct-kept table (with_value table key after) (numbers-there after same) distinct
+
+  pub pool-there : (after : Stored) → after.number ≡ before.number → (taken : List Bool) → AgreesPool (nodes_of table) taken → AgreesPool (nodes_of (with_value table key after)) taken
+  pool-there after same = pool-numbers table (with_value table key after) (numbers-there after same) distinct
+
+  -- what all files keep then
   pub blocks-changed : (after : Stored) → after.number ≡ before.number
       → live_blocks (nodes_of (with_value table key after)) + content_blocks (content_of before.content) ≡ live_blocks (nodes_of table) + content_blocks (content_of after.content)
   blocks-changed after same =

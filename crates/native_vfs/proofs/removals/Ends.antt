@@ -1,5 +1,5 @@
 -- What callers see after a call on names that was refused, and after one that took a name away.
-use Rattle.std.proofs.Common.{◌≡◌, ℕ, ◌+◌, ◌-◌, Bool, true, false, not, eqb, codes, bytes_eq, List, Option, Some, None, is_some, refl, sym, ap, subst, ◌∙◌, arith}
+use Rattle.std.proofs.Common.{◌≡◌, ℕ, Bool, true, false, not, eqb, codes, bytes_eq, Option, Some, None, is_some, refl, sym, ap, subst, ◌∙◌}
 use Rattle.std.specs.Prelude.{option_map}
 use Rattle.std.proofs.lemmas.Bool.{not-false, or_from}
 use Rattle.std.specs.FinMap.{get}
@@ -7,15 +7,15 @@ use Rattle.kernel_core.specs.FileSystem.{IsFileSystem, parent_of}
 use Rattle.kernel_core.specs.NameCalls.{unlink_of, unlink_refusal, rmdir_of, rmdir_refusal, is_empty_list, has_entries}
 use Rattle.kernel_core.specs.Nodes.{Nodes, Inode, is_directory, in_inode, listing_in}
 use Rattle.kernel_core.specs.PathWalk.{Place}
-use Rattle.kernel_core.specs.Totals.{live_entries}
 use Rattle.kernel_core.specs.ValidTree.{root}
 use Rattle.file_system_laws.proofs.Removing.{passed, MayGo}
 use Rattle.native_vfs.specs.Answers.{with_node}
 use Rattle.native_vfs.specs.Keyed.{Keyed, AreKeys, KeepsKeys, place_at, number_at}
-use Rattle.native_vfs.specs.inside.Removals.{IsLoss, IsSound}
-use Rattle.native_vfs.specs.inside.Stored.{Table, nodes_of, keyed_of, number_of_key, IsKept}
+use Rattle.native_vfs.specs.inside.Removals.{IsLoss}
+use Rattle.native_vfs.specs.inside.Stored.{Table, nodes_of, keyed_of, number_of_key, HasDistinctNumbers, IsSound, IsKept}
 use Rattle.native_vfs.specs.declared.place.Place.{Place as KeyedPlace}
-use Rattle.native_vfs.proofs.tables.Kept.{nodes-view, number-seen, valid-view, are-keys-view}
+use Rattle.native_vfs.proofs.tables.Kept.{nodes-view, number-seen, valid-sound}
+use Rattle.native_vfs.proofs.tables.Tables.{AreKeys-table}
 
 -- the root lives
 pub root-lives : (nodes : Nodes) → IsFileSystem nodes → is_some (get nodes root) ≡ true
@@ -31,12 +31,11 @@ module _ (table : Table) (system : Keyed) (view : keyed_of table ≡ system) whe
   seen-at find at = ap (λ nodes. find nodes (place_at (keyed_of table) at)) (sym (nodes-view table)) ∙ ap (λ (s : Keyed). find s.nodes (place_at s at)) view
 
   -- a call that is refused leaves a file system
-  module _ (taken : List Bool) (entries blocks key : ℕ) (kept : IsKept table taken entries blocks key) where
-    pub valid-seen : IsFileSystem system.nodes
-    valid-seen = subst (λ (s : Keyed). IsFileSystem s.nodes) view (valid-view table taken entries blocks key kept)
+  pub valid-seen : (entries : ℕ) → IsSound table entries → IsFileSystem system.nodes
+  valid-seen entries sound = subst (λ (s : Keyed). IsFileSystem s.nodes) view (valid-sound table entries sound)
 
-    pub are-keys-seen : AreKeys system
-    are-keys-seen = subst AreKeys view (are-keys-view table taken entries blocks key kept)
+  pub are-keys-seen : HasDistinctNumbers table → AreKeys system
+  are-keys-seen distinct = subst AreKeys view (AreKeys-table table distinct)
 
   -- the nodes after a call on the node of a place
   pub after-seen : (after : Nodes → Place → ℕ → Nodes) (at : KeyedPlace) (node : ℕ) → at.node ≡ Some node → (new : Table)
@@ -51,15 +50,9 @@ module _ (table : Table) (system : Keyed) (view : keyed_of table ≡ system) whe
   keeps-seen new keeps = subst (λ s. KeepsKeys s (keyed_of new)) view keeps
 
 -- what is kept after a name was taken away
-pub kept-lost : (old new : Table) (node : ℕ) (taken after : List Bool) (entries before blocks key : ℕ) → IsKept old taken entries before key → IsSound new after blocks → IsLoss old new node
-    → live_entries (nodes_of new) + 1 ≡ live_entries (nodes_of old) → IsKept new after (entries - 1) blocks key
-kept-lost old new node taken after entries before blocks key is sound loss less = record {
-  distinct = sound.distinct;
-  references = sound.references;
-  system = sound.system;
-  pool = sound.pool;
-  entry_total = (let a = is.entry_total in omega (arith, a, less));
-  block_total = sound.block_total;
+pub kept-lost : (old new : Table) (node entries left key : ℕ) → IsKept old entries key → IsSound new left → IsLoss old new node → IsKept new left key
+kept-lost old new node entries left key is sound loss = record {
+  sound = sound;
   top = loss.leads (record { number = root; key = key }) is.top (root-lives (nodes_of new) sound.system);
 }
 

@@ -1,5 +1,5 @@
 -- The steps by which a name is taken away, and what they make of the table.
-use Rattle.std.proofs.Common.{◌≡◌, ℕ, ◌+◌, ◌<◌, Bool, true, false, List, Some, sym, ap, subst, ◌∙◌}
+use Rattle.std.proofs.Common.{◌≡◌, ℕ, ◌+◌, ◌-◌, ◌<◌, true, false, List, Some, sym, ap, subst, ◌∙◌, arith}
 use Rattle.std.specs.Prelude.{ℤ}
 use Rattle.std.specs.FinMap.{get}
 use Rattle.kernel_core.specs.FileSystem.{IsTime}
@@ -11,16 +11,15 @@ use Rattle.file_system_laws.proofs.Places.{Stands, stands_of, stands_of_file}
 use Rattle.file_system_laws.proofs.Removing.{file_removed, directory_removed, no_entries}
 use Rattle.file_system_laws.proofs.Tallies.{own, IsTree, opened, closed, listing_exists}
 use Rattle.native_vfs.specs.Keyed.{AgreesAt, place_at}
-use Rattle.native_vfs.specs.inside.Removals.{IsSound}
 use Rattle.native_vfs.specs.inside.Steps.{IsSettled, IsUnnamed, links_in, links_at}
-use Rattle.native_vfs.specs.inside.Stored.{Table, nodes_of, keyed_of, number_of_key, AgreesPool, IsStep}
+use Rattle.native_vfs.specs.inside.Stored.{Table, nodes_of, keyed_of, number_of_key, IsSound, IsStep}
 use Rattle.native_vfs.specs.declared.place.Place.{Place as KeyedPlace}
 use Rattle.native_vfs.proofs.removals.LostNames.{taken-links, file-links, file-stage, file-entries, directory-stage, directory-entries, unused-unnamed}
 use Rattle.native_vfs.proofs.removals.RemovalCounts.{unlinked-entries, unlinked-blocks, removed-entries, removed-blocks}
 use Rattle.native_vfs.proofs.removals.Stages.{IsChanged, unchanged, one-more, nodes-more, changed-links, changed-unnamed, nodes-settled, sound-settled, placed, named-node}
 use Rattle.native_vfs.proofs.tables.Tables.{number_at-table}
 
-module _ (old : Table) (taken : List Bool) (count : ℕ) (sound : IsSound old taken count) (at : KeyedPlace) (agrees : AgreesAt (keyed_of old) at) (node : ℕ) (is : at.node ≡ Some node)
+module _ (old : Table) (entries : ℕ) (sound : IsSound old entries) (at : KeyedPlace) (agrees : AgreesAt (keyed_of old) at) (node : ℕ) (is : at.node ≡ Some node)
     (now : ℤ) (time : IsTime now) where
   abbrev place : Place
   place = place_at (keyed_of old) at
@@ -61,23 +60,24 @@ module _ (old : Table) (taken : List Bool) (count : ℕ) (sound : IsSound old ta
             changed-unnamed old stage file-changed node _ file_nodes
             (unused-unnamed _ number (file-stage (nodes_of old) tree place.directory at.name number stands now time plain))
 
-        pub file-blocks : count ≡ live_blocks (nodes_of stage)
-        file-blocks = sound.block_total ∙ sym (ap live_blocks file_nodes ∙ unlinked-blocks (nodes_of old) tree place.directory at.name number stands now)
+        pub file-blocks : (count : ℕ) → count ≡ live_blocks (nodes_of old) → count ≡ live_blocks (nodes_of stage)
+        file-blocks count counted = counted ∙ sym (ap live_blocks file_nodes ∙ unlinked-blocks (nodes_of old) tree place.directory at.name number stands now)
 
         module _ (new : Table) (went : IsSettled stage new node) where
           pub file-nodes : nodes_of new ≡ after_unlink (nodes_of old) place number now
           file-nodes = nodes-settled old stage file-changed node _ file_nodes new went
-
-          pub file-sound : (after : List Bool) (blocks : ℕ) → AgreesPool (nodes_of new) after → blocks ≡ live_blocks (nodes_of new) → IsSound new after blocks
-          file-sound after blocks =
-              sound-settled old stage file-changed node _ file_nodes new went taken after count blocks sound
-              (closed (after_unlink (nodes_of old) place number now) (file_removed (nodes_of old) tree place.directory at.name number stands now time plain).tree)
 
           pub file-less : live_entries (nodes_of new) + 1 ≡ live_entries (nodes_of old)
           file-less =
               ap (λ nodes. live_entries nodes + 1) file-nodes
               ∙ ap (λ n. n + 1) (file-entries (nodes_of old) tree place.directory at.name number stands now time plain)
               ∙ unlinked-entries (nodes_of old) tree place.directory at.name number stands now
+
+          pub file-sound : (left : ℕ) → left ≡ entries - 1 → IsSound new left
+          file-sound left is_left =
+              sound-settled old stage file-changed node _ file_nodes new went entries left sound
+              (closed (after_unlink (nodes_of old) place number now) (file_removed (nodes_of old) tree place.directory at.name number stands now time plain).tree)
+              (let less = file-less in let all = sound.entry_total in omega (arith, is_left, less, all))
 
     -- from an empty directory
     module _ (proper : is_no_entry at.name ≡ false) (kind : is_directory (nodes_of old) number ≡ true) (empty : has_entries (nodes_of old) number ≡ false) where
@@ -110,22 +110,23 @@ module _ (old : Table) (taken : List Bool) (count : ℕ) (sound : IsSound old ta
             changed-unnamed old stage directory-changed node _ directory_nodes
             (unused-unnamed _ number (directory-stage (nodes_of old) tree place.directory at.name number entry_stands now time kind empty))
 
-        pub directory-blocks : count ≡ live_blocks (nodes_of stage)
-        directory-blocks = sound.block_total ∙ sym (ap live_blocks directory_nodes ∙ removed-blocks (nodes_of old) tree place.directory at.name number entry_stands now)
+        pub directory-blocks : (count : ℕ) → count ≡ live_blocks (nodes_of old) → count ≡ live_blocks (nodes_of stage)
+        directory-blocks count counted = counted ∙ sym (ap live_blocks directory_nodes ∙ removed-blocks (nodes_of old) tree place.directory at.name number entry_stands now)
 
         module _ (new : Table) (went : IsSettled stage new node) where
           pub directory-nodes : nodes_of new ≡ after_rmdir (nodes_of old) place number now
           directory-nodes = nodes-settled old stage directory-changed node _ directory_nodes new went
-
-          pub directory-sound : (after : List Bool) (blocks : ℕ) → AgreesPool (nodes_of new) after → blocks ≡ live_blocks (nodes_of new) → IsSound new after blocks
-          directory-sound after blocks =
-              let l = listing_exists (nodes_of old) number kind in
-              sound-settled old stage directory-changed node _ directory_nodes new went taken after count blocks sound
-              (closed (after_rmdir (nodes_of old) place number now)
-              (directory_removed (nodes_of old) tree place.directory at.name number entry_stands now time l.0 l.1 (no_entries (nodes_of old) number l.0 l.1 empty)).tree)
 
           pub directory-less : live_entries (nodes_of new) + 1 ≡ live_entries (nodes_of old)
           directory-less =
               ap (λ nodes. live_entries nodes + 1) directory-nodes
               ∙ ap (λ n. n + 1) (directory-entries (nodes_of old) tree place.directory at.name number entry_stands now time kind empty)
               ∙ removed-entries (nodes_of old) tree place.directory at.name number entry_stands now
+
+          pub directory-sound : (left : ℕ) → left ≡ entries - 1 → IsSound new left
+          directory-sound left is_left =
+              let l = listing_exists (nodes_of old) number kind in
+              sound-settled old stage directory-changed node _ directory_nodes new went entries left sound
+              (closed (after_rmdir (nodes_of old) place number now)
+              (directory_removed (nodes_of old) tree place.directory at.name number entry_stands now time l.0 l.1 (no_entries (nodes_of old) number l.0 l.1 empty)).tree)
+              (let less = directory-less in let all = sound.entry_total in omega (arith, is_left, less, all))

@@ -12,8 +12,8 @@ use Rattle.file_system_laws.proofs.Lookups.{get-update_same}
 use Rattle.file_system_laws.proofs.NodeLaws.{release_keeps}
 use Rattle.native_vfs.specs.Keyed.{Keyed, KeepsKeys, number_at}
 use Rattle.native_vfs.specs.inside.Steps.{IsSettled, IsUnnamed}
-use Rattle.native_vfs.specs.inside.Stored.{Table, nodes_of, keyed_of, number_of_key, AgreesPool, IsKept, IsStep}
-use Rattle.native_vfs.proofs.tables.Kept.{nodes-view, number-seen, nodes-seen, kept-settled, keys-stepped}
+use Rattle.native_vfs.specs.inside.Stored.{Table, nodes_of, keyed_of, number_of_key, AgreesPool, IsStep}
+use Rattle.native_vfs.proofs.tables.Kept.{IsWhole, nodes-view, number-seen, nodes-seen, whole-settled, keys-stepped}
 use Rattle.native_vfs.proofs.tables.Tables.{number-kept, leads-kept}
 use Rattle.native_vfs.proofs.removals.Unnamed.{unlinked-loose, unlinked-unnamed, unnamed-after}
 
@@ -74,10 +74,10 @@ module _ (old mid : Table) (key : ℕ) (step : IsStep old mid key let_go) where
         let same = keys-stepped old mid key let_go step system view in
         subst (λ keys. KeepsKeys (record { nodes = system.nodes; keys = keys }) (keyed_of new)) same went.keys other number
 
-    pub kept-released : (taken left : List Bool) (entries blocks blocks_left top : ℕ) → IsKept old taken entries blocks top → AgreesPool (nodes_of new) left
-        → blocks_left ≡ live_blocks (nodes_of new) → IsKept new left entries blocks_left top
-    kept-released taken left entries blocks blocks_left top is pool counted =
-        kept-settled mid new key left entries blocks_left top went (step.references is.references)
+    pub whole-released : (taken left : List Bool) (entries blocks blocks_left top : ℕ) → IsWhole old taken entries blocks top → AgreesPool (nodes_of new) left
+        → blocks_left ≡ live_blocks (nodes_of new) → IsWhole new left entries blocks_left top
+    whole-released taken left entries blocks blocks_left top is pool counted =
+        whole-settled mid new key left entries blocks_left top went (step.references is.references)
         (subst IsFileSystem (sym nodes-released) (release_keeps (nodes_of old) (number_of_key old key) is.system))
         pool
         (is.entry_total ∙ sym (ap live_entries nodes-released ∙ released-entries (nodes_of old) (number_of_key old key) is.system))

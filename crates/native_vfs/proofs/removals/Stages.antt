@@ -6,12 +6,12 @@ use Rattle.slab.specs.Slab.{get as slab_get}
 use Rattle.kernel_core.specs.FileSystem.{IsFileSystem}
 use Rattle.kernel_core.specs.Nodes.{Nodes, Inode, listing_at, update, settled, is_unused}
 use Rattle.kernel_core.specs.PathWalk.{Agrees}
-use Rattle.kernel_core.specs.Totals.{live_blocks}
+use Rattle.kernel_core.specs.Totals.{live_entries}
 use Rattle.file_system_laws.proofs.Lookups.{is_some-update}
 use Rattle.native_vfs.specs.Keyed.{KeepsKeys, AgreesAt, place_at, number_at}
-use Rattle.native_vfs.specs.inside.Removals.{IsLoss, IsSound}
+use Rattle.native_vfs.specs.inside.Removals.{IsLoss}
 use Rattle.native_vfs.specs.inside.Steps.{IsSettled, IsUnnamed, links_in, links_at}
-use Rattle.native_vfs.specs.inside.Stored.{Table, nodes_of, keyed_of, number_of_key, HasDistinctNumbers, HasReferences, HasRoom, KeepsNumbers, AgreesPool, IsStep}
+use Rattle.native_vfs.specs.inside.Stored.{Table, nodes_of, keyed_of, number_of_key, HasDistinctNumbers, HasReferences, HasRoom, KeepsNumbers, AgreesPool, IsSound, IsStep}
 use Rattle.native_vfs.specs.declared.place.Place.{Place as KeyedPlace}
 use Rattle.native_vfs.proofs.tables.Kept.{nodes-view, keys-view}
 use Rattle.native_vfs.proofs.tables.Tables.{number_at-table, keys-kept, number-kept, distinct-kept, leads-kept, live-kept}
@@ -75,14 +75,11 @@ module _ (old stage : Table) (changed : IsChanged old stage) where
       pub nodes-settled : nodes_of new ≡ settled nodes (number_of_key old node)
       nodes-settled = went.nodes ∙ ap (settled (nodes_of stage)) number_here ∙ ap (λ m. settled m (number_of_key old node)) is
 
-      pub sound-settled : (taken after : List Bool) (before blocks : ℕ) → IsSound old taken before → IsFileSystem (settled nodes (number_of_key old node)) → AgreesPool (nodes_of new) after
-          → blocks ≡ live_blocks (nodes_of new) → IsSound new after blocks
-      sound-settled taken after before blocks sound system pool counted = record {
-        distinct = went.distinct;
+      pub sound-settled : (entries left : ℕ) → IsSound old entries → IsFileSystem (settled nodes (number_of_key old node)) → left ≡ live_entries (nodes_of new) → IsSound new left
+      sound-settled entries left sound system counted = record {
         references = went.references (changed.references sound.references);
         system = subst IsFileSystem (sym nodes-settled) system;
-        pool = pool;
-        block_total = counted;
+        entry_total = counted;
       }
 
   keys_settled : (node : ℕ) (new : Table) → IsSettled stage new node → KeepsKeys (keyed_of old) (keyed_of new)

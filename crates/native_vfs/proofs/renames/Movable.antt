@@ -62,6 +62,22 @@ empty_by : (b c d : Bool) → c ≡ true → cond b (cond (not c) (Some ENOTDIR)
 empty_by true c d is e = (passed d ENOTEMPTY None (passed (not c) ENOTDIR (cond d (Some ENOTEMPTY) None) e).1).0
 empty_by false c d is e = absurd (true≢false (sym is ∙ (passed c EISDIR None e).0))
 
+-- A new parent leaves the blocks.
+
+reparented_blocks : (p : ℕ) (c : NodeContent) → content_blocks (in_directory (λ l. record l { parent = Some p }) c) ≡ content_blocks c
+reparented_blocks p (File content) = refl
+reparented_blocks p (Directory listing) = refl
+reparented_blocks p (Link target) = refl
+
+pub move_parent-blocks : (n : Nodes) (moved from to : ℕ) → live_blocks (move_parent n moved from to) ≡ live_blocks n
+move_parent-blocks n moved from to = go (is_directory n moved)
+  where
+    go : (b : Bool) → live_blocks (cond b (update (update (update n from one_link_less) to one_link_more) moved (reparented to)) n) ≡ live_blocks n
+    go true =
+        total-kept (λ i. content_blocks i.content) (update (update n from one_link_less) to one_link_more) moved (reparented to) (λ i found. reparented_blocks to i.content)
+        ∙ live_blocks-kept (update n from one_link_less) to one_link_more (λ i found. refl) ∙ live_blocks-kept n from one_link_less (λ i found. refl)
+    go false = refl
+
 module _ (nodes : Nodes) (fs : IsFileSystem nodes) (from to : Place) (moved : ℕ) (at_from : Agrees nodes from) (at_to : Agrees nodes to) (found : from.node ≡ Some moved)
     (allowed : rename_refusal nodes from to ≡ None) (differs : is_node to.node moved ≡ false) (now : ℤ) (time : IsTime now) where
   may : MayMove nodes from to moved
@@ -263,11 +279,6 @@ module _ (nodes : Nodes) (fs : IsFileSystem nodes) (from to : Place) (moved : �
   reparented_entries p (Directory listing) = refl
   reparented_entries p (Link target) = refl
 
-  reparented_blocks : (p : ℕ) (c : NodeContent) → content_blocks (in_directory (λ l. record l { parent = Some p }) c) ≡ content_blocks c
-  reparented_blocks p (File content) = refl
-  reparented_blocks p (Directory listing) = refl
-  reparented_blocks p (Link target) = refl
-
   parent_entries : (n : Nodes) → live_entries (move_parent n moved from.directory to.directory) ≡ live_entries n
   parent_entries n = go (is_directory n moved)
     where
@@ -276,16 +287,6 @@ module _ (nodes : Nodes) (fs : IsFileSystem nodes) (from to : Place) (moved : �
           total-kept (λ i. length (content_entries i.content)) (update (update n from.directory one_link_less) to.directory one_link_more) moved (reparented to.directory)
           (λ i found. reparented_entries to.directory i.content)
           ∙ live_entries-kept (update n from.directory one_link_less) to.directory one_link_more (λ i found. refl) ∙ live_entries-kept n from.directory one_link_less (λ i found. refl)
-      go false = refl
-
-  parent_blocks : (n : Nodes) → live_blocks (move_parent n moved from.directory to.directory) ≡ live_blocks n
-  parent_blocks n = go (is_directory n moved)
-    where
-      go : (b : Bool) → live_blocks (cond b (update (update (update n from.directory one_link_less) to.directory one_link_more) moved (reparented to.directory)) n) ≡ live_blocks n
-      go true =
-          total-kept (λ i. content_blocks i.content) (update (update n from.directory one_link_less) to.directory one_link_more) moved (reparented to.directory)
-          (λ i found. reparented_blocks to.directory i.content)
-          ∙ live_blocks-kept (update n from.directory one_link_less) to.directory one_link_more (λ i found. refl) ∙ live_blocks-kept n from.directory one_link_less (λ i found. refl)
       go false = refl
 
   abbrev added : Nodes
@@ -300,5 +301,5 @@ module _ (nodes : Nodes) (fs : IsFileSystem nodes) (from to : Place) (moved : �
 
   pub moved-blocks : live_blocks at_end ≡ live_blocks cleared
   moved-blocks =
-      live_blocks-kept (move_parent added moved from.directory to.directory) moved (changed_at now) (λ i found. refl) ∙ parent_blocks added
+      live_blocks-kept (move_parent added moved from.directory to.directory) moved (changed_at now) (λ i found. refl) ∙ move_parent-blocks added moved from.directory to.directory
       ∙ live_blocks-relisted taken to.directory now (with_entry to.name moved) ∙ taken-blocks cleared ready.tree from.directory from.name moved ready.stands now

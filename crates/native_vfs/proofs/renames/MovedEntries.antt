@@ -4,37 +4,34 @@ use Rattle.std.specs.Prelude.{Result, Ok, Err, OnErr}
 use Rattle.std.specs.FinMap.{get}
 use Rattle.slab.specs.Slab.{get as slab_get}
 use Rattle.kernel_core.specs.FileSystem.{IsFileSystem, IsTime}
-use Rattle.kernel_core.specs.NameCalls.{take_name, replace_name, is_node, rename_refusal, after_move}
+use Rattle.file_system_laws.proofs.Counts.{live_blocks-kept, live_blocks-relisted}
+use Rattle.kernel_core.specs.NameCalls.{add_name, changed_at, move_parent, with_entry, without_entry, take_name, replace_name, is_node, rename_refusal, after_move}
 use Rattle.kernel_core.specs.Nodes.{Nodes, Inode, listing_at}
 use Rattle.kernel_core.specs.PathWalk.{Place, Agrees}
 use Rattle.kernel_core.specs.Totals.{live_entries, live_blocks}
 use Rattle.kernel_core.specs.ValidTree.{IsName, root}
 use Rattle.native_vfs.specs.Keyed.{Keyed, AgreesAt, KeepsKeys, place_at, number_at}
-use Rattle.native_vfs.specs.inside.Removals.{IsSound}
 use Rattle.native_vfs.specs.inside.Renames.{entry_moved, MayGive, IsCleared, Becomes}
 use Rattle.native_vfs.specs.inside.Steps.{IsSame, links_in, links_at}
-use Rattle.native_vfs.specs.inside.Stored.{Table, nodes_of, keyed_of, number_of_key, HasDistinctNumbers, KeepsNumbers, Leads, IsKept, CanAdd}
+use Rattle.native_vfs.specs.inside.Stored.{Table, nodes_of, keyed_of, number_of_key, HasDistinctNumbers, KeepsNumbers, Leads, AgreesPool, IsSound, CanAdd}
 use Rattle.native_vfs.specs.declared.place.Place.{Place as KeyedPlace}
 use Rattle.native_vfs.specs.declared.stored.Stored.{Stored}
 use Rattle.native_vfs.proofs.removals.Ends.{root-lives}
-use Rattle.native_vfs.proofs.tables.Kept.{nodes-view, keys-view}
+use Rattle.native_vfs.proofs.tables.Kept.{IsWhole, nodes-view, keys-view, same-lives, pool-numbers}
 use Rattle.native_vfs.proofs.tables.Reasons.{live-dir, live-node}
-use Rattle.native_vfs.proofs.renames.Movable.{to-name, may-give, moved-after, moved-system, from-lives, to-lives, moved-lives, from-links, to-links, can-add, moved-entries, moved-blocks}
+use Rattle.native_vfs.proofs.renames.Movable.{move_parent-blocks, to-name, may-give, moved-after, moved-system, from-lives, to-lives, moved-lives, from-links, to-links, can-add, moved-entries, moved-blocks}
 use Rattle.native_vfs.proofs.removals.Stages.{placed, named-node}
-use Rattle.native_vfs.proofs.tables.Tables.{node-found, node-there, node-after, number-there, number_at-table, keys-kept, distinct-kept, leads-kept}
+use Rattle.native_vfs.proofs.tables.Tables.{number-there, number_at-table, keys-kept, distinct-kept, leads-kept}
 
 -- A table of which no node changes
-
-pub sound-of : (table : Table) (taken : List Bool) (entries blocks key : ℕ) → IsKept table taken entries blocks key → IsSound table taken blocks
-sound-of table taken entries blocks key is = record { distinct = is.distinct; references = is.references; system = is.system; pool = is.pool; block_total = is.block_total }
 
 module _ (old one : Table) (same : IsSame old one) where
   pub same-view : keyed_of one ≡ keyed_of old
   unfolding keyed_of
   same-view = λ i. record { nodes = same.nodes i; keys = same.keys i }
 
-  pub same-kept : (taken : List Bool) (entries blocks key : ℕ) → IsKept old taken entries blocks key → IsKept one taken entries blocks key
-  same-kept taken entries blocks key is = record {
+  pub same-whole : (taken : List Bool) (entries blocks key : ℕ) → IsWhole old taken entries blocks key → IsWhole one taken entries blocks key
+  same-whole taken entries blocks key is = record {
     distinct = distinct-kept old one same.numbers is.distinct;
     references = same.references is.references;
     system = subst IsFileSystem (sym same.nodes) is.system;
@@ -43,27 +40,6 @@ module _ (old one : Table) (same : IsSame old one) where
     block_total = is.block_total ∙ sym (ap live_blocks same.nodes);
     top = leads-kept old one same.numbers (record { number = root; key = key }) is.top;
   }
-
--- Numbers that are kept are those of live nodes as before
-
-both_ways : (a b : Bool) → (a ≡ true → b ≡ true) → (b ≡ true → a ≡ true) → a ≡ b
-both_ways true b there back = sym (there refl)
-both_ways false true there back = back refl
-both_ways false false there back = refl
-
-lives_on : (old new : Table) → KeepsNumbers old new → HasDistinctNumbers new → (number : ℕ) → is_some (get (nodes_of old) number) ≡ true → is_some (get (nodes_of new) number) ≡ true
-lives_on old new numbers distinct number live = go (get (nodes_of old) number) refl live
-  where
-    go : (o : Option Inode) → get (nodes_of old) number ≡ o → is_some o ≡ true → is_some (get (nodes_of new) number) ≡ true
-    go None none e = absurd (let f : false ≡ true = e in cc)
-    go (Some inode) found e =
-        let s = node-found old number inode found in
-        let a = node-after old new numbers s.key s.node s.at in
-        ap (λ n. is_some (get (nodes_of new) n)) (sym (a.2 ∙ s.has_number)) ∙ ap is_some (node-there new s.key a.0 distinct a.1)
-
-pub same-lives : (old new : Table) → KeepsNumbers old new → HasDistinctNumbers old → (number : ℕ) → is_some (get (nodes_of new) number) ≡ is_some (get (nodes_of old) number)
-same-lives old new numbers distinct number =
-    both_ways _ _ (lives_on new old (λ key. sym (numbers key)) distinct number) (lives_on old new numbers (distinct-kept old new numbers distinct) number)
 
 -- A renaming that is not refused, at a table that stands for what callers see.
 pub record IsRenaming (one : Table) (system : Keyed) (from to : KeyedPlace) (moved : ℕ) (now : ℤ) : Type 0 where
@@ -77,11 +53,11 @@ pub record IsRenaming (one : Table) (system : Keyed) (from to : KeyedPlace) (mov
   pub time : IsTime now
 
 -- it begins with a table of which no node has changed yet
-pub renaming-same : (old one : Table) → IsSame old one → (taken : List Bool) (entries blocks key : ℕ) → IsKept old taken entries blocks key
+pub renaming-same : (old one : Table) → IsSame old one → (taken : List Bool) (entries blocks key : ℕ) → IsWhole old taken entries blocks key
     → (system : Keyed) (from to : KeyedPlace) (moved : ℕ) (now : ℤ) → IsRenaming old system from to moved now → IsRenaming one system from to moved now
 renaming-same old one same taken entries blocks key kept system from to moved now renaming = record {
   view = same-view old one same ∙ renaming.view;
-  system_is = (same-kept old one same taken entries blocks key kept).system;
+  system_is = (same-whole old one same taken entries blocks key kept).system;
   from_agrees = renaming.from_agrees;
   to_agrees = renaming.to_agrees;
   node = renaming.node;
@@ -232,15 +208,15 @@ module _ (one : Table) (system : Keyed) (from to : KeyedPlace) (moved : ℕ) (no
           ∙ ap (λ n. after_move n pf pt m now) (sym (nodes-view one)) ∙ ap (λ k. after_move (keyed_of one).nodes pf pt k now) (sym (number_at-table one moved))
           ∙ ap (λ (s : Keyed). after_move s.nodes (place_at s from) (place_at s to) (number_at s moved) now) view
 
-      pub entry-kept : (taken : List Bool) (entries blocks key : ℕ) → IsSound two taken blocks → entries ≡ live_entries (nodes_of two) → Leads one (record { number = root; key = key })
-          → IsKept three taken entries blocks key
-      entry-kept taken entries blocks key sound counted top = record {
-        distinct = distinct-kept two three becomes.numbers sound.distinct;
+      pub entry-whole : (taken : List Bool) (entries blocks key : ℕ) → HasDistinctNumbers two → AgreesPool (nodes_of two) taken → blocks ≡ live_blocks (nodes_of two) → IsSound two entries
+          → Leads one (record { number = root; key = key }) → IsWhole three taken entries blocks key
+      entry-whole taken entries blocks key distinct pool counted sound top = record {
+        distinct = distinct-kept two three becomes.numbers distinct;
         references = becomes.references sound.references;
         system = subst IsFileSystem (sym nodes_end) (moved-system (nodes_of one) fs pf pt m at_from at_to found free differs now time);
-        pool = λ place below. sound.pool place below ∙ sym (same-lives two three becomes.numbers sound.distinct (place + 2));
-        entry_total = counted ∙ sym (ap live_entries nodes_end ∙ moved-entries (nodes_of one) fs pf pt m at_from at_to found free differs now time ∙ sym (ap live_entries nodes));
-        block_total = sound.block_total ∙ sym (ap live_blocks nodes_end ∙ moved-blocks (nodes_of one) fs pf pt m at_from at_to found free differs now time ∙ sym (ap live_blocks nodes));
+        pool = pool-numbers two three becomes.numbers distinct taken pool;
+        entry_total = sound.entry_total ∙ sym (ap live_entries nodes_end ∙ moved-entries (nodes_of one) fs pf pt m at_from at_to found free differs now time ∙ sym (ap live_entries nodes));
+        block_total = counted ∙ sym (ap live_blocks nodes_end ∙ moved-blocks (nodes_of one) fs pf pt m at_from at_to found free differs now time ∙ sym (ap live_blocks nodes));
         top = leads-kept two three becomes.numbers (record { number = root; key = key })
             (cleared.leads (record { number = root; key = key }) top (root-lives (nodes_of two) sound.system));
       }
@@ -261,6 +237,21 @@ module _ (one : Table) (system : Keyed) (from to : KeyedPlace) (moved : ℕ) (no
                 λ there. let b = both.0 (sym (ap (λ k. get k key) same_keys) ∙ there) in (b.0, same_life number ∙ b.1),
                 λ b. ap (λ k. get k key) same_keys ∙ both.1 (b.0, sym (same_life number) ∙ b.1),
               )
+
+-- A moved name leaves the blocks, at a time that is shown in another way.
+pub becomes-blocks : (two three : Table) (from moved to : ℕ) (old new : List ℕ) (shown now : ℤ) → shown ≡ now
+    → Becomes two three (entry_moved (nodes_of two) (number_of_key two from) old (number_of_key two moved) (number_of_key two to) new shown)
+    → (blocks : ℕ) → blocks ≡ live_blocks (nodes_of two) → blocks ≡ live_blocks (nodes_of three)
+becomes-blocks two three from moved to old new shown now same becomes blocks counted =
+    let nodes = nodes_of two in
+    let f = number_of_key two from in
+    let m = number_of_key two moved in
+    let t = number_of_key two to in
+    let taken = take_name nodes f old shown in
+    let added = add_name taken t new m shown in
+    counted ∙ sym (ap live_blocks becomes.nodes
+    ∙ live_blocks-kept (move_parent added m f t) m (changed_at shown) (λ i found. refl) ∙ move_parent-blocks added m f t
+    ∙ live_blocks-relisted taken t shown (with_entry new m) ∙ live_blocks-relisted nodes f shown (without_entry old))
 
 -- what holds whatever a call answers holds after an error
 pub after-error : {A E : Type 0} (answer : Result A E) (P : Type 0) → P → OnErr answer P

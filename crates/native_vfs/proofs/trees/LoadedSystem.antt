@@ -16,7 +16,8 @@ use Rattle.kernel_core.specs.declared.tree.Kind.TheVariants as kinds
 use Rattle.file_system_laws.proofs.KeyedLists.{len-keyed, total-keyed, sum_by-same}
 use Rattle.file_system_laws.proofs.Loading.{loaded_is_file_system}
 use Rattle.native_vfs.specs.inside.Loading.{tree_of, Places, AreNamed, loaded_entry}
-use Rattle.native_vfs.specs.inside.Stored.{Table, nodes_of, AgreesPool, IsKept}
+use Rattle.native_vfs.specs.inside.Stored.{Table, nodes_of, AgreesPool}
+use Rattle.native_vfs.proofs.tables.Kept.{IsWhole}
 
 kind_entries : (nodes : List Node) (number : ℕ) (kind : Kind) → content_entries (content_in nodes number kind) ≡ entries_of kind
 kind_entries nodes number (kinds.File size blocks) = refl
@@ -51,10 +52,10 @@ module _ (all : List Node) (valid : IsValidTree (tree_of all)) (table : Table) (
       ∙ sum_by-same (λ (n : Node). content_blocks (content_in all n.number n.kind)) (λ n. length (blocks_of n.kind)) all
       (λ k d short. let n = get_or all k d in kind_blocks all n.number n.kind (valid.each k d short).kind)
 
-  pub kept-loaded : (taken : List Bool) (entry_count block_count root_key : ℕ) → AgreesPool (from_entries (map (loaded_entry all) all)) taken
+  pub whole-loaded : (taken : List Bool) (entry_count block_count root_key : ℕ) → AgreesPool (from_entries (map (loaded_entry all) all)) taken
       → entry_count ≡ all_entries all → block_count ≡ all_blocks all → tree.get nat_cmp places root ≡ Some root_key
-      → IsKept table taken entry_count block_count root_key
-  kept-loaded taken entry_count block_count root_key pool entries blocks top = record {
+      → IsWhole table taken entry_count block_count root_key
+  whole-loaded taken entry_count block_count root_key pool entries blocks top = record {
     distinct = named.distinct;
     references = named.references;
     system = subst IsFileSystem (sym nodes-loaded) (loaded_is_file_system (tree_of all) valid);

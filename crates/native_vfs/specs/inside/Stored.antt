@@ -4,7 +4,7 @@ use Rattle.std.specs.FinMap.{from_entries, get}
 use Rattle.slab.specs.Slab.{Slab, get as slab_get, entries}
 use Rattle.kernel_core.specs.FileSystem.{IsFileSystem}
 use Rattle.kernel_core.specs.Nodes.{Nodes, Inode, Listing, NodeContent, File, Directory, Link, update, entry_named}
-use Rattle.kernel_core.specs.Totals.{live_entries, live_blocks}
+use Rattle.kernel_core.specs.Totals.{live_entries}
 use Rattle.kernel_core.specs.ValidTree.{root, greatest_cookie}
 use Rattle.directory_names.specs.Names.{plain}
 use Rattle.directory_names.specs.declared.entry.NodeRef.{NodeRef}
@@ -88,14 +88,15 @@ HasReferences table = (key : ℕ) (node : Stored) → slab_get table key ≡ Som
 abbrev pub AgreesPool : Nodes → List Bool → Type 0
 AgreesPool nodes taken = (place : ℕ) → place < 65536 → is_taken_at taken place ≡ is_some (get nodes (place + 2))
 
--- what is kept stands for a file system: its counts are those of the nodes, and the root has its key
-pub record IsKept (table : Table) (taken : List Bool) (entry_count block_count root_key : ℕ) : Type 0 where
-  pub distinct : HasDistinctNumbers table
+-- what is kept stands for a file system, whose entries are counted
+pub record IsSound (table : Table) (entry_count : ℕ) : Type 0 where
   pub references : HasReferences table
   pub system : IsFileSystem (nodes_of table)
-  pub pool : AgreesPool (nodes_of table) taken
   pub entry_total : entry_count ≡ live_entries (nodes_of table)
-  pub block_total : block_count ≡ live_blocks (nodes_of table)
+
+-- the same, and the root has its key
+pub record IsKept (table : Table) (entry_count root_key : ℕ) : Type 0 where
+  pub sound : IsSound table entry_count
   pub top : Leads table (record { number = root; key = root_key })
 
 -- One step of a call: a node changes, and all else stays.

@@ -38,17 +38,17 @@ unspared nodes blocks at counted full content count some (Some block) is =
 pub unreachable-requires : goal.unreachable-requires
 unreachable-requires c =
     no-file c.index.result.now.content c.in_default.not-File
-    (sym (ap is_some (file-there c.args.table.now c.args.key c.index.result.now c.index.ensures c.requires.distinct)) ∙ c.requires.file)
+    (sym (ap is_some (file-there c.args.inodes.now.table c.args.key c.index.result.now c.index.ensures c.args.inodes.now.distinct)) ∙ c.requires.file)
 
-pub returns-then-blocks-lt-BLOCK_LIMIT : goal.returns-then-blocks-lt-BLOCK_LIMIT
-returns-then-blocks-lt-BLOCK_LIMIT c = some_all _ _ (spared (nodes_of c.args.table.now) c.args.blocks c.args.at c.requires.counted c.if-blocks-lt-BLOCK_LIMIT.true)
+pub returns-then-inodes-lt-BLOCK_LIMIT : goal.returns-then-inodes-lt-BLOCK_LIMIT
+returns-then-inodes-lt-BLOCK_LIMIT c = some_all _ _ (spared (nodes_of c.args.inodes.now.table) c.args.inodes.now.blocks c.args.at c.args.inodes.now.block_total c.if-inodes-lt-BLOCK_LIMIT.true)
 
 pub returns : goal.returns
 returns c =
     let content : FileContent = c.in-File.content in
-    let found = file-there c.args.table.now c.args.key c.index.result.now c.index.ensures c.requires.distinct ∙ ap (λ c. file_in (content_of c)) c.in-File.is in
-    subst (λ o. IfSome o (λ content. (count : ℕ) → 0 < count → not c.keeps_block.result ≡ (write_length (nodes_of c.args.table.now) content c.args.at count == 0))) (sym found)
+    let found = file-there c.args.inodes.now.table c.args.key c.index.result.now c.index.ensures c.args.inodes.now.distinct ∙ ap (λ c. file_in (content_of c)) c.in-File.is in
+    subst (λ o. IfSome o (λ content. (count : ℕ) → 0 < count → not c.keeps_block.result ≡ (write_length (nodes_of c.args.inodes.now.table) content c.args.at count == 0))) (sym found)
     (λ count some.
     ap not c.keeps_block.ensures
-    ∙ unspared (nodes_of c.args.table.now) c.args.blocks c.args.at c.requires.counted c.if-blocks-lt-BLOCK_LIMIT.false content count some
+    ∙ unspared (nodes_of c.args.inodes.now.table) c.args.inodes.now.blocks c.args.at c.args.inodes.now.block_total c.if-inodes-lt-BLOCK_LIMIT.false content count some
     (get content.blocks (c.args.at / 4096)) refl)

@@ -6,7 +6,7 @@ use Rattle.native_vfs.proofs.refusals.is_in_subtree.Given as goal
 
 abbrev pub invariant-loop-step : goal.invariant-loop-step
 invariant-loop-step l = record {
-  live : IsSome (slab_get l.table l.key);
-  left : is_in_subtree (nodes_of l.table) (number_of_key l.table l.fn.above) (number_of_key l.table l.fn.dir)
-      ≡ is_below (l._step-end - l._step) (nodes_of l.table) (number_of_key l.table l.fn.above) (number_of_key l.table l.key);
+  live : IsSome (slab_get l.inodes.table l.key);
+  left : is_in_subtree (nodes_of l.inodes.table) (number_of_key l.inodes.table l.fn.above) (number_of_key l.inodes.table l.fn.dir)
+      ≡ is_below (l._step-end - l._step) (nodes_of l.inodes.table) (number_of_key l.inodes.table l.fn.above) (number_of_key l.inodes.table l.key);
 }

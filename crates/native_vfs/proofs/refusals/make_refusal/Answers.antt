@@ -9,7 +9,7 @@ use Rattle.native_vfs.proofs.refusals.make_refusal.Goals.{then-len, else-len}
 pub returns : goal.returns
 returns c =
     c.name_refusal.ensures
-    ∙ ap (name_refusal (nodes_of c.args.table.now) (place_at (keyed_of c.args.table.now) c.args.at.now)) (elim c.if-len.branch [
-      | then-len w ↦ full-nodes c.args.table.now c.len.result _ c.requires.distinct c.len.ensures w.full-is w.if-len.true
-      | else-len w ↦ full-entries c.args.table.now c.len.result c.args.entries _ c.requires.distinct c.len.ensures w.full-is c.requires.entries w.if-len.false
+    ∙ ap (name_refusal (nodes_of c.args.inodes.now.table) (place_at (keyed_of c.args.inodes.now.table) c.args.at.now)) (elim c.if-len.branch [
+      | then-len w ↦ full-nodes c.args.inodes.now.table c.len.result _ c.args.inodes.now.distinct c.len.ensures w.full-is w.if-len.true
+      | else-len w ↦ full-entries c.args.inodes.now.table c.len.result c.args.inodes.now.entries _ c.args.inodes.now.distinct c.len.ensures w.full-is c.requires.entries w.if-len.false
     ])

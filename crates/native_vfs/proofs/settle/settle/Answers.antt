@@ -14,36 +14,36 @@ unused table key node distinct at no_link no_hold = unused-there table key node 
 
 pub returns-then-node-gt0-clause-settled : goal.returns-then-node-gt0-clause-settled
 returns-then-node-gt0-clause-settled c =
-    used-settled c.args.table.now c.args.key c.requires.distinct
-    (unused-there c.args.table.now c.args.key c.index-node.result.now c.requires.distinct c.index-node.ensures ∙ elim c.then-node-gt0.branch [
+    used-settled c.args.inodes.now.table c.args.key c.args.inodes.now.distinct
+    (unused-there c.args.inodes.now.table c.args.key c.index-node.result.now c.args.inodes.now.distinct c.index-node.ensures ∙ elim c.then-node-gt0.branch [
       | then-node-gt0-via-then-node-gt0 w ↦ linked-used c.index-node.result.now w.if-node-gt0.true
       | then-node-gt0-via-else-node-gt0+then-node-gt0-2 w ↦ held-used c.index-node.result.now w.if-node-gt0-2.true
     ])
 
 pub remove-requires-clause-unnamed : goal.remove-requires-clause-unnamed
 remove-requires-clause-unnamed c =
-    c.requires.unnamed (unused c.args.table.now c.args.key c.index-node.result.now c.requires.distinct c.index-node.ensures c.if-node-gt0.false c.if-node-gt0-2.false)
+    c.requires.unnamed (unused c.args.inodes.now.table c.args.key c.index-node.result.now c.args.inodes.now.distinct c.index-node.ensures c.if-node-gt0.false c.if-node-gt0-2.false)
 
-pub overflow_sub-blocks : goal.overflow_sub-blocks
-overflow_sub-blocks c =
-    let all = removed-blocks c.args.table.now c.remove.new.table c.args.key c.index-node.result.now c.index-node.ensures c.requires.distinct c.remove.ensures.removal in
+pub overflow_sub-inodes : goal.overflow_sub-inodes
+overflow_sub-inodes c =
+    let all = removed-blocks c.args.inodes.now.table c.remove.new.table c.args.key c.index-node.result.now c.index-node.ensures c.args.inodes.now.distinct c.remove.ensures.removal in
     let kept = c.kept_blocks-kept.ensures in
-    let counted = c.requires.blocks in
+    let counted = c.args.inodes.now.block_total in
     omega (arith, all, kept, counted)
 
 pub returns-clause-settled : goal.returns-clause-settled
 returns-clause-settled c =
-    removed-settled c.args.table.now c.remove.new.table c.args.key c.index-node.result.now c.index-node.ensures c.requires.distinct c.remove.ensures.removal
-    (unused c.args.table.now c.args.key c.index-node.result.now c.requires.distinct c.index-node.ensures c.if-node-gt0.false c.if-node-gt0-2.false)
+    removed-settled c.args.inodes.now.table c.remove.new.table c.args.key c.index-node.result.now c.index-node.ensures c.args.inodes.now.distinct c.remove.ensures.removal
+    (unused c.args.inodes.now.table c.args.key c.index-node.result.now c.args.inodes.now.distinct c.index-node.ensures c.if-node-gt0.false c.if-node-gt0-2.false)
 
-pub returns-clause-pool : goal.returns-clause-pool
-returns-clause-pool c =
-    removed-pool c.args.table.now c.remove.new.table c.args.key c.index-node.result.now c.index-node.ensures c.requires.distinct c.remove.ensures.removal
-    c.args.numbers.now c.give_back.new.numbers c.requires.pool c.give_back.ensures
-
-pub returns-clause-blocks : goal.returns-clause-blocks
-returns-clause-blocks c =
-    let all = removed-blocks c.args.table.now c.remove.new.table c.args.key c.index-node.result.now c.index-node.ensures c.requires.distinct c.remove.ensures.removal in
+pub invariant_of-inodes : goal.invariant_of-inodes
+invariant_of-inodes c =
+    let all = removed-blocks c.args.inodes.now.table c.remove.new.table c.args.key c.index-node.result.now c.index-node.ensures c.args.inodes.now.distinct c.remove.ensures.removal in
     let kept = c.kept_blocks-kept.ensures in
-    let counted = c.requires.blocks in
-    omega (arith, all, kept, counted)
+    let counted = c.args.inodes.now.block_total in
+    record {
+      distinct = c.remove.ensures.removal.distinct;
+      pool = removed-pool c.args.inodes.now.table c.remove.new.table c.args.key c.index-node.result.now c.index-node.ensures c.args.inodes.now.distinct c.remove.ensures.removal
+          c.args.inodes.now.numbers c.give_back.new.numbers c.args.inodes.now.pool c.give_back.ensures;
+      block_total = omega (arith, all, kept, counted);
+    }

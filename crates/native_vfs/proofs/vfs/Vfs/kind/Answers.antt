@@ -16,13 +16,13 @@ kind-seen table system view distinct key node at content is =
     ap (option_map (λ i. kind_of i.content)) (inode-live table system view key node distinct at) ∙ ap (λ k. Some (kind_of (content_of k))) is
 
 pub index-requires : goal.index-requires
-index-requires c = live-seen c.self.inside.table c.args.self.now c.self.view_is c.args.node c.requires.live
+index-requires c = live-seen c.self.inside.inodes.table c.args.self.now c.self.view_is c.args.node c.requires.live
 
 pub returns-in-File : goal.returns-in-File
-returns-in-File c = kind-seen c.self.inside.table c.args.self.now c.self.view_is c.self.invariant.distinct c.args.node c.index.result.now c.index.ensures _ c.in-File.is
+returns-in-File c = kind-seen c.self.inside.inodes.table c.args.self.now c.self.view_is c.self.inside.inodes.distinct c.args.node c.index.result.now c.index.ensures _ c.in-File.is
 
 pub returns-in-Directory : goal.returns-in-Directory
-returns-in-Directory c = kind-seen c.self.inside.table c.args.self.now c.self.view_is c.self.invariant.distinct c.args.node c.index.result.now c.index.ensures _ c.in-Directory.is
+returns-in-Directory c = kind-seen c.self.inside.inodes.table c.args.self.now c.self.view_is c.self.inside.inodes.distinct c.args.node c.index.result.now c.index.ensures _ c.in-Directory.is
 
 pub returns-in-Link : goal.returns-in-Link
-returns-in-Link c = kind-seen c.self.inside.table c.args.self.now c.self.view_is c.self.invariant.distinct c.args.node c.index.result.now c.index.ensures _ c.in-Link.is
+returns-in-Link c = kind-seen c.self.inside.inodes.table c.args.self.now c.self.view_is c.self.inside.inodes.distinct c.args.node c.index.result.now c.index.ensures _ c.in-Link.is

@@ -3,39 +3,46 @@ use Rattle.kernel_core.specs.NodeCalls.{with_mode}
 use Rattle.file_system_laws.proofs.NodeLaws.{mode_keeps}
 use Rattle.std.specs.Int.{w128}
 use Rattle.std.proofs.Math.Facts.{to_z-of_z}
-use Rattle.native_vfs.specs.inside.Stored.{IsKept, IsStep, number_of_key, nodes_of, keyed_of}
-use Rattle.native_vfs.proofs.tables.Kept.{live-seen, nodes-stepped, keys-stepped, kept-step, valid-view, are-keys-view}
+use Rattle.native_vfs.specs.inside.Stored.{IsStep, number_of_key, nodes_of, keyed_of}
+use Rattle.native_vfs.proofs.tables.Kept.{step-distinct, pool-stepped, blocks-stepped, whole-of, kept-of, IsWhole, live-seen, nodes-stepped, keys-stepped, whole-step, valid-view, are-keys-view}
 use Rattle.file_system_laws.proofs.HeldNodes.{keeps-lost, mode_loses}
 use Rattle.native_vfs.proofs.tables.HeldKeys.{held-same_keys}
 use Rattle.native_vfs.specs.Keyed.{number_at}
 use Rattle.native_vfs.proofs.vfs.Vfs.set_mode.Goals as goal
 
 pub set_mode-requires-clause-live : goal.set_mode-requires-clause-live
-set_mode-requires-clause-live c = live-seen c.self.inside.table c.args.self.now c.self.view_is c.args.node c.requires.live
+set_mode-requires-clause-live c = live-seen c.self.inside.inodes.table c.args.self.now c.self.view_is c.args.node c.requires.live
 
-step : (c : goal.After-set_mode) → IsStep c.self.inside.table c.set_mode.new.table c.args.node (with_mode c.args.mode c.args.now)
-step c = subst (λ t. IsStep c.self.inside.table c.set_mode.new.table c.args.node (with_mode c.args.mode t)) (to_z-of_z {w = w128} {z = c.args.now} c.ranges.now) c.set_mode.ensures.step
+step : (c : goal.After-self-1) → IsStep c.self.inside.inodes.table c.set_mode.new.table c.args.node (with_mode c.args.mode c.args.now)
+step c = subst (λ t. IsStep c.self.inside.inodes.table c.set_mode.new.table c.args.node (with_mode c.args.mode t)) (to_z-of_z {w = w128} {z = c.args.now} c.ranges.now) c.set_mode.ensures.step
 
-kept : (c : goal.After-set_mode) → IsKept c.set_mode.new.table c.self.inside.numbers c.self.inside.entries c.self.inside.blocks c.self.inside.root
-kept c =
-    kept-step c.self.inside.table c.set_mode.new.table c.args.node (with_mode c.args.mode c.args.now) (step c) c.self.inside.numbers c.self.inside.entries c.self.inside.blocks c.self.inside.root c.self.invariant
-    (mode_keeps (nodes_of c.self.inside.table) (number_of_key c.self.inside.table c.args.node) c.self.invariant.system c.args.mode c.args.now c.requires.mode c.requires.time)
+whole : (c : goal.After-self-1) → IsWhole c.set_mode.new.table c.self.inside.inodes.numbers c.self.inside.inodes.entries c.self.inside.inodes.blocks c.self.inside.root
+whole c =
+    whole-step c.self.inside.inodes.table c.set_mode.new.table c.args.node (with_mode c.args.mode c.args.now) (step c) c.self.inside.inodes.numbers c.self.inside.inodes.entries c.self.inside.inodes.blocks c.self.inside.root (whole-of c.self.inside.inodes c.self.inside.root c.self.invariant)
+    (mode_keeps (nodes_of c.self.inside.inodes.table) (number_of_key c.self.inside.inodes.table c.args.node) c.self.invariant.sound.system c.args.mode c.args.now c.requires.mode c.requires.time)
     (λ i. refl)
 
+pub invariant_of-self-inside : goal.invariant_of-self-inside
+invariant_of-self-inside c = record {
+  distinct = step-distinct c.self.inside.inodes.table c.set_mode.new.table c.args.node _ c.set_mode.ensures.step c.self.inside.inodes.distinct;
+  pool = pool-stepped c.self.inside.inodes.table c.set_mode.new.table c.args.node _ c.set_mode.ensures.step c.self.inside.inodes.numbers c.self.inside.inodes.pool;
+  block_total = blocks-stepped c.self.inside.inodes.table c.set_mode.new.table c.args.node _ c.set_mode.ensures.step (λ i. refl) c.self.inside.inodes.blocks c.self.inside.inodes.block_total;
+}
+
 pub invariant_of-self : goal.invariant_of-self
-invariant_of-self c = kept c
+invariant_of-self c = kept-of _ _ _ _ _ (whole c)
 
 pub returns-clause-nodes : goal.returns-clause-nodes
-returns-clause-nodes c = nodes-stepped c.self.inside.table c.set_mode.new.table c.args.node (with_mode c.args.mode c.args.now) (step c) c.args.self.now c.self.view_is
+returns-clause-nodes c = nodes-stepped c.self.inside.inodes.table c.set_mode.new.table c.args.node (with_mode c.args.mode c.args.now) (step c) c.args.self.now c.self.view_is
 
 pub returns-clause-same : goal.returns-clause-same
-returns-clause-same c = keys-stepped c.self.inside.table c.set_mode.new.table c.args.node (with_mode c.args.mode c.args.now) (step c) c.args.self.now c.self.view_is
+returns-clause-same c = keys-stepped c.self.inside.inodes.table c.set_mode.new.table c.args.node (with_mode c.args.mode c.args.now) (step c) c.args.self.now c.self.view_is
 
 pub returns-clause-valid : goal.returns-clause-valid
-returns-clause-valid c = valid-view _ _ _ _ _ (kept c)
+returns-clause-valid c = valid-view _ _ _ _ _ (whole c)
 
 pub returns-clause-keys : goal.returns-clause-keys
-returns-clause-keys c = are-keys-view _ _ _ _ _ (kept c)
+returns-clause-keys c = are-keys-view _ _ _ _ _ (whole c)
 
 pub returns-clause-held : goal.returns-clause-held
 returns-clause-held c =

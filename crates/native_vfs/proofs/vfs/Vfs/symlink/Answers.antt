@@ -1,4 +1,4 @@
-use Rattle.std.proofs.Common.{◌≡◌, ◌+◌, None, sym, ◌∙◌, refl}
+use Rattle.std.proofs.Common.{◌≡◌, ◌+◌, None, sym, subst, ◌∙◌, refl}
 use Rattle.std.specs.Int.{w128}
 use Rattle.std.proofs.lemmas.Result.{err_from_is_err_and}
 use Rattle.std.proofs.Math.Facts.{to_z-of_z}
@@ -6,64 +6,67 @@ use Rattle.kernel_core.specs.NameCalls as names
 use Rattle.native_vfs.specs.Answers.{Makes}
 use Rattle.native_vfs.specs.inside.Making.{IsMade}
 use Rattle.native_vfs.specs.Keyed.{place_at}
-use Rattle.native_vfs.specs.inside.Stored.{IsKept, nodes_of, keyed_of}
-use Rattle.native_vfs.proofs.tables.Kept.{valid-view, are-keys-view}
-use Rattle.native_vfs.proofs.additions.MadeCalls.{refusal-seen, agrees-kept, valid-seen, are-keys-seen, view-same, kept-same, makes-seen, kept-symlink, none-left}
+use Rattle.native_vfs.specs.inside.Stored.{nodes_of, keyed_of, IsKept}
+use Rattle.native_vfs.proofs.tables.Kept.{valid-sound}
+use Rattle.native_vfs.proofs.additions.MadeCalls.{refusal-seen, agrees-kept, view-same, makes-seen, kept-symlink, none-left, kept-same}
+use Rattle.native_vfs.proofs.removals.Ends.{valid-seen, are-keys-seen}
 use Rattle.file_system_laws.proofs.HeldNodes.{symlink_keeps_holds}
 use Rattle.native_vfs.proofs.tables.HeldKeys.{held-same, held-made}
+use Rattle.native_vfs.proofs.tables.Tables.{AreKeys-table}
 use Rattle.native_vfs.proofs.vfs.Vfs.symlink.Goals as goal
 
 pub returns-in-Some-clause-answer : goal.returns-in-Some-clause-answer
-returns-in-Some-clause-answer c = sym (c.in-Some.ensures ∙ refusal-seen c.self.inside.table c.args.self.now c.self.view_is (λ nodes place. names.symlink_refusal nodes place c.args.target.now) c.args.at.now)
+returns-in-Some-clause-answer c = sym (c.in-Some.ensures ∙ refusal-seen c.self.inside.inodes.table c.args.self.now c.self.view_is (λ nodes place. names.symlink_refusal nodes place c.args.target.now) c.args.at.now)
 
 pub returns-in-Some-clause-valid : goal.returns-in-Some-clause-valid
-returns-in-Some-clause-valid c = valid-seen c.self.inside.table c.args.self.now c.self.view_is _ _ _ _ c.self.invariant
+returns-in-Some-clause-valid c = valid-seen c.self.inside.inodes.table c.args.self.now c.self.view_is c.self.inside.inodes.entries c.self.invariant.sound
 
 pub returns-in-Some-clause-keys : goal.returns-in-Some-clause-keys
-returns-in-Some-clause-keys c = are-keys-seen c.self.inside.table c.args.self.now c.self.view_is _ _ _ _ c.self.invariant
+returns-in-Some-clause-keys c = are-keys-seen c.self.inside.inodes.table c.args.self.now c.self.view_is c.self.inside.inodes.distinct
 
 -- a link is made
 
-free : (c : goal.After-self-1) → names.symlink_refusal (nodes_of c.self.inside.table) (place_at (keyed_of c.self.inside.table) c.args.at.now) c.args.target.now ≡ None
+free : (c : goal.After-self-1) → names.symlink_refusal (nodes_of c.self.inside.inodes.table) (place_at (keyed_of c.self.inside.inodes.table) c.args.at.now) c.args.target.now ≡ None
 free c = sym c.symlink_refusal.ensures ∙ none-left c.symlink_refusal.result c.in_default.not-Some
 
 made : (c : goal.After-self-1)
-    → IsMade c.self.inside.table c.make_link.new.table c.make_link.new.numbers c.in_ok-make_link.field-0
-    (λ number. names.after_symlink (nodes_of c.self.inside.table) (place_at (keyed_of c.self.inside.table) c.args.at.now) number c.args.target.now c.args.now)
+    → IsMade c.self.inside.inodes.table c.make_link.new.inodes.table c.in_ok-make_link.field-0
+    (λ number. names.after_symlink (nodes_of c.self.inside.inodes.table) (place_at (keyed_of c.self.inside.inodes.table) c.args.at.now) number c.args.target.now c.args.now)
 made c = rw (to_z-of_z {w = w128} {z = c.args.now} c.ranges.now) at c.in_ok-make_link.ensures.made
 
-kept : (c : goal.After-self-1) → IsKept c.make_link.new.table c.make_link.new.numbers (c.self.inside.entries + 1) c.self.inside.blocks c.self.inside.root
+kept : (c : goal.After-self-1) → IsKept c.make_link.new.inodes.table (c.self.inside.inodes.entries + 1) c.self.inside.root
 kept c =
-    kept-symlink c.self.inside.table c.make_link.new.table c.self.inside.numbers c.make_link.new.numbers c.self.inside.entries c.self.inside.blocks c.self.inside.root c.in_ok-make_link.field-0 c.args.at.now
-    c.args.now c.self.invariant (agrees-kept c.self.inside.table c.args.self.now c.self.view_is c.args.at.now c.requires.agrees) c.requires.time c.args.target.now (free c)
+    kept-symlink c.self.inside.inodes.table c.make_link.new.inodes.table c.self.inside.inodes.entries c.self.inside.root c.in_ok-make_link.field-0 c.args.at.now
+    c.args.now c.self.invariant (agrees-kept c.self.inside.inodes.table c.args.self.now c.self.view_is c.args.at.now c.requires.agrees) c.requires.time c.args.target.now (free c)
     (λ place. (c.type_inv.target place).fits) c.requires.short c.requires.plain (made c)
 
 pub invariant_of-self-2 : goal.invariant_of-self-2
-invariant_of-self-2 c = kept c
+invariant_of-self-2 c =
+    subst (λ n. IsKept c.make_link.new.inodes.table (n + 1) c.self.inside.root) (sym c.in_ok-make_link.ensures.entries) (kept c)
 
 pub returns-clause-answer : goal.returns-clause-answer
-returns-clause-answer c = sym (refusal-seen c.self.inside.table c.args.self.now c.self.view_is (λ nodes place. names.symlink_refusal nodes place c.args.target.now) c.args.at.now) ∙ free c
+returns-clause-answer c = sym (refusal-seen c.self.inside.inodes.table c.args.self.now c.self.view_is (λ nodes place. names.symlink_refusal nodes place c.args.target.now) c.args.at.now) ∙ free c
 
 makes : (c : goal.After-self-1)
-    → Makes c.args.self.now (keyed_of c.make_link.new.table) c.in_ok-make_link.field-0
+    → Makes c.args.self.now (keyed_of c.make_link.new.inodes.table) c.in_ok-make_link.field-0
     (λ number. names.after_symlink c.args.self.now.nodes (place_at c.args.self.now c.args.at.now) number c.args.target.now c.args.now)
 makes c =
-    makes-seen c.self.inside.table c.make_link.new.table c.make_link.new.numbers c.in_ok-make_link.field-0 c.args.at.now
+    makes-seen c.self.inside.inodes.table c.make_link.new.inodes.table c.in_ok-make_link.field-0 c.args.at.now
     (λ nodes place number. names.after_symlink nodes place number c.args.target.now c.args.now) c.args.self.now c.self.view_is (made c)
 
 pub returns-clause-made : goal.returns-clause-made
 returns-clause-made c = (c.in_ok-make_link.field-0, makes c)
 
 pub returns-clause-valid : goal.returns-clause-valid
-returns-clause-valid c = valid-view _ _ _ _ _ (kept c)
+returns-clause-valid c = valid-sound _ _ (kept c).sound
 
 pub returns-clause-keys : goal.returns-clause-keys
-returns-clause-keys c = are-keys-view _ _ _ _ _ (kept c)
+returns-clause-keys c = AreKeys-table _ c.make_link.new.inodes.distinct
 
 -- memory runs out
 
-same_kept : (c : goal.After-from_residual) → IsKept c.make_link.new.table c.make_link.new.numbers c.self.inside.entries c.self.inside.blocks c.self.inside.root
-same_kept c = kept-same c.self.inside.table c.make_link.new.table c.in_err-make_link.ensures.same c.self.inside.numbers c.make_link.new.numbers _ _ _ c.in_err-make_link.ensures.numbers c.self.invariant
+same_kept : (c : goal.After-from_residual) → IsKept c.make_link.new.inodes.table c.make_link.new.inodes.entries c.self.inside.root
+same_kept c = kept-same c.self.inside.inodes.table c.make_link.new.inodes.table c.in_err-make_link.ensures.same _ _ _ c.in_err-make_link.ensures.entries c.self.invariant
 
 pub invariant_of-self : goal.invariant_of-self
 invariant_of-self c = same_kept c
@@ -71,29 +74,29 @@ invariant_of-self c = same_kept c
 pub returns-in_err-make_link-clause-answer : goal.returns-in_err-make_link-clause-answer
 returns-in_err-make_link-clause-answer c =
     let p = err_from_is_err_and c.from_residual.result c.from_residual.ensures.1 in
-    rw (p.1, p.2) (sym (refusal-seen c.self.inside.table c.args.self.now c.self.view_is (λ nodes place. names.symlink_refusal nodes place c.args.target.now) c.args.at.now) ∙ sym c.symlink_refusal.ensures
+    rw (p.1, p.2) (sym (refusal-seen c.self.inside.inodes.table c.args.self.now c.self.view_is (λ nodes place. names.symlink_refusal nodes place c.args.target.now) c.args.at.now) ∙ sym c.symlink_refusal.ensures
     ∙ none-left c.symlink_refusal.result c.in_default.not-Some)
 
 pub returns-in_err-make_link-clause-err : goal.returns-in_err-make_link-clause-err
 returns-in_err-make_link-clause-err c =
     let p = err_from_is_err_and c.from_residual.result c.from_residual.ensures.1 in
-    rw p.1 (view-same c.self.inside.table c.make_link.new.table c.in_err-make_link.ensures.same c.args.self.now c.self.view_is)
+    rw p.1 (view-same c.self.inside.inodes.table c.make_link.new.inodes.table c.in_err-make_link.ensures.same c.args.self.now c.self.view_is)
 
 pub returns-in_err-make_link-clause-valid : goal.returns-in_err-make_link-clause-valid
-returns-in_err-make_link-clause-valid c = valid-view _ _ _ _ _ (same_kept c)
+returns-in_err-make_link-clause-valid c = valid-sound _ _ (same_kept c).sound
 
 pub returns-in_err-make_link-clause-keys : goal.returns-in_err-make_link-clause-keys
-returns-in_err-make_link-clause-keys c = are-keys-view _ _ _ _ _ (same_kept c)
+returns-in_err-make_link-clause-keys c = AreKeys-table _ c.make_link.new.inodes.distinct
 
 pub returns-in-Some-clause-held : goal.returns-in-Some-clause-held
 returns-in-Some-clause-held c = held-same c.args.self.now c.args.self.now refl
 
 pub returns-clause-held : goal.returns-clause-held
 returns-clause-held c =
-    held-made c.args.self.now (keyed_of c.make_link.new.table) c.in_ok-make_link.field-0 _ (makes c)
+    held-made c.args.self.now (keyed_of c.make_link.new.inodes.table) c.in_ok-make_link.field-0 _ (makes c)
     (λ number new. symlink_keeps_holds c.args.self.now.nodes (place_at c.args.self.now c.args.at.now) number new c.args.now c.args.target.now)
 
 pub returns-in_err-make_link-clause-held : goal.returns-in_err-make_link-clause-held
 returns-in_err-make_link-clause-held c =
-    held-same c.args.self.now (keyed_of c.make_link.new.table)
-    (view-same c.self.inside.table c.make_link.new.table c.in_err-make_link.ensures.same c.args.self.now c.self.view_is)
+    held-same c.args.self.now (keyed_of c.make_link.new.inodes.table)
+    (view-same c.self.inside.inodes.table c.make_link.new.inodes.table c.in_err-make_link.ensures.same c.args.self.now c.self.view_is)
