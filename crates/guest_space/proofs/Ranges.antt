@@ -1,11 +1,11 @@
 -- Ranges of pages that are taken away, that are free, and that move.
-use Rattle.std.proofs.Common.{◌≡◌, ◌≢◌, ◌≤◌, ◌<◌, ◌+◌, ◌-◌, zero, suc, ℕ, Bool, true, false, cond, eqb, ltb, leb, ◌&&◌, Option, Some, None, IsSome, is_some, refl, sym, ap, ◌∙◌, subst, arith, inl, inr, ◌⊎◌}
+use Rattle.std.proofs.Common.{◌≡◌, ◌≢◌, ◌≤◌, ◌<◌, ◌+◌, ◌-◌, zero, suc, ℕ, Bool, true, false, cond, eqb, ltb, leb, ◌&&◌, Option, Some, None, IsSome, is_some, refl, sym, ap, ◌∙◌, arith, inl, inr, ◌⊎◌}
 use Rattle.std.proofs.lemmas.Bool.{cases_lt}
 use Rattle.std.proofs.lemmas.Bool.Decides.{nat_tests, eqb_tells}
 use Rattle.std.specs.Option.{unwrap_or, option_map}
 use Rattle.std.specs.Ordering.{nat_cmp, eq_by_cmp}
 use Rattle.std.specs.Cmp.{nat_cmp_total}
-use Rattle.std.specs.FinMap.{get, insert, remove, get-insert, get-remove, same_map, nat_cmp-IsAntisymmetric}
+use Rattle.std.specs.FinMap.{get, remove, get-insert, get-remove, same_map, nat_cmp-IsAntisymmetric}
 use Rattle.raw_pages.specs.Pages.{pages_moved}
 use Rattle.guest_space.specs.Memory.{MappedPage, Pages, IsValid}
 use Rattle.guest_space.specs.Remapping.{is_in, without, AreMoved, protection_of}

@@ -1,6 +1,5 @@
 -- Writes of pieces: what is ready before and after, and pieces of two neighbouring pages.
-use Rattle.std.proofs.Common.{◌≡◌, ◌≤◌, ◌<◌, ◌+◌, ◌-◌, ◌/◌, ◌%◌, zero, suc, ℕ, Bool, true, false, cond, List, [], ◌∷◌, ◌++◌, Option, Some, None, Ok, Err, Result, OnErr, length, length-append, take, drop, slice_range, replicate, refl, sym, ap, ◌∙◌, subst, arith, inl, inr, ◌&&◌}
-use Rattle.std.proofs.lemmas.Bool.{cases_lt}
+use Rattle.std.proofs.Common.{◌≡◌, ◌≤◌, ◌<◌, ◌+◌, ◌-◌, ◌/◌, ◌%◌, zero, suc, ℕ, Bool, true, false, cond, List, [], ◌∷◌, ◌++◌, Option, Some, None, Ok, Err, Result, OnErr, length, take, drop, slice_range, refl, sym, ap, ◌∙◌, arith, ◌&&◌}
 use Rattle.std.proofs.lemmas.Bool.Decides.{nat_tests}
 use Rattle.std.proofs.lemmas.List.{length-take-le, length-drop, take_all, take-append-drop}
 use Rattle.std.proofs.lemmas.Map.Lookups.{exact_unsigned}
@@ -9,13 +8,13 @@ use Rattle.std.proofs.Math.Seq.{take-add}
 use Rattle.std.specs.Ordering.{nat_cmp, eq_by_cmp}
 use Rattle.std.specs.Cmp.{nat_cmp_total}
 use Rattle.std.specs.FinMap.{get, insert, get-insert, same_map, nat_cmp-IsAntisymmetric}
-use Rattle.raw_pages.specs.Pages.{zero_bytes, zero_page, cleared_page, pages_cleared, shown_bytes, with_piece, pages_with_piece, is_ready, is_writable, IsWriteAnswer}
+use Rattle.raw_pages.specs.Pages.{zero_bytes, zero_page, pages_cleared, shown_bytes, with_piece, pages_with_piece, is_ready, is_writable, IsWriteAnswer}
 use Rattle.raw_pages.specs.declared.write_error.WriteError.TheVariants as error
 use Rattle.raw_pages.proofs.Puts.{get-insert_same, insert-insert}
 use Rattle.raw_pages.proofs.Zeros.{zeros_range}
 use Rattle.guest_space.specs.Memory.{MappedPage, Pages}
 use Rattle.guest_space.specs.declared.access.Access.TheVariants.{Store}
-use Rattle.guest_space.specs.declared.access.Why.TheVariants.{Absent, Forbidden}
+use Rattle.guest_space.specs.declared.access.Why.TheVariants.{Forbidden}
 use Rattle.guest_space.specs.Access.{refusal, page_refusal, first_denied}
 use Rattle.guest_space.specs.inside.Pieces.{with_both}
 use Rattle.guest_space.specs.Bytes.{bytes_at, with_byte, with_bytes, page_with_byte, pages_with_byte, are_ready}

@@ -1,5 +1,5 @@
 -- The program break as a call moves it (brk(2)). The break ends at 0x70000000 at most (this project's own).
-use Rattle.std.specs.Prelude.{ℕ, ◌+◌, ◌-◌, ◌/◌, Bool, true, ◌&&◌, ◌||◌, not, ◌==◌, nat_le, nat_lt, if◌then◌else◌}
+use Rattle.std.specs.Prelude.{ℕ, ◌+◌, ◌-◌, ◌/◌, Bool, ◌&&◌, ◌||◌, ◌==◌, nat_le, if◌then◌else◌}
 use Rattle.std.specs.FinMap.{len}
 use Rattle.guest_space.specs.Memory.{Pages, Memory}
 use Rattle.guest_space.specs.Mapping.{with_zeros, absent_count, page_limit}

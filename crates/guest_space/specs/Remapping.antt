@@ -1,5 +1,5 @@
 -- Pages that are taken away, that move, and a range of pages that gets another size (munmap(2), mremap(2)).
-use Rattle.std.specs.Prelude.{◌≡◌, ℕ, ◌+◌, ◌-◌, ◌<◌, ◌≤◌, Bool, true, false, not, ◌&&◌, nat_le, nat_lt, Option, Some, None, Result, Ok, Err, if◌then◌else◌, ◌⊎◌, ◌↔◌}
+use Rattle.std.specs.Prelude.{◌≡◌, ℕ, ◌+◌, ◌-◌, ◌<◌, ◌≤◌, Bool, true, false, not, ◌&&◌, nat_le, nat_lt, Option, Some, None, Result, Ok, Err, if◌then◌else◌, ◌⊎◌}
 use Rattle.std.specs.FinMap.{get, len, retain_keys}
 use Rattle.guest_space.specs.declared.access.MapError.{MapError}
 use Rattle.guest_space.specs.declared.access.MapError.TheVariants.{Full, NoPlace, NoMemory}

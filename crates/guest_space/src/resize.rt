@@ -10,10 +10,8 @@ ghost use Rattle.guest_space.specs.Break.{may_add, pages_between, pages_up_to, w
 use crate::access::MapError;
 use crate::range::{greatest_place, is_free, map_zeros, move_pages, unmap_pages};
 use kernel_core::NoMemory;
+use kernel_core::address_space::PAGE_LIMIT;
 use raw_pages::PageStore;
-
-/// The greatest number of pages that may be mapped at a time.
-pub(crate) const PAGE_LIMIT: u32 = 131_072;
 
 /// The page at 0x7F7F0000, past which no range grows where it stands.
 const GROWTH_END: u32 = 0x7_F7F0;

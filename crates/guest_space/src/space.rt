@@ -14,11 +14,10 @@ use crate::access::{Access, Denied, MapError, StoreError};
 use crate::range::{
     absent_pages, greatest_place, is_free, map_zeros, mapped_pages, protect_pages, unmap_pages,
 };
-use crate::resize::{PAGE_LIMIT, new_break, resize};
-use crate::walk::{
-    PAGE_SIZE, first_denied, load_in_page, number, read_bytes, store_bytes, write_bytes,
-};
+use crate::resize::{new_break, resize};
+use crate::walk::{first_denied, load_in_page, number, read_bytes, store_bytes, write_bytes};
 use kernel_core::NoMemory;
+use kernel_core::address_space::{PAGE_LIMIT, PAGE_SIZE};
 use raw_pages::PageStore;
 use std::alloc::Global;
 use std::marker::Model;
@@ -68,97 +67,109 @@ impl Space {
         self.break_start = at;
     }
 
-    /// The big-endian number of the `n` bytes from `addr` on, `n` from 1 to 4, or the first of them
+    /// The big-endian number of the `n` bytes from `address` on, `n` from 1 to 4, or the first of them
     /// that may not be loaded. It takes no memory.
-    pub fn load(&self, addr: u32, n: u32) -> Result<u32, Denied>
+    pub fn load(&self, address: u32, n: u32) -> Result<u32, Denied>
         requires low { 1 ≤ n }
         requires high { n ≤ 4 }
-        ensures value { result ≡ read self.now addr n }
+        ensures value { result ≡ read self.now address n }
         ensures fits { IfOk result (λ value. value < 256 ^ n) }
     {
-        if addr % PAGE_SIZE + n <= PAGE_SIZE {
-            return load_in_page(&self.pages, addr, n);
+        if address % PAGE_SIZE + n <= PAGE_SIZE {
+            return load_in_page(&self.pages, address, n);
         }
+        self.load_across_pages(address, n)
+    }
+
+    /// The same of bytes of two neighbouring pages, which is rare.
+    #[cold]
+    #[inline(never)]
+    fn load_across_pages(&self, address: u32, n: u32) -> Result<u32, Denied>
+        requires low { 1 ≤ n }
+        requires high { n ≤ 4 }
+        ensures value { result ≡ read self.now address n }
+        ensures fits { IfOk result (λ value. value < 256 ^ n) }
+    {
         let mut buffer = [0u8; 4];
         let bytes = &mut buffer[..n as usize];
-        self.copy_in(addr, bytes)?;
+        self.copy_in(address, bytes)?;
         Ok(number(bytes))
     }
 
-    /// The big-endian word of the four bytes from `addr` on, or the first of them that may not be
+    /// The big-endian word of the four bytes from `address` on, or the first of them that may not be
     /// fetched. That an address is a multiple of 4 is the caller's matter. It takes no memory.
-    pub fn fetch(&self, addr: u32) -> Result<u32, Denied>
-        ensures { result ≡ read self.now addr 4 }
+    pub fn fetch(&self, address: u32) -> Result<u32, Denied>
+        ensures { result ≡ read self.now address 4 }
     {
-        self.load(addr, 4)
+        self.load(address, 4)
     }
 
-    /// Writes the lowest `n` bytes of `value`, `n` from 1 to 4, big-endian from `addr` on: all of them,
+    /// Writes the lowest `n` bytes of `value`, `n` from 1 to 4, big-endian from `address` on: all of them,
     /// or none with the first byte that may not be stored to. It asks for memory only where a byte's
     /// page was not written since it was mapped, and a refusal then changes nothing.
-    pub fn store(&mut self, addr: u32, n: u32, value: u32) -> Result<(), StoreError>
+    pub fn store(&mut self, address: u32, n: u32, value: u32) -> Result<(), StoreError>
         requires low { 1 ≤ n }
         requires high { n ≤ 4 }
-        ensures ok { OnOk result (self.new ≡ written self.old addr n value) }
+        ensures ok { OnOk result (self.new ≡ written self.old address n value) }
         ensures err { OnErr result (self.new ≡ self.old) }
         ensures answer { IsStoreAnswer
-            (first_denied Access.Store self.old.pages addr n) (are_ready self.old.pages addr n) result }
+            (first_denied Access.Store self.old.pages address n) (are_ready self.old.pages address n) result }
         ensures valid { IsValid self.new.pages }
     {
         let word = value.to_be_bytes();
-        store_bytes(&mut self.pages, addr, &word[4 - n as usize..])?;
+        store_bytes(&mut self.pages, address, &word[4 - n as usize..])?;
         Ok(())
     }
 
-    /// The greatest m, at most `n`, such that each of the first m bytes from `addr` on may be loaded.
+    /// The greatest m, at most `n`, such that each of the first m bytes from `address` on may be loaded.
     /// None of these wraps past 2^32, and none lies past user space. It takes no memory.
-    pub fn readable(&self, addr: u32, n: u32) -> u32
-        ensures value { result ≡ readable_prefix self.now.pages addr n }
-        ensures within { 0 < result → addr + result ≤ user_end }
+    pub fn readable(&self, address: u32, n: u32) -> u32
+        ensures value { result ≡ readable_prefix self.now.pages address n }
+        ensures within { 0 < result → address + result ≤ user_end }
         ensures bound { result ≤ n }
-        ensures free { (k : ℕ) → k ≤ result → first_denied Access.Load self.now.pages addr k ≡ None }
+        ensures free { (k : ℕ) → k ≤ result → first_denied Access.Load self.now.pages address k ≡ None }
     {
-        self.prefix(Access::Load, addr, n)
+        self.prefix(Access::Load, address, n)
     }
 
     /// The same, of bytes that may be stored to.
-    pub fn writable(&self, addr: u32, n: u32) -> u32
-        ensures value { result ≡ writable_prefix self.now.pages addr n }
-        ensures within { 0 < result → addr + result ≤ user_end }
+    pub fn writable(&self, address: u32, n: u32) -> u32
+        ensures value { result ≡ writable_prefix self.now.pages address n }
+        ensures within { 0 < result → address + result ≤ user_end }
         ensures bound { result ≤ n }
-        ensures free { (k : ℕ) → k ≤ result → first_denied Access.Store self.now.pages addr k ≡ None }
+        ensures free { (k : ℕ) → k ≤ result → first_denied Access.Store self.now.pages address k ≡ None }
     {
-        self.prefix(Access::Store, addr, n)
+        self.prefix(Access::Store, address, n)
     }
 
-    /// Reads the bytes from `addr` on into `buf`: all of them, or none with the first byte that may
+    /// Reads the bytes from `address` on into `buf`: all of them, or none with the first byte that may
     /// not be loaded. It takes no memory.
-    pub fn copy_in(&self, addr: u32, buf: &mut [u8]) -> Result<(), Denied>
-        ensures answer { result ≡ unless_denied (first_denied Access.Load self.now.pages addr (length buf.old)) tt }
-        ensures ok { OnOk result (buf.new ≡ bytes_at self.now.pages addr (length buf.old)) }
+    pub fn copy_in(&self, address: u32, buf: &mut [u8]) -> Result<(), Denied>
+        ensures answer { result ≡ unless_denied (first_denied Access.Load self.now.pages address (length buf.old)) tt }
+        ensures ok { OnOk result (buf.new ≡ bytes_at self.now.pages address (length buf.old)) }
         ensures err { OnErr result (buf.new ≡ buf.old) }
     {
-        if let Some(denied) = first_denied(&self.pages, Access::Load, addr, buf.len()) {
+        if let Some(denied) = first_denied(&self.pages, Access::Load, address, buf.len()) {
             return Err(denied);
         }
-        read_bytes(&self.pages, addr, buf);
+        read_bytes(&self.pages, address, buf);
         Ok(())
     }
 
-    /// Writes the bytes from `addr` on: all of them, or none with the first byte that may not be
+    /// Writes the bytes from `address` on: all of them, or none with the first byte that may not be
     /// stored to. It asks for memory only where a byte's page was not written since it was mapped, and
     /// after a refusal of that a first part of the bytes is written.
-    pub fn copy_out(&mut self, addr: u32, bytes: &[u8]) -> Result<(), StoreError>
-        ensures ok { OnOk result (self.new ≡ copied_out self.old addr bytes.now) }
-        ensures err { IfErr result (λ e. LeavesPrefix e self.old self.new addr bytes.now) }
-        ensures answer { IsStoreAnswer (first_denied Access.Store self.old.pages addr (length bytes.now))
-            (are_ready self.old.pages addr (length bytes.now)) result }
+    pub fn copy_out(&mut self, address: u32, bytes: &[u8]) -> Result<(), StoreError>
+        ensures ok { OnOk result (self.new ≡ copied_out self.old address bytes.now) }
+        ensures err { IfErr result (λ e. LeavesPrefix e self.old self.new address bytes.now) }
+        ensures answer { IsStoreAnswer (first_denied Access.Store self.old.pages address (length bytes.now))
+            (are_ready self.old.pages address (length bytes.now)) result }
         ensures valid { IsValid self.new.pages }
     {
-        if let Some(denied) = first_denied(&self.pages, Access::Store, addr, bytes.len()) {
+        if let Some(denied) = first_denied(&self.pages, Access::Store, address, bytes.len()) {
             return Err(StoreError::Denied(denied));
         }
-        write_bytes(&mut self.pages, addr, bytes)?;
+        write_bytes(&mut self.pages, address, bytes)?;
         Ok(())
     }
 
@@ -166,32 +177,32 @@ impl Space {
     /// 4 execute, added up), in place of those that are there. Full comes exactly where more than
     /// 131,072 pages would be mapped, and then nothing changes. NoPlace never comes. After NoMemory a
     /// first part of the pages was mapped.
-    pub fn map(&mut self, first: u32, count: u32, prot: u8) -> Result<(), MapError>
+    pub fn map(&mut self, first: u32, count: u32, protection: u8) -> Result<(), MapError>
         requires end { first + count ≤ 524280 }
-        requires protection { prot ≤ 7 }
-        ensures ok { OnOk result (self.new ≡ record self.old { pages = with_zeros self.old.pages first count prot }) }
-        ensures full { IsErrOf result MapError.Full ↔ (page_limit < map.len (with_zeros self.old.pages first count prot)) }
-        ensures err { IfErr result (λ e. LeavesMapped e self.old self.new first count prot) }
+        requires protection { protection ≤ 7 }
+        ensures ok { OnOk result (self.new ≡ record self.old { pages = with_zeros self.old.pages first count protection }) }
+        ensures full { IsErrOf result MapError.Full ↔ (page_limit < map.len (with_zeros self.old.pages first count protection)) }
+        ensures err { IfErr result (λ e. LeavesMapped e self.old self.new first count protection) }
         ensures valid { IsValid self.new.pages }
     {
         if self.pages.len() + absent_pages(&self.pages, first, count) > PAGE_LIMIT {
             return Err(MapError::Full);
         }
-        map_zeros(&mut self.pages, first, count, prot)?;
+        map_zeros(&mut self.pages, first, count, protection)?;
         Ok(())
     }
 
     /// Gives the pages from `first` on, at most `count` and up to the first that is absent, this
     /// protection, and answers their number (mprotect(2)).
-    pub fn protect(&mut self, first: u32, count: u32, prot: u8) -> u32
+    pub fn protect(&mut self, first: u32, count: u32, protection: u8) -> u32
         requires end { first + count ≤ 524280 }
-        requires protection { prot ≤ 7 }
+        requires protection { protection ≤ 7 }
         ensures count { result ≡ mapped_run self.old.pages first count }
-        ensures changed { self.new ≡ record self.old { pages = with_protection self.old.pages first result prot } }
+        ensures changed { self.new ≡ record self.old { pages = with_protection self.old.pages first result protection } }
         ensures valid { IsValid self.new.pages }
     {
         let run = mapped_pages(&self.pages, first, count);
-        protect_pages(&mut self.pages, first, run, prot);
+        protect_pages(&mut self.pages, first, run, protection);
         run
     }
 
@@ -253,10 +264,11 @@ impl Space {
     /// Makes `to` the program break, and answers the break (brk(2)). The break stays where `to` lies below
     /// the break's start or above 0x70000000, where a page to be added is mapped already, and where more than
     /// 131,072 pages would be mapped. The pages between both breaks are mapped as zeros to read and write, or
-    /// taken away. After NoMemory nothing is promised of the pages.
+    /// taken away. After NoMemory the break stays, and nothing is promised of the pages.
     pub fn brk(&mut self, to: u32) -> Result<u32, NoMemory>
         ensures answer { IfOk result (λ now. now ≡ (with_break self.old to).program_break) }
         ensures ok { OnOk result (self.new ≡ with_break self.old to) }
+        ensures err { OnErr result (self.new ≡ record self.old { pages = self.new.pages }) }
         ensures valid { IsValid self.new.pages }
     {
         self.program_break = new_break(&mut self.pages, self.break_start, self.program_break, to)?;
@@ -264,15 +276,15 @@ impl Space {
     }
 
     /// The bytes before the first that may not be used so.
-    fn prefix(&self, access: Access, addr: u32, n: u32) -> u32
-        ensures value { result ≡ bytes_before addr n (first_denied access self.now.pages addr n) }
-        ensures within { 0 < result → addr + result ≤ user_end }
+    fn prefix(&self, access: Access, address: u32, n: u32) -> u32
+        ensures value { result ≡ bytes_before address n (first_denied access self.now.pages address n) }
+        ensures within { 0 < result → address + result ≤ user_end }
         ensures bound { result ≤ n }
-        ensures free { (k : ℕ) → k ≤ result → first_denied access self.now.pages addr k ≡ None }
+        ensures free { (k : ℕ) → k ≤ result → first_denied access self.now.pages address k ≡ None }
     {
-        match first_denied(&self.pages, access, addr, n as usize) {
+        match first_denied(&self.pages, access, address, n as usize) {
             None => n,
-            Some(denied) => denied.addr - addr,
+            Some(denied) => denied.addr - address,
         }
     }
 }

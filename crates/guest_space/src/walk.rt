@@ -12,13 +12,8 @@ ghost use Rattle.guest_space.specs.Answers.{IsStoreAnswer};
 use crate::access::{Access, Denied, StoreError, Why};
 use byteorder::{BigEndian, ByteOrder};
 use kernel_core::NoMemory;
+use kernel_core::address_space::{PAGE_SIZE, USER_END};
 use raw_pages::{Page, PageStore, WriteError};
-
-/// The number of bytes of a page.
-pub(crate) const PAGE_SIZE: u32 = 4096;
-
-/// The first address past user space.
-const USER_END: u32 = 0x7FFF_8000;
 
 fn allows(access: Access, protection: u8) -> bool
     ensures { result ≡ allows access protection }
@@ -30,15 +25,15 @@ fn allows(access: Access, protection: u8) -> bool
 }
 
 /// The page of the byte, where the byte may be used so, and else why it may not.
-fn usable_page(pages: &PageStore, access: Access, addr: u32) -> Result<&Page, Why>
-    ensures allowed { IfOk result (λ page. (refusal access pages.now addr ≡ None)
-        × (map.get pages.now (addr / 4096) ≡ Some page.now)) }
-    ensures refused { IfErr result (λ why. refusal access pages.now addr ≡ Some why) }
+fn usable_page(pages: &PageStore, access: Access, address: u32) -> Result<&Page, Why>
+    ensures allowed { IfOk result (λ page. (refusal access pages.now address ≡ None)
+        × (map.get pages.now (address / 4096) ≡ Some page.now)) }
+    ensures refused { IfErr result (λ why. refusal access pages.now address ≡ Some why) }
 {
-    if addr >= USER_END {
+    if address >= USER_END {
         return Err(Why::Beyond);
     }
-    match pages.page(addr / PAGE_SIZE) {
+    match pages.page(address / PAGE_SIZE) {
         None => Err(Why::Absent),
         Some(page) => {
             if allows(access, page.protection()) {
@@ -51,19 +46,24 @@ fn usable_page(pages: &PageStore, access: Access, addr: u32) -> Result<&Page, Wh
 }
 
 /// Why the byte may not be used so.
-fn refusal(pages: &PageStore, access: Access, addr: u32) -> Option<Why>
-    ensures value { result ≡ refusal access pages.now addr }
-    ensures inside { IfNone result (addr < user_end) }
+fn refusal(pages: &PageStore, access: Access, address: u32) -> Option<Why>
+    ensures value { result ≡ refusal access pages.now address }
+    ensures inside { IfNone result (address < user_end) }
 {
-    usable_page(pages, access, addr).err()
+    usable_page(pages, access, address).err()
 }
 
-/// The first of the `n` bytes from `addr` on that may not be used so.
-pub(crate) fn first_denied(pages: &PageStore, access: Access, addr: u32, n: usize) -> Option<Denied>
-    ensures value { result ≡ first_denied access pages.now addr n }
-    ensures inside { IfNone result (addr + n ≤ 2 ^ 32) }
+/// The first of the `n` bytes from `address` on that may not be used so.
+pub(crate) fn first_denied(
+    pages: &PageStore,
+    access: Access,
+    address: u32,
+    n: usize,
+) -> Option<Denied>
+    ensures value { result ≡ first_denied access pages.now address n }
+    ensures inside { IfNone result (address + n ≤ 2 ^ 32) }
 {
-    let mut at = addr;
+    let mut at = address;
     let mut left = n;
     while left > 0 {
         if let Some(why) = refusal(pages, access, at) {
@@ -95,17 +95,17 @@ pub(crate) fn number(bytes: &[u8]) -> u32
 }
 
 /// The big-endian number of one to four bytes that lie in one page, by one look-up.
-pub(crate) fn load_in_page(pages: &PageStore, addr: u32, n: u32) -> Result<u32, Denied>
+pub(crate) fn load_in_page(pages: &PageStore, address: u32, n: u32) -> Result<u32, Denied>
     requires low { 1 ≤ n }
     requires high { n ≤ 4 }
-    requires room { addr % 4096 + n ≤ 4096 }
+    requires room { address % 4096 + n ≤ 4096 }
     ensures value { result ≡ unless_denied
-        (first_denied Access.Load pages.now addr n) (big_number n (bytes_at pages.now addr n)) }
+        (first_denied Access.Load pages.now address n) (big_number n (bytes_at pages.now address n)) }
     ensures fits { IfOk result (λ value. value < 256 ^ n) }
 {
-    match usable_page(pages, Access::Load, addr) {
-        Ok(page) => Ok(number_in_page(page, (addr % PAGE_SIZE) as usize, n)),
-        Err(why) => Err(Denied { addr, why }),
+    match usable_page(pages, Access::Load, address) {
+        Ok(page) => Ok(number_in_page(page, (address % PAGE_SIZE) as usize, n)),
+        Err(why) => Err(Denied { addr: address, why }),
     }
 }
 
@@ -138,39 +138,39 @@ fn three_bytes(page: &Page, place: usize) -> u32
 }
 
 /// Reads a piece of bytes that lies in one page. Where no page is the bytes are 0.
-fn read_piece(pages: &PageStore, addr: u32, piece: &mut [u8])
-    requires { addr % 4096 + length piece.old ≤ 4096 }
-    ensures { piece.new ≡ bytes_at pages.now addr (length piece.old) }
+fn read_piece(pages: &PageStore, address: u32, piece: &mut [u8])
+    requires { address % 4096 + length piece.old ≤ 4096 }
+    ensures { piece.new ≡ bytes_at pages.now address (length piece.old) }
 {
-    pages.read(addr / PAGE_SIZE, addr % PAGE_SIZE, piece);
+    pages.read(address / PAGE_SIZE, address % PAGE_SIZE, piece);
 }
 
-/// Reads the bytes from `addr` on. Where no page is they are 0.
-pub(crate) fn read_bytes(pages: &PageStore, addr: u32, buf: &mut [u8])
-    requires { addr + length buf.old ≤ 2 ^ 32 }
-    ensures { buf.new ≡ bytes_at pages.now addr (length buf.old) }
+/// Reads the bytes from `address` on. Where no page is they are 0.
+pub(crate) fn read_bytes(pages: &PageStore, address: u32, buf: &mut [u8])
+    requires { address + length buf.old ≤ 2 ^ 32 }
+    ensures { buf.new ≡ bytes_at pages.now address (length buf.old) }
 {
     let mut done = 0;
     while done < buf.len() {
-        let at = addr + done as u32;
+        let at = address + done as u32;
         let size = (buf.len() - done).min((PAGE_SIZE - at % PAGE_SIZE) as usize);
         read_piece(pages, at, &mut buf[done..done + size]);
         done += size;
     }
 }
 
-/// Writes the bytes from `addr` on, where pages are. After want of memory for a page that isn't ready a
+/// Writes the bytes from `address` on, where pages are. After want of memory for a page that isn't ready a
 /// first part of them is written.
-pub(crate) fn write_bytes(pages: &mut PageStore, addr: u32, bytes: &[u8]) -> Result<(), NoMemory>
-    requires { addr + length bytes.now ≤ 2 ^ 32 }
-    ensures ok { OnOk result (pages.new ≡ with_bytes pages.old addr bytes.now) }
-    ensures part { OnErr result ((k : ℕ) × (k ≤ length bytes.now) × (pages.new ≡ with_bytes pages.old addr (take k bytes.now))) }
-    ensures ready { OnErr result (are_ready pages.old addr (length bytes.now) ≡ false) }
+pub(crate) fn write_bytes(pages: &mut PageStore, address: u32, bytes: &[u8]) -> Result<(), NoMemory>
+    requires { address + length bytes.now ≤ 2 ^ 32 }
+    ensures ok { OnOk result (pages.new ≡ with_bytes pages.old address bytes.now) }
+    ensures part { OnErr result ((k : ℕ) × (k ≤ length bytes.now) × (pages.new ≡ with_bytes pages.old address (take k bytes.now))) }
+    ensures ready { OnErr result (are_ready pages.old address (length bytes.now) ≡ false) }
     ensures valid { IsValid pages.old → IsValid pages.new }
 {
     let mut done = 0;
     while done < bytes.len() {
-        let at = addr + done as u32;
+        let at = address + done as u32;
         let place = at % PAGE_SIZE;
         let size = (bytes.len() - done).min((PAGE_SIZE - place) as usize);
         pages.write(at / PAGE_SIZE, place, &bytes[done..done + size])?;
@@ -180,45 +180,49 @@ pub(crate) fn write_bytes(pages: &mut PageStore, addr: u32, bytes: &[u8]) -> Res
 }
 
 /// Writes one to four bytes: all of them, or none.
-pub(crate) fn store_bytes(pages: &mut PageStore, addr: u32, bytes: &[u8]) -> Result<(), StoreError>
+pub(crate) fn store_bytes(
+    pages: &mut PageStore,
+    address: u32,
+    bytes: &[u8],
+) -> Result<(), StoreError>
     requires some { 0 < length bytes.now }
     requires short { length bytes.now ≤ 4 }
-    ensures ok { OnOk result (pages.new ≡ with_bytes pages.old addr bytes.now) }
+    ensures ok { OnOk result (pages.new ≡ with_bytes pages.old address bytes.now) }
     ensures err { OnErr result (pages.new ≡ pages.old) }
-    ensures answer { IsStoreAnswer (first_denied Access.Store pages.old addr (length bytes.now))
-        (are_ready pages.old addr (length bytes.now)) result }
+    ensures answer { IsStoreAnswer (first_denied Access.Store pages.old address (length bytes.now))
+        (are_ready pages.old address (length bytes.now)) result }
     ensures valid { IsValid pages.old → IsValid pages.new }
 {
-    if addr % PAGE_SIZE + bytes.len() as u32 <= PAGE_SIZE {
-        return store_in_page(pages, addr, bytes);
+    if address % PAGE_SIZE + bytes.len() as u32 <= PAGE_SIZE {
+        return store_in_page(pages, address, bytes);
     }
-    store_across_pages(pages, addr, bytes)
+    store_across_pages(pages, address, bytes)
 }
 
 /// Writes one to four bytes that lie in one page, by one look-up: all of them, or none.
-fn store_in_page(pages: &mut PageStore, addr: u32, bytes: &[u8]) -> Result<(), StoreError>
+fn store_in_page(pages: &mut PageStore, address: u32, bytes: &[u8]) -> Result<(), StoreError>
     requires some { 0 < length bytes.now }
-    requires room { addr % 4096 + length bytes.now ≤ 4096 }
-    ensures ok { OnOk result (pages.new ≡ with_bytes pages.old addr bytes.now) }
+    requires room { address % 4096 + length bytes.now ≤ 4096 }
+    ensures ok { OnOk result (pages.new ≡ with_bytes pages.old address bytes.now) }
     ensures err { OnErr result (pages.new ≡ pages.old) }
-    ensures answer { IsStoreAnswer (first_denied Access.Store pages.old addr (length bytes.now))
-        (are_ready pages.old addr (length bytes.now)) result }
+    ensures answer { IsStoreAnswer (first_denied Access.Store pages.old address (length bytes.now))
+        (are_ready pages.old address (length bytes.now)) result }
     ensures valid { IsValid pages.old → IsValid pages.new }
 {
-    if addr >= USER_END {
+    if address >= USER_END {
         return Err(StoreError::Denied(Denied {
-            addr,
+            addr: address,
             why: Why::Beyond,
         }));
     }
-    match pages.write_if_allowed(addr / PAGE_SIZE, addr % PAGE_SIZE, bytes) {
+    match pages.write_if_allowed(address / PAGE_SIZE, address % PAGE_SIZE, bytes) {
         Ok(()) => Ok(()),
         Err(WriteError::Absent) => Err(StoreError::Denied(Denied {
-            addr,
+            addr: address,
             why: Why::Absent,
         })),
         Err(WriteError::Forbidden) => Err(StoreError::Denied(Denied {
-            addr,
+            addr: address,
             why: Why::Forbidden,
         })),
         Err(WriteError::NoMemory) => Err(StoreError::NoMemory),
@@ -226,16 +230,16 @@ fn store_in_page(pages: &mut PageStore, addr: u32, bytes: &[u8]) -> Result<(), S
 }
 
 /// Writes bytes of two neighbouring pages: all of them, or none.
-fn write_across(pages: &mut PageStore, addr: u32, bytes: &[u8]) -> Result<(), NoMemory>
-    requires across { 4096 < addr % 4096 + length bytes.now }
+fn write_across(pages: &mut PageStore, address: u32, bytes: &[u8]) -> Result<(), NoMemory>
+    requires across { 4096 < address % 4096 + length bytes.now }
     requires short { length bytes.now ≤ 4 }
-    requires inside { addr + length bytes.now ≤ 2 ^ 32 }
-    ensures ok { OnOk result (pages.new ≡ with_bytes pages.old addr bytes.now) }
+    requires inside { address + length bytes.now ≤ 2 ^ 32 }
+    ensures ok { OnOk result (pages.new ≡ with_bytes pages.old address bytes.now) }
     ensures err { OnErr result (pages.new ≡ pages.old) }
-    ensures ready { OnErr result (are_ready pages.old addr (length bytes.now) ≡ false) }
+    ensures ready { OnErr result (are_ready pages.old address (length bytes.now) ≡ false) }
 {
-    let page = addr / PAGE_SIZE;
-    let place = addr % PAGE_SIZE;
+    let page = address / PAGE_SIZE;
+    let place = address % PAGE_SIZE;
     let front = &bytes[..(PAGE_SIZE - place) as usize];
     let back = &bytes[(PAGE_SIZE - place) as usize..];
     if pages.ready(page + 1) {
@@ -292,19 +296,21 @@ fn write_with_unready_next(
     Ok(())
 }
 
-/// Writes two to four bytes of two neighbouring pages: all of them, or none.
-fn store_across_pages(pages: &mut PageStore, addr: u32, bytes: &[u8]) -> Result<(), StoreError>
-    requires across { 4096 < addr % 4096 + length bytes.now }
+/// Writes two to four bytes of two neighbouring pages: all of them, or none. It is rare.
+#[cold]
+#[inline(never)]
+fn store_across_pages(pages: &mut PageStore, address: u32, bytes: &[u8]) -> Result<(), StoreError>
+    requires across { 4096 < address % 4096 + length bytes.now }
     requires short { length bytes.now ≤ 4 }
-    ensures ok { OnOk result (pages.new ≡ with_bytes pages.old addr bytes.now) }
+    ensures ok { OnOk result (pages.new ≡ with_bytes pages.old address bytes.now) }
     ensures err { OnErr result (pages.new ≡ pages.old) }
-    ensures answer { IsStoreAnswer (first_denied Access.Store pages.old addr (length bytes.now))
-        (are_ready pages.old addr (length bytes.now)) result }
+    ensures answer { IsStoreAnswer (first_denied Access.Store pages.old address (length bytes.now))
+        (are_ready pages.old address (length bytes.now)) result }
     ensures valid { IsValid pages.old → IsValid pages.new }
 {
-    if let Some(denied) = first_denied(pages, Access::Store, addr, bytes.len()) {
+    if let Some(denied) = first_denied(pages, Access::Store, address, bytes.len()) {
         return Err(StoreError::Denied(denied));
     }
-    write_across(pages, addr, bytes)?;
+    write_across(pages, address, bytes)?;
     Ok(())
 }

@@ -14,7 +14,7 @@ use std::ptr::null_mut;
 pub struct Frame<T> {
     at: *mut T,
     alloc: Global,
-    ghost value: { Option T } by { coded_option T.code },
+    pub ghost value: { Option T } by { coded_option T.code },
 }
 
 impl<T> Model for Frame<T> {

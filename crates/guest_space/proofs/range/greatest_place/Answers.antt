@@ -1,4 +1,4 @@
-use Rattle.std.proofs.Common.{◌≡◌, ◌≤◌, ◌<◌, ◌+◌, ◌-◌, arith, inl, inr}
+use Rattle.std.proofs.Common.{◌+◌, ◌-◌, arith, inl, inr}
 use Rattle.std.proofs.lemmas.Bool.{cases_lt}
 use Rattle.guest_space.proofs.Ranges.{not_free}
 use Rattle.guest_space.proofs.range.greatest_place.Goals as goal

@@ -1,4 +1,4 @@
-use Rattle.std.proofs.Common.{◌<◌, ◌+◌, ltb, IsTrue, arith, inl, inr}
+use Rattle.std.proofs.Common.{◌<◌, ◌+◌, arith, inl, inr}
 use Rattle.std.proofs.lemmas.Bool.{cases_lt}
 use Rattle.std.proofs.lemmas.Bool.Decides.{nat_tests}
 use Rattle.guest_space.proofs.Ranges.{not_free}

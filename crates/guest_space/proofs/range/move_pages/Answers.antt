@@ -1,4 +1,4 @@
-use Rattle.std.proofs.Common.{◌≡◌, ◌+◌, ap, subst, sym, ◌∙◌, arith, inl, inr}
+use Rattle.std.proofs.Common.{◌+◌, subst, sym, arith, inl, inr}
 use Rattle.guest_space.specs.Remapping.{AreMoved}
 use Rattle.guest_space.proofs.Ranges.{moved-more, moved-none, at_to}
 use Rattle.guest_space.proofs.Validity.{valid-moved}

@@ -1,7 +1,7 @@
-use Rattle.std.proofs.Common.{◌≡◌, ◌+◌, ap, subst, sym, ◌∙◌, arith, cond, None}
+use Rattle.std.proofs.Common.{◌≡◌, ap, subst, sym, ◌∙◌, arith, cond, None}
 use Rattle.std.specs.FinMap.{get}
 use Rattle.guest_space.specs.Memory.{IsValid}
-use Rattle.guest_space.specs.Remapping.{is_in, without}
+use Rattle.guest_space.specs.Remapping.{without}
 use Rattle.guest_space.proofs.Ranges.{unmapped-more, is-without, is_in-none}
 use Rattle.guest_space.proofs.Validity.{valid-without}
 use Rattle.guest_space.proofs.range.unmap_pages.Goals as goal

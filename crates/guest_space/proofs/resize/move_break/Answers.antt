@@ -1,9 +1,9 @@
-use Rattle.std.proofs.Common.{◌≡◌, ◌+◌, ◌-◌, ◌<◌, ◌≤◌, ℕ, true, false, subst, refl, sym, ap, ◌∙◌, arith}
+use Rattle.std.proofs.Common.{◌≡◌, ◌-◌, ◌<◌, ℕ, true, subst, sym, ◌∙◌, arith}
 use Rattle.guest_space.specs.Mapping.{with_zeros}
 use Rattle.guest_space.specs.Places.{IsFree}
 use Rattle.guest_space.specs.Remapping.{without}
-use Rattle.guest_space.specs.Break.{may_add, pages_up_to}
-use Rattle.guest_space.proofs.Breaks.{may_add-none, may_add-too_many, may_add-taken, may_add-all, between-less, between-more}
+use Rattle.guest_space.specs.Break.{pages_up_to}
+use Rattle.guest_space.proofs.Breaks.{may_add-too_many, may_add-taken, may_add-all, between-less, between-more}
 use Rattle.guest_space.proofs.resize.move_break.Goals as goal
 
 pub returns-then-new_end-old_end-clause-ok : goal.returns-then-new_end-old_end-clause-ok

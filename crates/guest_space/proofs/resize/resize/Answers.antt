@@ -1,8 +1,8 @@
-use Rattle.std.proofs.Common.{◌≡◌, ◌≤◌, ◌<◌, ◌+◌, ◌-◌, ℕ, Bool, true, false, Some, sym, ap, subst, refl, ◌∙◌, arith, inl, inr, ◌⊎◌}
+use Rattle.std.proofs.Common.{◌≤◌, ◌+◌, ◌-◌, ℕ, sym, ap, subst, refl, ◌∙◌, arith, inl, inr}
 use Rattle.std.specs.Option.{unwrap_or}
 use Rattle.std.specs.FinMap.{get}
 use Rattle.guest_space.specs.Mapping.{with_zeros}
-use Rattle.guest_space.specs.Remapping.{IsRemapped, Cut, Grown, Moved, MayGrow, PassesLimit, HasNoPlace, protection_of}
+use Rattle.guest_space.specs.Remapping.{Cut, Grown, Moved, MayGrow, PassesLimit}
 use Rattle.guest_space.proofs.Ranges.{protection-looked, protection-bits, apart-runs}
 use Rattle.guest_space.proofs.resize.resize.Goals as goal
 

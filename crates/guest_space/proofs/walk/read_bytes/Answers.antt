@@ -12,7 +12,7 @@ pub loop-done-preserved : goal.loop-done-preserved
 loop-done-preserved c =
     let done = c.loop-done.done in
     let size = c.min-size.result in
-    let at = c.args.addr + done in
+    let at = c.args.address + done in
     let pages = c.args.pages.now in
     let part = length-part c.loop-done.buf done size (omega arith) in
     let read = c.read_piece.ensures ∙ ap (bytes_at pages at) part in
@@ -22,6 +22,6 @@ loop-done-preserved c =
       read =
           take-put_mid done _ c.loop-done.buf c.read_piece.new.piece (done + size) (omega arith) (omega arith)
           ∙ ap (λ s. s ++ c.read_piece.new.piece) c.loop-done.invariant.read
-          ∙ ap (λ s. bytes_at pages c.args.addr done ++ s) read
-          ∙ sym (bytes_at-append pages done size c.args.addr);
+          ∙ ap (λ s. bytes_at pages c.args.address done ++ s) read
+          ∙ sym (bytes_at-append pages done size c.args.address);
     }

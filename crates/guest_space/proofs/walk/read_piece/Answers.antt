@@ -1,4 +1,4 @@
-use Rattle.std.proofs.Common.{refl, ◌∙◌, ap, length}
+use Rattle.std.proofs.Common.{refl, ◌∙◌}
 use Rattle.guest_space.proofs.Writes.{shown-bytes_at}
 use Rattle.guest_space.proofs.walk.read_piece.Goals as goal
 

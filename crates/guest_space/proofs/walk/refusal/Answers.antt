@@ -6,7 +6,7 @@ use Rattle.guest_space.proofs.walk.refusal.Goals as goal
 pub returns-clause-value : goal.returns-clause-value
 returns-clause-value c =
     c.err.ensures.value
-    ∙ refusal_found (λ page. get c.args.pages.now (c.args.addr / 4096) ≡ Some page.now) _ _ c.usable_page.ensures.allowed c.usable_page.ensures.refused
+    ∙ refusal_found (λ page. get c.args.pages.now (c.args.address / 4096) ≡ Some page.now) _ _ c.usable_page.ensures.allowed c.usable_page.ensures.refused
 
 pub returns-clause-inside : goal.returns-clause-inside
 returns-clause-inside c = inside-none _ _ _ _ (returns-clause-value c)

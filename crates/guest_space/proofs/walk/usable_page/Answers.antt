@@ -4,8 +4,8 @@ use Rattle.guest_space.specs.Access.{allows, page_refusal}
 use Rattle.guest_space.proofs.Prefixes.{refusal-beyond, refusal-page}
 use Rattle.guest_space.proofs.walk.usable_page.Goals as goal
 
-pub returns-then-addr-ge-USER_END-clause-refused : goal.returns-then-addr-ge-USER_END-clause-refused
-returns-then-addr-ge-USER_END-clause-refused c = refusal-beyond _ _ _ (omega arith)
+pub returns-then-address-ge-USER_END-clause-refused : goal.returns-then-address-ge-USER_END-clause-refused
+returns-then-address-ge-USER_END-clause-refused c = refusal-beyond _ _ _ (omega arith)
 
 pub returns-in-None-clause-refused : goal.returns-in-None-clause-refused
 returns-in-None-clause-refused c =

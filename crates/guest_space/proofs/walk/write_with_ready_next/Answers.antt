@@ -1,4 +1,4 @@
-use Rattle.std.proofs.Common.{◌≡◌, ◌+◌, true, false, sym, ap, ◌∙◌}
+use Rattle.std.proofs.Common.{◌≡◌, ◌+◌, true, false, ap, ◌∙◌}
 use Rattle.std.specs.FinMap.{get}
 use Rattle.raw_pages.specs.Pages.{is_ready, pages_with_piece}
 use Rattle.guest_space.specs.Memory.{Pages}

@@ -1,4 +1,4 @@
-use Rattle.std.proofs.Common.{◌≡◌, ◌+◌, refl, sym, ap, ◌∙◌}
+use Rattle.std.proofs.Common.{◌+◌, refl, ap, ◌∙◌}
 use Rattle.std.specs.FinMap.{get}
 use Rattle.raw_pages.specs.Pages.{pages_with_piece, pages_cleared}
 use Rattle.guest_space.specs.Memory.{Pages}

@@ -10,22 +10,22 @@ use Rattle.guest_space.proofs.space.Space.map.Goals as goal
 
 pub returns-then-len-absent_pages-gt-PAGE_LIMIT-clause-full : goal.returns-then-len-absent_pages-gt-PAGE_LIMIT-clause-full
 returns-then-len-absent_pages-gt-PAGE_LIMIT-clause-full c =
-    let same = ap (λ (m : Memory). len (with_zeros m.pages c.args.first c.args.count c.args.prot)) c.self.view_is in
-    let grown = len-with_zeros c.self.inside.pages c.args.first c.args.count c.args.prot in
+    let same = ap (λ (m : Memory). len (with_zeros m.pages c.args.first c.args.count c.args.protection)) c.self.view_is in
+    let grown = len-with_zeros c.self.inside.pages c.args.first c.args.count c.args.protection in
     (λ _. omega (arith, same, grown), λ _. refl)
 
 pub returns-in_err-map_zeros-clause-full : goal.returns-in_err-map_zeros-clause-full
 returns-in_err-map_zeros-clause-full c =
-    let same = ap (λ (m : Memory). len (with_zeros m.pages c.args.first c.args.count c.args.prot)) c.self.view_is in
-    let grown = len-with_zeros c.self.inside.pages c.args.first c.args.count c.args.prot in
+    let same = ap (λ (m : Memory). len (with_zeros m.pages c.args.first c.args.count c.args.protection)) c.self.view_is in
+    let grown = len-with_zeros c.self.inside.pages c.args.first c.args.count c.args.protection in
     let p = err_from_is_err_and c.from_residual.result c.from_residual.ensures.1 in
     let given = p.1 ∙ ap Err p.2 in
     (λ is. absurd (cc (given, is)), λ more. absurd (omega (arith, same, grown)))
 
 pub returns-clause-full : goal.returns-clause-full
 returns-clause-full c =
-    let same = ap (λ (m : Memory). len (with_zeros m.pages c.args.first c.args.count c.args.prot)) c.self.view_is in
-    let grown = len-with_zeros c.self.inside.pages c.args.first c.args.count c.args.prot in
+    let same = ap (λ (m : Memory). len (with_zeros m.pages c.args.first c.args.count c.args.protection)) c.self.view_is in
+    let grown = len-with_zeros c.self.inside.pages c.args.first c.args.count c.args.protection in
     (λ is. absurd (cc), λ more. absurd (omega (arith, same, grown)))
 
 pub invariant_of-self : goal.invariant_of-self

@@ -18,9 +18,9 @@ returns-in-Some-clause-within c =
 
 pub returns-in-None-clause-free : goal.returns-in-None-clause-free
 returns-in-None-clause-free c =
-    λ k within. sym (ap (λ (m : Memory). first_denied c.args.access m.pages c.args.addr k) c.self.view_is)
-    ∙ prefix-part c.args.access c.self.inside.pages c.args.n c.args.addr k
-    (omega (arith, ap (bytes_before c.args.addr c.args.n) c.in-None.ensures.value))
+    λ k within. sym (ap (λ (m : Memory). first_denied c.args.access m.pages c.args.address k) c.self.view_is)
+    ∙ prefix-part c.args.access c.self.inside.pages c.args.n c.args.address k
+    (omega (arith, ap (bytes_before c.args.address c.args.n) c.in-None.ensures.value))
 
 pub returns-in-Some-clause-bound : goal.returns-in-Some-clause-bound
 returns-in-Some-clause-bound c =
@@ -29,6 +29,6 @@ returns-in-Some-clause-bound c =
 
 pub returns-in-Some-clause-free : goal.returns-in-Some-clause-free
 returns-in-Some-clause-free c =
-    λ k within. sym (ap (λ (m : Memory). first_denied c.args.access m.pages c.args.addr k) c.self.view_is)
-    ∙ prefix-part c.args.access c.self.inside.pages c.args.n c.args.addr k
-    (omega (arith, ap (bytes_before c.args.addr c.args.n) c.in-Some.ensures.value))
+    λ k within. sym (ap (λ (m : Memory). first_denied c.args.access m.pages c.args.address k) c.self.view_is)
+    ∙ prefix-part c.args.access c.self.inside.pages c.args.n c.args.address k
+    (omega (arith, ap (bytes_before c.args.address c.args.n) c.in-Some.ensures.value))

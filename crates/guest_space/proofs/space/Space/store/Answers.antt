@@ -9,6 +9,6 @@ unfolding written copied_out
 returns-clause-ok c =
     let memory : Pages → Memory = λ pages. record { pages = pages; program_break = c.self.inside.program_break; break_start = c.self.inside.break_start } in
     ap memory c.in_ok-store_bytes.ensures.ok
-    ∙ ap (λ (m : Memory). copied_out m c.args.addr (take (4 - (4 - c.args.n)) (drop (4 - c.args.n) c.to_be_bytes-word.result))) c.self.view_is
-    ∙ ap (λ (bs : List ℕ). copied_out c.args.self.now c.args.addr (take (4 - (4 - c.args.n)) (drop (4 - c.args.n) bs))) c.to_be_bytes-word.ensures
-    ∙ ap (copied_out c.args.self.now c.args.addr) (last_bytes c.args.n c.args.value c.requires.high)
+    ∙ ap (λ (m : Memory). copied_out m c.args.address (take (4 - (4 - c.args.n)) (drop (4 - c.args.n) c.to_be_bytes-word.result))) c.self.view_is
+    ∙ ap (λ (bs : List ℕ). copied_out c.args.self.now c.args.address (take (4 - (4 - c.args.n)) (drop (4 - c.args.n) bs))) c.to_be_bytes-word.ensures
+    ∙ ap (copied_out c.args.self.now c.args.address) (last_bytes c.args.n c.args.value c.requires.high)
