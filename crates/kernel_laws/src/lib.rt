@@ -10,6 +10,7 @@ pub mod descriptors;
 pub mod machine;
 pub mod names;
 pub mod nodes;
+pub mod runs;
 pub mod sending;
 pub mod signals;
 pub mod system;
