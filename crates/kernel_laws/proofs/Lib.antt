@@ -22,3 +22,4 @@ pub mod TransferEnds
 pub mod WholeKept
 pub mod rows
 pub mod RunsKept
+pub mod SetMembers

@@ -12,6 +12,7 @@ pub mod names;
 pub mod nodes;
 pub mod runs;
 pub mod sending;
+pub mod sets;
 pub mod signals;
 pub mod system;
 pub mod transfers;
