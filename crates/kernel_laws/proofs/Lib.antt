@@ -21,3 +21,5 @@ pub mod OpenThingsKept
 pub mod TransferEnds
 pub mod WholeKept
 pub mod rows
+pub mod RunsKept
+pub mod SetMembers

@@ -94,23 +94,23 @@ module _ (files : Files) (is : IsFiles files) where
     }
 
   module _ (terminal : Option Terminal) (umask : ℕ) (small : umask < 512) where
-    abbrev set_so : Files
-    set_so = record files { terminal = terminal; umask = umask }
+    abbrev with_others : Files
+    with_others = record files { terminal = terminal; umask = umask }
 
-    open_so : (description : Description) (object : Object) → IsOpen files description object → IsOpen set_so description object
-    open_so description (objects.Stream stream) h = h
-    open_so description (objects.ReadEnd pipe) h = h
-    open_so description (objects.WriteEnd pipe) h = h
-    open_so description (objects.Node node) h = h
+    open_with_others : (description : Description) (object : Object) → IsOpen files description object → IsOpen with_others description object
+    open_with_others description (objects.Stream stream) h = h
+    open_with_others description (objects.ReadEnd pipe) h = h
+    open_with_others description (objects.WriteEnd pipe) h = h
+    open_with_others description (objects.Node node) h = h
 
-    set_kept : IsFiles set_so
+    set_kept : IsFiles with_others
     set_kept = record {
       nodes = is.nodes;
       table = is.table;
       places = is.places;
       pipes = λ k pipe h. let p = is.pipes k pipe h in record { small = p.small; are_bytes = p.are_bytes; used = p.used; readers = p.readers; writers = p.writers };
       moved = is.moved;
-      opens = λ k description h. open_so description description.object (is.opens k description h);
+      opens = λ k description h. open_with_others description description.object (is.opens k description h);
       kept = is.kept;
       fits = is.fits;
       directory = is.directory;

@@ -9,7 +9,7 @@ use Rattle.kernel_model.specs.SignalSets.{SignalSet, blockable, has, place, unbl
 
 -- what is taken out is not there
 
-halved : (a b x : ℕ) → bit_and a b ≡ x * 2 + min (a % 2) (b % 2) → x ≤ a / 2 → (a - bit_and a b) / 2 ≡ a / 2 - x
+pub halved : (a b x : ℕ) → bit_and a b ≡ x * 2 + min (a % 2) (b % 2) → x ≤ a / 2 → (a - bit_and a b) / 2 ≡ a / 2 - x
 halved a b x step low = omega (arith, step, low)
 
 lowest : (a b x : ℕ) → bit_and a b ≡ x * 2 + min (a % 2) (b % 2) → x ≤ a / 2 → min ((a - bit_and a b) % 2) (b % 2) ≡ 0

@@ -1,4 +1,5 @@
--- What a row is asked with: the numbers that a program's arguments can be. An argument that could not be read says nothing.
+-- What a row is asked with: the numbers that a program's arguments can be (path_resolution(7), symlink(2), utimensat(2)). An argument that could
+-- not be read says nothing.
 use Rattle.std.specs.Int.{w64}
 use Rattle.std.specs.Prelude.{◌≡◌, ℕ, ◌<◌, ◌≤◌, ◌==◌, false, List, length, Option, Some, None, Ok, Err, FitsSigned, slice_index, ⊤}
 use Rattle.std.specs.List.{list_any}
