@@ -14,7 +14,7 @@ pub(super) fn is_file(vfs: &Vfs, key: usize) -> bool
     ensures live { IsTrue result → IsLiveKey vfs.now key }
     ensures file { IsTrue result → IsSome (file_at vfs.now.nodes (number_at vfs.now key)) }
 {
-    match vfs.table.get(key) {
+    match vfs.inodes.table.get(key) {
         Some(node) => matches!(&node.content, StoredContent::File(_)),
         None => false,
     }
@@ -25,7 +25,7 @@ pub(super) fn is_directory(vfs: &Vfs, key: usize) -> bool
     ensures live { IsTrue result → IsLiveKey vfs.now key }
     ensures directory { IsTrue result → is_directory_at vfs.now.nodes (number_at vfs.now key) ≡ true }
 {
-    match vfs.table.get(key) {
+    match vfs.inodes.table.get(key) {
         Some(node) => matches!(&node.content, StoredContent::Directory(_)),
         None => false,
     }
@@ -36,7 +36,7 @@ pub(super) fn has_parent(vfs: &Vfs, key: usize) -> bool
     ensures live { IsTrue result → IsLiveKey vfs.now key }
     ensures parent { IsTrue result → IsSome (parent_at vfs.now.nodes (number_at vfs.now key)) }
 {
-    match vfs.table.get(key) {
+    match vfs.inodes.table.get(key) {
         Some(node) => match &node.content {
             StoredContent::Directory(directory) => directory.parent.is_some(),
             _ => false,
@@ -50,7 +50,7 @@ pub(super) fn is_link(vfs: &Vfs, key: usize) -> bool
     ensures live { IsTrue result → IsLiveKey vfs.now key }
     ensures link { IsTrue result → IsSome (target_at vfs.now.nodes (number_at vfs.now key)) }
 {
-    match vfs.table.get(key) {
+    match vfs.inodes.table.get(key) {
         Some(node) => matches!(&node.content, StoredContent::Link(_)),
         None => false,
     }
@@ -61,7 +61,7 @@ pub(super) fn holds(vfs: &Vfs, key: usize) -> Option<u32>
     ensures live { IsSome result → IsLiveKey vfs.now key }
     ensures holds { IfSome result (λ holds. IfSome (inode_at vfs.now key) (λ inode. inode.holds ≡ holds)) }
 {
-    match vfs.table.get(key) {
+    match vfs.inodes.table.get(key) {
         Some(node) => Some(node.holds),
         None => None,
     }

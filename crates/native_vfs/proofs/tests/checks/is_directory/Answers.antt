@@ -5,8 +5,8 @@ use Rattle.native_vfs.proofs.tests.checks.is_directory.Goals as goal
 
 pub returns-in-Directory-clause-live : goal.returns-in-Directory-clause-live
 returns-in-Directory-clause-live c is =
-    looked.live c.vfs.inside.table c.args.vfs.now c.vfs.view_is c.vfs.invariant.distinct c.args.key c.in-Some.node.now (sym c.get.ensures ∙ ap option_copied c.in-Some.is)
+    looked.live c.vfs.inside.inodes.table c.args.vfs.now c.vfs.view_is c.vfs.inside.inodes.distinct c.args.key c.in-Some.node.now (sym c.get.ensures ∙ ap option_copied c.in-Some.is)
 
 pub returns-in-Directory-clause-directory : goal.returns-in-Directory-clause-directory
 returns-in-Directory-clause-directory c is =
-    looked.directory c.vfs.inside.table c.args.vfs.now c.vfs.view_is c.vfs.invariant.distinct c.args.key c.in-Some.node.now (sym c.get.ensures ∙ ap option_copied c.in-Some.is) c.in-Directory.field-0 c.in-Directory.is
+    looked.directory c.vfs.inside.inodes.table c.args.vfs.now c.vfs.view_is c.vfs.inside.inodes.distinct c.args.key c.in-Some.node.now (sym c.get.ensures ∙ ap option_copied c.in-Some.is) c.in-Directory.field-0 c.in-Directory.is
