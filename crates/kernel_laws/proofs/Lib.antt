@@ -23,3 +23,7 @@ pub mod WholeKept
 pub mod rows
 pub mod RunsKept
 pub mod SetMembers
+pub mod FileBytes
+pub mod Says
+pub mod Undone
+pub mod Shown

@@ -7,6 +7,7 @@ pub mod beginning;
 pub mod clocks;
 pub mod contents;
 pub mod descriptors;
+pub mod effects;
 pub mod machine;
 pub mod names;
 pub mod nodes;

@@ -1,0 +1,67 @@
+//! What rows do, as other rows and the definitions of content show it (write(2), truncate(2), pipe(2), dup(2),
+//! fcntl(2), lseek(2), umask(2), getrlimit(2), getrandom(2)).
+
+ghost use Rattle.std.specs.Prelude.{length, take, unwrap_or, pos, ◌%◌, ◌+◌, ◌++◌, ◌<◌, ◌≡◌, ◌≤◌, ◌⊎◌, Bool, List, None, Ok, Option, Some, ℕ, ℤ};
+ghost use Rattle.kernel_core.specs.FileContent.{FileContent, IsContent, byte_at, resized, written};
+ghost use Rattle.kernel_core.specs.declared.resource.Resource.{Resource};
+ghost use Rattle.kernel_model.specs.Always.{IsKernel};
+ghost use Rattle.kernel_model.specs.Came.{Done};
+ghost use Rattle.kernel_model.specs.ContentRows.{seek};
+ghost use Rattle.kernel_model.specs.DescriptorRows.{close, close_on_exec, duplicate, set_close_on_exec, set_status_flags, status_flags};
+ghost use Rattle.kernel_model.specs.Descriptions.{opened};
+ghost use Rattle.kernel_model.specs.NodeRows.{set_umask};
+ghost use Rattle.kernel_model.specs.Pipes.{read_pipe, write_pipe};
+ghost use Rattle.kernel_model.specs.State.{Chance, Files, Kernel, Pipe};
+ghost use Rattle.kernel_model.specs.System.{after_chance, round, set_limit};
+ghost use Rattle.kernel_model.specs.Transfers.{file_bytes};
+ghost use Rattle.kernel_model.specs.declared.descriptor.Description.{Description};
+ghost use Rattle.kernel_model.specs.declared.limit.Limit.{Limit};
+
+/// A file gives the bytes that were written to it, where they were written, and every other byte stays.
+pub fn a_file_gives_what_was_written()
+    ensures there { (content : FileContent) (at : ℕ) (bytes : List ℕ) → IsContent content → file_bytes (written content at bytes) at (length bytes) ≡ bytes }
+    ensures elsewhere { (content : FileContent) (at : ℕ) (bytes : List ℕ) → IsContent content → (place : ℕ) → (place < at) ⊎ (at + length bytes ≤ place)
+        → byte_at (written content at bytes).blocks place ≡ byte_at content.blocks place }
+{}
+
+/// A file that gets another size keeps its bytes below that, and from there on has zeros.
+pub fn another_size_keeps_the_bytes_below_it()
+    ensures below { (content : FileContent) → IsContent content → (size place : ℕ) → place < size → byte_at (resized content size).blocks place ≡ byte_at content.blocks place }
+    ensures past { (content : FileContent) → IsContent content → (size place : ℕ) → size ≤ place → byte_at (resized content size).blocks place ≡ 0 }
+{}
+
+/// A pipe gives its bytes in the order in which they were put into it: a read takes the first, and a write puts
+/// its own behind the last.
+pub fn a_pipe_keeps_the_order()
+    ensures read { (pipe : Pipe) (nonblock : Bool) (most : ℕ) (given : List ℕ) → (read_pipe pipe nonblock most).came ≡ Done given
+        → given ++ (unwrap_or (read_pipe pipe nonblock most).pipe pipe).bytes ≡ pipe.bytes }
+    ensures write { (pipe : Pipe) (nonblock : Bool) (bytes : List ℕ) (count : ℕ) → (write_pipe pipe nonblock bytes).came ≡ Done count
+        → (unwrap_or (write_pipe pipe nonblock bytes).pipe pipe).bytes ≡ pipe.bytes ++ take count bytes }
+{}
+
+/// A duplicate that is closed leaves everything as it was.
+pub fn closing_a_duplicate_undoes_it()
+    ensures { (files : Files) (fd : ℕ) (from : Option ℕ) (cloexec : Bool) (new : ℕ) → (duplicate files fd from cloexec).came ≡ Done new
+        → (close (duplicate files fd from cloexec).state new).state ≡ files }
+{}
+
+/// What was set is shown: flags of a description and of a descriptor, a position, a umask and a limit.
+pub fn what_is_set_is_shown()
+    ensures status_flags { (files : Files) (fd : ℕ) (description : Description) → opened files fd ≡ Some description → (append nonblock : Bool)
+        → (status_flags (set_status_flags files fd append nonblock).state fd).came ≡ Done (record description.flags { append = append; nonblock = nonblock }) }
+    ensures close_on_exec { (files : Files) (fd : ℕ) (cloexec : Bool) (description : Description) → opened files fd ≡ Some description
+        → (close_on_exec (set_close_on_exec files fd cloexec).state fd).came ≡ Done cloexec }
+    ensures position { (files : Files) (fd : ℕ) (offset : ℤ) (origin position : ℕ) → (seek files fd offset origin).came ≡ Done position
+        → (seek (seek files fd offset origin).state fd (pos 0) 1).came ≡ Done position }
+    ensures umask { (files : Files) (first second : ℕ) → (set_umask (set_umask files first).state second).came ≡ Done (first % 512) }
+    ensures limit { (kernel : Kernel) → IsKernel kernel → (resource : Resource) (limit : Limit) (pid : ℤ) (old : Limit)
+        → (set_limit kernel pid (Some resource) (Some (Ok limit))).came ≡ Done old
+        → (set_limit (set_limit kernel pid (Some resource) (Some (Ok limit))).state (pos 0) (Some resource) None).came ≡ Done limit }
+{}
+
+/// Bytes of chance that are taken at twice are those that are taken at once.
+pub fn chance_goes_on_where_it_stopped()
+    ensures bytes { (chance : Chance) (first second : ℕ)
+        → round chance.bytes chance.at (first + second) ≡ round chance.bytes chance.at first ++ round chance.bytes (after_chance chance first).at second }
+    ensures place { (chance : Chance) (first second : ℕ) → after_chance (after_chance chance first) second ≡ after_chance chance (first + second) }
+{}
