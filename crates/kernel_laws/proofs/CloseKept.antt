@@ -264,14 +264,14 @@ no_number None e = refl
 no_number (Some descriptor) e = absurd cc
 
 module _ (table : Descriptors Description) (onto : ℕ) (low : onto < length table.fds) where
-  closed_free : slot (closed table onto).fds onto ≡ None
+  pub closed_free : slot (closed table onto).fds onto ≡ None
   unfolding closed
   closed_free = by (number_at table onto) refl where
     by : (found : Option ℕ) → number_at table onto ≡ found → slot (closed_at table onto found).fds onto ≡ None
     by None e = no_number (slot table.fds onto) e
     by (Some number) e = get_or-set_same table.fds onto None None low
 
-  closed_other : (fd : ℕ) → fd ≢ onto → slot (closed table onto).fds fd ≡ slot table.fds fd
+  pub closed_other : (fd : ℕ) → fd ≢ onto → slot (closed table onto).fds fd ≡ slot table.fds fd
   unfolding closed
   closed_other fd other = by (number_at table onto) where
     by : (found : Option ℕ) → slot (closed_at table onto found).fds fd ≡ slot table.fds fd

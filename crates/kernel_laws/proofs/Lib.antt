@@ -27,3 +27,5 @@ pub mod FileBytes
 pub mod Says
 pub mod Undone
 pub mod Shown
+pub mod Posts
+pub mod Opened

@@ -1,6 +1,6 @@
 -- What holds where a row is done: a check that is refused says nothing, and what a check found is told to what follows it.
 use Rattle.std.proofs.Common.{◌≡◌, ℕ, Bool, true, false, refl, subst}
-use Rattle.std.specs.Prelude.{Option, Some, None, Ok, Err}
+use Rattle.std.specs.Prelude.{Option, Some, None, Ok, Err, if◌then◌else◌}
 use Rattle.kernel_model.specs.Came.{Did, Done, Given, done, refused, refused_by, refused_if, waits, with_given, with_some}
 use Rattle.kernel_model.specs.Shared.{Errno}
 
@@ -33,5 +33,11 @@ module _ {S V : Type 0} (Q : S → V → Type 0) (state : S) where
       → Says Q (with_some state error found rest)
   some_says error None rest h = refused_says error
   some_says error (Some value) rest h = h value refl
+
+-- a choice of two rows
+pub choice_says : {S V : Type 0} (Q : S → V → Type 0) (test : Bool) (first second : Did S V) → (test ≡ true → Says Q first) → (test ≡ false → Says Q second)
+    → Says Q (if test then first else second)
+choice_says Q true first second h g = h refl
+choice_says Q false first second h g = g refl
 
 pub ruleset says = (done_says, refused_says, waits_says, if_says, by_says, given_says, some_says)

@@ -1,13 +1,13 @@
 //! What rows do, as other rows and the definitions of content show it (write(2), truncate(2), pipe(2), dup(2),
 //! fcntl(2), lseek(2), umask(2), getrlimit(2), getrandom(2)).
 
-ghost use Rattle.std.specs.Prelude.{length, take, unwrap_or, pos, ◌%◌, ◌+◌, ◌++◌, ◌<◌, ◌≡◌, ◌≤◌, ◌⊎◌, Bool, List, None, Ok, Option, Some, ℕ, ℤ};
+ghost use Rattle.std.specs.Prelude.{length, take, unwrap_or, pos, ◌%◌, ◌+◌, ◌++◌, ◌<◌, ◌≡◌, ◌≢◌, ◌≤◌, ◌⊎◌, Bool, List, None, Ok, Option, Some, ℕ, ℤ};
 ghost use Rattle.kernel_core.specs.FileContent.{FileContent, IsContent, byte_at, resized, written};
 ghost use Rattle.kernel_core.specs.declared.resource.Resource.{Resource};
-ghost use Rattle.kernel_model.specs.Always.{IsKernel};
+ghost use Rattle.kernel_model.specs.Always.{IsFiles, IsKernel};
 ghost use Rattle.kernel_model.specs.Came.{Done};
 ghost use Rattle.kernel_model.specs.ContentRows.{seek};
-ghost use Rattle.kernel_model.specs.DescriptorRows.{close, close_on_exec, duplicate, set_close_on_exec, set_status_flags, status_flags};
+ghost use Rattle.kernel_model.specs.DescriptorRows.{close, close_on_exec, duplicate, duplicate_onto, duplicate_onto_with, set_close_on_exec, set_status_flags, status_flags};
 ghost use Rattle.kernel_model.specs.Descriptions.{opened};
 ghost use Rattle.kernel_model.specs.NodeRows.{set_umask};
 ghost use Rattle.kernel_model.specs.Pipes.{read_pipe, write_pipe};
@@ -37,6 +37,22 @@ pub fn a_pipe_keeps_the_order()
         → given ++ (unwrap_or (read_pipe pipe nonblock most).pipe pipe).bytes ≡ pipe.bytes }
     ensures write { (pipe : Pipe) (nonblock : Bool) (bytes : List ℕ) (count : ℕ) → (write_pipe pipe nonblock bytes).came ≡ Done count
         → (unwrap_or (write_pipe pipe nonblock bytes).pipe pipe).bytes ≡ pipe.bytes ++ take count bytes }
+{}
+
+/// A descriptor that was closed leads nowhere, and every other one where it led.
+pub fn a_closed_descriptor_leads_nowhere()
+    ensures closed { (files : Files) (fd : ℕ) → opened (close files fd).state fd ≡ None }
+    ensures others { (files : Files) (onto fd : ℕ) (description : Description) → fd ≢ onto → opened files fd ≡ Some description → opened (close files onto).state fd ≡ Some description }
+{}
+
+/// A duplicate leads where the first descriptor does.
+pub fn a_duplicate_leads_where_the_first_does()
+    ensures duplicate { (files : Files) (fd : ℕ) (description : Description) → opened files fd ≡ Some description → (from : Option ℕ) (cloexec : Bool) (new : ℕ)
+        → (duplicate files fd from cloexec).came ≡ Done new → opened (duplicate files fd from cloexec).state new ≡ Some description }
+    ensures duplicate_onto { (files : Files) (fd : ℕ) (description : Description) → opened files fd ≡ Some description → IsFiles files → (onto : ℕ)
+        → (duplicate_onto files fd onto).came ≡ Done onto → opened (duplicate_onto files fd onto).state onto ≡ Some description }
+    ensures duplicate_onto_with { (files : Files) (fd : ℕ) (description : Description) → opened files fd ≡ Some description → IsFiles files → (onto : ℕ) (cloexec : Option Bool)
+        → (duplicate_onto_with files fd onto cloexec).came ≡ Done onto → opened (duplicate_onto_with files fd onto cloexec).state onto ≡ Some description }
 {}
 
 /// A duplicate that is closed leaves everything as it was.
