@@ -10,10 +10,10 @@ pub record HasEndsOnce (files : Files) : Type 0 where
 
 -- What every row keeps: all that a state always is, and that each end has one description at most.
 
-pub record AreFiles (files : Files) : Type 0 where
+pub record AreSoundFiles (files : Files) : Type 0 where
   pub always : IsFiles files
   pub ends : HasEndsOnce files
 
-pub record IsMachine (kernel : Kernel) : Type 0 where
+pub record IsSoundKernel (kernel : Kernel) : Type 0 where
   pub always : IsKernel kernel
   pub ends : HasEndsOnce kernel.files

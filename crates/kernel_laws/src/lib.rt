@@ -8,7 +8,7 @@ pub mod clocks;
 pub mod contents;
 pub mod descriptors;
 pub mod effects;
-pub mod machine;
+pub mod every_row;
 pub mod names;
 pub mod nodes;
 pub mod runs;

@@ -1,6 +1,6 @@
 use Rattle.kernel_laws.proofs.OtherKept.{poll_keeps, random_bytes_keeps, select_keeps, set_limit_keeps}
 use Rattle.kernel_laws.proofs.WholeKept.{poll_ends, random_bytes_ends, select_ends, set_limit_ends}
-use Rattle.kernel_laws.proofs.machine.another_row_keeps_the_machine.Goals as goal
+use Rattle.kernel_laws.proofs.every_row.another_row_keeps_the_kernel_sound.Goals as goal
 
 pub returns : goal.returns
 returns c = record {

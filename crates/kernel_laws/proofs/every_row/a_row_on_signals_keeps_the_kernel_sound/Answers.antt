@@ -1,6 +1,6 @@
 use Rattle.kernel_laws.proofs.SignalsKept.{accept_keeps, change_mask_keeps, pause_keeps, pending_keeps, set_action_keeps, set_stack_keeps, suspend_keeps}
 use Rattle.kernel_laws.proofs.WholeKept.{accept_ends, change_mask_ends, pause_ends, pending_ends, set_action_ends, set_stack_ends, suspend_ends}
-use Rattle.kernel_laws.proofs.machine.a_row_on_signals_keeps_the_machine.Goals as goal
+use Rattle.kernel_laws.proofs.every_row.a_row_on_signals_keeps_the_kernel_sound.Goals as goal
 
 pub returns : goal.returns
 returns c = record {

@@ -1,7 +1,7 @@
 use Rattle.kernel_laws.proofs.OtherKept.{alarm_keeps, arm_timer_keeps, read_clock_keeps, read_timer_keeps, resolution_keeps, sleep_keeps}
 use Rattle.kernel_laws.proofs.WholeKept.{advance_ends, alarm_ends, arm_timer_ends, read_clock_ends, read_timer_ends, resolution_ends, sleep_ends}
 use Rattle.kernel_model.proofs.Advancing.{advance_kept}
-use Rattle.kernel_laws.proofs.machine.a_row_on_time_keeps_the_machine.Goals as goal
+use Rattle.kernel_laws.proofs.every_row.a_row_on_time_keeps_the_kernel_sound.Goals as goal
 
 pub returns : goal.returns
 returns c = record {

@@ -4,7 +4,7 @@ use Rattle.kernel_laws.proofs.OpenThingsKept.{close_on_exec_keeps, set_close_on_
 use Rattle.kernel_model.proofs.DescribedRows.{set_nonblock_kept, set_status_flags_kept}
 use Rattle.kernel_model.proofs.DuplicateKept.{duplicate_kept}
 use Rattle.kernel_model.proofs.PipeKept.{make_pipe_kept}
-use Rattle.kernel_laws.proofs.machine.a_row_on_descriptors_keeps_files.Goals as goal
+use Rattle.kernel_laws.proofs.every_row.a_row_on_descriptors_keeps_files_sound.Goals as goal
 
 pub returns : goal.returns
 returns c = record {

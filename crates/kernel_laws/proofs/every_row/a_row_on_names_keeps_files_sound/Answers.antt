@@ -2,7 +2,7 @@ use Rattle.kernel_laws.proofs.EndsKept.{link_ends, make_directory_ends, make_lin
 use Rattle.kernel_laws.proofs.NamesKept.{link_row_keeps, make_directory_keeps, make_link_keeps, remove_name_keeps, rename_keeps}
 use Rattle.kernel_laws.proofs.OpenRowsKept.{open_file_ends, open_file_keeps}
 use Rattle.kernel_laws.proofs.OpenThingsKept.{read_link_keeps}
-use Rattle.kernel_laws.proofs.machine.a_row_on_names_keeps_files.Goals as goal
+use Rattle.kernel_laws.proofs.every_row.a_row_on_names_keeps_files_sound.Goals as goal
 
 pub returns : goal.returns
 returns c = record {

@@ -1,7 +1,7 @@
 use Rattle.kernel_laws.proofs.EndsKept.{bytes_ready_ends, entries_ends, seek_ends, set_terminal_settings_ends, status_ends, sync_ends, terminal_settings_ends, window_size_ends}
 use Rattle.kernel_laws.proofs.OpenThingsKept.{bytes_ready_keeps, entries_keeps, set_terminal_settings_keeps, status_keeps, sync_keeps, terminal_settings_keeps, window_size_keeps}
 use Rattle.kernel_model.proofs.DescribedRows.{seek_kept}
-use Rattle.kernel_laws.proofs.machine.a_row_on_what_is_open_keeps_files.Goals as goal
+use Rattle.kernel_laws.proofs.every_row.a_row_on_what_is_open_keeps_files_sound.Goals as goal
 
 pub returns : goal.returns
 returns c = record {

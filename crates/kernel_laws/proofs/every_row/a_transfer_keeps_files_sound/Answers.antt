@@ -2,7 +2,7 @@ use Rattle.kernel_laws.proofs.OpenThingsKept.{read_at_keeps}
 use Rattle.kernel_laws.proofs.TransferEnds.{read_at_ends, read_ends, write_at_ends, write_ends}
 use Rattle.kernel_laws.proofs.WriteKept.{write_at_keeps, write_keeps}
 use Rattle.kernel_model.proofs.ReadKept.{read_kept}
-use Rattle.kernel_laws.proofs.machine.a_transfer_keeps_files.Goals as goal
+use Rattle.kernel_laws.proofs.every_row.a_transfer_keeps_files_sound.Goals as goal
 
 pub returns : goal.returns
 returns c = record {

@@ -2,7 +2,7 @@ use Rattle.kernel_laws.proofs.EndsKept.{access_ends, change_directory_ends, chan
 use Rattle.kernel_laws.proofs.NodesRowsKept.{change_mode_keeps, change_open_mode_keeps, set_times_keeps, truncate_keeps, truncate_open_keeps}
 use Rattle.kernel_laws.proofs.OpenRowsKept.{change_directory_keeps, change_to_open_keeps}
 use Rattle.kernel_laws.proofs.OpenThingsKept.{access_keeps, set_umask_keeps, status_at_path_keeps, working_directory_keeps}
-use Rattle.kernel_laws.proofs.machine.a_row_on_a_node_keeps_files.Goals as goal
+use Rattle.kernel_laws.proofs.every_row.a_row_on_a_node_keeps_files_sound.Goals as goal
 
 pub returns : goal.returns
 returns c = record {

@@ -1,6 +1,6 @@
 use Rattle.kernel_laws.proofs.SignalsKept.{kill_keeps, kill_thread_keeps, kill_thread_of_keeps, queue_keeps}
 use Rattle.kernel_laws.proofs.WholeKept.{kill_ends, kill_thread_ends, kill_thread_of_ends, queue_ends}
-use Rattle.kernel_laws.proofs.machine.a_row_that_sends_keeps_the_machine.Goals as goal
+use Rattle.kernel_laws.proofs.every_row.a_row_that_sends_keeps_the_kernel_sound.Goals as goal
 
 pub returns : goal.returns
 returns c = record {
