@@ -29,3 +29,4 @@ pub mod Undone
 pub mod Shown
 pub mod Posts
 pub mod Opened
+pub mod Led

@@ -1,20 +1,28 @@
-//! What rows do, as other rows and the definitions of content show it (write(2), truncate(2), pipe(2), dup(2),
+//! What rows do, as other rows and the definitions of content show it (open(2), write(2), truncate(2), pipe(2), dup(2),
 //! fcntl(2), lseek(2), umask(2), getrlimit(2), getrandom(2)).
 
 ghost use Rattle.std.specs.Prelude.{length, take, unwrap_or, pos, ◌%◌, ◌+◌, ◌++◌, ◌<◌, ◌≡◌, ◌≢◌, ◌≤◌, ◌⊎◌, Bool, List, None, Ok, Option, Some, ℕ, ℤ};
 ghost use Rattle.kernel_core.specs.FileContent.{FileContent, IsContent, byte_at, resized, written};
+ghost use Rattle.kernel_core.specs.PathWalk.{Place};
+ghost use Rattle.kernel_core.specs.Queries.{new_number};
 ghost use Rattle.kernel_core.specs.declared.resource.Resource.{Resource};
+ghost use Rattle.kernel_laws.specs.Ends.{LeadToPipe};
 ghost use Rattle.kernel_model.specs.Always.{IsFiles, IsKernel};
 ghost use Rattle.kernel_model.specs.Came.{Done};
 ghost use Rattle.kernel_model.specs.ContentRows.{seek};
-ghost use Rattle.kernel_model.specs.DescriptorRows.{close, close_on_exec, duplicate, duplicate_onto, duplicate_onto_with, set_close_on_exec, set_status_flags, status_flags};
-ghost use Rattle.kernel_model.specs.Descriptions.{opened};
+ghost use Rattle.kernel_model.specs.DescriptorRows.{Ends, PipeFlags, close, close_on_exec, duplicate, duplicate_onto, duplicate_onto_with, make_pipe, set_close_on_exec, set_status_flags, status_flags};
+ghost use Rattle.kernel_model.specs.Descriptions.{description_of, opened};
 ghost use Rattle.kernel_model.specs.NodeRows.{set_umask};
+ghost use Rattle.kernel_model.specs.Opening.{follows, open_file};
+ghost use Rattle.kernel_model.specs.Paths.{Base, walk};
 ghost use Rattle.kernel_model.specs.Pipes.{read_pipe, write_pipe};
+ghost use Rattle.kernel_model.specs.Shared.{OpenSet};
 ghost use Rattle.kernel_model.specs.State.{Chance, Files, Kernel, Pipe};
 ghost use Rattle.kernel_model.specs.System.{after_chance, round, set_limit};
+ghost use Rattle.kernel_model.specs.Table.{new_place};
 ghost use Rattle.kernel_model.specs.Transfers.{file_bytes};
 ghost use Rattle.kernel_model.specs.declared.descriptor.Description.{Description};
+ghost use Rattle.kernel_model.specs.declared.descriptor.Object.TheVariants.{Node};
 ghost use Rattle.kernel_model.specs.declared.limit.Limit.{Limit};
 
 /// A file gives the bytes that were written to it, where they were written, and every other byte stays.
@@ -37,6 +45,19 @@ pub fn a_pipe_keeps_the_order()
         → given ++ (unwrap_or (read_pipe pipe nonblock most).pipe pipe).bytes ≡ pipe.bytes }
     ensures write { (pipe : Pipe) (nonblock : Bool) (bytes : List ℕ) (count : ℕ) → (write_pipe pipe nonblock bytes).came ≡ Done count
         → (unwrap_or (write_pipe pipe nonblock bytes).pipe pipe).bytes ≡ pipe.bytes ++ take count bytes }
+{}
+
+/// A descriptor that open gives leads to the node that the path names, or to the one that was made.
+pub fn an_opened_descriptor_leads_to_its_node()
+    ensures { (files : Files) → IsFiles files → (limit : Option ℕ) (now : ℤ) (base : Base) (path : List ℕ) (flags : OpenSet) (mode : ℕ) (place : Place)
+        → walk files base path (follows flags) ≡ Ok place → (fd : ℕ) → (open_file files limit now base (Ok path) (Some flags) mode).came ≡ Done fd
+        → opened (open_file files limit now base (Ok path) (Some flags) mode).state fd ≡ Some (description_of (Node (unwrap_or place.node (new_number files.nodes))) flags) }
+{}
+
+/// The descriptors that pipe gives lead to the ends of a new pipe.
+pub fn the_descriptors_of_a_pipe_lead_to_its_ends()
+    ensures { (files : Files) → IsFiles files → (flags : PipeFlags) (at : Ends) → (make_pipe files (Some flags)).came ≡ Done at
+        → LeadToPipe (make_pipe files (Some flags)).state at (new_place files.flow.pipes) flags }
 {}
 
 /// A descriptor that was closed leads nowhere, and every other one where it led.
