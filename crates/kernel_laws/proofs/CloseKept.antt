@@ -8,7 +8,7 @@ use Rattle.std.proofs.lemmas.List.Folds.{list_any_at}
 use Rattle.kernel_laws.proofs.Keeps.{Keeps, keeps}
 use Rattle.kernel_laws.proofs.Lists.{any_taken, apart, count_changed, none_counted, one_if, same}
 use Rattle.kernel_laws.proofs.Owing.{IsOwing, IsThere, let_go_kept}
-use Rattle.kernel_laws.specs.Ends.{AreFiles, HasEndsOnce}
+use Rattle.kernel_laws.specs.Ends.{AreSoundFiles, HasEndsOnce}
 use Rattle.kernel_model.proofs.Described.{any_set, slot_cases, within}
 use Rattle.kernel_model.proofs.DuplicateKept.{after_duplicate_kept}
 use Rattle.kernel_model.specs.Always.{IsFiles, IsOpen, IsTable, any_open, has_open, is_node, is_read_end, is_write_end}
@@ -264,14 +264,14 @@ no_number None e = refl
 no_number (Some descriptor) e = absurd cc
 
 module _ (table : Descriptors Description) (onto : ℕ) (low : onto < length table.fds) where
-  closed_free : slot (closed table onto).fds onto ≡ None
+  pub closed_free : slot (closed table onto).fds onto ≡ None
   unfolding closed
   closed_free = by (number_at table onto) refl where
     by : (found : Option ℕ) → number_at table onto ≡ found → slot (closed_at table onto found).fds onto ≡ None
     by None e = no_number (slot table.fds onto) e
     by (Some number) e = get_or-set_same table.fds onto None None low
 
-  closed_other : (fd : ℕ) → fd ≢ onto → slot (closed table onto).fds fd ≡ slot table.fds fd
+  pub closed_other : (fd : ℕ) → fd ≢ onto → slot (closed table onto).fds fd ≡ slot table.fds fd
   unfolding closed
   closed_other fd other = by (number_at table onto) where
     by : (found : Option ℕ) → slot (closed_at table onto found).fds fd ≡ slot table.fds fd
@@ -308,27 +308,27 @@ module _ (files : Files) (is : IsFiles files) (once : HasEndsOnce files) (fd ont
   pub onto_ends : HasEndsOnce (after_duplicate_onto files fd onto cloexec)
   onto_ends = same_live freed _ (shared_live freed fd onto cloexec) (after_close_ends files is once onto)
 
-  pub onto_files : AreFiles (after_duplicate_onto files fd onto cloexec)
+  pub onto_files : AreSoundFiles (after_duplicate_onto files fd onto cloexec)
   onto_files = record { always = onto_kept; ends = onto_ends }
 
 -- The rows
 
-module _ (files : Files) (is : AreFiles files) where
-  closed_files : (fd : ℕ) → AreFiles (after_close files fd)
+module _ (files : Files) (is : AreSoundFiles files) where
+  closed_files : (fd : ℕ) → AreSoundFiles (after_close files fd)
   closed_files fd = record { always = after_close_kept files is.always is.ends fd; ends = after_close_ends files is.always is.ends fd }
 
   onto_are : (fd onto : ℕ) (cloexec : Bool) → (fd == onto) ≡ false → nat_le descriptor_limit onto ≡ false → (description : Description) → opened files fd ≡ Some description
-      → AreFiles (after_duplicate_onto files fd onto cloexec)
+      → AreSoundFiles (after_duplicate_onto files fd onto cloexec)
   onto_are fd onto cloexec other low description open_as = onto_files files is.always is.ends fd onto cloexec other low description open_as
 
-  pub close_keeps : (fd : ℕ) → Keeps AreFiles (close files fd)
+  pub close_keeps : (fd : ℕ) → Keeps AreSoundFiles (close files fd)
   unfolding close
   close_keeps fd = search (keeps, closed_files, is) depth 14
 
-  pub duplicate_onto_keeps : (fd onto : ℕ) → Keeps AreFiles (duplicate_onto files fd onto)
+  pub duplicate_onto_keeps : (fd onto : ℕ) → Keeps AreSoundFiles (duplicate_onto files fd onto)
   unfolding duplicate_onto
   duplicate_onto_keeps fd onto = search (keeps, onto_are, is) depth 14
 
-  pub duplicate_onto_with_keeps : (fd onto : ℕ) (cloexec : Option Bool) → Keeps AreFiles (duplicate_onto_with files fd onto cloexec)
+  pub duplicate_onto_with_keeps : (fd onto : ℕ) (cloexec : Option Bool) → Keeps AreSoundFiles (duplicate_onto_with files fd onto cloexec)
   unfolding duplicate_onto_with
   duplicate_onto_with_keeps fd onto cloexec = search (keeps, onto_are, is) depth 14

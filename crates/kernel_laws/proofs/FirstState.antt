@@ -24,7 +24,7 @@ use Rattle.file_system_laws.proofs.NodeLaws.{hold_keeps}
 use Rattle.kernel_laws.proofs.Lists.{either_way, one_if}
 use Rattle.kernel_laws.proofs.OtherKept.{unarmed_is}
 use Rattle.kernel_laws.proofs.SignalsKept.{none_pending}
-use Rattle.kernel_laws.specs.Ends.{HasEndsOnce, IsMachine}
+use Rattle.kernel_laws.specs.Ends.{HasEndsOnce, IsSoundKernel}
 use Rattle.kernel_model.specs.Always.{AreSignals, IsFiles, IsKernel, IsLimit, IsMask, IsOpen, IsPendingAt, IsTable, fits_object, has_open, is_node, is_read_end, is_write_end}
 use Rattle.kernel_model.specs.Begin.{Settings, first_files, first_limits, first_signals, first_state, first_table, free_places, nofile_limit, stack_limit, stream_description}
 use Rattle.kernel_model.specs.Descriptions.{kept_flags}
@@ -229,9 +229,9 @@ first_state_is tree settings valid some bytes = record {
   chance_bytes = bytes;
 }
 
-pub first_state_machine : (tree : Tree) (settings : Settings) → IsValidTree tree → 1 ≤ length settings.random → All (λ byte. byte < 256) settings.random
-    → IsMachine (first_state tree settings)
+pub first_state_sound : (tree : Tree) (settings : Settings) → IsValidTree tree → 1 ≤ length settings.random → All (λ byte. byte < 256) settings.random
+    → IsSoundKernel (first_state tree settings)
 unfolding first_state
-first_state_machine tree settings valid some bytes =
+first_state_sound tree settings valid some bytes =
     let ends = no_ends tree settings.terminal in
     record { always = first_state_is tree settings valid some bytes; ends = record { reads = ends.reads; writes = ends.writes } }

@@ -23,3 +23,10 @@ pub mod WholeKept
 pub mod rows
 pub mod RunsKept
 pub mod SetMembers
+pub mod FileBytes
+pub mod Says
+pub mod Undone
+pub mod Shown
+pub mod Posts
+pub mod Opened
+pub mod Led

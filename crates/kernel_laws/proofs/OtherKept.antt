@@ -5,6 +5,7 @@ use Rattle.std.proofs.lemmas.Bool.{leb-false, eqb-true}
 use Rattle.std.proofs.lemmas.List.{length-set, get_or-set_same, get_or-set_other}
 use Rattle.std.proofs.lemmas.List.Elements.{All-set}
 use Rattle.kernel_core.specs.declared.resource.Resource.{Resource}
+use Rattle.kernel_core.specs.declared.resource.Resource.TheVariants as resources
 use Rattle.kernel_laws.proofs.Keeps.{Keeps, keeps, done_keeps, transferring_keeps}
 use Rattle.kernel_laws.proofs.KernelParts.{with_chance_kept, with_limits_kept, with_timer_kept}
 use Rattle.kernel_laws.proofs.SignalsKept.{until_keeps}
@@ -29,6 +30,24 @@ armed_is clock length period = by (length == 0) where
   by : (b : Bool) → IsTimer (if b then unarmed else record { due = Some (capped (clock + length)); period = capped period })
   by true = unarmed_is
   by false = (λ h. absurd cc, omega arith, λ at h. let same : capped (clock + length) ≡ at = ap (λ o. unwrap_or o at) h in omega (arith, same))
+
+pub place_low : (resource : Resource) → resource_place resource < 16
+place_low resources.Cpu = omega arith
+place_low resources.Fsize = omega arith
+place_low resources.Data = omega arith
+place_low resources.Stack = omega arith
+place_low resources.Core = omega arith
+place_low resources.Nofile = omega arith
+place_low resources.As = omega arith
+place_low resources.Rss = omega arith
+place_low resources.Nproc = omega arith
+place_low resources.Memlock = omega arith
+place_low resources.Locks = omega arith
+place_low resources.Sigpending = omega arith
+place_low resources.Msgqueue = omega arith
+place_low resources.Nice = omega arith
+place_low resources.Rtprio = omega arith
+place_low resources.Rttime = omega arith
 
 module _ (kernel : Kernel) (is : IsKernel kernel) where
   armed_kept : (length period : ℕ) → IsKernel (record kernel { timer = armed kernel.clock length period })

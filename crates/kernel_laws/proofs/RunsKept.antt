@@ -1,7 +1,7 @@
 -- Whatever rows are made, one after another, a kernel stays one.
 use Rattle.std.specs.Prelude.{ℤ}
 use Rattle.kernel_core.specs.FileSystem.{IsTime}
-use Rattle.kernel_laws.specs.Ends.{AreFiles, IsMachine}
+use Rattle.kernel_laws.specs.Ends.{AreSoundFiles, IsSoundKernel}
 use Rattle.kernel_laws.specs.Runs.{Accept, Access, Advance, Alarm, ArmTimer, Becomes, Begins, BytesReady, ChangeDirectory, ChangeMask, ChangeMode, ChangeOpenMode, ChangeToOpen, Close, CloseOnExec, Duplicate, DuplicateOnto, DuplicateOntoWith, Entries, FilesBecome, GoesOn, Kill, KillThread, KillThreadOf, Link, MakeDirectory, MakeLink, MakePipe, OnFiles, OpenFile, Pause, Pending, Poll, Post, Queue, RandomBytes, Reaches, Read, ReadAt, ReadClock, ReadLink, ReadTimer, RemoveName, Rename, Resolution, Seek, Select, SetAction, SetCloseOnExec, SetLimit, SetNonblock, SetStack, SetStatusFlags, SetTerminal, SetTimes, SetUmask, ShowFlags, ShowTerminal, Sleep, Status, StatusAtPath, Suspend, Sync, Truncate, TruncateOpen, UnlistedCommand, UnlistedRequest, WindowSize, WorkingDirectory, Write, WriteAt}
 use Rattle.kernel_model.specs.Clock.{now}
 use Rattle.kernel_model.specs.State.{Files, Kernel}
@@ -15,7 +15,7 @@ use Rattle.kernel_laws.proofs.OpenThingsKept.{access_keeps, bytes_ready_keeps, c
 use Rattle.kernel_laws.proofs.OtherKept.{alarm_keeps, arm_timer_keeps, poll_keeps, random_bytes_keeps, read_clock_keeps, read_timer_keeps, resolution_keeps, select_keeps, set_limit_keeps, sleep_keeps}
 use Rattle.kernel_laws.proofs.SignalsKept.{accept_keeps, change_mask_keeps, kill_keeps, kill_thread_keeps, kill_thread_of_keeps, pause_keeps, pending_keeps, queue_keeps, set_action_keeps, set_stack_keeps, suspend_keeps}
 use Rattle.kernel_laws.proofs.TransferEnds.{read_at_ends, write_at_ends}
-use Rattle.kernel_laws.proofs.WholeKept.{accept_ends, advance_ends, alarm_ends, arm_timer_ends, change_mask_ends, kernel_read_ends, kernel_read_kept, kernel_write_ends, kernel_write_kept, kill_ends, kill_thread_ends, kill_thread_of_ends, machine_files, pause_ends, pending_ends, poll_ends, queue_ends, random_bytes_ends, read_clock_ends, read_timer_ends, resolution_ends, select_ends, set_action_ends, set_limit_ends, set_stack_ends, sleep_ends, suspend_ends}
+use Rattle.kernel_laws.proofs.WholeKept.{accept_ends, advance_ends, alarm_ends, arm_timer_ends, change_mask_ends, kernel_read_ends, kernel_read_kept, kernel_write_ends, kernel_write_kept, kill_ends, kill_thread_ends, kill_thread_of_ends, sound_files, pause_ends, pending_ends, poll_ends, queue_ends, random_bytes_ends, read_clock_ends, read_timer_ends, resolution_ends, select_ends, set_action_ends, set_limit_ends, set_stack_ends, sleep_ends, suspend_ends}
 use Rattle.kernel_laws.proofs.WriteKept.{write_at_keeps}
 use Rattle.kernel_model.proofs.Advancing.{advance_kept}
 use Rattle.kernel_model.proofs.DescribedRows.{seek_kept, set_nonblock_kept, set_status_flags_kept}
@@ -23,7 +23,7 @@ use Rattle.kernel_model.proofs.DuplicateKept.{duplicate_kept}
 use Rattle.kernel_model.proofs.PipeKept.{make_pipe_kept}
 use Rattle.kernel_model.proofs.Posting.{post_kept}
 
-files_kept : (files : Files) (now : ℤ) (new : Files) → IsTime now → AreFiles files → FilesBecome files now new → AreFiles new
+files_kept : (files : Files) (now : ℤ) (new : Files) → IsTime now → AreSoundFiles files → FilesBecome files now new → AreSoundFiles new
 files_kept files now new time is (Close fd) = (close_keeps files is fd).kept
 files_kept files now new time is (Duplicate fd from cloexec) = record { always = duplicate_kept files fd from cloexec is.always; ends = (duplicate_ends files is.ends fd from cloexec).kept }
 files_kept files now new time is (DuplicateOnto fd onto) = (duplicate_onto_keeps files is fd onto).kept
@@ -65,8 +65,8 @@ files_kept files now new time is (ChangeToOpen fd) = record { always = (change_t
 files_kept files now new time is (WorkingDirectory size) = record { always = (working_directory_keeps files is.always size).kept; ends = (working_directory_ends files is.ends size).kept }
 files_kept files now new time is (SetUmask umask) = record { always = (set_umask_keeps files is.always umask).kept; ends = (set_umask_ends files is.ends umask).kept }
 
-kernel_kept : (kernel : Kernel) (new : Kernel) → IsMachine kernel → Becomes kernel new → IsMachine new
-kernel_kept kernel new is (OnFiles files time row) = machine_files kernel files is (files_kept kernel.files (now kernel) files time (record { always = is.always.files; ends = is.ends }) row)
+kernel_kept : (kernel : Kernel) (new : Kernel) → IsSoundKernel kernel → Becomes kernel new → IsSoundKernel new
+kernel_kept kernel new is (OnFiles files time row) = sound_files kernel files is (files_kept kernel.files (now kernel) files time (record { always = is.always.files; ends = is.ends }) row)
 kernel_kept kernel new is (Read left fd asked room) = record { always = kernel_read_kept kernel is.always left fd asked room; ends = kernel_read_ends kernel is.ends left fd asked room }
 kernel_kept kernel new is (Write limit fd asked bytes time are) = record { always = kernel_write_kept kernel is.always time limit fd asked bytes are; ends = kernel_write_ends kernel is.ends limit fd asked bytes }
 kernel_kept kernel new is (Post info kept) = record { always = with_signals_kept kernel is.always _ (post_kept kernel.signals info kept is.always.signals); ends = is.ends }
@@ -93,6 +93,6 @@ kernel_kept kernel new is (Select wait count sets) = record { always = (select_k
 kernel_kept kernel new is (SetLimit pid resource limit fits) = record { always = (set_limit_keeps kernel is.always pid resource limit fits).kept; ends = (set_limit_ends kernel is.ends pid resource limit).kept }
 kernel_kept kernel new is (RandomBytes asked room flags) = record { always = (random_bytes_keeps kernel is.always asked room flags).kept; ends = (random_bytes_ends kernel is.ends asked room flags).kept }
 
-pub reached_is : (first kernel : Kernel) → IsMachine first → Reaches first kernel → IsMachine kernel
+pub reached_is : (first kernel : Kernel) → IsSoundKernel first → Reaches first kernel → IsSoundKernel kernel
 reached_is first kernel is Begins = is
 reached_is first kernel is (GoesOn middle new before row) = kernel_kept middle new (reached_is first middle is before) row

@@ -1,15 +1,14 @@
 -- Which signals are in sets.
-use Rattle.std.proofs.Common.{◌≡◌, ◌≢◌, ℕ, zero, suc, ◌+◌, ◌-◌, ◌*◌, ◌/◌, ◌%◌, ◌^◌, ◌<◌, ◌≤◌, min, max, List, [], ◌∷◌, drop, length, get_or, Bool, true, false, ◌&&◌, ◌||◌, refl, sym, ◌∙◌, ap, arith, inl, inr}
+use Rattle.std.proofs.Common.{◌≡◌, ℕ, zero, suc, ◌+◌, ◌-◌, ◌*◌, ◌/◌, ◌%◌, ◌^◌, ◌<◌, ◌≤◌, min, max, List, [], ◌∷◌, drop, length, get_or, Bool, true, false, ◌&&◌, ◌||◌, refl, sym, ◌∙◌, ap, arith, inl, inr}
 use Rattle.std.specs.Int.Bits.{and_step}
 use Rattle.std.proofs.lemmas.Bool.{cases_eq, eq-eqb, ne_eqb}
 use Rattle.std.proofs.lemmas.List.{get_or-drop, get_or-take}
 use Rattle.std.proofs.lemmas.Nat.{and_le_l}
-use Rattle.std.proofs.lemmas.Nat.Bits.{bit_at-lt, bit_at-pow_other, bit_at-pow_same, bit_at-suc, bit_at-zero, bit_at_and, bit_at_lowest, bit_at_or}
+use Rattle.std.proofs.lemmas.Nat.Bits.{bit_at-lt, bit_at-pow_other, bit_at-pow_same, bit_at-suc, bit_at-zero, bit_at_lowest, bit_at_or}
 use Rattle.std.specs.Int.{bit_at}
-use Rattle.std.specs.Prelude.{bit_and, bit_or, map, not, zip, ◌==◌, slice_index, slice_range, if◌then◌else◌}
+use Rattle.std.specs.Prelude.{bit_and, bit_or, map, not, zip, ◌==◌, slice_range, if◌then◌else◌}
 use Rattle.kernel_core.specs.NameCalls.{is_empty_list}
 use Rattle.kernel_core.specs.declared.signal.Sig.{Sig}
-use Rattle.kernel_laws.proofs.Lists.{same}
 use Rattle.kernel_laws.proofs.SignalWords.{halved}
 use Rattle.kernel_model.proofs.Posting.{place_below}
 use Rattle.kernel_model.specs.Shared.{Info}

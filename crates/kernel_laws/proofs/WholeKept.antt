@@ -10,7 +10,7 @@ use Rattle.kernel_laws.proofs.Keeps.{Keeps, keeps, choice_keeps, transferring_ke
 use Rattle.kernel_laws.proofs.KernelParts.{with_files_kept, with_signals_kept}
 use Rattle.kernel_laws.proofs.TransferEnds.{read_ends, write_ends}
 use Rattle.kernel_laws.proofs.WriteKept.{write_keeps}
-use Rattle.kernel_laws.specs.Ends.{AreFiles, HasEndsOnce, IsMachine}
+use Rattle.kernel_laws.specs.Ends.{AreSoundFiles, HasEndsOnce, IsSoundKernel}
 use Rattle.kernel_model.proofs.Posting.{post_kept}
 use Rattle.kernel_model.proofs.ReadKept.{read_kept}
 use Rattle.kernel_model.specs.Always.{IsKernel}
@@ -49,8 +49,8 @@ sigpipe_files kernel (Refused error) = by (is_broken_pipe error) where
   by false = refl
 sigpipe_files kernel (Waits wake) = refl
 
-pub machine_files : (kernel : Kernel) (files : Files) → IsMachine kernel → AreFiles files → IsMachine (with_files kernel files)
-machine_files kernel files is new = record { always = with_files_kept kernel is.always files new.always; ends = new.ends }
+pub sound_files : (kernel : Kernel) (files : Files) → IsSoundKernel kernel → AreSoundFiles files → IsSoundKernel (with_files kernel files)
+sound_files kernel files is new = record { always = with_files_kept kernel is.always files new.always; ends = new.ends }
 
 module _ (kernel : Kernel) (is : IsKernel kernel) where
   pub kernel_read_kept : (left : List ℕ) (fd : ℕ) (asked : Given ℕ) (room : ℕ) → IsKernel (kernel_read kernel left fd asked room).state.kernel

@@ -3,7 +3,7 @@
 ghost use Rattle.std.specs.Prelude.{All, length, ◌<◌, ◌≤◌};
 ghost use Rattle.kernel_core.specs.ValidTree.{IsValidTree};
 ghost use Rattle.kernel_core.specs.declared.tree.Tree.{Tree};
-ghost use Rattle.kernel_laws.specs.Ends.{IsMachine};
+ghost use Rattle.kernel_laws.specs.Ends.{IsSoundKernel};
 ghost use Rattle.kernel_model.specs.Always.{IsKernel};
 ghost use Rattle.kernel_model.specs.Begin.{Settings, first_state};
 
@@ -11,6 +11,6 @@ ghost use Rattle.kernel_model.specs.Begin.{Settings, first_state};
 pub fn the_first_state_is_a_kernel()
     ensures kernel { (tree : Tree) (settings : Settings) → IsValidTree tree → 1 ≤ length settings.random → All (λ byte. byte < 256) settings.random
         → IsKernel (first_state tree settings) }
-    ensures machine { (tree : Tree) (settings : Settings) → IsValidTree tree → 1 ≤ length settings.random → All (λ byte. byte < 256) settings.random
-        → IsMachine (first_state tree settings) }
+    ensures sound { (tree : Tree) (settings : Settings) → IsValidTree tree → 1 ≤ length settings.random → All (λ byte. byte < 256) settings.random
+        → IsSoundKernel (first_state tree settings) }
 {}

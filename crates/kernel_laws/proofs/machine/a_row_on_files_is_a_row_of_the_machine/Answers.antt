@@ -1,9 +1,0 @@
-use Rattle.kernel_laws.proofs.WholeKept.{kernel_read_ends, kernel_read_kept, kernel_write_ends, kernel_write_kept, machine_files}
-use Rattle.kernel_laws.proofs.machine.a_row_on_files_is_a_row_of_the_machine.Goals as goal
-
-pub returns : goal.returns
-returns c = record {
-  files = machine_files;
-  read = λ kernel left fd asked room is. record { always = kernel_read_kept kernel is.always left fd asked room; ends = kernel_read_ends kernel is.ends left fd asked room };
-  write = λ kernel limit fd asked bytes is time are. record { always = kernel_write_kept kernel is.always time limit fd asked bytes are; ends = kernel_write_ends kernel is.ends limit fd asked bytes };
-}
