@@ -1,0 +1,5 @@
+pub mod PlaceNumbers
+pub mod BitLaws
+pub mod SetLaws
+pub mod LatePost
+pub mod SetMarks
