@@ -1,5 +1,5 @@
 -- What a posted signal is opposed to may be removed after the post as well as before.
-use Rattle.std.proofs.Common.{◌≡◌, ◌≢◌, ℕ, ◌+◌, ◌<◌, ◌≤◌, List, [], ◌∷◌, ◌++◌, length, drop, get_or, set, Bool, true, false, ℤ, refl, sym, ◌∙◌, ap, arith, lit<}
+use Rattle.std.proofs.Common.{◌≡◌, ◌≢◌, ℕ, ◌<◌, List, [], ◌∷◌, ◌++◌, length, set, Bool, true, false, ℤ, refl, sym, ◌∙◌, ap, arith, lit<}
 use Rattle.std.specs.Prelude.{sum_by, nat_le, not, if◌then◌else◌}
 use Rattle.std.proofs.lemmas.List.{get_or-set_other, set_comm, drop-set-lt}
 use Rattle.kernel_core.specs.NameCalls.{is_empty_list}

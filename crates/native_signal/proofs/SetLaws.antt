@@ -1,5 +1,5 @@
 -- The set and the count of what pends, as the list at one place changes.
-use Rattle.std.proofs.Common.{◌≡◌, ℕ, zero, suc, ◌+◌, ◌-◌, ◌*◌, ◌/◌, ◌%◌, ◌^◌, ◌<◌, ◌≤◌, Bool, true, false, List, [], ◌∷◌, ◌++◌, length, take, drop, get_or, set, replicate, refl, sym, ap, subst, ◌∙◌, arith}
+use Rattle.std.proofs.Common.{◌≡◌, ℕ, zero, suc, ◌+◌, ◌-◌, ◌*◌, ◌/◌, ◌%◌, ◌^◌, ◌<◌, ◌≤◌, Bool, true, false, List, [], ◌∷◌, ◌++◌, length, take, drop, get_or, set, refl, sym, ap, subst, ◌∙◌, arith}
 use Rattle.std.specs.Prelude.{bit_and, bit_or, not, sum_by, Option, None, Some, IfNone, slice_get}
 use Rattle.std.proofs.lemmas.List.{length-take, length-drop, take-set-le, drop-set-lt, drop-set-add, get_or-take, get_or-drop, length-set, set-get_or}
 use Rattle.std.proofs.lemmas.List.Sums.{sum_by-set}
@@ -106,10 +106,10 @@ module _ (pending : List (List Info)) (whole : length pending ≡ signal_count) 
   set_of-set (info ∷ queue) = set_of-marked (info ∷ queue) refl
 
   -- the count of real-time signals
-  queued-standard : (queue : List Info) → place < standard_count → queued_in (set pending place queue) ≡ queued_in pending
+  pub queued-standard : (queue : List Info) → place < standard_count → queued_in (set pending place queue) ≡ queued_in pending
   queued-standard queue standard = ap (sum_by length) (drop-set-lt standard_count pending place queue standard)
 
-  queued-set : (queue : List Info) → standard_count ≤ place
+  pub queued-set : (queue : List Info) → standard_count ≤ place
       → queued_in (set pending place queue) + length (queue_at pending place) ≡ queued_in pending + length queue
   queued-set queue high =
       let k = place - standard_count in

@@ -1,5 +1,5 @@
 -- A bit of a word by its place, and a set without KILL and STOP.
-use Rattle.std.proofs.Common.{◌≡◌, ℕ, ◌+◌, ◌-◌, ◌*◌, ◌%◌, ◌^◌, ◌<◌, List, [], ◌∷◌, length, get_or, refl, ap, ◌∙◌, arith}
+use Rattle.std.proofs.Common.{◌≡◌, ℕ, ◌+◌, ◌-◌, ◌*◌, ◌%◌, ◌^◌, ◌<◌, List, [], ◌∷◌, length, get_or, ap, ◌∙◌, arith}
 use Rattle.std.specs.Prelude.{bit_and}
 use Rattle.std.specs.Int.Bits.{and_zero_r}
 use Rattle.std.proofs.lemmas.Nat.{and_comm, and-not, one_shl}
@@ -9,7 +9,7 @@ pub shifted : (k : ℕ) → k < 32 → (1 * 2 ^ k) % 4294967296 ≡ 2 ^ k
 shifted k below = one_shl k 32 below
 
 -- KILL and STOP are bits 8 and 22
-without_both : (word : ℕ) → word < 2 ^ 32 → bit_and word 4290772735 ≡ word - bit_and word 4194560
+pub without_both : (word : ℕ) → word < 2 ^ 32 → bit_and word 4290772735 ≡ word - bit_and word 4194560
 without_both word small =
     let rest : bit_and 4290772735 word + bit_and 4194560 word ≡ word = and-not 32 4194560 word (omega arith) small in
     omega (arith, rest, and_comm word 4290772735, and_comm word 4194560)

@@ -2,6 +2,7 @@
 //! stack (signal(7)).
 #![tactic(auto)]
 
+pub mod laws;
 mod pending;
 mod places;
 mod queue;

@@ -1,6 +1,6 @@
 -- What pends, as lists by the places of their signals, and what is kept beside them, for the crate's own
 -- functions (this project's own rule).
-use Rattle.std.specs.Prelude.{◌≡◌, ℕ, ◌+◌, ◌*◌, ◌/◌, ◌%◌, ◌<◌, ◌^◌, Bool, not, List, [], length, drop, sum_by, slice_index, slice_index_or, slice_range, slice_set, if◌then◌else◌, bit_and, bit_or, ◌-◌}
+use Rattle.std.specs.Prelude.{◌≡◌, ℕ, ◌+◌, ◌*◌, ◌/◌, ◌%◌, ◌^◌, Bool, not, List, [], length, drop, sum_by, slice_index, slice_index_or, slice_range, slice_set, if◌then◌else◌, bit_and, bit_or, ◌-◌}
 use Rattle.kernel_core.specs.NameCalls.{is_empty_list}
 use Rattle.kernel_model.specs.Shared.{Info}
 use Rattle.kernel_model.specs.SignalRows.{bits_of}
