@@ -1,0 +1,6 @@
+pub mod PlaceNumbers
+pub mod BitLaws
+pub mod SetLaws
+pub mod KeptLaws
+pub mod LatePost
+pub mod SetMarks
