@@ -1,10 +1,12 @@
 -- What a call that is made answers and leaves, by what the table says of it. (That a call may stop early, and what holds then, is this
 -- project's own.)
-use Rattle.std.specs.Prelude.{◌≡◌, ℕ, ◌⊎◌, List, [], Option, Some, Result, Ok, Err}
+use Rattle.std.specs.Prelude.{◌≡◌, ℕ, ◌⊎◌, List, [], Option, Some, Result, Ok, Err, ⊤}
 use Rattle.kernel_core.specs.declared.core_error.Stop.{Stop}
+use Rattle.kernel_core.specs.declared.core_error.Stop.TheVariants.{NoMemory, ReadFault, WriteFault}
 use Rattle.kernel_core.specs.declared.reply.Reply.{Reply}
 use Rattle.kernel_model.specs.State.{Kernel}
 use Rattle.native_calls.specs.Step.{NativeStep}
+use Rattle.outside.specs.Count.{Rose}
 use Rattle.outside.specs.Output.{GainsText, GainsBetween}
 use Rattle.outside.specs.declared.devices.Devices.{Devices}
 
@@ -41,3 +43,12 @@ Answers step (Err stop) kernel memory before after = Stopped step before after
 abbrev pub IsCall : (List ℕ → NativeStep) → Result Reply Stop → Kernel → List ℕ → Contents → Contents → Type 0
 IsCall step result kernel memory before after =
     (left : List ℕ) → before.left ≡ Some left → Answers (step left) result kernel memory before after
+
+-- A device stops a call only where its count of faults rose in that call, whether the input tells what is left or not. `input`, `out` and
+-- `err` give the counts.
+abbrev pub StopsOnlyIfRose : {I O E T : Type 0} → (I → ℕ) → (O → ℕ) → (E → ℕ) → Result T Stop → Devices I O E → Devices I O E → Type 0
+StopsOnlyIfRose input out err (Ok reply) before after = ⊤
+StopsOnlyIfRose input out err (Err NoMemory) before after = ⊤
+StopsOnlyIfRose input out err (Err ReadFault) before after = Rose (input before.input) (input after.input)
+StopsOnlyIfRose input out err (Err WriteFault) before after =
+    Rose (out before.out) (out after.out) ⊎ Rose (err before.err) (err after.err)

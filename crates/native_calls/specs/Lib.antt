@@ -3,6 +3,7 @@ pub mod Arguments
 pub mod Descriptors
 pub mod HostBytes
 pub mod Ids
+pub mod Laws
 pub mod Status
 pub mod Step
 pub mod Table

@@ -2,3 +2,5 @@
 //!
 //! The definitions stand in `specs/`.
 #![tactic(auto)]
+
+pub mod laws;
