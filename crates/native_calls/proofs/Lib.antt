@@ -1,2 +1,3 @@
-pub mod Failures
+pub mod Kept
+pub mod Lengths
 pub mod rows

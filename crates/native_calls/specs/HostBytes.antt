@@ -25,9 +25,13 @@ read_as meaning (Ok bytes) = Ok (meaning bytes)
 
 -- Buffers
 
+-- how many bytes are there from an address on
+abbrev pub room_from : List ℕ → ℕ → ℕ
+room_from memory address = if nat_lt address first_address then 0 else end_address memory - address
+
 -- how many of so many bytes from an address on are there, up to the first that is not
 abbrev pub accessible : List ℕ → ℕ → ℕ → ℕ
-accessible memory address count = if nat_lt address first_address then 0 else min count (end_address memory - address)
+accessible memory address count = min count (room_from memory address)
 
 -- those bytes
 abbrev pub loadable : List ℕ → ℕ → ℕ → List ℕ

@@ -17,7 +17,12 @@ call_in calls otherwise number = numbered_or (λ (call : NativeCall). call.numbe
 
 abbrev pub call_of : ℕ → Option NativeCall
 call_of number =
-    call_in descriptor_calls (call_in terminal_calls (call_in transfer_calls (call_in status_calls (call_in id_calls None number) number) number) number) number
+    call_in descriptor_calls
+    (call_in terminal_calls
+    (call_in transfer_calls
+    (call_in status_calls
+    (call_in id_calls None
+    number) number) number) number) number
 
 abbrev pub step_of : Option NativeCall → List ℕ → Kernel → List ℕ → List ℕ → NativeStep
 step_of None args kernel memory left = gives memory (refused kernel ENOSYS) left

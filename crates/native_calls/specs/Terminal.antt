@@ -27,11 +27,11 @@ use Rattle.number_tables.specs.Requests.{request_of_native}
 
 abbrev pub settings_values : TerminalSettings → List ℤ
 settings_values settings =
-    let chars = settings.characters in
+    let characters = settings.characters in
     map pos (
     settings.input ∷ settings.output ∷ settings.control ∷ settings.local ∷ settings.line
-    ∷ chars.intr ∷ chars.quit ∷ chars.erase ∷ chars.kill ∷ chars.eof ∷ chars.time ∷ chars.min ∷ chars.swtc ∷ chars.start ∷ chars.stop
-    ∷ chars.susp ∷ chars.eol ∷ chars.reprint ∷ chars.discard ∷ chars.werase ∷ chars.lnext ∷ chars.eol2 ∷ 0 ∷ 0 ∷ [])
+    ∷ characters.intr ∷ characters.quit ∷ characters.erase ∷ characters.kill ∷ characters.eof ∷ characters.time ∷ characters.min ∷ characters.swtc ∷ characters.start ∷ characters.stop
+    ∷ characters.susp ∷ characters.eol ∷ characters.reprint ∷ characters.discard ∷ characters.werase ∷ characters.lnext ∷ characters.eol2 ∷ 0 ∷ 0 ∷ [])
 
 abbrev pub settings_bytes : TerminalSettings → List ℕ
 settings_bytes settings = record_bytes termios (settings_values settings)

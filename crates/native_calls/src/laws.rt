@@ -13,3 +13,9 @@ pub fn a_call_that_fails_moves_nothing()
         → IsFailure (native_call number args kernel memory left).reply
         → MovesNothing memory left (native_call number args kernel memory left) }
 {}
+
+/// No call makes host memory longer or shorter.
+pub fn a_call_keeps_the_length_of_memory()
+    ensures { (number : ℕ) (args : List ℕ) (kernel : Kernel) (memory left : List ℕ)
+        → length (native_call number args kernel memory left).memory ≡ length memory }
+{}
