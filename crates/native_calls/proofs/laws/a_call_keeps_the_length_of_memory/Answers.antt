@@ -1,0 +1,5 @@
+use Rattle.native_calls.proofs.Kept.{native_call_keeps}
+use Rattle.native_calls.proofs.laws.a_call_keeps_the_length_of_memory.Goals as goal
+
+pub returns : goal.returns
+returns c = λ number args kernel memory left. (native_call_keeps number args kernel memory left).long

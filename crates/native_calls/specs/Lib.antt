@@ -1,0 +1,11 @@
+pub mod Answered
+pub mod Arguments
+pub mod Descriptors
+pub mod HostBytes
+pub mod Ids
+pub mod Laws
+pub mod Status
+pub mod Step
+pub mod Table
+pub mod Terminal
+pub mod Transfers
