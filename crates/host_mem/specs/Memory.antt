@@ -1,6 +1,6 @@
 -- Host memory: the structures that one call of the native kernel reads and writes, as a list of bytes from an address on.
 -- (Where it begins and how it is filled is this project's own.)
-use Rattle.std.specs.Prelude.{ℕ, ◌+◌, ◌-◌, ◌%◌, Bool, ◌&&◌, List, ◌++◌, length, take, drop, replicate, Option, Some, None, nat_le, if◌then◌else◌}
+use Rattle.std.specs.Prelude.{ℕ, ◌+◌, ◌-◌, ◌%◌, Bool, ◌&&◌, List, ◌++◌, length, take, drop, replicate, Option, Some, None, nat_lt, nat_le, if◌then◌else◌}
 
 -- the address of the first byte
 abbrev pub first_address : ℕ
@@ -13,6 +13,10 @@ end_address memory = first_address + length memory
 -- whether the `count` bytes from an address on are there; no byte is, wherever its place is none before the first or past the end
 abbrev pub is_inside : List ℕ → ℕ → ℕ → Bool
 is_inside memory address count = nat_le first_address address && nat_le (address + count) (end_address memory)
+
+-- how many bytes are there from an address on
+abbrev pub room_from : List ℕ → ℕ → ℕ
+room_from memory address = if nat_lt address first_address then 0 else end_address memory - address
 
 -- the bytes from an address on, where they are there
 abbrev pub bytes_at : List ℕ → ℕ → ℕ → Option (List ℕ)

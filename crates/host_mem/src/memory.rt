@@ -1,6 +1,6 @@
 //! The bytes by their addresses.
 ghost use Rattle.std.specs.Prelude.{◌≡◌, ◌+◌, ◌-◌, ◌++◌, [], length, IfOk, OnOk, OnErr, Some, None, option_map, if◌then◌else◌};
-ghost use Rattle.host_mem.specs.Memory.{bytes_at, is_inside, written, padded, end_address, first_address};
+ghost use Rattle.host_mem.specs.Memory.{bytes_at, is_inside, room_from, written, padded, end_address, first_address};
 
 use crate::part::replace_part;
 use kernel_core::NoMemory;
@@ -60,6 +60,17 @@ impl HostMem {
     {
         let place = self.place_of(addr, len)?;
         Some(&self.bytes.as_slice()[place..place + len as usize])
+    }
+
+    /// How many bytes are there from `addr` on: 0 for an address before the first byte or past the last. It
+    /// takes no memory.
+    pub fn room_from(&self, addr: u64) -> u64
+        ensures { result ≡ room_from self.now addr }
+    {
+        match addr.checked_sub(FIRST_ADDRESS) {
+            Some(place) => (self.bytes.len() as u64).saturating_sub(place),
+            None => 0,
+        }
     }
 
     /// Writes the bytes from `addr` on and answers true, or changes nothing and answers false where they

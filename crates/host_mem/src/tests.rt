@@ -50,3 +50,22 @@ fn writes_and_clears(rt: HostRuntime) -> Result<(), Fail> {
     assert!(rt; memory.read(65_536, 0) == Some(b"".as_slice()));
     Ok(())
 }
+
+#[test]
+fn room_to_the_end(rt: HostRuntime) -> Result<(), Fail> {
+    let mut memory = HostMem::new(rt.alloc());
+    assert_eq!(rt; memory.room_from(65_536), 0);
+    memory.push(b"abcdef").ok().ok_or("no memory")?;
+    for (address, room) in [
+        (65_536, 6),
+        (65_541, 1),
+        (65_542, 0),
+        (65_543, 0),
+        (65_535, 0),
+        (0, 0),
+        (u64::MAX, 0),
+    ] {
+        assert_eq!(rt; memory.room_from(address), room, "from {address}");
+    }
+    Ok(())
+}

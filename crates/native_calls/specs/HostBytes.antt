@@ -1,7 +1,7 @@
 -- What calls read and write in host memory: structures, buffers, and vectors of buffers (readv(2)). Memory is the list of its bytes, which
 -- can be read and written alike.
 use Rattle.std.specs.Prelude.{ℕ, zero, suc, ◌+◌, ◌-◌, ◌*◌, ◌^◌, ◌==◌, min, ℤ, pos, nat_abs, List, [], ◌∷◌, ◌++◌, take, drop, slice_index_or, sum_by, Option, Some, None, Ok, Err, nat_lt, if◌then◌else◌}
-use Rattle.host_mem.specs.Memory.{first_address, end_address, bytes_at, written}
+use Rattle.host_mem.specs.Memory.{first_address, room_from, bytes_at, written}
 use Rattle.kernel_core.specs.declared.error.Errno.TheVariants.{EFAULT, EINVAL}
 use Rattle.kernel_model.specs.Came.{Given}
 use Rattle.layouts.specs.Native.{iovec}
@@ -24,10 +24,6 @@ read_as meaning (Err error) = Err error
 read_as meaning (Ok bytes) = Ok (meaning bytes)
 
 -- Buffers
-
--- how many bytes are there from an address on
-abbrev pub room_from : List ℕ → ℕ → ℕ
-room_from memory address = if nat_lt address first_address then 0 else end_address memory - address
 
 -- how many of so many bytes from an address on are there, up to the first that is not
 abbrev pub accessible : List ℕ → ℕ → ℕ → ℕ
