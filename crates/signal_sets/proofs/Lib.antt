@@ -1,0 +1,5 @@
+pub mod GatherLaws
+pub mod HalfWords
+pub mod Known
+pub mod SameSets
+pub mod Turning
