@@ -2,4 +2,5 @@ pub mod GatherLaws
 pub mod HalfWords
 pub mod Known
 pub mod SameSets
+pub mod Turned
 pub mod Turning

@@ -2,7 +2,7 @@
 ghost use Rattle.std.specs.List.{list_all};
 ghost use Rattle.std.specs.Prelude.{◌≡◌, ◌+◌, ◌*◌, ◌/◌, ◌%◌, ◌^◌, ◌<◌, nat_lt, IsTrue};
 ghost use Rattle.kernel_model.specs.Always.{IsSet};
-ghost use Rattle.signal_sets.specs.NativeSets.{AreSame, IsNativeSet};
+ghost use Rattle.signal_sets.specs.NativeSets.{AreSame, IsNativeSet, native_of, set_of_native};
 ghost use Rattle.signal_sets.specs.inside.Gathered.{gathered};
 
 /// How many standard signals there are; the numbers of the others are the same in both worlds.
@@ -38,6 +38,7 @@ fn gathered(word: u32, places: &[u32; STANDARD_SIGNALS]) -> u32
 
 /// The set of the native kernel with the signals of this one.
 pub fn to_native(set: [u32; 4]) -> [u64; 2]
+    ensures value { result ≡ native_of set }
     ensures signals { AreSame set result }
     ensures words { IsNativeSet result }
 {
@@ -47,6 +48,7 @@ pub fn to_native(set: [u32; 4]) -> [u64; 2]
 
 /// The set with the signals of this one of the native kernel.
 pub fn of_native(native: [u64; 2]) -> [u32; 4]
+    ensures value { result ≡ set_of_native native }
     ensures signals { AreSame result native }
     ensures words { IsSet result }
 {
