@@ -1,0 +1,2 @@
+pub mod NativeSets
+pub mod inside
