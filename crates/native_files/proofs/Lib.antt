@@ -1,0 +1,4 @@
+pub mod Closing
+pub mod KeptLemmas
+pub mod PlaceLemmas
+pub mod Starting

@@ -1,0 +1,14 @@
+//! The files of a process: descriptors, pipes, streams and nodes, one method for each call.
+#![tactic(auto)]
+
+mod content;
+mod descriptors;
+mod files;
+mod flags;
+mod flow;
+mod progress;
+mod starting;
+
+pub use files::Files;
+pub use kernel_core::{CoreError, Errno, NoMemory, Stop};
+pub use progress::Progress;
