@@ -15,6 +15,8 @@ use Rattle.kernel_core.specs.ValidTree.{root}
 use Rattle.kernel_core.specs.declared.tree.Node.{Node}
 use Rattle.kernel_core.specs.declared.tree.Tree.{Tree}
 use Rattle.kernel_model.specs.Begin.{free_places, first_table, stream_description, stream_descriptor}
+use Rattle.kernel_core.specs.declared.open_flags.Access.TheVariants as accesses
+use Rattle.kernel_model.specs.declared.stream.Stream.TheVariants as streams
 use Rattle.kernel_model.specs.State.{Descriptors}
 use Rattle.kernel_model.specs.Table.{slot, new_place, lowest_free, inserted}
 use Rattle.kernel_model.specs.declared.descriptor.Description.{Description}
@@ -150,3 +152,27 @@ third-inserted first second third =
 
 pub first-three-free : (fd : ℕ) → fd < 3 → slot (no_descriptors {A = Description}).fds fd ≡ None
 first-three-free fd below = slot-free 1024 fd
+
+pub one-free : (first : Description) → slot (after_one first).fds 1 ≡ None
+unfolding after_one
+one-free first = refl
+
+pub two-free : (first second : Description) → slot (after_two first second).fds 2 ≡ None
+unfolding after_two
+two-free first second = refl
+
+three_streams : first_three (stream_description streams.Input accesses.Read) (stream_description streams.Out accesses.Write) (stream_description streams.Err accesses.Write) ≡ first_table
+unfolding first_three
+three_streams = refl
+
+pub first-table : (first second third : Description) → first ≡ stream_description streams.Input accesses.Read → second ≡ stream_description streams.Out accesses.Write
+    → third ≡ stream_description streams.Err accesses.Write
+    → inserted (inserted (inserted no_descriptors 0 first false) 1 second false) 2 third false ≡ first_table
+first-table first second third input out err =
+    ap (λ t. inserted (inserted t 1 second false) 2 third false) (first-inserted first)
+    ∙ ap (λ t. inserted t 2 third false) (second-inserted first second)
+    ∙ third-inserted first second third
+    ∙ ap (λ d. first_three d second third) input
+    ∙ ap (λ d. first_three (stream_description streams.Input accesses.Read) d third) out
+    ∙ ap (λ d. first_three (stream_description streams.Input accesses.Read) (stream_description streams.Out accesses.Write) d) err
+    ∙ three_streams
