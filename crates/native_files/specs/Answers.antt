@@ -1,33 +1,19 @@
 -- What an answer of code says of a row of `kernel_model`.
-use Rattle.std.specs.Prelude.{◌≡◌, ℕ, ◌+◌, ◌≤◌, ⊤, List, length, take, drop, Option, Some, None, Result, Ok, Err, ◌++◌}
+use Rattle.std.specs.Prelude.{◌≡◌, ⊤, Result, Ok, Err}
 use Rattle.kernel_core.specs.declared.core_error.CoreError.{CoreError}
 use Rattle.kernel_core.specs.declared.core_error.CoreError.TheVariants as errors
 use Rattle.kernel_core.specs.declared.core_error.Stop.TheVariants as stops
 use Rattle.kernel_core.specs.declared.error.Errno.{Errno}
-use Rattle.kernel_model.specs.Came.{Came, Done, Refused, Waits, Did}
+use Rattle.kernel_model.specs.Came.{Came, Done, Refused, Did}
 use Rattle.kernel_model.specs.DescriptorRows as rows
 use Rattle.kernel_model.specs.State.{Files}
 use Rattle.native_files.specs.declared.pipes.Ends.{Ends}
 use Rattle.native_files.specs.declared.pipes.PipeFlags.{PipeFlags}
-use Rattle.native_files.specs.declared.progress.Progress.{Progress}
-use Rattle.native_files.specs.declared.progress.Progress.TheVariants as progress
 
 -- a call that takes no memory and moves no byte
 abbrev pub came_of : {V : Type 0} → Result V Errno → Came V
 came_of (Ok value) = Done value
 came_of (Err error) = Refused error
-
--- What a read answers, and what it leaves of the buffer: the bytes stand at its beginning. Without bytes the buffer stays.
-abbrev pub AnswersRead : Came (List ℕ) → Result Progress Errno → List ℕ → List ℕ → Type 0
-AnswersRead came (Ok (progress.Done count)) old new = (came ≡ Done (take count new)) × (count ≤ length new)
-AnswersRead came (Ok (progress.Waits wake)) old new = (came ≡ Waits wake) × (new ≡ old)
-AnswersRead came (Err error) old new = (came ≡ Refused error) × (new ≡ old)
-
--- what a write answers
-abbrev pub written_of : Result Progress Errno → Came ℕ
-written_of (Ok (progress.Done count)) = Done count
-written_of (Ok (progress.Waits wake)) = Waits wake
-written_of (Err error) = Refused error
 
 -- Pipes
 

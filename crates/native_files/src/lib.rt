@@ -3,14 +3,17 @@
 
 mod content;
 mod descriptors;
+mod events;
 mod files;
 mod flags;
 mod flow;
 mod pipes;
-mod progress;
+mod readiness;
 mod starting;
 
 pub use files::Files;
-pub use kernel_core::{CoreError, Errno, NoMemory, Stop};
+pub use kernel_core::{CoreError, Errno, NoMemory};
 pub use pipes::{Ends, PipeFlags};
-pub use progress::Progress;
+
+#[cfg(test)]
+mod tests;
