@@ -80,14 +80,14 @@ AreKept-first system now tree key is at same changes = record {
         let same : (node == root) ≡ true = grind (arith, nat_tests) in
         let back : (root == node) ≡ true = grind (arith, nat_tests) in
         let e : holds_at now.nodes node ≡ holds_at system.nodes node + 1 =
-            changes.holds node ∙ ap (λ b. cond b (holds_at system.nodes node + 1) (holds_at system.nodes node)) (ap (λ n. node == n) before ∙ same) in
+        changes.holds node ∙ ap (λ b. cond b (holds_at system.nodes node + 1) (holds_at system.nodes node)) (ap (λ n. node == n) before ∙ same) in
         let f : one (node_at now key == node) ≡ one true = ap one (ap (λ n. n == node) there ∙ back) in
         omega (arith, e, f, none, count-free node)
     by node none there before (inr apart) =
         let other : (node == root) ≡ false = grind (arith, nat_tests) in
         let back : (root == node) ≡ false = grind (arith, nat_tests) in
         let e : holds_at now.nodes node ≡ holds_at system.nodes node =
-            changes.holds node ∙ ap (λ b. cond b (holds_at system.nodes node + 1) (holds_at system.nodes node)) (ap (λ n. node == n) before ∙ other) in
+        changes.holds node ∙ ap (λ b. cond b (holds_at system.nodes node + 1) (holds_at system.nodes node)) (ap (λ n. node == n) before ∙ other) in
         let f : one (node_at now key == node) ≡ one false = ap one (ap (λ n. n == node) there ∙ back) in
         omega (arith, e, f, none, count-free node)
 

@@ -44,7 +44,7 @@ has_node node (Some description) = object_node node description.object
 -- how many descriptions have a node open, when one of them changes
 count_changed : (live : List (Option Description)) (number node : ℕ) (o : Option Description) → number < length live
     → count_by (has_open (is_node node)) (set live number o) + one (is_held node (node_in (slot live number)))
-        ≡ count_by (has_open (is_node node)) live + one (is_held node (node_in o))
+    ≡ count_by (has_open (is_node node)) live + one (is_held node (node_in o))
 count_changed live number node o within =
     ap (λ b. count_by (has_open (is_node node)) (set live number o) + one b) (sym (has_node node (slot live number)))
     ∙ sum_by-set (λ x. one (has_open (is_node node) x)) live number o None within
@@ -240,7 +240,7 @@ new_place-free {A} slots = by (lowest_free slots 0) refl
 -- close-on-exec of a descriptor that was just opened
 cloexec_set : (fds : List (Option Descriptor)) (fd number : ℕ) (cloexec : Bool) → slot fds fd ≡ None
     → set (set fds fd (Some (record { number = number; cloexec = false }))) fd (option_map (set_cloexec cloexec) (slot (set fds fd (Some (record { number = number; cloexec = false }))) fd))
-        ≡ set fds fd (Some (record { number = number; cloexec = cloexec }))
+    ≡ set fds fd (Some (record { number = number; cloexec = cloexec }))
 cloexec_set fds fd number cloexec free = elim (cases_lt fd (length fds)) [
   | inl within ↦
       ap (λ o. set (set fds fd (Some (record { number = number; cloexec = false }))) fd (option_map (set_cloexec cloexec) o)) (get_or-set_same fds fd (Some (record { number = number; cloexec = false })) None within)

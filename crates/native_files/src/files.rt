@@ -55,7 +55,12 @@ impl Files {
     }
 
     /// Opens a descriptor that leads to a new description, which has no node open.
-    pub(crate) fn insert(&mut self, fd: u32, description: Description, cloexec: bool) -> Result<(), NoMemory>
+    pub(crate) fn insert(
+        &mut self,
+        fd: u32,
+        description: Description,
+        cloexec: bool,
+    ) -> Result<(), NoMemory>
         requires within { fd < descriptor_limit }
         requires free { slot self.old.table.fds fd ≡ None }
         requires no_node { node_of description.object ≡ None }

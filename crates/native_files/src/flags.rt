@@ -25,11 +25,7 @@ pub(crate) fn with_nonblock_alone(access: Access, nonblock: bool) -> OpenFlags
 }
 
 /// The flags with O_APPEND and O_NONBLOCK as they are given, and the others as they were.
-pub(crate) fn with_append_and_nonblock(
-    flags: OpenFlags,
-    append: bool,
-    nonblock: bool,
-) -> OpenFlags
+pub(crate) fn with_append_and_nonblock(flags: OpenFlags, append: bool, nonblock: bool) -> OpenFlags
     ensures { result ≡ record flags { append = append; nonblock = nonblock } }
 {
     OpenFlags::new(

@@ -177,7 +177,10 @@ fn descriptors_and_flags(rt: HostRuntime) -> Result<(), Fail> {
         (Call::Flags(2), Ok(0)),
         (Call::SetNonblock(10, Ok(false)), DONE),
         (Call::Flags(1), Ok(1)),
-        (Call::SetNonblock(10, Err(Errno::EFAULT)), Err(Errno::EFAULT)),
+        (
+            Call::SetNonblock(10, Err(Errno::EFAULT)),
+            Err(Errno::EFAULT),
+        ),
         (Call::SetNonblock(50, Err(Errno::EFAULT)), Err(Errno::EBADF)),
         (Call::Sync(0), Err(Errno::EINVAL)),
         (Call::Sync(50), Err(Errno::EBADF)),
@@ -190,7 +193,13 @@ fn descriptors_and_flags(rt: HostRuntime) -> Result<(), Fail> {
 fn pipes_and_the_terminal(rt: HostRuntime) -> Result<(), Fail> {
     let mut files = new_files(rt.alloc(), Some(Winsize { rows: 24, cols: 80 }))?;
     let calls = [
-        (Call::Pipe(Some(PipeFlags { cloexec: true, nonblock: false })), Ok(3 * 1024 + 4)),
+        (
+            Call::Pipe(Some(PipeFlags {
+                cloexec: true,
+                nonblock: false,
+            })),
+            Ok(3 * 1024 + 4),
+        ),
         (Call::IsCloseOnExec(3), Ok(1)),
         (Call::Flags(4), Ok(0)),
         (Call::Pipe(None), Err(Errno::EINVAL)),
@@ -201,7 +210,13 @@ fn pipes_and_the_terminal(rt: HostRuntime) -> Result<(), Fail> {
         (Call::Ready(6), Ok(16)),
         (Call::Close(3), DONE),
         (Call::Ready(4), Ok(4)),
-        (Call::Pipe(Some(PipeFlags { cloexec: false, nonblock: true })), Ok(3 * 1024 + 5)),
+        (
+            Call::Pipe(Some(PipeFlags {
+                cloexec: false,
+                nonblock: true,
+            })),
+            Ok(3 * 1024 + 5),
+        ),
         (Call::IsCloseOnExec(5), Ok(0)),
         (Call::Flags(5), Ok(2)),
         (Call::Rows(0), Ok(24)),
@@ -223,7 +238,10 @@ fn pipes_and_the_terminal(rt: HostRuntime) -> Result<(), Fail> {
 fn all_descriptors(rt: HostRuntime) -> Result<(), Fail> {
     let mut files = new_files(rt.alloc(), None)?;
     for _ in 3..1023 {
-        files.duplicate(0, Some(0), false).ok().ok_or("none is free")?;
+        files
+            .duplicate(0, Some(0), false)
+            .ok()
+            .ok_or("none is free")?;
     }
     let calls = [
         (Call::Pipe(Some(PLAIN)), Err(Errno::EMFILE)),

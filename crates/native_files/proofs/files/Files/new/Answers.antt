@@ -12,7 +12,7 @@ pub insert-requires-2-clause-free : goal.insert-requires-2-clause-free
 insert-requires-2-clause-free c =
     let first = c.stream_description.result in
     let one : c.insert.new.self.table ≡ after_one first =
-        ap (λ (f : Files). f.table) c.in_ok-insert.ensures ∙ ap (λ (f : Files). inserted f.table 0 first false) c.in_ok-files.ensures ∙ first-inserted first in
+    ap (λ (f : Files). f.table) c.in_ok-insert.ensures ∙ ap (λ (f : Files). inserted f.table 0 first false) c.in_ok-files.ensures ∙ first-inserted first in
     ap (λ t. slot t.fds 1) one ∙ one-free first
 
 pub insert-requires-3-clause-free : goal.insert-requires-3-clause-free
@@ -20,9 +20,9 @@ insert-requires-3-clause-free c =
     let first = c.stream_description.result in
     let second = c.stream_description-2.result in
     let one : c.insert.new.self.table ≡ after_one first =
-        ap (λ (f : Files). f.table) c.in_ok-insert.ensures ∙ ap (λ (f : Files). inserted f.table 0 first false) c.in_ok-files.ensures ∙ first-inserted first in
+    ap (λ (f : Files). f.table) c.in_ok-insert.ensures ∙ ap (λ (f : Files). inserted f.table 0 first false) c.in_ok-files.ensures ∙ first-inserted first in
     let two : c.insert-2.new.self.table ≡ after_two first second =
-        ap (λ (f : Files). f.table) c.in_ok-insert-2.ensures ∙ ap (λ t. inserted t 1 second false) one ∙ second-inserted first second in
+    ap (λ (f : Files). f.table) c.in_ok-insert-2.ensures ∙ ap (λ t. inserted t 1 second false) one ∙ second-inserted first second in
     ap (λ t. slot t.fds 2) two ∙ two-free first second
 
 pub returns : goal.returns
