@@ -1,0 +1,5 @@
+pub mod Closing
+pub mod FirstFiles
+pub mod KeptLemmas
+pub mod PipePlaces
+pub mod PlaceLemmas
