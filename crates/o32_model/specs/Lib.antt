@@ -1,6 +1,7 @@
 pub mod Descriptors
 pub mod Effects
 pub mod GuestBytes
+pub mod Laws
 pub mod Logs
 pub mod Small
 pub mod Step

@@ -1,5 +1,5 @@
 -- What a call does, and how what a row of the kernel came to becomes its outcome (syscall(2)).
-use Rattle.std.specs.Prelude.{ℕ, List, length, None, is_none, if◌then◌else◌}
+use Rattle.std.specs.Prelude.{ℕ, List, length, None, if◌then◌else◌}
 use Rattle.guest_space.specs.Memory.{Memory}
 use Rattle.kernel_core.specs.declared.error.Errno.TheVariants.{EFAULT}
 use Rattle.kernel_model.specs.Came.{Came, Done, Refused, Waits, Did}

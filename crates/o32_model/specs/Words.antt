@@ -2,7 +2,7 @@
 -- in $v0, and in $a3 whether that is an error's number (System V ABI, MIPS RISC Processor Supplement, the calling convention; syscall(2);
 -- Linux arch/mips/kernel/scall32-o32.S).
 use Rattle.std.specs.Prelude.{ℕ, ◌+◌, ◌*◌, ◌%◌, ◌^◌, ℤ, List, [], ◌∷◌, slice_index, slice_index_or, Option, Some, None, unwrap_or, Result, Ok, Err}
-use Rattle.std.specs.Int.{w32, w64, cast_signed}
+use Rattle.std.specs.Int.{w32, cast_signed}
 use Rattle.guest_space.specs.Bytes.{read}
 use Rattle.guest_space.specs.Memory.{Memory}
 use Rattle.guest_space.specs.declared.access.Denied.{Denied}

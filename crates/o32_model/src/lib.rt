@@ -5,6 +5,7 @@
 #![tactic(auto)]
 
 mod call_words;
+pub mod laws;
 mod log;
 mod outcome;
 mod wait;

@@ -3,9 +3,7 @@
 use kernel_core::{Effect, LogEntry};
 use std::marker::Model;
 
-/// What is kept of calls, which a contract sees as [`Kept`]: lists, whatever their capacity.
-///
-/// [`Kept`]: the record of the specs
+/// What is kept of calls, which a contract sees as two lists, whatever their capacity.
 #[derive(Drop)]
 pub struct Log {
     /// What the native kernel was asked and told, in order; None where no log of it is kept.

@@ -6,7 +6,6 @@ use Rattle.guest_space.specs.Bytes.{with_bytes}
 use Rattle.guest_space.specs.Mapping.{with_zeros, absent_count, mapped_run, with_protection}
 use Rattle.guest_space.specs.Memory.{Pages}
 use Rattle.guest_space.specs.Remapping.{without}
-use Rattle.kernel_core.specs.declared.record.Effect.{Effect}
 use Rattle.kernel_core.specs.declared.record.Effect.TheVariants.{Register, Write, Map, Unmap, Protect, Output}
 use Rattle.kernel_model.specs.Pipes.{nothing}
 use Rattle.mips_exec.specs.Processor.{Processor, with_register}

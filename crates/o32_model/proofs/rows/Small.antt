@@ -5,7 +5,6 @@ use Rattle.guest_space.specs.Memory.{MappedPage, Memory}
 use Rattle.kernel_core.specs.FileContent.{no_content}
 use Rattle.kernel_core.specs.Nodes.{Nodes, Inode, NodeContent, File, Directory}
 use Rattle.kernel_core.specs.declared.open_flags.Access.TheVariants.{Read, Write, ReadWrite}
-use Rattle.kernel_core.specs.declared.reply.Wake.{Wake}
 use Rattle.kernel_core.specs.declared.tree.DirEntry.{DirEntry}
 use Rattle.kernel_model.specs.Begin.{stream_description}
 use Rattle.kernel_model.specs.Descriptions.{description_of, no_flags}

@@ -1,5 +1,5 @@
 -- Worked rows on the small calls.
-use Rattle.std.specs.Prelude.{◌≡◌, ℕ, ◌+◌, ◌-◌, ◌^◌, List, [], ◌∷◌, ◌++◌, length, codes, slice_range, slice_set, Some, None, refl}
+use Rattle.std.specs.Prelude.{◌≡◌, ℕ, List, [], ◌∷◌, ◌++◌, length, codes, slice_range, slice_set, Some, None, refl}
 use Rattle.std.specs.FinMap.{get}
 use Rattle.guest_space.specs.Access.{writable_prefix, first_denied, refusal}
 use Rattle.guest_space.specs.Bytes.{bytes_at, byte_at, copied_out}
@@ -10,7 +10,7 @@ use Rattle.kernel_core.specs.declared.error.Errno.TheVariants.{EFAULT, EINVAL, E
 use Rattle.kernel_model.specs.Begin.{first_limits}
 use Rattle.kernel_model.specs.Pipes.{nothing}
 use Rattle.kernel_model.specs.State.{Kernel}
-use Rattle.kernel_model.specs.System.{set_limit, random_bytes, round, infinity}
+use Rattle.kernel_model.specs.System.{set_limit, random_bytes, round}
 use Rattle.mips_exec.specs.Processor.{Processor}
 use Rattle.o32_model.proofs.rows.Small.{page_of, words, guest}
 use Rattle.o32_model.specs.Small.{names_bytes, exit_row, set_thread_area_row, set_robust_list_row, uname_row, getrlimit_row, prlimit_row, getrandom_row}

@@ -20,7 +20,6 @@ use Rattle.o32_model.proofs.rows.Small.{to, to_on_exec, input, output, error_out
 use Rattle.o32_model.specs.Step.{O32Step}
 use Rattle.o32_model.specs.Table.{o32_call}
 use Rattle.o32_model.specs.Terminal.{ioctl_row}
-use Rattle.o32_model.specs.declared.call_words.CallWords.{CallWords}
 use Rattle.o32_model.specs.declared.outcome.Outcome.{Outcome}
 use Rattle.o32_model.specs.declared.outcome.Outcome.TheVariants.{Value, Error}
 
