@@ -1,5 +1,5 @@
--- What calls read and write in the program's memory: structures, buffers, and vectors of buffers (readv(2)). (That a structure is read or
--- written whole or not at all, and that a transfer moves the longest prefix that can be accessed, is as Linux copies to and from a user.)
+-- What calls read and write in the program's memory: structures, buffers, and vectors of buffers (readv(2)). (That a structure is stored
+-- whole or not at all, and that a transfer moves the longest prefix of its bytes that can be accessed, is this project's own.)
 use Rattle.std.specs.Prelude.{ℕ, zero, suc, ◌+◌, ◌-◌, ◌*◌, ◌^◌, ◌==◌, ℤ, pos, nat_abs, Bool, List, [], ◌∷◌, ◌++◌, take, drop, length, slice_index_or, sum_by, Option, Some, None, is_none, Ok, Err, nat_lt, if◌then◌else◌}
 use Rattle.guest_space.specs.Access.{first_denied, readable_prefix, writable_prefix}
 use Rattle.guest_space.specs.Bytes.{bytes_at, copied_out}

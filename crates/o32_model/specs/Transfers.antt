@@ -33,13 +33,13 @@ readv_row kernel guest fd address count left = read_into kernel guest fd (vector
 -- The place of a transfer is a signed number of 64 bits (loff_t) in two words on the stack. Where one of them can't be read, that is EFAULT
 -- before all else.
 
-abbrev pub at_place : {V : Type 0} → Kernel → Option ℕ → (ℤ → Did Kernel V) → Did Kernel V
-at_place kernel place row = with_some kernel EFAULT place (λ number. row (cast_signed w64 number))
+abbrev pub with_place : {V : Type 0} → Kernel → Option ℕ → (ℤ → Did Kernel V) → Did Kernel V
+with_place kernel place row = with_some kernel EFAULT place (λ number. row (cast_signed w64 number))
 
 unfoldable pub pread_row : Kernel → Guest → ℕ → ℕ → ℕ → Option ℕ → List ℕ → O32Step
 pread_row kernel guest fd buffer count place left =
     fills (copied_out guest.memory buffer) guest
-    (at_place kernel place (λ at.
+    (with_place kernel place (λ at.
     on_files kernel (read_at kernel.files fd at (Ok count) (accessible guest.memory buffer count)))) left
 
 -- Writing
@@ -72,7 +72,7 @@ writev_row kernel guest fd address count left = write_from kernel guest fd (vect
 unfoldable pub pwrite_row : Kernel → Guest → ℕ → ℕ → ℕ → Option ℕ → List ℕ → O32Step
 pwrite_row kernel guest fd buffer count place left =
     gives guest
-    (at_place kernel place (λ at.
+    (with_place kernel place (λ at.
     on_files kernel
     (write_at kernel.files (Some small_file_limit) (now kernel) fd at (Ok count) (loadable guest.memory buffer count)))) left
 

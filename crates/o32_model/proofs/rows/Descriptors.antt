@@ -62,6 +62,14 @@ module _ (whole : Kernel) (nodes : Nodes) (processor : Processor) (memory : Memo
   unfolding dup_row duplicate
   dup_output = refl
 
+  -- of four places none is free
+  abbrev none_free : Files
+  none_free = record (at_first nodes) { table = record streams_alone { fds = to 0 ∷ to 1 ∷ to 2 ∷ to 0 ∷ [] } }
+
+  dup_none_free : called (with_files whole none_free) (words 4041 1 0 0 0) ≡ stays none_free (Error EMFILE)
+  unfolding dup_row duplicate
+  dup_none_free = refl
+
   dup_closed : at_start (words 4041 3 0 0 0) ≡ refuses EBADF
   unfolding dup_row duplicate
   dup_closed = refl

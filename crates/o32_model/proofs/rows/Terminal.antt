@@ -69,6 +69,10 @@ module _ (whole : Kernel) (nodes : Nodes) (processor : Processor) (memory : Memo
   unfolding ioctl_row terminal_settings
   settings_at_first room = simp room refl
 
+  settings_absent : get memory.pages 17 ≡ None → on_terminal 0 0x540D 69632 ≡ stays at_terminal (Error EFAULT)
+  unfolding ioctl_row terminal_settings first_denied refusal
+  settings_absent absent = simp absent refl
+
   settings_of_none : at_start 0 0x540D 65536 ≡ refuses ENOTTY
   unfolding ioctl_row terminal_settings
   settings_of_none = refl
@@ -160,6 +164,10 @@ module _ (whole : Kernel) (nodes : Nodes) (processor : Processor) (memory : Memo
   unfolding ioctl_row bytes_ready first_denied refusal
   ready_in_pipe kept = simp kept refl
 
+  ready_absent : get memory.pages 17 ≡ None → with_pipe [] 4 0x467F 69632 ≡ stays (with_pipe_of nodes []) (Error EFAULT)
+  unfolding ioctl_row bytes_ready first_denied refusal
+  ready_absent absent = simp absent refl
+
   ready_of_stream : at_start 0 0x467F 65536 ≡ refuses ENOTTY
   unfolding ioctl_row bytes_ready
   ready_of_stream = refl
@@ -186,6 +194,10 @@ module _ (whole : Kernel) (nodes : Nodes) (processor : Processor) (memory : Memo
   nonblock_off : get memory.pages 16 ≡ Some (page_of (0 ∷ 0 ∷ 0 ∷ 0 ∷ [])) → with_pipe [] 3 0x667E 65536 ≡ stays (with_pipe_of nodes []) (Value 0)
   unfolding ioctl_row set_nonblock first_denied refusal bytes_at byte_at
   nonblock_off kept = simp kept refl
+
+  nonblock_absent : get memory.pages 17 ≡ None → with_pipe [] 3 0x667E 69632 ≡ stays (with_pipe_of nodes []) (Error EFAULT)
+  unfolding ioctl_row set_nonblock first_denied refusal bytes_at
+  nonblock_absent absent = simp absent refl
 
   -- FIOCLEX and FIONCLEX
 

@@ -1,5 +1,5 @@
 -- Worked rows on reading and writing.
-use Rattle.std.specs.Prelude.{◌≡◌, ℕ, true, List, [], ◌∷◌, ◌++◌, length, Some, None, refl}
+use Rattle.std.specs.Prelude.{◌≡◌, ℕ, true, false, List, [], ◌∷◌, ◌++◌, length, Some, None, refl}
 use Rattle.std.specs.FinMap.{get, get-empty}
 use Rattle.std.specs.Ordering.{nat_cmp}
 use Rattle.guest_space.specs.Access.{readable_prefix, writable_prefix, first_denied, refusal}
@@ -10,7 +10,7 @@ use Rattle.kernel_core.specs.NodeCalls.{after_write}
 use Rattle.kernel_core.specs.Nodes.{Nodes}
 use Rattle.kernel_core.specs.Totals.{live_blocks}
 use Rattle.kernel_core.specs.declared.error.Errno.{Errno}
-use Rattle.kernel_core.specs.declared.error.Errno.TheVariants.{EBADF, EFAULT, EFBIG, EINVAL, EISDIR, ENOSPC, ESPIPE}
+use Rattle.kernel_core.specs.declared.error.Errno.TheVariants.{EBADF, EFAULT, EFBIG, EINVAL, EISDIR, ENOSPC, EPIPE, ESPIPE}
 use Rattle.kernel_model.specs.Clock.{now}
 use Rattle.kernel_model.specs.State.{Kernel, Files}
 use Rattle.kernel_model.specs.Transfers.{read, read_at, write, write_at}
@@ -125,6 +125,17 @@ module _ (whole : Kernel) (nodes : Nodes) (processor : Processor) (memory : Memo
       → with_pipe held (words 4004 4 65536 1 0) ≡ stays (with_pipe_of nodes held) [] (sleep_after (words 4004 4 65536 1 0) 0)
   unfolding write_row kernel_write write readable_prefix first_denied refusal bytes_at byte_at
   to_full_pipe held full kept = simp (full, kept) refl
+
+  -- a pipe that nobody reads
+  abbrev without_readers : Files
+  without_readers = record (with_pipe_of nodes []) {
+    flow = record (with_pipe_of nodes []).flow { pipes = Some (record { bytes = []; readers = false; writers = true }) ∷ None ∷ [] };
+  }
+
+  to_broken_pipe : get memory.pages 16 ≡ Some (page_of (97 ∷ []))
+      → (o32_call (with_files whole without_readers) (guest (words 4004 4 65536 1 0) processor memory) []).outcome ≡ Error EPIPE
+  unfolding write_row kernel_write write readable_prefix first_denied refusal bytes_at byte_at
+  to_broken_pipe kept = simp kept refl
 
   -- read
 

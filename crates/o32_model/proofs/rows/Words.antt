@@ -4,7 +4,7 @@ use Rattle.std.specs.FinMap.{get}
 use Rattle.guest_space.specs.Access.{first_denied, refusal}
 use Rattle.guest_space.specs.Bytes.{read, bytes_at, byte_at}
 use Rattle.guest_space.specs.Memory.{Memory}
-use Rattle.kernel_core.specs.declared.error.Errno.TheVariants.{ENOSYS, EFAULT}
+use Rattle.kernel_core.specs.declared.error.Errno.TheVariants.{EFAULT, EINVAL, ENOSYS, ENOTTY}
 use Rattle.kernel_model.specs.Pipes.{nothing}
 use Rattle.kernel_model.specs.State.{Kernel}
 use Rattle.mips_exec.specs.Processor.{Processor, fresh}
@@ -60,6 +60,16 @@ gives_pair = refl
 
 gives_error : returned (with 4003 9 3 5 6 7 64) (Error EFAULT) ≡ with 14 9 3 5 6 1 64
 gives_error = refl
+
+-- numbers of errors, by MIPS
+no_such_call : returned (with 4999 9 3 5 6 7 64) (Error ENOSYS) ≡ with 89 9 3 5 6 1 64
+no_such_call = refl
+
+not_valid : returned (with 4145 9 3 5 6 7 64) (Error EINVAL) ≡ with 22 9 3 5 6 1 64
+not_valid = refl
+
+no_terminal : returned (with 4054 9 3 5 6 7 64) (Error ENOTTY) ≡ with 25 9 3 5 6 1 64
+no_terminal = refl
 
 gives_nothing : returned (with 4001 9 3 5 6 7 64) (Exit 0) ≡ with 4001 9 3 5 6 7 64
 gives_nothing = refl
