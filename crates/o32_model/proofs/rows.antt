@@ -1,0 +1,7 @@
+pub mod Descriptors
+pub mod Effects
+pub mod Small
+pub mod SmallCalls
+pub mod Terminal
+pub mod Transfers
+pub mod Words

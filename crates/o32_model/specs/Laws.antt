@@ -1,0 +1,22 @@
+-- Words of the laws. (The laws are this project's own.)
+use Rattle.std.specs.Prelude.{◌≡◌, ℕ, List, ⊤}
+use Rattle.kernel_model.specs.Pipes.{nothing}
+use Rattle.o32_model.specs.Step.{Guest, O32Step}
+use Rattle.o32_model.specs.declared.outcome.Outcome.{Outcome}
+use Rattle.o32_model.specs.declared.outcome.Outcome.TheVariants.{Value, Pair, Error, Sleep, Frame, Exit}
+
+-- what a call comes to is an error
+abbrev pub IsFailure : Outcome → Type 0
+IsFailure (Value number) = ⊥
+IsFailure (Pair first second) = ⊥
+IsFailure (Error error) = ⊤
+IsFailure (Sleep wait) = ⊥
+IsFailure Frame = ⊥
+IsFailure (Exit status) = ⊥
+
+-- memory, the processor and what is left of the input stay, and nothing is sent
+pub record MovesNothing (guest : Guest) (left : List ℕ) (step : O32Step) : Type 0 where
+  pub stored : step.memory ≡ guest.memory
+  pub set : step.processor ≡ guest.processor
+  pub rest : step.left ≡ left
+  pub sent : step.sent ≡ nothing

@@ -1,0 +1,11 @@
+pub mod Descriptors
+pub mod Effects
+pub mod GuestBytes
+pub mod Laws
+pub mod Logs
+pub mod Small
+pub mod Step
+pub mod Table
+pub mod Terminal
+pub mod Transfers
+pub mod Words

@@ -1,0 +1,42 @@
+-- The table of the calls by their numbers (Linux arch/mips/include/uapi/asm/unistd.h, the o32 table). Any other number is ENOSYS
+-- (syscalls(2)).
+use Rattle.std.specs.Prelude.{ℕ, Bool, List, Option, Some, None, is_some}
+use Rattle.kernel_core.specs.declared.error.Errno.TheVariants.{ENOSYS}
+use Rattle.kernel_model.specs.Came.{refused}
+use Rattle.kernel_model.specs.State.{Kernel}
+use Rattle.number_tables.specs.Numbered.{numbered_or}
+use Rattle.o32_model.specs.Descriptors.{descriptor_calls}
+use Rattle.o32_model.specs.Small.{small_calls}
+use Rattle.o32_model.specs.Step.{Guest, O32Step, O32Call, gives}
+use Rattle.o32_model.specs.Terminal.{terminal_calls}
+use Rattle.o32_model.specs.Transfers.{transfer_calls}
+
+-- the call of a number among these, or else the other one
+abbrev pub call_in : List O32Call → Option O32Call → ℕ → Option O32Call
+call_in calls otherwise number = numbered_or (λ (call : O32Call). call.number) calls otherwise number
+
+-- the calls on descriptors and what they have open, and all calls
+abbrev pub io_call_or : Option O32Call → ℕ → Option O32Call
+io_call_or otherwise number =
+    call_in transfer_calls
+    (call_in descriptor_calls
+    (call_in terminal_calls otherwise
+    number) number) number
+
+abbrev pub call_of : ℕ → Option O32Call
+call_of number = io_call_or (call_in small_calls None number) number
+
+-- whether a number is that of a call on descriptors and what they have open, and of a small call
+abbrev pub is_io_call : ℕ → Bool
+is_io_call number = is_some (io_call_or None number)
+
+abbrev pub is_small_call : ℕ → Bool
+is_small_call number = is_some (call_in small_calls None number)
+
+abbrev pub step_of : Option O32Call → Kernel → Guest → List ℕ → O32Step
+step_of None kernel guest left = gives guest (refused kernel ENOSYS) left
+step_of (Some call) kernel guest left = call.step kernel guest left
+
+-- What a call does, by the kernel, what it finds of the program, and what is left of the input
+abbrev pub o32_call : Kernel → Guest → List ℕ → O32Step
+o32_call kernel guest left = step_of (call_of guest.words.nr) kernel guest left
