@@ -1,8 +1,14 @@
 pub mod Full
 pub mod Moved
+pub mod OnContents
+pub mod OnDescriptors
 pub mod OnDirectories
+pub mod OnDirectoryNames
 pub mod OnEnds
 pub mod OnNodes
+pub mod OnPaths
+pub mod OnSenders
 pub mod OnStart
 pub mod OnTerminals
+pub mod OnTime
 pub mod Removed

@@ -1,5 +1,5 @@
 -- Worked rows on the first state: of a root with the file `f`, whose link count and holds are none of the tree's.
-use Rattle.std.specs.Prelude.{◌≡◌, ◌-◌, ◌^◌, pos, [], ◌∷◌, codes, Some, Ok, refl}
+use Rattle.std.specs.Prelude.{◌≡◌, ◌-◌, ◌^◌, pos, [], ◌∷◌, codes, Some, None, Ok, refl}
 use Rattle.std.specs.FinMap.{get, get-from_entries}
 use Rattle.std.specs.Cmp.{nat_cmp_total}
 use Rattle.kernel_core.specs.LoadedTree.{loaded}
@@ -13,10 +13,11 @@ use Rattle.kernel_model.proofs.rows.Names.{entry}
 use Rattle.kernel_model.specs.Begin.{Settings, first_state}
 use Rattle.kernel_model.specs.Came.{done, refused}
 use Rattle.kernel_model.specs.Clock.{real_time}
+use Rattle.kernel_model.specs.Pipes.{nothing}
 use Rattle.kernel_model.specs.State.{Kernel}
 use Rattle.kernel_model.specs.System.{limit_at, random_bytes, round}
-use Rattle.kernel_model.specs.Transfers.{read}
-use Rattle.kernel_model.specs.Whole.{kernel_read}
+use Rattle.kernel_model.specs.Transfers.{read, write}
+use Rattle.kernel_model.specs.Whole.{kernel_read, kernel_write}
 
 tree : Tree
 tree = record {
@@ -98,6 +99,21 @@ has_taken = refl
 reads_no_output : kernel_read kernel [] 1 (Ok 2) 2 ≡ refused (record { kernel = kernel; left = [] }) EBADF
 unfolding kernel_read read kernel first_state
 reads_no_output = refl
+
+-- A write of the kernel
+
+-- what was sent stands beside the kernel, which counts it
+writes_output : (kernel_write kernel None 1 (Ok 2) (72 ∷ 105 ∷ [])).state.sent ≡ record { out = 72 ∷ 105 ∷ []; err = [] }
+unfolding kernel_write write kernel first_state
+writes_output = refl
+
+has_written : (kernel_write kernel None 2 (Ok 2) (72 ∷ 105 ∷ [])).state.kernel.files.flow.moved ≡ record { taken = 0; out = 0; err = 2 }
+unfolding kernel_write write kernel first_state
+has_written = refl
+
+writes_no_input : kernel_write kernel None 0 (Ok 2) (72 ∷ 105 ∷ []) ≡ refused (record { kernel = kernel; sent = nothing }) EBADF
+unfolding kernel_write write kernel first_state
+writes_no_input = refl
 
 -- from the end of the bytes of chance on they begin anew
 takes_five : random_bytes kernel 5 5 0 ≡ done (record kernel { chance = record kernel.chance { at = 1 } }) (16 ∷ 17 ∷ 18 ∷ 19 ∷ 0 ∷ [])
