@@ -45,7 +45,7 @@ IsCall step result kernel memory before after =
     (left : List ℕ) → before.left ≡ Some left → Answers (step left) result kernel memory before after
 
 -- A device stops a call only where its count of faults rose in that call, whether the input tells what is left or not. `input`, `out` and
--- `err` give the counts.
+-- `err` give the counts. (That no count falls is a clause of its own: `NoCountFell` of the counts of three devices.)
 abbrev pub StopsOnlyIfRose : {I O E T : Type 0} → (I → ℕ) → (O → ℕ) → (E → ℕ) → Result T Stop → Devices I O E → Devices I O E → Type 0
 StopsOnlyIfRose input out err (Ok reply) before after = ⊤
 StopsOnlyIfRose input out err (Err NoMemory) before after = ⊤

@@ -8,7 +8,7 @@ abbrev pub argument : List ℕ → ℕ → ℕ
 argument arguments place = slice_index arguments place
 
 -- The low 32 bits: of a number of 64 bits, and so of an argument of 32 bits of which the bits alone count, as a descriptor, a command or
--- flags (unsigned int). A descriptor below 0 is then one above 2^31, which is never open.
+-- flags (unsigned int). A descriptor below 0 is then one from 2^31 on, which is never open.
 
 abbrev pub low_word : ℕ → ℕ
 low_word number = number % 2 ^ 32

@@ -1,18 +1,42 @@
 -- Words of the laws. (The laws are this project's own.)
-use Rattle.std.specs.Prelude.{◌≡◌, ℕ, pos, negsuc, List, ⊤}
+use Rattle.std.specs.Prelude.{◌≡◌, ◌⊎◌, ℕ, pos, negsuc, List, Option, ⊤}
+use Rattle.kernel_core.specs.declared.error.Errno.TheVariants.{EFAULT, EPIPE}
 use Rattle.kernel_core.specs.declared.reply.Reply.{Reply}
-use Rattle.kernel_core.specs.declared.reply.Reply.TheVariants.{Done, Sleep}
+use Rattle.kernel_core.specs.declared.reply.Reply.TheVariants as replies
+use Rattle.kernel_model.specs.Came.{Done, Refused}
+use Rattle.kernel_model.specs.DescriptorRows.{PipeFlags, Ends, make_pipe}
 use Rattle.kernel_model.specs.Pipes.{nothing}
-use Rattle.native_calls.specs.Step.{NativeStep}
+use Rattle.kernel_model.specs.State.{Kernel}
+use Rattle.kernel_model.specs.Whole.{with_files, with_sigpipe}
+use Rattle.native_calls.specs.Descriptors.{without_pair}
+use Rattle.native_calls.specs.Step.{NativeStep, failure}
 
 -- a reply below 0, which is an error's
 abbrev pub IsFailure : Reply → Type 0
-IsFailure (Done (pos number)) = ⊥
-IsFailure (Done (negsuc number)) = ⊤
-IsFailure (Sleep wake) = ⊥
+IsFailure (replies.Done (pos number)) = ⊥
+IsFailure (replies.Done (negsuc number)) = ⊤
+IsFailure (replies.Sleep wake) = ⊥
 
 -- host memory and what is left of the input stay, and nothing is sent
 pub record MovesNothing (memory left : List ℕ) (step : NativeStep) : Type 0 where
   pub stored : step.memory ≡ memory
   pub rest : step.left ≡ left
   pub sent : step.sent ≡ nothing
+
+-- What a call that fails leaves of the kernel: all as it was; or SIGPIPE posted, with EPIPE (pipe(7)); or, by pipe2(2), a pipe that was
+-- made and both of whose ends are closed again, with EFAULT.
+
+abbrev pub MadeAndClosed : Kernel → Option PipeFlags → Ends → Kernel → Type 0
+MadeAndClosed kernel flags ends after =
+    let made = make_pipe kernel.files flags in
+    (made.came ≡ Done ends) × (after ≡ without_pair (with_files kernel made.state) ends)
+
+pub data LeftByFailure (number : ℕ) (kernel : Kernel) (step : NativeStep) : Type 0 where
+  AsItWas : step.kernel ≡ kernel → LeftByFailure number kernel step
+  BrokenPipe : step.reply ≡ failure EPIPE → step.kernel ≡ with_sigpipe kernel (Refused EPIPE) → LeftByFailure number kernel step
+  PairNotStored : number ≡ 59 → step.reply ≡ failure EFAULT → (flags : Option PipeFlags) (ends : Ends) → MadeAndClosed kernel flags ends step.kernel
+      → LeftByFailure number kernel step
+
+-- write(2) and writev(2), which may wait with a part of their bytes put
+abbrev pub MayWaitPartly : ℕ → Type 0
+MayWaitPartly number = (number ≡ 64) ⊎ (number ≡ 66)

@@ -50,7 +50,7 @@ told_as meaning did = record { state = did.state; came = came_as meaning did.cam
 abbrev pub told_zero : {S : Type 0} → Did S (Unit {0}) → Did S ℕ
 told_zero did = told_as (λ _. 0) did
 
--- Calls that move no byte of a stream. What is left of the input comes last.
+-- What a call leaves, by what its row came to. What is left of the input comes last.
 
 -- the row's number is the reply
 abbrev pub gives : List ℕ → Did Kernel ℕ → List ℕ → NativeStep

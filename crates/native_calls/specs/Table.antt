@@ -1,4 +1,4 @@
--- The table of the calls by their numbers (Linux include/uapi/asm-generic/unistd.h). Any other number is ENOSYS (syscalls(2)).
+-- The table of the calls by their numbers (Linux include/uapi/asm-generic/unistd.h). Any other number is ENOSYS (syscall(2), errno(3)).
 use Rattle.std.specs.Prelude.{ℕ, List, Option, Some, None}
 use Rattle.kernel_core.specs.declared.error.Errno.TheVariants.{ENOSYS}
 use Rattle.kernel_model.specs.Came.{refused}

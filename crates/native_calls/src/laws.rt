@@ -1,10 +1,14 @@
 //! Laws over the definitions, each the contract of a function that does nothing. (The rules are this
 //! project's own.)
 
-ghost use Rattle.native_calls.specs.Laws.{IsFailure, MovesNothing};
+ghost use Rattle.native_calls.specs.Laws.{IsFailure, LeftByFailure, MayWaitPartly, MovesNothing};
+ghost use Rattle.native_calls.specs.Step.{failure};
 ghost use Rattle.native_calls.specs.Table.{native_call};
+ghost use Rattle.kernel_core.specs.declared.error.Errno.TheVariants.{ENOMEM};
+ghost use Rattle.kernel_core.specs.declared.reply.Reply.TheVariants.{Sleep};
+ghost use Rattle.kernel_model.specs.Shared.{Wake};
 ghost use Rattle.kernel_model.specs.State.{Kernel};
-ghost use Rattle.std.specs.Prelude.{◌≡◌, ℕ, List, length};
+ghost use Rattle.std.specs.Prelude.{◌≡◌, ◌≢◌, ◌⊎◌, ℕ, List, length};
 
 /// A call that fails moves nothing: no byte of memory is written, none of the input is taken, and none
 /// is sent.
@@ -18,4 +22,30 @@ pub fn a_call_that_fails_moves_nothing()
 pub fn a_call_keeps_the_length_of_memory()
     ensures { (number : ℕ) (args : List ℕ) (kernel : Kernel) (memory left : List ℕ)
         → length (native_call number args kernel memory left).memory ≡ length memory }
+{}
+
+/// What a call that fails leaves of the kernel: all as it was, but for SIGPIPE's post with EPIPE, and for
+/// a pipe2(2) that can't store its pair, which made a pipe and closed both its ends again.
+pub fn a_call_that_fails_leaves_the_kernel()
+    ensures { (number : ℕ) (args : List ℕ) (kernel : Kernel) (memory left : List ℕ)
+        → IsFailure (native_call number args kernel memory left).reply
+        → LeftByFailure number kernel (native_call number args kernel memory left) }
+{}
+
+/// A call that waits with nothing done leaves the kernel as it was, and only write(2) and writev(2) wait
+/// with a part done.
+pub fn a_call_that_waits_leaves_the_kernel()
+    ensures stays { (number : ℕ) (args : List ℕ) (kernel : Kernel) (memory left : List ℕ) (wake : Wake)
+        → (native_call number args kernel memory left).reply ≡ Sleep wake
+        → wake.done ≡ 0
+        → (native_call number args kernel memory left).kernel ≡ kernel }
+    ensures partly { (number : ℕ) (args : List ℕ) (kernel : Kernel) (memory left : List ℕ) (wake : Wake)
+        → (native_call number args kernel memory left).reply ≡ Sleep wake
+        → (wake.done ≡ 0) ⊎ MayWaitPartly number }
+{}
+
+/// No call is refused with ENOMEM.
+pub fn no_call_is_refused_for_want_of_memory()
+    ensures { (number : ℕ) (args : List ℕ) (kernel : Kernel) (memory left : List ℕ)
+        → (native_call number args kernel memory left).reply ≢ failure ENOMEM }
 {}

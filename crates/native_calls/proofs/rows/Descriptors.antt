@@ -1,5 +1,5 @@
 -- Worked rows on descriptors, pipes and fcntl.
-use Rattle.std.specs.Prelude.{◌≡◌, ℕ, ◌+◌, ◌-◌, ◌^◌, true, List, [], ◌∷◌, Some, None, refl}
+use Rattle.std.specs.Prelude.{◌≡◌, ℕ, ◌+◌, ◌-◌, ◌^◌, true, List, [], ◌∷◌, map, replicate, Some, None, refl}
 use Rattle.kernel_core.specs.Nodes.{Nodes}
 use Rattle.kernel_core.specs.declared.open_flags.Access.TheVariants.{Read, Write}
 use Rattle.kernel_model.specs.Descriptions.{no_flags, description_of}
@@ -49,6 +49,14 @@ module _ (whole : Kernel) (nodes : Nodes) where
   dup_closed : at_start 23 (six 3 0 0 0) ≡ refuses 9
   unfolding dup_row duplicate
   dup_closed = refl
+
+  -- of four places none is free
+  abbrev none_free : Files
+  none_free = record (at_first nodes) { table = record streams_alone { fds = to 0 ∷ to 1 ∷ to 2 ∷ to 0 ∷ [] } }
+
+  dup_none_free : native_call 23 (six 1 0 0 0) (with_files whole none_free) [] [] ≡ leaves whole none_free [] [] (error 24)
+  unfolding dup_row duplicate
+  dup_none_free = refl
 
   -- dup3
 
@@ -190,6 +198,14 @@ module _ (whole : Kernel) (nodes : Nodes) where
   unfolding fcntl_row duplicate
   duplicate_none_free = refl
 
+  duplicate_on_exec_from_1024 : at_start 25 (six 1 1030 1024 0) ≡ refuses 22
+  unfolding fcntl_row duplicate
+  duplicate_on_exec_from_1024 = refl
+
+  duplicate_on_exec_none_free : at_start 25 (six 1 1030 8 0) ≡ refuses 24
+  unfolding fcntl_row duplicate
+  duplicate_on_exec_none_free = refl
+
   -- F_SETFD and F_GETFD
   set_on_exec : at_start 25 (six 1 2 1 0) ≡ leaves whole (record (at_first nodes) {
     table = record streams_alone { fds = to 0 ∷ to_on_exec 1 ∷ to 2 ∷ None ∷ None ∷ None ∷ None ∷ None ∷ [] };
@@ -238,6 +254,10 @@ module _ (whole : Kernel) (nodes : Nodes) where
   flags_that_were_cleared : (native_call 25 (six 4 3 0 0) (with_pipe 25 (six 4 4 0 0)).kernel [] []).reply ≡ number 1
   unfolding fcntl_row set_status_flags status_flags
   flags_that_were_cleared = refl
+
+  commands_of_closed : map (λ command. at_start 25 (six 3 command 1024 0)) (0 ∷ 1 ∷ 2 ∷ 3 ∷ 4 ∷ 1030 ∷ []) ≡ replicate 6 (refuses 9)
+  unfolding fcntl_row duplicate close_on_exec set_close_on_exec status_flags set_status_flags
+  commands_of_closed = refl
 
   command_of_closed : at_start 25 (six 3 5 0 0) ≡ refuses 9
   unfolding fcntl_row unlisted_command

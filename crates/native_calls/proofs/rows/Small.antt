@@ -7,7 +7,7 @@ use Rattle.kernel_core.specs.declared.open_flags.Access.TheVariants.{Read, Write
 use Rattle.kernel_core.specs.declared.reply.Reply.{Reply}
 use Rattle.kernel_core.specs.declared.reply.Reply.TheVariants as replies
 use Rattle.kernel_core.specs.declared.tree.DirEntry.{DirEntry}
-use Rattle.kernel_model.specs.Begin.{stream_description}
+use Rattle.kernel_model.specs.Begin.{stream_description, first_terminal}
 use Rattle.kernel_model.specs.Descriptions.{description_of, no_flags}
 use Rattle.kernel_model.specs.Pipes.{nothing}
 use Rattle.kernel_model.specs.State.{Kernel, Files, Flow, Descriptors, Pipe}
@@ -73,24 +73,51 @@ after_moving files taken out err = record files { flow = record files.flow { mov
 abbrev pub pipe : List ℕ → Pipe
 pipe bytes = record { bytes = bytes; readers = true; writers = true }
 
--- with a pipe that holds these bytes: 3 is its read end and 4 its write end
-abbrev pub with_pipe_of : Nodes → List ℕ → Files
-with_pipe_of nodes bytes = record (at_first nodes) {
+-- with this pipe: 3 is its read end and 4 its write end
+abbrev pub with_pipe_at : Nodes → Pipe → Files
+with_pipe_at nodes pipe = record (at_first nodes) {
   table = record {
     fds = to 0 ∷ to 1 ∷ to 2 ∷ to 3 ∷ to 4 ∷ None ∷ None ∷ None ∷ [];
     live = Some input ∷ Some output ∷ Some error_output ∷ Some read_end ∷ Some write_end ∷ None ∷ None ∷ None ∷ [];
   };
-  flow = record no_pipe { pipes = Some (pipe bytes) ∷ None ∷ [] };
+  flow = record no_pipe { pipes = Some pipe ∷ None ∷ [] };
 }
 
--- with node 5 at descriptor 3, at this position
-abbrev pub with_node_at : Nodes → ℕ → Files
-with_node_at nodes position = record (at_first nodes) {
-  table = record {
-    fds = to 0 ∷ to 1 ∷ to 2 ∷ to 3 ∷ None ∷ None ∷ None ∷ None ∷ [];
-    live = Some input ∷ Some output ∷ Some error_output ∷ Some (node_at position) ∷ None ∷ None ∷ None ∷ None ∷ [];
+-- with one that holds these bytes
+abbrev pub with_pipe_of : Nodes → List ℕ → Files
+with_pipe_of nodes bytes = with_pipe_at nodes (pipe bytes)
+
+-- the write end does not wait
+abbrev pub without_wait : Files → Files
+without_wait files = record files {
+  table = record files.table {
+    live =
+        Some input ∷ Some output ∷ Some error_output ∷ Some read_end
+        ∷ Some (record write_end { flags = record (no_flags Write) { nonblock = true } })
+        ∷ None ∷ None ∷ None ∷ [];
   };
 }
+
+-- with this at descriptor 3
+abbrev pub with_open : Nodes → Description → Files
+with_open nodes description = record (at_first nodes) {
+  table = record {
+    fds = to 0 ∷ to 1 ∷ to 2 ∷ to 3 ∷ None ∷ None ∷ None ∷ None ∷ [];
+    live = Some input ∷ Some output ∷ Some error_output ∷ Some description ∷ None ∷ None ∷ None ∷ None ∷ [];
+  };
+}
+
+-- with node 5 there, at this position
+abbrev pub with_node_at : Nodes → ℕ → Files
+with_node_at nodes position = with_open nodes (node_at position)
+
+-- and under O_APPEND
+abbrev pub with_append_at : Nodes → ℕ → Files
+with_append_at nodes position = with_open nodes (record (node_at position) { flags = record (no_flags ReadWrite) { append = true } })
+
+-- the streams are a terminal of 25 rows and 80 columns
+abbrev pub on_a_terminal : Files → Files
+on_a_terminal files = record files { terminal = Some (first_terminal (record { rows = 25; cols = 80 })) }
 
 -- Nodes: a file without a byte, one that was modified half a second before the Epoch and changed 3 seconds and 5 nanoseconds past it, one
 -- of 2^32 + 258 bytes, a directory with the file `a`, and a directory that was removed

@@ -7,7 +7,7 @@ use Rattle.kernel_model.specs.ContentRows.{seek, status, entries, sync}
 use Rattle.kernel_model.specs.State.{Kernel}
 use Rattle.kernel_model.specs.Whole.{with_files}
 use Rattle.layouts.specs.Number.{bytes_of}
-use Rattle.native_calls.proofs.rows.Small.{at_first, with_node_at, empty_file, some_directory, removed_directory, aged_file, six, leaves, number, error}
+use Rattle.native_calls.proofs.rows.Small.{at_first, with_pipe_of, on_a_terminal, with_node_at, empty_file, some_directory, removed_directory, aged_file, inode, six, leaves, number, error}
 use Rattle.native_calls.specs.Status.{lseek_row, fstat_row, sync_row, getdents_row}
 use Rattle.native_calls.specs.Step.{NativeStep}
 use Rattle.native_calls.specs.Table.{native_call}
@@ -49,6 +49,15 @@ module _ (whole : Kernel) (nodes : Nodes) where
   seek_closed : at_start 62 (six 3 0 9 0) [] ≡ refuses [] 9
   unfolding lseek_row seek
   seek_closed = refl
+
+  seek_pipe : native_call 62 (six 3 0 0 0) (with_files whole (with_pipe_of nodes [])) [] [] ≡ leaves whole (with_pipe_of nodes []) [] [] (error 29)
+  unfolding lseek_row seek
+  seek_pipe = refl
+
+  -- a directory has no end
+  seek_from_end_of_directory : get nodes 5 ≡ Some some_directory → with_node 0 62 (six 3 0 2 0) [] ≡ refuses_with_node 0 [] 22
+  unfolding lseek_row seek some_directory
+  seek_from_end_of_directory kept = simp kept refl
 
   -- a file that is empty
   module _ (kept : get nodes 5 ≡ Some empty_file) where
@@ -98,6 +107,24 @@ module _ (whole : Kernel) (nodes : Nodes) where
   unfolding fstat_row status aged_file
   status_of_file kept = simp (kept, len-empty nat_cmp (List ℕ)) refl
 
+  status_of_terminal : native_call 80 (six 0 65536 0 0) (with_files whole (on_a_terminal (at_first nodes))) (replicate 129 7) [] ≡ leaves whole (on_a_terminal (at_first nodes))
+      (u64 2 ++ u64 1 ++ u32 8592 ++ u32 1 ++ u32 0 ++ u32 0 ++ u64 0x8800 ++ zeros 8 ++ u64 0 ++ u32 4096 ++ zeros 4 ++ u64 0 ++ zeros 48 ++ zeros 8 ++ 7 ∷ [])
+      [] (number 0)
+  unfolding fstat_row status
+  status_of_terminal = refl
+
+  status_of_pipe : native_call 80 (six 4 65536 0 0) (with_files whole (with_pipe_of nodes (1 ∷ []))) (replicate 129 7) [] ≡ leaves whole (with_pipe_of nodes (1 ∷ []))
+      (u64 2 ++ u64 4 ++ u32 4480 ++ u32 1 ++ u32 0 ++ u32 0 ++ u64 0 ++ zeros 8 ++ u64 0 ++ u32 4096 ++ zeros 4 ++ u64 0 ++ zeros 48 ++ zeros 8 ++ 7 ∷ [])
+      [] (number 0)
+  unfolding fstat_row status
+  status_of_pipe = refl
+
+  status_of_directory : get nodes 5 ≡ Some some_directory → with_node 0 80 (six 3 65536 0 0) (replicate 129 7) ≡ leaves whole (with_node_at nodes 0)
+      (u64 1 ++ u64 5 ++ u32 16804 ++ u32 2 ++ u32 0 ++ u32 0 ++ u64 0 ++ zeros 8 ++ u64 4096 ++ u32 4096 ++ zeros 4 ++ u64 8 ++ zeros 48 ++ zeros 8 ++ 7 ∷ [])
+      [] (number 0)
+  unfolding fstat_row status some_directory inode
+  status_of_directory kept = simp kept refl
+
   status_outside : at_start 80 (six 1 65538 0 0) (replicate 129 7) ≡ refuses (replicate 129 7) 14
   unfolding fstat_row status
   status_outside = refl
@@ -123,6 +150,18 @@ module _ (whole : Kernel) (nodes : Nodes) where
   sync_data_of_closed : at_start 83 (six 3 0 0 0) [] ≡ refuses [] 9
   unfolding sync_row sync
   sync_data_of_closed = refl
+
+  sync_closed : at_start 82 (six 3 0 0 0) [] ≡ refuses [] 9
+  unfolding sync_row sync
+  sync_closed = refl
+
+  sync_data_of_stream : at_start 83 (six 1 0 0 0) [] ≡ refuses [] 22
+  unfolding sync_row sync
+  sync_data_of_stream = refl
+
+  sync_pipe : native_call 82 (six 4 0 0 0) (with_files whole (with_pipe_of nodes [])) [] [] ≡ leaves whole (with_pipe_of nodes []) [] [] (error 22)
+  unfolding sync_row sync
+  sync_pipe = refl
 
   -- getdents64
 

@@ -1,15 +1,14 @@
 -- Worked rows on ioctl.
-use Rattle.std.specs.Prelude.{◌≡◌, ℕ, ◌+◌, ◌^◌, true, List, [], ◌∷◌, ◌++◌, replicate, Some, None, refl}
+use Rattle.std.specs.Prelude.{◌≡◌, ℕ, ◌+◌, ◌^◌, true, List, [], ◌∷◌, ◌++◌, map, replicate, Some, None, refl}
 use Rattle.std.specs.FinMap.{get}
 use Rattle.kernel_core.specs.Nodes.{Nodes}
 use Rattle.kernel_core.specs.declared.open_flags.Access.TheVariants.{Read}
-use Rattle.kernel_model.specs.Begin.{first_terminal}
 use Rattle.kernel_model.specs.ContentRows.{bytes_ready, terminal_settings, set_terminal_settings, window_size}
 use Rattle.kernel_model.specs.DescriptorRows.{set_close_on_exec, set_nonblock, unlisted_request}
 use Rattle.kernel_model.specs.Descriptions.{no_flags}
 use Rattle.kernel_model.specs.State.{Kernel, Files}
 use Rattle.kernel_model.specs.Whole.{with_files}
-use Rattle.native_calls.proofs.rows.Small.{to, to_on_exec, input, output, error_output, read_end, write_end, at_first, with_pipe_of, with_node_at, streams_alone, large_file, six, leaves, number, error}
+use Rattle.native_calls.proofs.rows.Small.{to, to_on_exec, input, output, error_output, read_end, write_end, at_first, with_pipe_of, with_node_at, on_a_terminal, streams_alone, empty_file, large_file, some_directory, six, leaves, number, error}
 use Rattle.native_calls.specs.Step.{NativeStep}
 use Rattle.native_calls.specs.Table.{native_call}
 use Rattle.native_calls.specs.Terminal.{ioctl_row}
@@ -24,9 +23,8 @@ module _ (whole : Kernel) (nodes : Nodes) where
   abbrev with_pipe : List ℕ → List ℕ → List ℕ → NativeStep
   with_pipe bytes args memory = native_call 29 args (with_files whole (with_pipe_of nodes bytes)) memory []
 
-  -- the streams are a terminal of 25 rows and 80 columns
   abbrev at_terminal : Files
-  at_terminal = record (at_first nodes) { terminal = Some (first_terminal (record { rows = 25; cols = 80 })) }
+  at_terminal = on_a_terminal (at_first nodes)
 
   abbrev on_terminal : List ℕ → List ℕ → NativeStep
   on_terminal args memory = native_call 29 args (with_files whole at_terminal) memory []
@@ -43,6 +41,12 @@ module _ (whole : Kernel) (nodes : Nodes) where
   window_of_none : at_start (six 1 0x5413 65536 0) (replicate 9 7) ≡ refuses (replicate 9 7) 25
   unfolding ioctl_row window_size
   window_of_none = refl
+
+  -- a pipe is no terminal
+  pipe_beside_terminal : map (λ request. native_call 29 (six 3 request 65536 0) (with_files whole (on_a_terminal (with_pipe_of nodes []))) [] []) (0x5401 ∷ 0x5413 ∷ [])
+      ≡ replicate 2 (leaves whole (on_a_terminal (with_pipe_of nodes [])) [] [] (error 25))
+  unfolding ioctl_row terminal_settings window_size
+  pipe_beside_terminal = refl
 
   -- TCGETS: at first zeros
   settings_at_first : on_terminal (six 0 0x5401 65536 0) (replicate 37 7) ≡ leaves whole at_terminal (replicate 36 0 ++ 7 ∷ []) [] (number 0)
@@ -153,6 +157,22 @@ module _ (whole : Kernel) (nodes : Nodes) where
   unfolding ioctl_row bytes_ready large_file
   ready_in_file kept = simp kept refl
 
+  ready_at_write_end : with_pipe (7 ∷ 8 ∷ 9 ∷ []) (six 4 0x541B 65536 0) (1 ∷ 1 ∷ 1 ∷ 1 ∷ 1 ∷ [])
+      ≡ leaves whole (with_pipe_of nodes (7 ∷ 8 ∷ 9 ∷ [])) (3 ∷ 0 ∷ 0 ∷ 0 ∷ 1 ∷ []) [] (number 0)
+  unfolding ioctl_row bytes_ready
+  ready_at_write_end = refl
+
+  -- past the end none
+  ready_past_the_end : get nodes 5 ≡ Some empty_file → native_call 29 (six 3 0x541B 65536 0) (with_files whole (with_node_at nodes 7)) (1 ∷ 1 ∷ 1 ∷ 1 ∷ []) []
+      ≡ leaves whole (with_node_at nodes 7) (0 ∷ 0 ∷ 0 ∷ 0 ∷ []) [] (number 0)
+  unfolding ioctl_row bytes_ready empty_file
+  ready_past_the_end kept = simp kept refl
+
+  ready_of_directory : get nodes 5 ≡ Some some_directory → native_call 29 (six 3 0x541B 65536 0) (with_files whole (with_node_at nodes 0)) [] []
+      ≡ leaves whole (with_node_at nodes 0) [] [] (error 25)
+  unfolding ioctl_row bytes_ready some_directory
+  ready_of_directory kept = simp kept refl
+
   -- FIONBIO
 
   nonblock_on : with_pipe [] (six 3 0x5421 65536 0) (0 ∷ 0 ∷ 1 ∷ 0 ∷ []) ≡ leaves whole (record (with_pipe_of nodes []) {
@@ -197,3 +217,7 @@ module _ (whole : Kernel) (nodes : Nodes) where
   low_bits_of_request : at_start (six 1 (2 ^ 32 + 0x5450) 0 0) [] ≡ leaves whole (at_first nodes) [] [] (number 0)
   unfolding ioctl_row set_close_on_exec
   low_bits_of_request = refl
+
+  requests_of_closed : map (λ request. at_start (six 3 request 0 0) []) (0x5401 ∷ 0x5403 ∷ 0x5404 ∷ 0x5413 ∷ 0x541B ∷ 0x5421 ∷ 0x5450 ∷ 0x5451 ∷ []) ≡ replicate 8 (refuses [] 9)
+  unfolding ioctl_row terminal_settings set_terminal_settings window_size bytes_ready set_nonblock set_close_on_exec
+  requests_of_closed = refl
