@@ -1,15 +1,15 @@
 -- What a call leaves of the kernel where it fails or waits; which calls wait with a part done; and that none is refused with ENOMEM.
 use Rattle.std.proofs.Common.{◌≡◌, ℕ, ◌*◌, ◌==◌, ◌∙◌, Bool, true, false, List, [], ◌∷◌, length, zero, suc, refl, sym, ap, subst, inl, inr}
-use Rattle.std.specs.Prelude.{ℤ, pos, neg_ℤ, nat_abs, ◌⊎◌, Option, Some, None, Ok, Err, if◌then◌else◌, nat_lt, ⊤}
+use Rattle.std.specs.Prelude.{pos, neg_ℤ, nat_abs, ◌⊎◌, Option, Some, None, Ok, Err, if◌then◌else◌, nat_lt, ⊤}
 use Rattle.std.proofs.lemmas.Bool.{eqb-true}
-use Rattle.host_mem.specs.Memory.{bytes_at, is_inside, written}
+use Rattle.host_mem.specs.Memory.{bytes_at, is_inside}
 use Rattle.kernel_core.specs.declared.error.Errno.TheVariants.{EACCES, EAGAIN, EBADF, EBUSY, EEXIST, EFAULT, EFBIG, EINTR, EINVAL, EISDIR, ELOOP, EMFILE, ENAMETOOLONG, ENODEV, ENOENT, ENOMEM, ENOSPC, ENOSYS, ENOTDIR, ENOTEMPTY, ENOTTY, EOVERFLOW, EPERM, EPIPE, ERANGE, ESPIPE, ESRCH}
 use Rattle.kernel_core.specs.declared.reply.Reply.{Reply}
 use Rattle.kernel_core.specs.declared.reply.Reply.TheVariants as replies
 use Rattle.kernel_core.specs.declared.request.Request.{Request}
 use Rattle.kernel_core.specs.declared.request.Request.TheVariants as requests
 use Rattle.kernel_model.proofs.refusals.Checks.{done_stays, widened_stays}
-use Rattle.kernel_model.proofs.refusals.ContentRefusals.{bytes_ready_stays, entries_stays, seek_stays, set_terminal_settings_stays, status_stays, sync_stays, terminal_settings_stays, window_size_stays}
+use Rattle.kernel_model.proofs.refusals.ContentRefusals.{entries_stays, seek_stays, set_terminal_settings_stays, sync_stays}
 use Rattle.kernel_model.proofs.refusals.DescriptorRefusals.{close_on_exec_stays, close_stays, duplicate_onto_with_stays, duplicate_stays, make_pipe_stays, set_close_on_exec_stays, set_nonblock_stays, set_status_flags_stays, status_flags_stays, unlisted_command_stays, unlisted_request_stays}
 use Rattle.kernel_model.proofs.refusals.TransferRefusals.{read_at_stays, read_stays, write_at_stays, write_stays}
 use Rattle.kernel_model.specs.Came.{Came, Done, Refused, Waits, Did, Given, done, refused, widened, with_some}
@@ -22,12 +22,11 @@ use Rattle.kernel_model.specs.SignalRows.{own_id, parent_id}
 use Rattle.kernel_model.specs.State.{Files, Kernel}
 use Rattle.kernel_model.specs.Transfers.{Reading, Writing, read, reading, write, writing}
 use Rattle.kernel_model.specs.Whole.{KernelReading, is_broken_pipe, kernel_read, kernel_write, on_files, with_files, with_reading, with_sigpipe}
-use Rattle.kernel_model.specs.declared.terminal.TerminalSettings.{TerminalSettings}
 use Rattle.native_calls.proofs.Plain.{ComesPlain, Fine, FineGiven, Plain, done_plain, fine_fault, fine_invalid, told_plain, widened_plain}
 use Rattle.native_calls.proofs.PlainRows.{bytes_ready_plain, close_on_exec_plain, close_plain, duplicate_onto_with_plain, duplicate_plain, entries_plain, make_pipe_plain, read_at_plain, read_plain, seek_plain, set_close_on_exec_plain, set_nonblock_plain, set_status_flags_plain, set_terminal_settings_plain, status_flags_plain, status_plain, sync_plain, terminal_settings_plain, unlisted_command_plain, unlisted_request_plain, window_size_plain, write_at_plain, write_plain}
 use Rattle.native_calls.specs.Arguments.{argument, word}
-use Rattle.native_calls.specs.Descriptors.{Command, commanded, commands, pipe_flags, dup_row, dup3_row, close_row, pipe2_row, fcntl_row, descriptor_calls, given_pair, kept_if, pair_bytes, pair_size, without_pair}
-use Rattle.native_calls.specs.HostBytes.{Range, asked, buffers, given, all_written, if_countable, ranges_in, read_as, structure, sum_limit, total, vector, vector_limit, vector_structures}
+use Rattle.native_calls.specs.Descriptors.{Command, commanded, commands, pipe_flags, dup_row, dup3_row, close_row, pipe2_row, fcntl_row, descriptor_calls, kept_if, pair_bytes, pair_size}
+use Rattle.native_calls.specs.HostBytes.{Range, asked, given, if_countable, ranges_in, read_as, structure, sum_limit, total, vector, vector_limit, vector_structures}
 use Rattle.native_calls.specs.Ids.{id_calls, getpid_row, getppid_row}
 use Rattle.native_calls.specs.Laws.{IsFailure, LeftByFailure, AsItWas, BrokenPipe, PairNotStored, MayWaitPartly}
 use Rattle.native_calls.specs.Step.{NativeStep, NativeCall, value, failure, reply_to, came_as, told_as, told_zero, gives, fills, stored, stores}

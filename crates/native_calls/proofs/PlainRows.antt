@@ -1,5 +1,5 @@
 -- The rows of the kernel that the calls apply: none is refused with ENOMEM, and none but a write waits with a part done.
-use Rattle.std.specs.Prelude.{ℕ, ◌+◌, ◌==◌, zero, suc, ℤ, Bool, true, false, List, [], ◌∷◌, drop, take, length, not, nat_le, nat_lt, ◌||◌, Option, Some, None, Ok, Err, if◌then◌else◌, refl}
+use Rattle.std.specs.Prelude.{ℕ, ◌+◌, ◌==◌, zero, suc, ℤ, Bool, true, false, List, [], ◌∷◌, drop, take, length, not, nat_le, nat_lt, Option, Some, None, if◌then◌else◌, refl}
 use Rattle.kernel_core.specs.FileContent.{FileContent, greatest_size}
 use Rattle.kernel_core.specs.NameCalls.{is_empty_list}
 use Rattle.kernel_core.specs.NodeCalls.{write_length, write_refusal}

@@ -1,5 +1,5 @@
 -- Worked rows on reading and writing.
-use Rattle.std.specs.Prelude.{◌≡◌, ℕ, ◌-◌, ◌^◌, ◌+◌, true, false, List, [], ◌∷◌, ◌++◌, length, take, replicate, Some, None, refl}
+use Rattle.std.specs.Prelude.{◌≡◌, ℕ, ◌-◌, ◌^◌, ◌+◌, false, List, [], ◌∷◌, ◌++◌, length, take, replicate, Some, refl}
 use Rattle.std.proofs.Common.{arith}
 use Rattle.std.proofs.lemmas.List.{take_all}
 use Rattle.std.specs.FinMap.{get, get-empty}
@@ -13,7 +13,7 @@ use Rattle.kernel_model.specs.Begin.{first_signals}
 use Rattle.kernel_model.specs.Clock.{now}
 use Rattle.kernel_model.specs.Pipes.{nothing}
 use Rattle.kernel_model.specs.SignalRows.{appended, kill_info, post}
-use Rattle.kernel_model.specs.State.{Kernel, Files}
+use Rattle.kernel_model.specs.State.{Kernel}
 use Rattle.kernel_model.specs.Transfers.{read, read_at, write, write_at}
 use Rattle.kernel_model.specs.Whole.{with_files, kernel_read, kernel_write}
 use Rattle.layouts.specs.Number.{bytes_of}
