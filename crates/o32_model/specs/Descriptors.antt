@@ -107,7 +107,7 @@ pub record Command : Type 0 where
   pub number : ℕ
   pub row : Kernel → ℕ → ℕ → Did Kernel ℕ
 
--- F_DUPFD and F_DUPFD_CLOEXEC; an int below 0 is then one above 2^31, which is no descriptor
+-- F_DUPFD and F_DUPFD_CLOEXEC; an int below 0 is then one from 2^31 on, which is no descriptor
 abbrev pub duplicate_from : Bool → Kernel → ℕ → ℕ → Did Kernel ℕ
 duplicate_from cloexec kernel fd least = on_files kernel (duplicate kernel.files fd (Some least) cloexec)
 

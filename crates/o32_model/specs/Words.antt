@@ -55,7 +55,7 @@ call_words processor memory = record {
 }
 
 -- An argument in a register, by its place from 0: a descriptor, an address, a length, flags (an int, a long, a pointer: each has 32 bits). A
--- descriptor below 0 is then one above 2^31, which is never open.
+-- descriptor below 0 is then one from 2^31 on, which is never open.
 abbrev pub argument : CallWords → ℕ → ℕ
 argument words place = slice_index words.reg place
 

@@ -204,6 +204,10 @@ module _ (whole : Kernel) (nodes : Nodes) (processor : Processor) (memory : Memo
   unfolding fcntl_row duplicate
   duplicate_from_below_zero = refl
 
+  duplicate_on_exec_from_1024 : at_start (words 4055 1 1030 1024 0) ≡ refuses EINVAL
+  unfolding fcntl_row duplicate
+  duplicate_on_exec_from_1024 = refl
+
   -- of eight places none is free from 8 on
   duplicate_none_free : at_start (words 4055 1 0 8 0) ≡ refuses EMFILE
   unfolding fcntl_row duplicate
@@ -259,6 +263,32 @@ module _ (whole : Kernel) (nodes : Nodes) (processor : Processor) (memory : Memo
       → (called (with_pipe (words 4055 3 4 0x80 0)).kernel (words 4003 3 65536 1 0)).outcome ≡ Error EAGAIN
   unfolding fcntl_row set_status_flags read_row kernel_read read writable_prefix first_denied refusal
   read_nonblock kept = simp kept refl
+
+  -- each command of a descriptor that isn't open
+
+  duplicate_of_closed : at_start (words 4055 3 0 1024 0) ≡ refuses EBADF
+  unfolding fcntl_row duplicate
+  duplicate_of_closed = refl
+
+  is_on_exec_of_closed : at_start (words 4055 3 1 0 0) ≡ refuses EBADF
+  unfolding fcntl_row close_on_exec
+  is_on_exec_of_closed = refl
+
+  set_on_exec_of_closed : at_start (words 4055 3 2 1 0) ≡ refuses EBADF
+  unfolding fcntl_row set_close_on_exec
+  set_on_exec_of_closed = refl
+
+  flags_of_closed : at_start (words 4055 3 3 0 0) ≡ refuses EBADF
+  unfolding fcntl_row status_flags
+  flags_of_closed = refl
+
+  set_flags_of_closed : at_start (words 4055 3 4 0x80 0) ≡ refuses EBADF
+  unfolding fcntl_row set_status_flags
+  set_flags_of_closed = refl
+
+  duplicate_on_exec_of_closed : at_start (words 4055 3 1030 0 0) ≡ refuses EBADF
+  unfolding fcntl_row duplicate
+  duplicate_on_exec_of_closed = refl
 
   command_of_closed : at_start (words 4055 3 5 0 0) ≡ refuses EBADF
   unfolding fcntl_row unlisted_command

@@ -178,6 +178,14 @@ module _ (kernel : Kernel) (processor : Processor) (memory : Memory) (left : Lis
   unfolding prlimit_row set_limit first_denied refusal bytes_at byte_at
   limit_set kept = simp kept refl
 
+  -- where the old limit can't be stored, the new one is set all the same
+  limit_set_unshown : get memory.pages 16 ≡ Some (page_of (0 ∷ 0 ∷ 0 ∷ 0 ∷ 0 ∷ 0 ∷ 0 ∷ 1 ∷ 0 ∷ 0 ∷ 0 ∷ 0 ∷ 0 ∷ 0 ∷ 0 ∷ 2 ∷ []))
+      → get memory.pages 17 ≡ None
+      → in_kernel first (words 4338 0 0 65536 69632)
+      ≡ leaves (record first { limits = slice_set first_limits 0 (record { soft = 1; hard = 2 }) }) memory (Error EFAULT)
+  unfolding prlimit_row set_limit first_denied refusal bytes_at byte_at
+  limit_set_unshown kept absent = simp (kept, absent) refl
+
   soft_above_hard : get memory.pages 16 ≡ Some (page_of (0 ∷ 0 ∷ 0 ∷ 0 ∷ 0 ∷ 0 ∷ 0 ∷ 3 ∷ 0 ∷ 0 ∷ 0 ∷ 0 ∷ 0 ∷ 0 ∷ 0 ∷ 2 ∷ []))
       → called (words 4338 0 0 65536 0) ≡ refuses EINVAL
   unfolding prlimit_row set_limit first_denied refusal bytes_at byte_at

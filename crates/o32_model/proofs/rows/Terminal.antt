@@ -211,6 +211,28 @@ module _ (whole : Kernel) (nodes : Nodes) (processor : Processor) (memory : Memo
   unfolding ioctl_row set_close_on_exec
   off_exec = refl
 
+  -- each other request of a descriptor that isn't open
+
+  settings_of_closed : at_start 3 0x540D 0x8000_0000 ≡ refuses EBADF
+  unfolding ioctl_row terminal_settings
+  settings_of_closed = refl
+
+  window_of_closed : at_start 3 0x40087468 0x8000_0000 ≡ refuses EBADF
+  unfolding ioctl_row window_size
+  window_of_closed = refl
+
+  ready_of_closed : at_start 3 0x467F 0x8000_0000 ≡ refuses EBADF
+  unfolding ioctl_row bytes_ready
+  ready_of_closed = refl
+
+  nonblock_of_closed : at_start 3 0x667E 0x8000_0000 ≡ refuses EBADF
+  unfolding ioctl_row set_nonblock
+  nonblock_of_closed = refl
+
+  on_exec_of_closed : at_start 3 0x6601 0 ≡ refuses EBADF
+  unfolding ioctl_row set_close_on_exec
+  on_exec_of_closed = refl
+
   -- a request that is not listed
   other_request : at_start 1 0x5413 0 ≡ refuses ENOTTY
   unfolding ioctl_row unlisted_request
