@@ -56,3 +56,17 @@ given_or_none (Some (Ok value)) = Ok (Some value)
 -- a row over a part of a state, as a row over the whole
 abbrev pub widened : {S T V : Type 0} → (S → T) → Did S V → Did T V
 widened whole did = record { state = whole did.state; came = did.came }
+
+-- a row whose value is another's in other terms
+
+abbrev pub came_as : {V W : Type 0} → (V → W) → Came V → Came W
+came_as meaning (Done found) = Done (meaning found)
+came_as meaning (Refused error) = Refused error
+came_as meaning (Waits wake) = Waits wake
+
+abbrev pub told_as : {S V W : Type 0} → (V → W) → Did S V → Did S W
+told_as meaning did = record { state = did.state; came = came_as meaning did.came }
+
+-- a row that tells nothing gives 0
+abbrev pub told_zero : {S : Type 0} → Did S (Unit {0}) → Did S ℕ
+told_zero did = told_as (λ _. 0) did

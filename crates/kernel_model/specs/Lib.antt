@@ -17,6 +17,7 @@ pub mod Shared
 pub mod SignalRows
 pub mod SignalSets
 pub mod State
+pub mod Stops
 pub mod System
 pub mod Table
 pub mod Transfers

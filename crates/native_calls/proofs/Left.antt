@@ -12,7 +12,7 @@ use Rattle.kernel_model.proofs.refusals.Checks.{done_stays, widened_stays}
 use Rattle.kernel_model.proofs.refusals.ContentRefusals.{entries_stays, seek_stays, set_terminal_settings_stays, sync_stays}
 use Rattle.kernel_model.proofs.refusals.DescriptorRefusals.{close_on_exec_stays, close_stays, duplicate_onto_with_stays, duplicate_stays, make_pipe_stays, set_close_on_exec_stays, set_nonblock_stays, set_status_flags_stays, status_flags_stays, unlisted_command_stays, unlisted_request_stays}
 use Rattle.kernel_model.proofs.refusals.TransferRefusals.{read_at_stays, read_stays, write_at_stays, write_stays}
-use Rattle.kernel_model.specs.Came.{Came, Done, Refused, Waits, Did, Given, done, refused, widened, with_some}
+use Rattle.kernel_model.specs.Came.{Came, Done, Refused, Waits, Did, Given, done, refused, widened, with_some, came_as, told_as, told_zero}
 use Rattle.kernel_model.specs.Clock.{now}
 use Rattle.kernel_model.specs.ContentRows.{bytes_ready, status, terminal_settings, window_size}
 use Rattle.kernel_model.specs.DescriptorRows.{Ends, PipeFlags, make_pipe}
@@ -29,7 +29,7 @@ use Rattle.native_calls.specs.Descriptors.{Command, commanded, commands, pipe_fl
 use Rattle.native_calls.specs.HostBytes.{Range, asked, given, if_countable, ranges_in, read_as, structure, sum_limit, total, vector, vector_limit, vector_structures}
 use Rattle.native_calls.specs.Ids.{id_calls, getpid_row, getppid_row}
 use Rattle.native_calls.specs.Laws.{IsFailure, LeftByFailure, AsItWas, BrokenPipe, PairNotStored, MayWaitPartly}
-use Rattle.native_calls.specs.Step.{NativeStep, NativeCall, value, failure, reply_to, came_as, told_as, told_zero, gives, fills, stored, stores}
+use Rattle.native_calls.specs.Step.{NativeStep, NativeCall, value, failure, reply_to, gives, fills, stored, stores}
 use Rattle.native_calls.specs.Status.{status_bytes, status_calls, lseek_row, fstat_row, sync_row, getdents_row}
 use Rattle.native_calls.specs.Table.{call_in, call_of, step_of, native_call}
 use Rattle.native_calls.specs.Terminal.{int_bytes, settings_at, settings_bytes, set_cloexec_to, set_settings, switch_at, terminal_calls, ioctl_row, requested, window_bytes}

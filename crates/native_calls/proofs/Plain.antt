@@ -2,9 +2,8 @@
 use Rattle.std.proofs.Common.{◌≡◌, ℕ, ◌==◌, Bool, true, false, refl}
 use Rattle.std.specs.Prelude.{Option, Some, None, Ok, Err, if◌then◌else◌, ⊤}
 use Rattle.kernel_core.specs.declared.error.Errno.TheVariants.{EAGAIN, EBADF, EFAULT, EFBIG, EINVAL, EISDIR, EMFILE, ENOENT, ENOSPC, ENOTDIR, ENOTTY, EOVERFLOW, EPIPE, ESPIPE}
-use Rattle.kernel_model.specs.Came.{Came, Done, Refused, Waits, Did, Given, done, refused, refused_by, refused_if, widened, with_given, with_some}
+use Rattle.kernel_model.specs.Came.{Came, Done, Refused, Waits, Did, Given, done, refused, refused_by, refused_if, widened, with_given, with_some, came_as, told_as}
 use Rattle.kernel_model.specs.Shared.{Errno}
-use Rattle.native_calls.specs.Step.{came_as, told_as}
 use Rattle.number_tables.specs.Errors.{native_errno}
 
 -- Errors

@@ -1,23 +1,12 @@
 -- What a call that is made answers and leaves, by what the table says of it. (That a call may stop early, and what holds then, is this
 -- project's own.)
-use Rattle.std.specs.Prelude.{◌≡◌, ℕ, ◌⊎◌, List, [], Option, Some, Result, Ok, Err, ⊤}
+use Rattle.std.specs.Prelude.{◌≡◌, ℕ, ◌⊎◌, List, [], Some, Result, Ok, Err}
 use Rattle.kernel_core.specs.declared.core_error.Stop.{Stop}
-use Rattle.kernel_core.specs.declared.core_error.Stop.TheVariants.{NoMemory, ReadFault, WriteFault}
 use Rattle.kernel_core.specs.declared.reply.Reply.{Reply}
 use Rattle.kernel_model.specs.State.{Kernel}
 use Rattle.native_calls.specs.Step.{NativeStep}
-use Rattle.outside.specs.Count.{Rose}
 use Rattle.outside.specs.Output.{GainsText, GainsBetween}
-use Rattle.outside.specs.declared.devices.Devices.{Devices}
-
--- What the three devices hold, each where it tells it: what is left of the input, and what was written to the outputs
-pub record Contents : Type 0 where
-  pub left : Option (List ℕ)
-  pub out : Option (List ℕ)
-  pub err : Option (List ℕ)
-
-abbrev pub contents : {I O E : Type 0} → (I → Option (List ℕ)) → (O → Option (List ℕ)) → (E → Option (List ℕ)) → Devices I O E → Contents
-contents left out err devices = record { left = left devices.input; out = out devices.out; err = err devices.err }
+use Rattle.outside.specs.Streams.{Contents}
 
 -- The call was carried out.
 pub record Called (step : NativeStep) (reply : Reply) (kernel : Kernel) (memory : List ℕ) (before after : Contents) : Type 0 where
@@ -43,12 +32,3 @@ Answers step (Err stop) kernel memory before after = Stopped step before after
 abbrev pub IsCall : (List ℕ → NativeStep) → Result Reply Stop → Kernel → List ℕ → Contents → Contents → Type 0
 IsCall step result kernel memory before after =
     (left : List ℕ) → before.left ≡ Some left → Answers (step left) result kernel memory before after
-
--- A device stops a call only where its count of faults rose in that call, whether the input tells what is left or not. `input`, `out` and
--- `err` give the counts. (That no count falls is a clause of its own: `NoCountFell` of the counts of three devices.)
-abbrev pub StopsOnlyIfRose : {I O E T : Type 0} → (I → ℕ) → (O → ℕ) → (E → ℕ) → Result T Stop → Devices I O E → Devices I O E → Type 0
-StopsOnlyIfRose input out err (Ok reply) before after = ⊤
-StopsOnlyIfRose input out err (Err NoMemory) before after = ⊤
-StopsOnlyIfRose input out err (Err ReadFault) before after = Rose (input before.input) (input after.input)
-StopsOnlyIfRose input out err (Err WriteFault) before after =
-    Rose (out before.out) (out after.out) ⊎ Rose (err before.err) (err after.err)

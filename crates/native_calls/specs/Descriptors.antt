@@ -2,13 +2,13 @@
 use Rattle.std.specs.Prelude.{ℕ, ◌+◌, ◌*◌, Bool, true, false, List, [], ◌∷◌, ◌++◌, Option, Some, None, if◌then◌else◌}
 use Rattle.host_mem.specs.Memory.{is_inside}
 use Rattle.kernel_core.specs.Bits.{one_if, has}
-use Rattle.kernel_model.specs.Came.{Came, Done, Refused, Waits, Did}
+use Rattle.kernel_model.specs.Came.{Came, Done, Refused, Waits, Did, told_as, told_zero}
 use Rattle.kernel_model.specs.DescriptorRows.{PipeFlags, Ends, close, after_close, duplicate, duplicate_onto_with, make_pipe, close_on_exec, set_close_on_exec, status_flags, set_status_flags, unlisted_command}
 use Rattle.kernel_model.specs.State.{Kernel}
 use Rattle.kernel_model.specs.Whole.{with_files, on_files}
 use Rattle.layouts.specs.Number.{bytes_of}
 use Rattle.native_calls.specs.Arguments.{argument, word, low_word}
-use Rattle.native_calls.specs.Step.{NativeStep, NativeCall, told_as, told_zero, gives, stores}
+use Rattle.native_calls.specs.Step.{NativeStep, NativeCall, gives, stores}
 use Rattle.number_tables.specs.Flags.{stands_for}
 use Rattle.number_tables.specs.Numbered.{numbered}
 use Rattle.number_tables.specs.OpenNumbers.{native_open}

@@ -5,6 +5,7 @@ use Rattle.std.specs.Int.{int_rem_euclid}
 use Rattle.host_mem.specs.Memory.{written}
 use Rattle.kernel_core.specs.LoadedTree.{whole_seconds}
 use Rattle.kernel_core.specs.Queries.{NodeKind, FileKind, DirectoryKind, LinkKind}
+use Rattle.kernel_model.specs.Came.{told_as, told_zero}
 use Rattle.kernel_model.specs.Clock.{second}
 use Rattle.kernel_model.specs.ContentRows.{Status, Entry, Records, seek, status, status_owner, status_group, status_block_size, entries, sync}
 use Rattle.kernel_model.specs.State.{Kernel}
@@ -16,7 +17,7 @@ use Rattle.layouts.specs.declared.dirent.EntryType.{EntryType}
 use Rattle.layouts.specs.declared.dirent.EntryType.TheVariants as types
 use Rattle.native_calls.specs.Arguments.{argument, word, offset}
 use Rattle.native_calls.specs.HostBytes.{accessible}
-use Rattle.native_calls.specs.Step.{NativeStep, NativeCall, told_as, told_zero, gives, stores, fills}
+use Rattle.native_calls.specs.Step.{NativeStep, NativeCall, gives, stores, fills}
 
 -- Seeking
 

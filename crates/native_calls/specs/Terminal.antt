@@ -2,7 +2,7 @@
 use Rattle.std.specs.Prelude.{ℕ, ◌==◌, ℤ, pos, nat_abs, Bool, true, false, not, List, [], ◌∷◌, map, slice_index, Option, Some, None}
 use Rattle.kernel_core.specs.declared.request.Request.{Request}
 use Rattle.kernel_core.specs.declared.request.Request.TheVariants as requests
-use Rattle.kernel_model.specs.Came.{Given}
+use Rattle.kernel_model.specs.Came.{Given, told_as, told_zero}
 use Rattle.kernel_model.specs.ContentRows.{bytes_ready, terminal_settings, set_terminal_settings, window_size}
 use Rattle.kernel_model.specs.DescriptorRows.{set_close_on_exec, set_nonblock, unlisted_request}
 use Rattle.kernel_model.specs.State.{Kernel}
@@ -16,7 +16,7 @@ use Rattle.layouts.specs.Shape.{record_bytes, record_values}
 use Rattle.layouts.specs.declared.native.NativeStructure.TheVariants as structures
 use Rattle.native_calls.specs.Arguments.{argument, word, low_word}
 use Rattle.native_calls.specs.HostBytes.{structure, read_as}
-use Rattle.native_calls.specs.Step.{NativeStep, NativeCall, told_as, told_zero, gives, stores}
+use Rattle.native_calls.specs.Step.{NativeStep, NativeCall, gives, stores}
 use Rattle.number_tables.specs.Requests.{request_of_native}
 
 -- Settings

@@ -7,7 +7,7 @@ use Rattle.kernel_core.specs.declared.error.Errno.TheVariants.{EFAULT, ENOSYS}
 use Rattle.kernel_core.specs.declared.request.Request.{Request}
 use Rattle.kernel_core.specs.declared.request.Request.TheVariants as requests
 use Rattle.kernel_model.proofs.refusals.TransferRefusals.{read_stays, write_stays}
-use Rattle.kernel_model.specs.Came.{Came, Done, Refused, Waits, Did, Given, done, refused}
+use Rattle.kernel_model.specs.Came.{Came, Done, Refused, Waits, Did, Given, done, refused, told_as}
 use Rattle.kernel_model.specs.Clock.{now}
 use Rattle.kernel_model.specs.DescriptorRows.{make_pipe}
 use Rattle.kernel_model.specs.Laws.{StaysAt}
@@ -19,7 +19,7 @@ use Rattle.o32_model.specs.Descriptors.{descriptor_calls, both_ends, no_pipe_fla
 use Rattle.o32_model.specs.GuestBytes.{is_storable, with_stored}
 use Rattle.o32_model.specs.Laws.{IsFailure, MovesNothing}
 use Rattle.o32_model.specs.Small.{small_calls, names_bytes, number_row, exit_row, set_thread_area_row, set_robust_list_row, uname_row, getrlimit_row, prlimit_row, getrandom_row, stores_unless_null}
-use Rattle.o32_model.specs.Step.{Guest, O32Step, O32Call, value, failure, outcome_of, memory_after, comes_to, gives, stored, stores, fills, told_as}
+use Rattle.o32_model.specs.Step.{Guest, O32Step, O32Call, value, failure, outcome_of, memory_after, comes_to, gives, stored, stores, fills}
 use Rattle.o32_model.specs.Table.{call_in, call_of, step_of, o32_call}
 use Rattle.o32_model.specs.Terminal.{terminal_calls, ioctl_row, requested}
 use Rattle.o32_model.specs.Transfers.{transfer_calls, after_read, after_write, read_row, readv_row, pread_row, write_row, writev_row, pwrite_row, small_file_limit}

@@ -1,7 +1,7 @@
 -- The calls on descriptors: close(2), dup(2), dup2(2), dup3(2), pipe(2), pipe2(2), fcntl(2).
 use Rattle.std.specs.Prelude.{ℕ, ◌+◌, ◌*◌, Bool, true, false, List, [], ◌∷◌, ◌++◌, Option, Some, None, if◌then◌else◌}
 use Rattle.kernel_core.specs.Bits.{one_if, has}
-use Rattle.kernel_model.specs.Came.{Came, Done, Refused, Waits, Did}
+use Rattle.kernel_model.specs.Came.{Came, Done, Refused, Waits, Did, told_as, told_zero}
 use Rattle.kernel_model.specs.DescriptorRows.{PipeFlags, Ends, close, after_close, duplicate, duplicate_onto, duplicate_onto_with, make_pipe, close_on_exec, set_close_on_exec, status_flags, set_status_flags, unlisted_command}
 use Rattle.kernel_model.specs.State.{Kernel}
 use Rattle.kernel_model.specs.Whole.{with_files, on_files}
@@ -10,7 +10,7 @@ use Rattle.number_tables.specs.Flags.{stands_for}
 use Rattle.number_tables.specs.Numbered.{numbered}
 use Rattle.number_tables.specs.OpenNumbers.{o32_open}
 use Rattle.o32_model.specs.GuestBytes.{is_storable}
-use Rattle.o32_model.specs.Step.{Guest, O32Step, O32Call, told_as, told_zero, comes_to, gives, stores}
+use Rattle.o32_model.specs.Step.{Guest, O32Step, O32Call, comes_to, gives, stores}
 use Rattle.o32_model.specs.Words.{argument}
 use Rattle.o32_model.specs.declared.outcome.Outcome.{Outcome}
 use Rattle.o32_model.specs.declared.outcome.Outcome.TheVariants.{Pair}

@@ -5,7 +5,7 @@ use Rattle.std.specs.List.{flat_map}
 use Rattle.guest_space.specs.Bytes.{copied_out}
 use Rattle.guest_space.specs.Memory.{Memory}
 use Rattle.kernel_core.specs.declared.error.Errno.TheVariants.{EINVAL}
-use Rattle.kernel_model.specs.Came.{Did, Given, done, refused_if}
+use Rattle.kernel_model.specs.Came.{Did, Given, done, refused_if, told_as}
 use Rattle.kernel_model.specs.SignalRows.{own_id, parent_id}
 use Rattle.kernel_model.specs.State.{Kernel}
 use Rattle.kernel_model.specs.System.{set_limit, random_bytes, system_names, user_id}
@@ -15,7 +15,7 @@ use Rattle.layouts.specs.Shape.{record_bytes, record_values}
 use Rattle.layouts.specs.Utsname.{padded}
 use Rattle.number_tables.specs.Resources.{resource_of_o32}
 use Rattle.o32_model.specs.GuestBytes.{structure, read_as, unless_null, accessible}
-use Rattle.o32_model.specs.Step.{Guest, O32Step, O32Call, told_as, comes_to, gives, stores, fills}
+use Rattle.o32_model.specs.Step.{Guest, O32Step, O32Call, comes_to, gives, stores, fills}
 use Rattle.o32_model.specs.Words.{argument, signed_argument}
 use Rattle.o32_model.specs.declared.outcome.Outcome.TheVariants.{Exit}
 

@@ -53,19 +53,6 @@ memory_after with_value memory (Done found) = with_value found
 memory_after with_value memory (Refused error) = memory
 memory_after with_value memory (Waits wake) = memory
 
--- a row whose value is another's in other terms
-abbrev pub came_as : {V W : Type 0} → (V → W) → Came V → Came W
-came_as meaning (Done found) = Done (meaning found)
-came_as meaning (Refused error) = Refused error
-came_as meaning (Waits wake) = Waits wake
-
-abbrev pub told_as : {S V W : Type 0} → (V → W) → Did S V → Did S W
-told_as meaning did = record { state = did.state; came = came_as meaning did.came }
-
--- a row that tells nothing gives 0
-abbrev pub told_zero : {S : Type 0} → Did S (Unit {0}) → Did S ℕ
-told_zero did = told_as (λ _. 0) did
-
 -- Calls that move no byte of a stream. What is left of the input comes last.
 
 -- memory stays, and the row's value says what the call came to

@@ -3,7 +3,7 @@ use Rattle.std.specs.Prelude.{ℕ, ◌%◌, ◌^◌, ◌==◌, ℤ, pos, nat_abs
 use Rattle.guest_space.specs.Memory.{Memory}
 use Rattle.kernel_core.specs.declared.request.Request.{Request}
 use Rattle.kernel_core.specs.declared.request.Request.TheVariants as requests
-use Rattle.kernel_model.specs.Came.{Given}
+use Rattle.kernel_model.specs.Came.{Given, told_as, told_zero}
 use Rattle.kernel_model.specs.ContentRows.{bytes_ready, terminal_settings, set_terminal_settings, window_size}
 use Rattle.kernel_model.specs.DescriptorRows.{set_close_on_exec, set_nonblock, unlisted_request}
 use Rattle.kernel_model.specs.State.{Kernel}
@@ -16,7 +16,7 @@ use Rattle.layouts.specs.O32.{termios, winsize}
 use Rattle.layouts.specs.Shape.{record_bytes, record_values}
 use Rattle.number_tables.specs.Requests.{request_of_o32}
 use Rattle.o32_model.specs.GuestBytes.{structure, read_as}
-use Rattle.o32_model.specs.Step.{Guest, O32Step, O32Call, told_as, told_zero, gives, stores}
+use Rattle.o32_model.specs.Step.{Guest, O32Step, O32Call, gives, stores}
 use Rattle.o32_model.specs.Words.{argument}
 
 -- Settings

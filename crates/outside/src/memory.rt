@@ -61,6 +61,7 @@ impl Source for MemSource {
         ensures failing { IsErr result ↔ NextFails self.old.calls }
         ensures count { IfOk result (λ count. count ≡ min (length buf.new) (length self.old.bytes)) }
         ensures bytes { IfOk result (λ count. take count buf.new ≡ take count self.old.bytes) }
+        ensures rest { IfOk result (λ count. drop count buf.new ≡ drop count buf.old) }
         ensures ok { IfOk result (λ count. self.new ≡ record self.old {
           bytes = drop count self.old.bytes;
           calls = after_call self.old.calls;

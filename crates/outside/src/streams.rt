@@ -39,6 +39,7 @@ impl BytesLeft {
     pub fn move_out(&mut self, buf: &mut [u8]) -> usize
         ensures count { result ≡ min (length buf.new) (length self.old) }
         ensures bytes { take result buf.new ≡ take result self.old }
+        ensures rest { drop result buf.new ≡ drop result buf.old }
         ensures left { self.new ≡ drop result self.old }
     {
         let count = copy_front(self.as_slice(), buf);
@@ -51,6 +52,7 @@ impl BytesLeft {
 fn copy_front(from: &[u8], to: &mut [u8]) -> usize
     ensures count { result ≡ min (length to.new) (length from.now) }
     ensures bytes { take result to.new ≡ take result from.now }
+    ensures rest { drop result to.new ≡ drop result to.old }
 {
     let count = to.len().min(from.len());
     to[..count].copy_from_slice(&from[..count]);

@@ -18,11 +18,12 @@ pub trait Source {
     ghost faults: { Self → ℕ };
 
     /// Moves bytes out of what is left to the front of the buffer, and answers how many. It gives 0
-    /// for a buffer that is not empty only at the end. After `Failed` what is left is unchanged, and
-    /// the buffer may hold anything.
+    /// for a buffer that is not empty only at the end. A source that tells what is left leaves the
+    /// rest of the buffer as it was. After `Failed` what is left is unchanged, and the buffer may
+    /// hold anything.
     fn take(&mut self, buf: &mut [u8]) -> Result<usize, Failed>
         ensures within { IfOk result (λ count. count ≤ length buf.new) }
-        ensures moved { IfOk result (MovesOut (left self.old) (left self.new) buf.new) }
+        ensures moved { IfOk result (MovesOut (left self.old) (left self.new) buf.old buf.new) }
         ensures unchanged { OnErr result (left self.new ≡ left self.old) }
 
         ensures cause { OnErr result (Rose (faults self.old) (faults self.new)) }
