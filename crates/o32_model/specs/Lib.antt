@@ -1,3 +1,4 @@
+pub mod Answered
 pub mod Descriptors
 pub mod Effects
 pub mod GuestBytes
