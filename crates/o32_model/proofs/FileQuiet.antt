@@ -1,5 +1,5 @@
 -- A call that fails moves nothing: the calls on files.
-use Rattle.std.proofs.Common.{◌≡◌, ℕ, List, [], ◌∷◌, length, refl}
+use Rattle.std.proofs.Common.{◌≡◌, ℕ, List, length, refl}
 use Rattle.guest_space.specs.Bytes.{copied_out}
 use Rattle.guest_space.specs.Memory.{Memory}
 use Rattle.kernel_model.specs.Came.{Came, Done, Refused, Waits, Did}

@@ -1,7 +1,6 @@
 -- The calls on names: mkdir(2), rmdir(2), unlink(2), link(2), symlink(2), rename(2), readlink(2), and their forms with descriptors of
 -- directories.
-use Rattle.std.specs.Prelude.{ℕ, ℤ, Bool, true, false, List, [], ◌∷◌, length, Option, Some, if◌then◌else◌}
-use Rattle.guest_space.specs.Memory.{Memory}
+use Rattle.std.specs.Prelude.{ℕ, ℤ, Bool, true, false, List, [], ◌∷◌, Option, Some}
 use Rattle.kernel_core.specs.declared.error.Errno.TheVariants.{EFAULT}
 use Rattle.kernel_model.specs.Came.{Did, with_some, told_zero}
 use Rattle.kernel_model.specs.NameRows.{make_directory, remove_name, link, make_link, rename, read_link}
