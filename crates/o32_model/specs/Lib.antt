@@ -4,6 +4,7 @@ pub mod Effects
 pub mod GuestBytes
 pub mod Laws
 pub mod Logs
+pub mod Paths
 pub mod Small
 pub mod Step
 pub mod Table
