@@ -3,13 +3,14 @@ pub mod Descriptors
 pub mod Effects
 pub mod Entries
 pub mod GuestBytes
-pub mod GuestPaths
 pub mod Laws
 pub mod Logs
 pub mod Names
 pub mod Narrow
 pub mod NodeCalls
 pub mod Opening
+pub mod PathArguments
+pub mod Paths
 pub mod Small
 pub mod Status
 pub mod Step

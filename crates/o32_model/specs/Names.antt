@@ -7,7 +7,8 @@ use Rattle.kernel_model.specs.NameRows.{make_directory, remove_name, link, make_
 use Rattle.kernel_model.specs.Paths.{Base, Working}
 use Rattle.kernel_model.specs.State.{Kernel}
 use Rattle.kernel_model.specs.Whole.{on_files, marked}
-use Rattle.o32_model.specs.GuestPaths.{path, base, one_flag}
+use Rattle.o32_model.specs.PathArguments.{base, one_flag}
+use Rattle.o32_model.specs.Paths.{path_at}
 use Rattle.o32_model.specs.Step.{Guest, O32Step, O32Call, gives}
 use Rattle.o32_model.specs.Texts.{stores_text}
 use Rattle.o32_model.specs.Words.{argument, signed_argument, stack_word}
@@ -16,13 +17,13 @@ use Rattle.o32_model.specs.Words.{argument, signed_argument, stack_word}
 
 unfoldable pub mkdir_row : Kernel → Guest → Base → ℕ → ℕ → List ℕ → O32Step
 mkdir_row kernel guest from address mode left =
-    gives guest (told_zero (marked kernel (λ files now. make_directory files now from (path guest.memory address) mode))) left
+    gives guest (told_zero (marked kernel (λ files now. make_directory files now from (path_at guest.memory address) mode))) left
 
 -- Removing: `directory` says whether a directory is removed, and is none where there are other flags
 
 unfoldable pub unlink_row : Kernel → Guest → Base → ℕ → Option Bool → List ℕ → O32Step
 unlink_row kernel guest from address directory left =
-    gives guest (told_zero (marked kernel (λ files now. remove_name files now from (path guest.memory address) directory))) left
+    gives guest (told_zero (marked kernel (λ files now. remove_name files now from (path_at guest.memory address) directory))) left
 
 -- AT_REMOVEDIR of Linux include/uapi/linux/fcntl.h
 abbrev pub remove_directory_flag : ℕ
@@ -34,7 +35,7 @@ abbrev pub linked : Kernel → Guest → Base → ℕ → Base → ℕ → Optio
 linked kernel guest old_from old new_from new follow =
     told_zero
     (marked kernel (λ files now.
-    link files now old_from (path guest.memory old) new_from (path guest.memory new) follow))
+    link files now old_from (path_at guest.memory old) new_from (path_at guest.memory new) follow))
 
 -- a last link of the old path is not followed
 unfoldable pub link_row : Kernel → Guest → ℕ → ℕ → List ℕ → O32Step
@@ -55,11 +56,11 @@ unfoldable pub symlink_row : Kernel → Guest → ℕ → Base → ℕ → List 
 symlink_row kernel guest target from address left =
     gives guest
     (told_zero
-    (marked kernel (λ files now. make_link files now (path guest.memory target) from (path guest.memory address)))) left
+    (marked kernel (λ files now. make_link files now (path_at guest.memory target) from (path_at guest.memory address)))) left
 
 unfoldable pub readlink_row : Kernel → Guest → Base → ℕ → ℕ → ℤ → List ℕ → O32Step
 readlink_row kernel guest from address buffer size left =
-    stores_text guest buffer (on_files kernel (read_link kernel.files from (path guest.memory address) size)) left
+    stores_text guest buffer (on_files kernel (read_link kernel.files from (path_at guest.memory address) size)) left
 
 -- Renaming
 
@@ -68,7 +69,7 @@ rename_row kernel guest old_from old new_from new left =
     gives guest
     (told_zero
     (marked kernel (λ files now.
-    rename files now old_from (path guest.memory old) new_from (path guest.memory new)))) left
+    rename files now old_from (path_at guest.memory old) new_from (path_at guest.memory new)))) left
 
 -- The numbers (Linux arch/mips/include/uapi/asm/unistd.h, the o32 table)
 abbrev pub name_calls : List O32Call

@@ -13,7 +13,8 @@ use Rattle.kernel_model.specs.declared.time.TimeSpec.{TimeSpec}
 use Rattle.layouts.specs.O32.{time}
 use Rattle.layouts.specs.Shape.{record_values}
 use Rattle.o32_model.specs.GuestBytes.{structure, read_as, unless_null}
-use Rattle.o32_model.specs.GuestPaths.{path, base, one_flag}
+use Rattle.o32_model.specs.PathArguments.{base, one_flag}
+use Rattle.o32_model.specs.Paths.{path_at}
 use Rattle.o32_model.specs.Step.{Guest, O32Step, O32Call, gives}
 use Rattle.o32_model.specs.Texts.{stores_text}
 use Rattle.o32_model.specs.Words.{argument, signed_argument, pair}
@@ -22,11 +23,11 @@ use Rattle.o32_model.specs.Words.{argument, signed_argument, pair}
 
 unfoldable pub access_row : Kernel → Guest → Base → ℕ → ℕ → List ℕ → O32Step
 access_row kernel guest from address mode left =
-    gives guest (told_zero (on_files kernel (access kernel.files from (path guest.memory address) mode))) left
+    gives guest (told_zero (on_files kernel (access kernel.files from (path_at guest.memory address) mode))) left
 
 unfoldable pub chmod_row : Kernel → Guest → Base → ℕ → ℕ → List ℕ → O32Step
 chmod_row kernel guest from address mode left =
-    gives guest (told_zero (marked kernel (λ files now. change_mode files now from (path guest.memory address) mode))) left
+    gives guest (told_zero (marked kernel (λ files now. change_mode files now from (path_at guest.memory address) mode))) left
 
 unfoldable pub fchmod_row : Kernel → Guest → ℕ → ℕ → List ℕ → O32Step
 fchmod_row kernel guest fd mode left =
@@ -64,13 +65,13 @@ utimensat_row kernel guest from address times flags left =
     gives guest
     (told_zero
     (marked kernel (λ files now.
-    set_times files now from (unless_null address (path guest.memory address)) (times_at guest.memory times) (follows_by flags)))) left
+    set_times files now from (unless_null address (path_at guest.memory address)) (times_at guest.memory times) (follows_by flags)))) left
 
 -- Sizes, as signed numbers (off_t, loff_t)
 
 unfoldable pub truncate_row : Kernel → Guest → ℕ → ℤ → List ℕ → O32Step
 truncate_row kernel guest address size left =
-    gives guest (told_zero (marked kernel (λ files now. truncate files now Working (path guest.memory address) size))) left
+    gives guest (told_zero (marked kernel (λ files now. truncate files now Working (path_at guest.memory address) size))) left
 
 unfoldable pub ftruncate_row : Kernel → Guest → ℕ → ℤ → List ℕ → O32Step
 ftruncate_row kernel guest fd size left =
@@ -89,7 +90,7 @@ sync_row kernel guest fd left = gives guest (told_zero (on_files kernel (sync ke
 
 unfoldable pub chdir_row : Kernel → Guest → ℕ → List ℕ → O32Step
 chdir_row kernel guest address left =
-    gives guest (told_zero (on_files kernel (change_directory kernel.files (path guest.memory address)))) left
+    gives guest (told_zero (on_files kernel (change_directory kernel.files (path_at guest.memory address)))) left
 
 unfoldable pub fchdir_row : Kernel → Guest → ℕ → List ℕ → O32Step
 fchdir_row kernel guest fd left = gives guest (told_zero (on_files kernel (change_to_open kernel.files fd))) left

@@ -13,8 +13,9 @@ use Rattle.kernel_model.specs.State.{Kernel}
 use Rattle.kernel_model.specs.Whole.{on_files, marked}
 use Rattle.layouts.specs.Number.{bytes_of}
 use Rattle.number_tables.specs.OpenNumbers.{open_of_o32}
-use Rattle.o32_model.specs.GuestPaths.{path, base}
 use Rattle.o32_model.specs.Narrow.{narrowed}
+use Rattle.o32_model.specs.PathArguments.{base}
+use Rattle.o32_model.specs.Paths.{path_at}
 use Rattle.o32_model.specs.Step.{Guest, O32Step, O32Call, gives, stores}
 use Rattle.o32_model.specs.Transfers.{small_file_limit}
 use Rattle.o32_model.specs.Words.{argument, signed_argument, stack_word, pair}
@@ -26,7 +27,7 @@ use Rattle.o32_model.specs.Words.{argument, signed_argument, stack_word, pair}
 unfoldable pub open_row : Kernel → Guest → Base → ℕ → Option OpenSet → ℕ → List ℕ → O32Step
 open_row kernel guest from address flags mode left =
     gives guest
-    (marked kernel (λ files now. open_file files (Some small_file_limit) now from (path guest.memory address) flags mode)) left
+    (marked kernel (λ files now. open_file files (Some small_file_limit) now from (path_at guest.memory address) flags mode)) left
 
 -- creat(2) is open(2) with O_CREAT, O_WRONLY and O_TRUNC
 abbrev pub creat_flags : OpenSet

@@ -13,8 +13,9 @@ use Rattle.kernel_model.specs.Whole.{on_files}
 use Rattle.layouts.specs.Number.{value_of, low_number}
 use Rattle.layouts.specs.O32.{stat, stat64}
 use Rattle.layouts.specs.Shape.{record_bytes}
-use Rattle.o32_model.specs.GuestPaths.{path, base, has_only}
 use Rattle.o32_model.specs.Narrow.{narrowed}
+use Rattle.o32_model.specs.PathArguments.{base, has_only}
+use Rattle.o32_model.specs.Paths.{path_at}
 use Rattle.o32_model.specs.Step.{Guest, O32Step, O32Call, stores}
 use Rattle.o32_model.specs.Transfers.{small_file_limit}
 use Rattle.o32_model.specs.Words.{argument}
@@ -63,7 +64,7 @@ stores_status64 guest address did left = stores guest address (told_as status64_
 
 -- the status by a path, with the flags that fstatat(2) has
 abbrev pub status_from : Kernel → Guest → Base → ℕ → Option StatusFlags → Did Kernel Status
-status_from kernel guest from address flags = on_files kernel (status_at_path kernel.files from (path guest.memory address) flags)
+status_from kernel guest from address flags = on_files kernel (status_at_path kernel.files from (path_at guest.memory address) flags)
 
 -- stat(2) with true, and lstat(2) with false
 abbrev pub following : Bool → Option StatusFlags

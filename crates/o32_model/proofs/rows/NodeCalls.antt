@@ -20,8 +20,8 @@ use Rattle.layouts.specs.Number.{bytes_of}
 use Rattle.mips_exec.specs.Processor.{Processor}
 use Rattle.o32_model.proofs.rows.Small.{at_first, with_node_at, page_of, words, guest, leaves}
 use Rattle.o32_model.proofs.rows.SmallTree.{mode_and_links, root_inode, file_inode, directory_inode, link_inode, removed_inode}
-use Rattle.o32_model.specs.GuestPaths.{path}
 use Rattle.o32_model.specs.NodeCalls.{access_row, chmod_row, fchmod_row, utimensat_row, truncate_row, ftruncate_row, sync_row, chdir_row, fchdir_row, getcwd_row, umask_row}
+use Rattle.o32_model.specs.Paths.{path_at}
 use Rattle.o32_model.specs.Step.{O32Step}
 use Rattle.o32_model.specs.Table.{o32_call}
 use Rattle.o32_model.specs.declared.call_words.CallWords.{CallWords}
@@ -58,135 +58,135 @@ module _ (whole : Kernel) (nodes : Nodes) (processor : Processor) (memory : Memo
 
   -- paths that can't be read
 
-  access_unread : path memory 65536 ≡ Err EFAULT → at_start (words 4033 65536 0xFFFF_FFFF 0 0) ≡ refuses EFAULT
+  access_unread : path_at memory 65536 ≡ Err EFAULT → at_start (words 4033 65536 0xFFFF_FFFF 0 0) ≡ refuses EFAULT
   unfolding access_row access
   access_unread unread = simp unread refl
 
-  faccessat_too_long : path memory 65536 ≡ Err ENAMETOOLONG → at_start (words 4300 9 65536 8 0) ≡ refuses ENAMETOOLONG
+  faccessat_too_long : path_at memory 65536 ≡ Err ENAMETOOLONG → at_start (words 4300 9 65536 8 0) ≡ refuses ENAMETOOLONG
   unfolding access_row access
   faccessat_too_long long = simp long refl
 
-  chmod_unread : path memory 65536 ≡ Err EFAULT → at_start (words 4015 65536 420 0 0) ≡ refuses EFAULT
+  chmod_unread : path_at memory 65536 ≡ Err EFAULT → at_start (words 4015 65536 420 0 0) ≡ refuses EFAULT
   unfolding chmod_row change_mode
   chmod_unread unread = simp unread refl
 
-  fchmodat_too_long : path memory 65536 ≡ Err ENAMETOOLONG → at_start (words 4299 9 65536 420 0) ≡ refuses ENAMETOOLONG
+  fchmodat_too_long : path_at memory 65536 ≡ Err ENAMETOOLONG → at_start (words 4299 9 65536 420 0) ≡ refuses ENAMETOOLONG
   unfolding chmod_row change_mode
   fchmodat_too_long long = simp long refl
 
-  truncate_unread : path memory 65536 ≡ Err EFAULT → at_start (words 4092 65536 0xFFFF_FFFF 0 0) ≡ refuses EFAULT
+  truncate_unread : path_at memory 65536 ≡ Err EFAULT → at_start (words 4092 65536 0xFFFF_FFFF 0 0) ≡ refuses EFAULT
   unfolding truncate_row truncate
   truncate_unread unread = simp unread refl
 
-  truncate64_too_long : path memory 65536 ≡ Err ENAMETOOLONG → at_start (words 4211 65536 0 0xFFFF_FFFF 0) ≡ refuses ENAMETOOLONG
+  truncate64_too_long : path_at memory 65536 ≡ Err ENAMETOOLONG → at_start (words 4211 65536 0 0xFFFF_FFFF 0) ≡ refuses ENAMETOOLONG
   unfolding truncate_row truncate
   truncate64_too_long long = simp long refl
 
-  chdir_unread : path memory 65536 ≡ Err EFAULT → at_start (words 4012 65536 0 0 0) ≡ refuses EFAULT
+  chdir_unread : path_at memory 65536 ≡ Err EFAULT → at_start (words 4012 65536 0 0 0) ≡ refuses EFAULT
   unfolding chdir_row change_directory
   chdir_unread unread = simp unread refl
 
-  utimensat_unread : path memory 65536 ≡ Err EFAULT → at_start (words 4316 9 65536 69632 0x200) ≡ refuses EFAULT
+  utimensat_unread : path_at memory 65536 ≡ Err EFAULT → at_start (words 4316 9 65536 69632 0x200) ≡ refuses EFAULT
   unfolding utimensat_row set_times
   utimensat_unread unread = simp unread refl
 
   -- numbers are looked at before the walk
 
-  access_above_7 : path memory 65536 ≡ Ok (codes "f") → at_start (words 4033 65536 8 0 0) ≡ refuses EINVAL
+  access_above_7 : path_at memory 65536 ≡ Ok (codes "f") → at_start (words 4033 65536 8 0 0) ≡ refuses EINVAL
   unfolding access_row access
   access_above_7 path = simp path refl
 
-  truncate_below_zero : path memory 65536 ≡ Ok (codes "f") → at_start (words 4092 65536 0xFFFF_FFFF 0 0) ≡ refuses EINVAL
+  truncate_below_zero : path_at memory 65536 ≡ Ok (codes "f") → at_start (words 4092 65536 0xFFFF_FFFF 0 0) ≡ refuses EINVAL
   unfolding truncate_row truncate
   truncate_below_zero path = simp path refl
 
-  truncate64_below_zero : path memory 65536 ≡ Ok (codes "f") → at_start (words 4211 65536 0 0x8000_0000 0) ≡ refuses EINVAL
+  truncate64_below_zero : path_at memory 65536 ≡ Ok (codes "f") → at_start (words 4211 65536 0 0x8000_0000 0) ≡ refuses EINVAL
   unfolding truncate_row truncate
   truncate64_below_zero path = simp path refl
 
-  faccessat_closed : path memory 65536 ≡ Ok (codes "f") → at_start (words 4300 9 65536 4 0) ≡ refuses EBADF
+  faccessat_closed : path_at memory 65536 ≡ Ok (codes "f") → at_start (words 4300 9 65536 4 0) ≡ refuses EBADF
   unfolding access_row access walk
   faccessat_closed path = simp path refl
 
-  fchmodat_closed : path memory 65536 ≡ Ok (codes "f") → at_start (words 4299 9 65536 420 0) ≡ refuses EBADF
+  fchmodat_closed : path_at memory 65536 ≡ Ok (codes "f") → at_start (words 4299 9 65536 420 0) ≡ refuses EBADF
   unfolding chmod_row change_mode walk
   fchmodat_closed path = simp path refl
 
   module _ (at_1 : get nodes 1 ≡ Some root_inode) where
-    access_missing : path memory 65536 ≡ Ok (codes "n") → at_start (words 4033 65536 0 0 0) ≡ refuses ENOENT
+    access_missing : path_at memory 65536 ≡ Ok (codes "n") → at_start (words 4033 65536 0 0 0) ≡ refuses ENOENT
     unfolding access_row access walk walked walked_from walked_through components_after ends_with_slash root_inode mode_and_links
     access_missing path = simp (path, at_1) refl
 
-    chdir_missing : path memory 65536 ≡ Ok (codes "n") → at_start (words 4012 65536 0 0 0) ≡ refuses ENOENT
+    chdir_missing : path_at memory 65536 ≡ Ok (codes "n") → at_start (words 4012 65536 0 0 0) ≡ refuses ENOENT
     unfolding chdir_row change_directory walk walked walked_from walked_through components_after ends_with_slash root_inode mode_and_links
     chdir_missing path = simp (path, at_1) refl
 
     -- the file `f`
     module _ (at_2 : get nodes 2 ≡ Some file_inode) where
-      access_file : path memory 65536 ≡ Ok (codes "f") → at_start (words 4033 65536 6 0 0) ≡ becomes (at_first nodes)
+      access_file : path_at memory 65536 ≡ Ok (codes "f") → at_start (words 4033 65536 6 0 0) ≡ becomes (at_first nodes)
       unfolding access_row access walk walked walked_from walked_through components_after ends_with_slash root_inode mode_and_links file_inode
       access_file path = simp (path, at_1, at_2) refl
 
-      faccessat_not_executable : path memory 65536 ≡ Ok (codes "/f") → at_start (words 4300 9 65536 1 0) ≡ refuses EACCES
+      faccessat_not_executable : path_at memory 65536 ≡ Ok (codes "/f") → at_start (words 4300 9 65536 1 0) ≡ refuses EACCES
       unfolding access_row access walk walked walked_from walked_through components_after ends_with_slash root_inode mode_and_links file_inode
       faccessat_not_executable path = simp (path, at_1, at_2) refl
 
-      chmod_file : path memory 65536 ≡ Ok (codes "f") → at_start (words 4015 65536 0xFFFF 0 0) ≡ becomes (after_mode (at_first nodes) (now whole) 0xFFF 2)
+      chmod_file : path_at memory 65536 ≡ Ok (codes "f") → at_start (words 4015 65536 0xFFFF 0 0) ≡ becomes (after_mode (at_first nodes) (now whole) 0xFFF 2)
       unfolding chmod_row change_mode walk walked walked_from walked_through components_after ends_with_slash root_inode mode_and_links file_inode
       chmod_file path = simp (path, at_1, at_2) refl
 
-      fchmodat_file : path memory 65536 ≡ Ok (codes "f") → at_start (words 4299 0xFFFF_FF9C 65536 420 0) ≡ becomes (after_mode (at_first nodes) (now whole) 420 2)
+      fchmodat_file : path_at memory 65536 ≡ Ok (codes "f") → at_start (words 4299 0xFFFF_FF9C 65536 420 0) ≡ becomes (after_mode (at_first nodes) (now whole) 420 2)
       unfolding chmod_row change_mode walk walked walked_from walked_through components_after ends_with_slash root_inode mode_and_links file_inode
       fchmodat_file path = simp (path, at_1, at_2) refl
 
-      truncate_file : path memory 65536 ≡ Ok (codes "f") → at_start (words 4092 65536 0x7FFF_FFFF 0 0) ≡ becomes (after_truncate (at_first nodes) (now whole) 2 0x7FFF_FFFF)
+      truncate_file : path_at memory 65536 ≡ Ok (codes "f") → at_start (words 4092 65536 0x7FFF_FFFF 0 0) ≡ becomes (after_truncate (at_first nodes) (now whole) 2 0x7FFF_FFFF)
       unfolding truncate_row truncate walk walked walked_from walked_through components_after ends_with_slash root_inode mode_and_links file_inode
       truncate_file path = simp (path, at_1, at_2) refl
 
       -- the high word first
-      truncate64_file : path memory 65536 ≡ Ok (codes "f") → at_start (words 4211 65536 0 1 2) ≡ becomes (after_truncate (at_first nodes) (now whole) 2 0x1_0000_0002)
+      truncate64_file : path_at memory 65536 ≡ Ok (codes "f") → at_start (words 4211 65536 0 1 2) ≡ becomes (after_truncate (at_first nodes) (now whole) 2 0x1_0000_0002)
       unfolding truncate_row truncate walk walked walked_from walked_through components_after ends_with_slash root_inode mode_and_links file_inode
       truncate64_file path = simp (path, at_1, at_2) refl
 
-      truncate64_too_large : path memory 65536 ≡ Ok (codes "f") → at_start (words 4211 65536 0 0x1000 1) ≡ refuses EFBIG
+      truncate64_too_large : path_at memory 65536 ≡ Ok (codes "f") → at_start (words 4211 65536 0 0x1000 1) ≡ refuses EFBIG
       unfolding truncate_row truncate walk walked walked_from walked_through components_after ends_with_slash root_inode mode_and_links file_inode
       truncate64_too_large path = simp (path, at_1, at_2) refl
 
-      chdir_file : path memory 65536 ≡ Ok (codes "f") → at_start (words 4012 65536 0 0 0) ≡ refuses ENOTDIR
+      chdir_file : path_at memory 65536 ≡ Ok (codes "f") → at_start (words 4012 65536 0 0 0) ≡ refuses ENOTDIR
       unfolding chdir_row change_directory walk walked walked_from walked_through components_after ends_with_slash root_inode mode_and_links file_inode
       chdir_file path = simp (path, at_1, at_2) refl
 
     -- the directory `d`
     module _ (at_3 : get nodes 3 ≡ Some directory_inode) where
-      chdir_directory : path memory 65536 ≡ Ok (codes "d") → at_start (words 4012 65536 0 0 0) ≡ becomes (after_change (at_first nodes) 3)
+      chdir_directory : path_at memory 65536 ≡ Ok (codes "d") → at_start (words 4012 65536 0 0 0) ≡ becomes (after_change (at_first nodes) 3)
       unfolding chdir_row change_directory walk walked walked_from walked_through components_after ends_with_slash root_inode mode_and_links directory_inode
       chdir_directory path = simp (path, at_1, at_3) refl
 
-      truncate_directory : path memory 65536 ≡ Ok (codes "d") → at_start (words 4092 65536 0 0 0) ≡ refuses EISDIR
+      truncate_directory : path_at memory 65536 ≡ Ok (codes "d") → at_start (words 4092 65536 0 0 0) ≡ refuses EISDIR
       unfolding truncate_row truncate walk walked walked_from walked_through components_after ends_with_slash root_inode mode_and_links directory_inode
       truncate_directory path = simp (path, at_1, at_3) refl
 
     -- times: those at 65792, now without them, and those of a link itself under 0x100
     module _ (at_2 : get nodes 2 ≡ Some file_inode) (at_4 : get nodes 4 ≡ Some link_inode) where
-      times_now : path memory 65536 ≡ Ok (codes "l") → at_start (words 4316 0xFFFF_FF9C 65536 0 0) ≡ becomes (after_times (at_first nodes) (now whole) (record { access = SetTo (now whole); modified = SetTo (now whole) }) 2)
+      times_now : path_at memory 65536 ≡ Ok (codes "l") → at_start (words 4316 0xFFFF_FF9C 65536 0 0) ≡ becomes (after_times (at_first nodes) (now whole) (record { access = SetTo (now whole); modified = SetTo (now whole) }) 2)
       unfolding utimensat_row set_times walk walked walked_from walked_through components_after ends_with_slash root_inode mode_and_links file_inode link_inode
       times_now path = simp (path, at_1, at_2, at_4) refl
 
-      times_of_link : path memory 65536 ≡ Ok (codes "l") → at_start (words 4316 0xFFFF_FF9C 65536 0 0x100) ≡ becomes (after_times (at_first nodes) (now whole) (record { access = SetTo (now whole); modified = SetTo (now whole) }) 4)
+      times_of_link : path_at memory 65536 ≡ Ok (codes "l") → at_start (words 4316 0xFFFF_FF9C 65536 0 0x100) ≡ becomes (after_times (at_first nodes) (now whole) (record { access = SetTo (now whole); modified = SetTo (now whole) }) 4)
       unfolding utimensat_row set_times walk walked walked_from walked_through components_after ends_with_slash root_inode mode_and_links file_inode link_inode
       times_of_link path = simp (path, at_1, at_4) refl
 
       -- -1 seconds and 5 nanoseconds, and 3 seconds and 999,999,999
-      times_given : path memory 65536 ≡ Ok (codes "f") → first_denied Load memory.pages 65792 16 ≡ None → bytes_at memory.pages 65792 16 ≡ u32 0xFFFF_FFFF ++ u32 5 ++ u32 3 ++ u32 999_999_999 → at_start (words 4316 0xFFFF_FF9C 65536 65792 0) ≡ becomes (after_times (at_first nodes) (now whole) (record { access = SetTo (negsuc 999_999_994); modified = SetTo (pos 3_999_999_999) }) 2)
+      times_given : path_at memory 65536 ≡ Ok (codes "f") → first_denied Load memory.pages 65792 16 ≡ None → bytes_at memory.pages 65792 16 ≡ u32 0xFFFF_FFFF ++ u32 5 ++ u32 3 ++ u32 999_999_999 → at_start (words 4316 0xFFFF_FF9C 65536 65792 0) ≡ becomes (after_times (at_first nodes) (now whole) (record { access = SetTo (negsuc 999_999_994); modified = SetTo (pos 3_999_999_999) }) 2)
       unfolding utimensat_row set_times walk walked walked_from walked_through components_after ends_with_slash root_inode mode_and_links file_inode link_inode
       times_given path loaded times = simp (path, loaded, times, at_1, at_2) refl
 
-      times_left_and_now : path memory 65536 ≡ Ok (codes "f") → first_denied Load memory.pages 65792 16 ≡ None → bytes_at memory.pages 65792 16 ≡ u32 7 ++ u32 0x3FFF_FFFE ++ u32 7 ++ u32 0x3FFF_FFFF → at_start (words 4316 0xFFFF_FF9C 65536 65792 0) ≡ becomes (after_times (at_first nodes) (now whole) (record { access = Leave; modified = SetTo (now whole) }) 2)
+      times_left_and_now : path_at memory 65536 ≡ Ok (codes "f") → first_denied Load memory.pages 65792 16 ≡ None → bytes_at memory.pages 65792 16 ≡ u32 7 ++ u32 0x3FFF_FFFE ++ u32 7 ++ u32 0x3FFF_FFFF → at_start (words 4316 0xFFFF_FF9C 65536 65792 0) ≡ becomes (after_times (at_first nodes) (now whole) (record { access = Leave; modified = SetTo (now whole) }) 2)
       unfolding utimensat_row set_times walk walked walked_from walked_through components_after ends_with_slash root_inode mode_and_links file_inode link_inode
       times_left_and_now path loaded times = simp (path, loaded, times, at_1, at_2) refl
 
       -- before the descriptor and the flags
-      times_wrong : path memory 65536 ≡ Ok (codes "f") → first_denied Load memory.pages 65792 16 ≡ None → bytes_at memory.pages 65792 16 ≡ u32 0 ++ u32 0 ++ u32 0 ++ u32 1_000_000_000 → at_start (words 4316 9 65536 65792 0x200) ≡ refuses EINVAL
+      times_wrong : path_at memory 65536 ≡ Ok (codes "f") → first_denied Load memory.pages 65792 16 ≡ None → bytes_at memory.pages 65792 16 ≡ u32 0 ++ u32 0 ++ u32 0 ++ u32 1_000_000_000 → at_start (words 4316 9 65536 65792 0x200) ≡ refuses EINVAL
       unfolding utimensat_row set_times walk walked walked_from walked_through components_after ends_with_slash root_inode mode_and_links file_inode link_inode
       times_wrong path loaded times = simp (path, loaded, times) refl
 

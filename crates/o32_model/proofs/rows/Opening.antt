@@ -23,8 +23,8 @@ use Rattle.kernel_model.specs.Whole.{with_files}
 use Rattle.mips_exec.specs.Processor.{Processor}
 use Rattle.o32_model.proofs.rows.Small.{to, at_first, streams_alone, with_pipe_of, with_node_at, page_of, words, guest, leaves}
 use Rattle.o32_model.proofs.rows.SmallTree.{mode_and_links, root_inode, file_inode, directory_inode, link_inode, large_inode, missing, words_of_five}
-use Rattle.o32_model.specs.GuestPaths.{path}
 use Rattle.o32_model.specs.Opening.{open_row, creat_flags, lseek_row, llseek_row}
+use Rattle.o32_model.specs.Paths.{path_at}
 use Rattle.o32_model.specs.Step.{O32Step}
 use Rattle.o32_model.specs.Table.{o32_call}
 use Rattle.o32_model.specs.declared.call_words.CallWords.{CallWords}
@@ -69,19 +69,19 @@ module _ (whole : Kernel) (nodes : Nodes) (processor : Processor) (memory : Memo
   unfolding open_row open_file
   open_makes_directory = refl
 
-  open_unread : path memory 65536 ≡ Err EFAULT → at_start (words 4005 65536 0 0 0) ≡ refuses EFAULT
+  open_unread : path_at memory 65536 ≡ Err EFAULT → at_start (words 4005 65536 0 0 0) ≡ refuses EFAULT
   unfolding open_row open_file
   open_unread unread = simp unread refl
 
-  open_too_long : path memory 65536 ≡ Err ENAMETOOLONG → at_start (words 4005 65536 0 0 0) ≡ refuses ENAMETOOLONG
+  open_too_long : path_at memory 65536 ≡ Err ENAMETOOLONG → at_start (words 4005 65536 0 0 0) ≡ refuses ENAMETOOLONG
   unfolding open_row open_file
   open_too_long long = simp long refl
 
-  creat_unread : path memory 65536 ≡ Err EFAULT → at_start (words 4008 65536 420 0 0) ≡ refuses EFAULT
+  creat_unread : path_at memory 65536 ≡ Err EFAULT → at_start (words 4008 65536 420 0 0) ≡ refuses EFAULT
   unfolding open_row open_file
   creat_unread unread = simp unread refl
 
-  openat_unread : path memory 65536 ≡ Err EFAULT → at_start (words 4288 9 65536 0 0) ≡ refuses EFAULT
+  openat_unread : path_at memory 65536 ≡ Err EFAULT → at_start (words 4288 9 65536 0 0) ≡ refuses EFAULT
   unfolding open_row open_file
   openat_unread unread = simp unread refl
 
@@ -93,24 +93,24 @@ module _ (whole : Kernel) (nodes : Nodes) (processor : Processor) (memory : Memo
   abbrev none_free : Files
   none_free = record (at_first nodes) { table = record streams_alone { fds = to 0 ∷ to 1 ∷ to 2 ∷ to 0 ∷ [] } }
 
-  open_none_free : path memory 65536 ≡ Ok (codes "f") → called (with_files whole none_free) (words 4005 65536 0 0 0) ≡ stays none_free (Error EMFILE)
+  open_none_free : path_at memory 65536 ≡ Ok (codes "f") → called (with_files whole none_free) (words 4005 65536 0 0 0) ≡ stays none_free (Error EMFILE)
   unfolding open_row open_file
   open_none_free path = simp path refl
 
-  openat_closed : path memory 65536 ≡ Ok (codes "f") → at_start (words 4288 9 65536 0 0) ≡ refuses EBADF
+  openat_closed : path_at memory 65536 ≡ Ok (codes "f") → at_start (words 4288 9 65536 0 0) ≡ refuses EBADF
   unfolding open_row open_file walk
   openat_closed path = simp path refl
 
-  openat_stream : path memory 65536 ≡ Ok (codes "f") → at_start (words 4288 0 65536 0 0) ≡ refuses ENOTDIR
+  openat_stream : path_at memory 65536 ≡ Ok (codes "f") → at_start (words 4288 0 65536 0 0) ≡ refuses ENOTDIR
   unfolding open_row open_file walk
   openat_stream path = simp path refl
 
-  openat_empty : path memory 65536 ≡ Ok (codes "") → at_start (words 4288 9 65536 0 0) ≡ refuses ENOENT
+  openat_empty : path_at memory 65536 ≡ Ok (codes "") → at_start (words 4288 9 65536 0 0) ≡ refuses ENOENT
   unfolding open_row open_file walk
   openat_empty path = simp path refl
 
   module _ (at_1 : get nodes 1 ≡ Some root_inode) where
-    open_missing : path memory 65536 ≡ Ok (codes "n") → at_start (words 4005 65536 0 0 0) ≡ refuses ENOENT
+    open_missing : path_at memory 65536 ≡ Ok (codes "n") → at_start (words 4005 65536 0 0 0) ≡ refuses ENOENT
     unfolding open_row open_file walk walked walked_from walked_through components_after ends_with_slash root_inode mode_and_links
     open_missing path = simp (path, at_1) refl
 
@@ -121,78 +121,78 @@ module _ (whole : Kernel) (nodes : Nodes) (processor : Processor) (memory : Memo
     abbrev makes : OpenSet
     makes = record (no_flags Write) { creat = true }
 
-    open_new : path memory 65536 ≡ Ok (codes "n") → len nodes ≡ 6 → live_entries nodes ≡ 5 → at_start (words 4005 65536 0x101 511 0) ≡ stays (after_open (made 511) makes 3 (new_number nodes)) (Value 3)
+    open_new : path_at memory 65536 ≡ Ok (codes "n") → len nodes ≡ 6 → live_entries nodes ≡ 5 → at_start (words 4005 65536 0x101 511 0) ≡ stays (after_open (made 511) makes 3 (new_number nodes)) (Value 3)
     unfolding open_row open_file walk walked walked_from walked_through components_after ends_with_slash root_inode mode_and_links
     open_new path few entries = simp (path, few, entries, at_1) refl
 
-    openat_new : path memory 65536 ≡ Ok (codes "n") → len nodes ≡ 6 → live_entries nodes ≡ 5 → at_start (words 4288 0xFFFF_FF9C 65536 0x101 420) ≡ stays (after_open (made 420) makes 3 (new_number nodes)) (Value 3)
+    openat_new : path_at memory 65536 ≡ Ok (codes "n") → len nodes ≡ 6 → live_entries nodes ≡ 5 → at_start (words 4288 0xFFFF_FF9C 65536 0x101 420) ≡ stays (after_open (made 420) makes 3 (new_number nodes)) (Value 3)
     unfolding open_row open_file walk walked walked_from walked_through components_after ends_with_slash root_inode mode_and_links
     openat_new path few entries = simp (path, few, entries, at_1) refl
 
-    creat_new : path memory 65536 ≡ Ok (codes "n") → len nodes ≡ 6 → live_entries nodes ≡ 5 → at_start (words 4008 65536 420 0 0) ≡ stays (after_open (made 420) creat_flags 3 (new_number nodes)) (Value 3)
+    creat_new : path_at memory 65536 ≡ Ok (codes "n") → len nodes ≡ 6 → live_entries nodes ≡ 5 → at_start (words 4008 65536 420 0 0) ≡ stays (after_open (made 420) creat_flags 3 (new_number nodes)) (Value 3)
     unfolding open_row open_file walk walked walked_from walked_through components_after ends_with_slash root_inode mode_and_links
     creat_new path few entries = simp (path, few, entries, at_1) refl
 
-    open_no_room : path memory 65536 ≡ Ok (codes "n") → len nodes ≡ 65_536 → at_start (words 4005 65536 0x101 511 0) ≡ refuses ENOSPC
+    open_no_room : path_at memory 65536 ≡ Ok (codes "n") → len nodes ≡ 65_536 → at_start (words 4005 65536 0x101 511 0) ≡ refuses ENOSPC
     unfolding open_row open_file walk walked walked_from walked_through components_after ends_with_slash root_inode mode_and_links
     open_no_room path full = simp (path, full, at_1) refl
 
     -- the file `f`
     module _ (at_2 : get nodes 2 ≡ Some file_inode) where
-      open_file_to_read : path memory 65536 ≡ Ok (codes "f") → at_start (words 4005 65536 0 0 0) ≡ stays (after_open (at_first nodes) (no_flags Read) 3 2) (Value 3)
+      open_file_to_read : path_at memory 65536 ≡ Ok (codes "f") → at_start (words 4005 65536 0 0 0) ≡ stays (after_open (at_first nodes) (no_flags Read) 3 2) (Value 3)
       unfolding open_row open_file walk walked walked_from walked_through components_after ends_with_slash root_inode mode_and_links file_inode
       open_file_to_read path = simp (path, at_1, at_2) refl
 
-      open_on_exec : path memory 65536 ≡ Ok (codes "f") → at_start (words 4005 65536 0x82002 0 0) ≡ stays (after_open (at_first nodes) (record (no_flags ReadWrite) { largefile = true; cloexec = true }) 3 2) (Value 3)
+      open_on_exec : path_at memory 65536 ≡ Ok (codes "f") → at_start (words 4005 65536 0x82002 0 0) ≡ stays (after_open (at_first nodes) (record (no_flags ReadWrite) { largefile = true; cloexec = true }) 3 2) (Value 3)
       unfolding open_row open_file walk walked walked_from walked_through components_after ends_with_slash root_inode mode_and_links file_inode
       open_on_exec path = simp (path, at_1, at_2) refl
 
       -- a path that begins with a slash looks at no descriptor
-      openat_root : path memory 65536 ≡ Ok (codes "/f") → at_start (words 4288 9 65536 0 0) ≡ stays (after_open (at_first nodes) (no_flags Read) 3 2) (Value 3)
+      openat_root : path_at memory 65536 ≡ Ok (codes "/f") → at_start (words 4288 9 65536 0 0) ≡ stays (after_open (at_first nodes) (no_flags Read) 3 2) (Value 3)
       unfolding open_row open_file walk walked walked_from walked_through components_after ends_with_slash root_inode mode_and_links file_inode
       openat_root path = simp (path, at_1, at_2) refl
 
-      creat_old : path memory 65536 ≡ Ok (codes "f") → at_start (words 4008 65536 420 0 0) ≡ stays (after_open (record (at_first nodes) { nodes = after_resize nodes 2 0 (now whole) }) creat_flags 3 2) (Value 3)
+      creat_old : path_at memory 65536 ≡ Ok (codes "f") → at_start (words 4008 65536 420 0 0) ≡ stays (after_open (record (at_first nodes) { nodes = after_resize nodes 2 0 (now whole) }) creat_flags 3 2) (Value 3)
       unfolding open_row open_file walk walked walked_from walked_through components_after ends_with_slash root_inode mode_and_links file_inode
       creat_old path = simp (path, at_1, at_2) refl
 
-      open_old_as_new : path memory 65536 ≡ Ok (codes "f") → at_start (words 4005 65536 0x501 420 0) ≡ refuses EEXIST
+      open_old_as_new : path_at memory 65536 ≡ Ok (codes "f") → at_start (words 4005 65536 0x501 420 0) ≡ refuses EEXIST
       unfolding open_row open_file walk walked walked_from walked_through components_after ends_with_slash root_inode mode_and_links file_inode
       open_old_as_new path = simp (path, at_1, at_2) refl
 
-      open_file_as_directory : path memory 65536 ≡ Ok (codes "f") → at_start (words 4005 65536 0x10000 0 0) ≡ refuses ENOTDIR
+      open_file_as_directory : path_at memory 65536 ≡ Ok (codes "f") → at_start (words 4005 65536 0x10000 0 0) ≡ refuses ENOTDIR
       unfolding open_row open_file walk walked walked_from walked_through components_after ends_with_slash root_inode mode_and_links file_inode
       open_file_as_directory path = simp (path, at_1, at_2) refl
 
     -- the directory `d`, and the link `l`
 
-    open_directory_to_write : get nodes 3 ≡ Some directory_inode → path memory 65536 ≡ Ok (codes "d") → at_start (words 4005 65536 1 0 0) ≡ refuses EISDIR
+    open_directory_to_write : get nodes 3 ≡ Some directory_inode → path_at memory 65536 ≡ Ok (codes "d") → at_start (words 4005 65536 1 0 0) ≡ refuses EISDIR
     unfolding open_row open_file walk walked walked_from walked_through components_after ends_with_slash root_inode mode_and_links directory_inode
     open_directory_to_write at_3 path = simp (at_3, path, at_1) refl
 
-    creat_directory : get nodes 3 ≡ Some directory_inode → path memory 65536 ≡ Ok (codes "d") → at_start (words 4008 65536 420 0 0) ≡ refuses EISDIR
+    creat_directory : get nodes 3 ≡ Some directory_inode → path_at memory 65536 ≡ Ok (codes "d") → at_start (words 4008 65536 420 0 0) ≡ refuses EISDIR
     unfolding open_row open_file walk walked walked_from walked_through components_after ends_with_slash root_inode mode_and_links directory_inode
     creat_directory at_3 path = simp (at_3, path, at_1) refl
 
-    open_link_itself : get nodes 4 ≡ Some link_inode → path memory 65536 ≡ Ok (codes "l") → at_start (words 4005 65536 0x20000 0 0) ≡ refuses ELOOP
+    open_link_itself : get nodes 4 ≡ Some link_inode → path_at memory 65536 ≡ Ok (codes "l") → at_start (words 4005 65536 0x20000 0 0) ≡ refuses ELOOP
     unfolding open_row open_file walk walked walked_from walked_through components_after ends_with_slash root_inode mode_and_links link_inode
     open_link_itself at_4 path = simp (at_4, path, at_1) refl
 
     -- the file `g` of 2^31 bytes: without LARGEFILE it is left as it was, and with it TRUNC makes it empty
     module _ (at_5 : get nodes 5 ≡ Some large_inode) where
-      open_large : path memory 65536 ≡ Ok (codes "g") → at_start (words 4005 65536 0 0 0) ≡ refuses EOVERFLOW
+      open_large : path_at memory 65536 ≡ Ok (codes "g") → at_start (words 4005 65536 0 0 0) ≡ refuses EOVERFLOW
       unfolding open_row open_file walk walked walked_from walked_through components_after ends_with_slash root_inode mode_and_links large_inode
       open_large path = simp (path, at_1, at_5) refl
 
-      open_large_to_truncate : path memory 65536 ≡ Ok (codes "g") → at_start (words 4005 65536 0x202 0 0) ≡ refuses EOVERFLOW
+      open_large_to_truncate : path_at memory 65536 ≡ Ok (codes "g") → at_start (words 4005 65536 0x202 0 0) ≡ refuses EOVERFLOW
       unfolding open_row open_file walk walked walked_from walked_through components_after ends_with_slash root_inode mode_and_links large_inode
       open_large_to_truncate path = simp (path, at_1, at_5) refl
 
-      creat_large : path memory 65536 ≡ Ok (codes "g") → at_start (words 4008 65536 420 0 0) ≡ refuses EOVERFLOW
+      creat_large : path_at memory 65536 ≡ Ok (codes "g") → at_start (words 4008 65536 420 0 0) ≡ refuses EOVERFLOW
       unfolding open_row open_file walk walked walked_from walked_through components_after ends_with_slash root_inode mode_and_links large_inode
       creat_large path = simp (path, at_1, at_5) refl
 
-      open_large_by_flag : path memory 65536 ≡ Ok (codes "g") → at_start (words 4005 65536 0x2202 0 0) ≡ stays (after_open (record (at_first nodes) { nodes = after_resize nodes 5 0 (now whole) }) (record (no_flags ReadWrite) { trunc = true; largefile = true }) 3 5) (Value 3)
+      open_large_by_flag : path_at memory 65536 ≡ Ok (codes "g") → at_start (words 4005 65536 0x2202 0 0) ≡ stays (after_open (record (at_first nodes) { nodes = after_resize nodes 5 0 (now whole) }) (record (no_flags ReadWrite) { trunc = true; largefile = true }) 3 5) (Value 3)
       unfolding open_row open_file walk walked walked_from walked_through components_after ends_with_slash root_inode mode_and_links large_inode
       open_large_by_flag path = simp (path, at_1, at_5) refl
 

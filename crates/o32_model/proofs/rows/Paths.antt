@@ -1,58 +1,54 @@
--- Worked rows on paths in memory.
-use Rattle.std.specs.Prelude.{◌≡◌, ℕ, true, false, List, [], ◌∷◌, Some, None, Ok, Err, refl}
-use Rattle.std.specs.FinMap.{get}
-use Rattle.guest_space.specs.Access.{readable_prefix, first_denied, refusal}
-use Rattle.guest_space.specs.Bytes.{bytes_at, byte_at}
+-- Worked rows on paths in memory, and on the arguments of calls that take one.
+use Rattle.std.specs.Prelude.{◌≡◌, ℕ, true, false, List, [], ◌∷◌, length, position, take, Some, None, Ok, Err, refl}
+use Rattle.std.specs.List.{position_or_len}
+use Rattle.guest_space.specs.Access.{readable_prefix}
+use Rattle.guest_space.specs.Bytes.{bytes_at}
 use Rattle.guest_space.specs.Memory.{Memory}
 use Rattle.kernel_core.specs.declared.error.Errno.TheVariants.{EFAULT, ENAMETOOLONG}
 use Rattle.kernel_model.specs.Paths.{Working, Descriptor}
-use Rattle.o32_model.proofs.rows.Small.{page_of}
-use Rattle.o32_model.specs.GuestPaths.{text, path, base, one_flag, has_only}
+use Rattle.o32_model.specs.PathArguments.{base, one_flag, has_only}
+use Rattle.o32_model.specs.Paths.{is_nul, path_at}
 
 module _ (memory : Memory) where
-  -- "ab"
-  up_to_nul : get memory.pages 16 ≡ Some (page_of (97 ∷ 98 ∷ 0 ∷ 99 ∷ [])) → text memory 65536 4 ≡ Ok (97 ∷ 98 ∷ [])
-  unfolding text readable_prefix first_denied refusal bytes_at byte_at
-  up_to_nul kept = simp kept refl
+  -- "ab"; what stands behind the NUL plays no part
+  up_to_nul : readable_prefix memory.pages 65536 4096 ≡ 4 → bytes_at memory.pages 65536 4 ≡ 97 ∷ 98 ∷ 0 ∷ 99 ∷ []
+      → path_at memory 65536 ≡ Ok (97 ∷ 98 ∷ [])
+  unfolding path_at
+  up_to_nul four bytes = simp (four, bytes) refl
 
-  no_byte : get memory.pages 16 ≡ Some (page_of (0 ∷ 97 ∷ [])) → text memory 65536 4 ≡ Ok []
-  unfolding text readable_prefix first_denied refusal bytes_at byte_at
-  no_byte kept = simp kept refl
+  no_byte : readable_prefix memory.pages 65536 4096 ≡ 2 → bytes_at memory.pages 65536 2 ≡ 0 ∷ 97 ∷ [] → path_at memory 65536 ≡ Ok []
+  unfolding path_at
+  no_byte two bytes = simp (two, bytes) refl
 
-  -- a NUL that is the last of the bytes that are looked at, and one behind them
-  longest : get memory.pages 16 ≡ Some (page_of (97 ∷ 98 ∷ 99 ∷ 0 ∷ [])) → text memory 65536 4 ≡ Ok (97 ∷ 98 ∷ 99 ∷ [])
-  unfolding text readable_prefix first_denied refusal bytes_at byte_at
-  longest kept = simp kept refl
+  -- a page that is absent ends the bytes: a NUL before it ends the path, and without one that is EFAULT and not ENAMETOOLONG
+  before_absent : readable_prefix memory.pages 69630 4096 ≡ 2 → bytes_at memory.pages 69630 2 ≡ 97 ∷ 0 ∷ [] → path_at memory 69630 ≡ Ok (97 ∷ [])
+  unfolding path_at
+  before_absent two bytes = simp (two, bytes) refl
 
-  too_long : get memory.pages 16 ≡ Some (page_of (97 ∷ 98 ∷ 99 ∷ 100 ∷ 0 ∷ [])) → text memory 65536 4 ≡ Err ENAMETOOLONG
-  unfolding text readable_prefix first_denied refusal bytes_at byte_at
-  too_long kept = simp kept refl
+  into_absent : readable_prefix memory.pages 69630 4096 ≡ 2 → bytes_at memory.pages 69630 2 ≡ 97 ∷ 98 ∷ [] → path_at memory 69630 ≡ Err EFAULT
+  unfolding path_at
+  into_absent two bytes = simp (two, bytes) refl
 
-  -- a page that is absent behind two bytes: a NUL before it ends the text, and without one that is EFAULT and not ENAMETOOLONG
-  module _ (held : List ℕ) (kept : get memory.pages 16 ≡ Some (page_of held)) (absent : get memory.pages 17 ≡ None) where
-    before_absent : bytes_at memory.pages 69630 2 ≡ 97 ∷ 0 ∷ [] → text memory 69630 4 ≡ Ok (97 ∷ [])
-    unfolding text readable_prefix first_denied refusal
-    before_absent two = simp (kept, absent, two) refl
+  all_absent : readable_prefix memory.pages 69632 4096 ≡ 0 → path_at memory 69632 ≡ Err EFAULT
+  unfolding path_at bytes_at
+  all_absent none = simp none refl
 
-    into_absent : bytes_at memory.pages 69630 2 ≡ 97 ∷ 98 ∷ [] → text memory 69630 4 ≡ Err EFAULT
-    unfolding text readable_prefix first_denied refusal
-    into_absent two = simp (kept, absent, two) refl
+  -- one byte is missing of 4096, and none is
+  nearly_too_long : (bytes : List ℕ) → readable_prefix memory.pages 65537 4096 ≡ 4095 → bytes_at memory.pages 65537 4095 ≡ bytes
+      → length bytes ≡ 4095 → position_or_len is_nul bytes ≡ 4095 → path_at memory 65537 ≡ Err EFAULT
+  unfolding path_at
+  nearly_too_long bytes readable held long plain = simp (readable, held, plain, long) refl
 
-    -- as many bytes as are looked at may stand before it
-    up_to_absent : bytes_at memory.pages 69628 4 ≡ 97 ∷ 98 ∷ 99 ∷ 100 ∷ [] → text memory 69628 4 ≡ Err ENAMETOOLONG
-    unfolding text readable_prefix first_denied refusal
-    up_to_absent four = simp (kept, four) refl
+  too_long : (bytes : List ℕ) → readable_prefix memory.pages 65536 4096 ≡ 4096 → bytes_at memory.pages 65536 4096 ≡ bytes
+      → length bytes ≡ 4096 → position_or_len is_nul bytes ≡ 4096 → path_at memory 65536 ≡ Err ENAMETOOLONG
+  unfolding path_at
+  too_long bytes readable held long plain = simp (readable, held, plain, long) refl
 
-  all_absent : get memory.pages 17 ≡ None → text memory 69632 4 ≡ Err EFAULT
-  unfolding text readable_prefix first_denied refusal bytes_at
-  all_absent absent = simp absent refl
-
-  past_user_space : text memory 0x7FFF_8000 4 ≡ Err EFAULT
-  unfolding text readable_prefix first_denied refusal bytes_at
-  past_user_space = refl
-
-  of_4096 : path memory 65536 ≡ text memory 65536 4096
-  of_4096 = refl
+  -- the NUL is the last of 4096
+  longest : (bytes : List ℕ) → readable_prefix memory.pages 65536 4096 ≡ 4096 → bytes_at memory.pages 65536 4096 ≡ bytes
+      → position is_nul bytes ≡ Some 4095 → path_at memory 65536 ≡ Ok (take 4095 bytes)
+  unfolding path_at
+  longest bytes readable held last = simp (readable, held, last) refl
 
 -- -100, a descriptor, and another number below 0
 

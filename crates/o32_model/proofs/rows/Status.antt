@@ -21,7 +21,7 @@ use Rattle.layouts.specs.Number.{bytes_of}
 use Rattle.mips_exec.specs.Processor.{Processor}
 use Rattle.o32_model.proofs.rows.Small.{at_first, with_pipe_of, with_node_at, page_of, words, guest, leaves}
 use Rattle.o32_model.proofs.rows.SmallTree.{mode_and_links, root_inode, file_inode, link_inode, large_inode, aged_inode}
-use Rattle.o32_model.specs.GuestPaths.{path}
+use Rattle.o32_model.specs.Paths.{path_at}
 use Rattle.o32_model.specs.Status.{stat_row, fstat_row, stat64_row, fstat64_row, fstatat64_row}
 use Rattle.o32_model.specs.Step.{O32Step}
 use Rattle.o32_model.specs.Table.{o32_call}
@@ -138,27 +138,27 @@ module _ (whole : Kernel) (nodes : Nodes) (processor : Processor) (memory : Memo
 
   -- of a path that can't be read, and one that names nothing
 
-  stat_unread : path memory 65536 ≡ Err EFAULT → at_start (words 4106 65536 0x8000_0000 0 0) ≡ refuses EFAULT
+  stat_unread : path_at memory 65536 ≡ Err EFAULT → at_start (words 4106 65536 0x8000_0000 0 0) ≡ refuses EFAULT
   unfolding stat_row status_at_path
   stat_unread unread = simp unread refl
 
-  lstat_too_long : path memory 65536 ≡ Err ENAMETOOLONG → at_start (words 4107 65536 0x8000_0000 0 0) ≡ refuses ENAMETOOLONG
+  lstat_too_long : path_at memory 65536 ≡ Err ENAMETOOLONG → at_start (words 4107 65536 0x8000_0000 0 0) ≡ refuses ENAMETOOLONG
   unfolding stat_row status_at_path
   lstat_too_long long = simp long refl
 
-  stat64_empty : path memory 65536 ≡ Ok (codes "") → at_start (words 4213 65536 0x8000_0000 0 0) ≡ refuses ENOENT
+  stat64_empty : path_at memory 65536 ≡ Ok (codes "") → at_start (words 4213 65536 0x8000_0000 0 0) ≡ refuses ENOENT
   unfolding stat64_row status_at_path walk
   stat64_empty path = simp path refl
 
-  lstat64_unread : path memory 65536 ≡ Err EFAULT → at_start (words 4214 65536 0x8000_0000 0 0) ≡ refuses EFAULT
+  lstat64_unread : path_at memory 65536 ≡ Err EFAULT → at_start (words 4214 65536 0x8000_0000 0 0) ≡ refuses EFAULT
   unfolding stat64_row status_at_path
   lstat64_unread unread = simp unread refl
 
-  fstatat64_unread : path memory 65536 ≡ Err EFAULT → at_start (words 4293 9 65536 0x8000_0000 0) ≡ refuses EFAULT
+  fstatat64_unread : path_at memory 65536 ≡ Err EFAULT → at_start (words 4293 9 65536 0x8000_0000 0) ≡ refuses EFAULT
   unfolding fstatat64_row status_at_path
   fstatat64_unread unread = simp unread refl
 
-  fstatat64_closed : path memory 65536 ≡ Ok (codes "f") → at_start (words 4293 9 65536 0x8000_0000 0) ≡ refuses EBADF
+  fstatat64_closed : path_at memory 65536 ≡ Ok (codes "f") → at_start (words 4293 9 65536 0x8000_0000 0) ≡ refuses EBADF
   unfolding fstatat64_row status_at_path walk
   fstatat64_closed path = simp path refl
 
@@ -169,70 +169,70 @@ module _ (whole : Kernel) (nodes : Nodes) (processor : Processor) (memory : Memo
 
   -- an empty path under 0x1000: the descriptor itself, and the working directory
 
-  descriptor_itself : first_denied Store memory.pages 65792 104 ≡ None → path memory 65536 ≡ Ok (codes "") → at_start (words 4293 1 65536 65792 0x1000) ≡ stores (at_first nodes) (new 2 2 4480 1 0 0 no_times 0)
+  descriptor_itself : first_denied Store memory.pages 65792 104 ≡ None → path_at memory 65536 ≡ Ok (codes "") → at_start (words 4293 1 65536 65792 0x1000) ≡ stores (at_first nodes) (new 2 2 4480 1 0 0 no_times 0)
   unfolding fstatat64_row status_at_path status
   descriptor_itself room path = simp (room, path) refl
 
-  closed_itself : path memory 65536 ≡ Ok (codes "") → at_start (words 4293 9 65536 65792 0x1000) ≡ refuses EBADF
+  closed_itself : path_at memory 65536 ≡ Ok (codes "") → at_start (words 4293 9 65536 65792 0x1000) ≡ refuses EBADF
   unfolding fstatat64_row status_at_path status
   closed_itself path = simp path refl
 
-  working_directory_itself : first_denied Store memory.pages 65792 104 ≡ None → path memory 65536 ≡ Ok (codes "") → get nodes 1 ≡ Some root_inode → at_start (words 4293 0xFFFF_FF9C 65536 65792 0x1000) ≡ stores (at_first nodes) (new 1 1 16877 3 0 4096 no_times 8)
+  working_directory_itself : first_denied Store memory.pages 65792 104 ≡ None → path_at memory 65536 ≡ Ok (codes "") → get nodes 1 ≡ Some root_inode → at_start (words 4293 0xFFFF_FF9C 65536 65792 0x1000) ≡ stores (at_first nodes) (new 1 1 16877 3 0 4096 no_times 8)
   unfolding fstatat64_row status_at_path root_inode mode_and_links
   working_directory_itself room path at_1 = simp (room, path, at_1) refl
 
   module _ (at_1 : get nodes 1 ≡ Some root_inode) where
-    stat_missing : path memory 65536 ≡ Ok (codes "n") → at_start (words 4106 65536 0x8000_0000 0 0) ≡ refuses ENOENT
+    stat_missing : path_at memory 65536 ≡ Ok (codes "n") → at_start (words 4106 65536 0x8000_0000 0 0) ≡ refuses ENOENT
     unfolding stat_row status_at_path walk walked walked_from walked_through components_after ends_with_slash root_inode mode_and_links
     stat_missing path = simp (path, at_1) refl
 
     -- the file `f`, by its name and by the link `l`, and the link itself
     module _ (at_2 : get nodes 2 ≡ Some file_inode) (at_4 : get nodes 4 ≡ Some link_inode) where
-      stat_file : first_denied Store memory.pages 65792 144 ≡ None → path memory 65536 ≡ Ok (codes "f") → at_start (words 4106 65536 65792 0 0) ≡ stores (at_first nodes) (old 1 2 33188 1 0 0 no_times 0)
+      stat_file : first_denied Store memory.pages 65792 144 ≡ None → path_at memory 65536 ≡ Ok (codes "f") → at_start (words 4106 65536 65792 0 0) ≡ stores (at_first nodes) (old 1 2 33188 1 0 0 no_times 0)
       unfolding stat_row status_at_path walk walked walked_from walked_through components_after ends_with_slash root_inode mode_and_links file_inode link_inode
       stat_file room path = simp (room, path, at_1, at_2, len-empty nat_cmp (List ℕ)) refl
 
-      stat_link : first_denied Store memory.pages 65792 144 ≡ None → path memory 65536 ≡ Ok (codes "l") → at_start (words 4106 65536 65792 0 0) ≡ stores (at_first nodes) (old 1 2 33188 1 0 0 no_times 0)
+      stat_link : first_denied Store memory.pages 65792 144 ≡ None → path_at memory 65536 ≡ Ok (codes "l") → at_start (words 4106 65536 65792 0 0) ≡ stores (at_first nodes) (old 1 2 33188 1 0 0 no_times 0)
       unfolding stat_row status_at_path walk walked walked_from walked_through components_after ends_with_slash root_inode mode_and_links file_inode link_inode
       stat_link room path = simp (room, path, at_1, at_2, at_4, len-empty nat_cmp (List ℕ)) refl
 
-      lstat_file : first_denied Store memory.pages 65792 144 ≡ None → path memory 65536 ≡ Ok (codes "f") → at_start (words 4107 65536 65792 0 0) ≡ stores (at_first nodes) (old 1 2 33188 1 0 0 no_times 0)
+      lstat_file : first_denied Store memory.pages 65792 144 ≡ None → path_at memory 65536 ≡ Ok (codes "f") → at_start (words 4107 65536 65792 0 0) ≡ stores (at_first nodes) (old 1 2 33188 1 0 0 no_times 0)
       unfolding stat_row status_at_path walk walked walked_from walked_through components_after ends_with_slash root_inode mode_and_links file_inode link_inode
       lstat_file room path = simp (room, path, at_1, at_2, len-empty nat_cmp (List ℕ)) refl
 
-      lstat_link : first_denied Store memory.pages 65792 144 ≡ None → path memory 65536 ≡ Ok (codes "l") → at_start (words 4107 65536 65792 0 0) ≡ stores (at_first nodes) (old 1 4 41471 1 0 1 no_times 0)
+      lstat_link : first_denied Store memory.pages 65792 144 ≡ None → path_at memory 65536 ≡ Ok (codes "l") → at_start (words 4107 65536 65792 0 0) ≡ stores (at_first nodes) (old 1 4 41471 1 0 1 no_times 0)
       unfolding stat_row status_at_path walk walked walked_from walked_through components_after ends_with_slash root_inode mode_and_links file_inode link_inode
       lstat_link room path = simp (room, path, at_1, at_4) refl
 
-      stat64_link : first_denied Store memory.pages 65792 104 ≡ None → path memory 65536 ≡ Ok (codes "l") → at_start (words 4213 65536 65792 0 0) ≡ stores (at_first nodes) (new 1 2 33188 1 0 0 no_times 0)
+      stat64_link : first_denied Store memory.pages 65792 104 ≡ None → path_at memory 65536 ≡ Ok (codes "l") → at_start (words 4213 65536 65792 0 0) ≡ stores (at_first nodes) (new 1 2 33188 1 0 0 no_times 0)
       unfolding stat64_row status_at_path walk walked walked_from walked_through components_after ends_with_slash root_inode mode_and_links file_inode link_inode
       stat64_link room path = simp (room, path, at_1, at_2, at_4, len-empty nat_cmp (List ℕ)) refl
 
-      lstat64_link : first_denied Store memory.pages 65792 104 ≡ None → path memory 65536 ≡ Ok (codes "l") → at_start (words 4214 65536 65792 0 0) ≡ stores (at_first nodes) (new 1 4 41471 1 0 1 no_times 0)
+      lstat64_link : first_denied Store memory.pages 65792 104 ≡ None → path_at memory 65536 ≡ Ok (codes "l") → at_start (words 4214 65536 65792 0 0) ≡ stores (at_first nodes) (new 1 4 41471 1 0 1 no_times 0)
       unfolding stat64_row status_at_path walk walked walked_from walked_through components_after ends_with_slash root_inode mode_and_links file_inode link_inode
       lstat64_link room path = simp (room, path, at_1, at_4) refl
 
       -- 0x800 says nothing, and 0x100 that a last link is not followed
-      fstatat64_link : first_denied Store memory.pages 65792 104 ≡ None → path memory 65536 ≡ Ok (codes "l") → at_start (words 4293 0xFFFF_FF9C 65536 65792 0x800) ≡ stores (at_first nodes) (new 1 2 33188 1 0 0 no_times 0)
+      fstatat64_link : first_denied Store memory.pages 65792 104 ≡ None → path_at memory 65536 ≡ Ok (codes "l") → at_start (words 4293 0xFFFF_FF9C 65536 65792 0x800) ≡ stores (at_first nodes) (new 1 2 33188 1 0 0 no_times 0)
       unfolding fstatat64_row status_at_path walk walked walked_from walked_through components_after ends_with_slash root_inode mode_and_links file_inode link_inode
       fstatat64_link room path = simp (room, path, at_1, at_2, at_4, len-empty nat_cmp (List ℕ)) refl
 
-      fstatat64_link_itself : first_denied Store memory.pages 65792 104 ≡ None → path memory 65536 ≡ Ok (codes "/l") → at_start (words 4293 9 65536 65792 0x1100) ≡ stores (at_first nodes) (new 1 4 41471 1 0 1 no_times 0)
+      fstatat64_link_itself : first_denied Store memory.pages 65792 104 ≡ None → path_at memory 65536 ≡ Ok (codes "/l") → at_start (words 4293 9 65536 65792 0x1100) ≡ stores (at_first nodes) (new 1 4 41471 1 0 1 no_times 0)
       unfolding fstatat64_row status_at_path walk walked walked_from walked_through components_after ends_with_slash root_inode mode_and_links file_inode link_inode
       fstatat64_link_itself room path = simp (room, path, at_1, at_4) refl
 
     -- the file `w`: its number has more than 32 bits, its time of modification lies before the Epoch, and of the seconds of its change the low
     -- 32 bits are kept
     module _ (at_w : get nodes 0x1_0000_0001 ≡ Some aged_inode) where
-      stat_wide : path memory 65536 ≡ Ok (codes "w") → at_start (words 4106 65536 0x8000_0000 0 0) ≡ refuses EOVERFLOW
+      stat_wide : path_at memory 65536 ≡ Ok (codes "w") → at_start (words 4106 65536 0x8000_0000 0 0) ≡ refuses EOVERFLOW
       unfolding stat_row status_at_path walk walked walked_from walked_through components_after ends_with_slash root_inode mode_and_links aged_inode
       stat_wide path = simp (path, at_1, at_w) refl
 
-      lstat_wide : path memory 65536 ≡ Ok (codes "w") → at_start (words 4107 65536 0x8000_0000 0 0) ≡ refuses EOVERFLOW
+      lstat_wide : path_at memory 65536 ≡ Ok (codes "w") → at_start (words 4107 65536 0x8000_0000 0 0) ≡ refuses EOVERFLOW
       unfolding stat_row status_at_path walk walked walked_from walked_through components_after ends_with_slash root_inode mode_and_links aged_inode
       lstat_wide path = simp (path, at_1, at_w) refl
 
-      stat64_wide : first_denied Store memory.pages 65792 104 ≡ None → path memory 65536 ≡ Ok (codes "w") → at_start (words 4213 65536 65792 0 0) ≡ stores (at_first nodes)
+      stat64_wide : first_denied Store memory.pages 65792 104 ≡ None → path_at memory 65536 ≡ Ok (codes "w") → at_start (words 4213 65536 65792 0 0) ≡ stores (at_first nodes)
           (new 1 0x1_0000_0001 33188 1 0 0 (zeros 8 ++ u32 0xFFFF_FFFF ++ u32 500_000_000 ++ u32 3 ++ u32 5) 0)
       unfolding stat64_row status_at_path walk walked walked_from walked_through components_after ends_with_slash root_inode mode_and_links aged_inode
       stat64_wide room path = simp (room, path, at_1, at_w, len-empty nat_cmp (List ℕ)) refl
