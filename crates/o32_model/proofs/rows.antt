@@ -1,5 +1,6 @@
 pub mod Descriptors
 pub mod Effects
+pub mod Mappings
 pub mod Small
 pub mod SmallCalls
 pub mod Terminal

@@ -20,3 +20,7 @@ pub record MovesNothing (guest : Guest) (left : List ℕ) (step : O32Step) : Typ
   pub set : step.processor ≡ guest.processor
   pub rest : step.left ≡ left
   pub sent : step.sent ≡ nothing
+
+-- the one call that may fail with a part of its work done
+abbrev pub mprotect_number : ℕ
+mprotect_number = 4125

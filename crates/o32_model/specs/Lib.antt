@@ -4,6 +4,8 @@ pub mod Effects
 pub mod GuestBytes
 pub mod Laws
 pub mod Logs
+pub mod Mappings
+pub mod Ranges
 pub mod Small
 pub mod Step
 pub mod Table

@@ -6,6 +6,7 @@ use Rattle.kernel_model.specs.Came.{refused}
 use Rattle.kernel_model.specs.State.{Kernel}
 use Rattle.number_tables.specs.Numbered.{numbered_or}
 use Rattle.o32_model.specs.Descriptors.{descriptor_calls}
+use Rattle.o32_model.specs.Mappings.{map_calls}
 use Rattle.o32_model.specs.Small.{small_calls}
 use Rattle.o32_model.specs.Step.{Guest, O32Step, O32Call, gives}
 use Rattle.o32_model.specs.Terminal.{terminal_calls}
@@ -24,14 +25,17 @@ io_call_or otherwise number =
     number) number) number
 
 abbrev pub call_of : ℕ → Option O32Call
-call_of number = io_call_or (call_in small_calls None number) number
+call_of number = io_call_or (call_in small_calls (call_in map_calls None number) number) number
 
--- whether a number is that of a call on descriptors and what they have open, and of a small call
+-- whether a number is that of a call on descriptors and what they have open, of a small call, and of a call on mappings
 abbrev pub is_io_call : ℕ → Bool
 is_io_call number = is_some (io_call_or None number)
 
 abbrev pub is_small_call : ℕ → Bool
 is_small_call number = is_some (call_in small_calls None number)
+
+abbrev pub is_map_call : ℕ → Bool
+is_map_call number = is_some (call_in map_calls None number)
 
 abbrev pub step_of : Option O32Call → Kernel → Guest → List ℕ → O32Step
 step_of None kernel guest left = gives guest (refused kernel ENOSYS) left
