@@ -1,14 +1,13 @@
 -- A call that fails moves nothing: the calls on mappings. mprotect alone may fail with a part of its work done.
-use Rattle.std.proofs.Common.{◌≡◌, ◌≢◌, ℕ, ◌==◌, ◌*◌, ◌+◌, Bool, true, false, not, List, [], ◌∷◌, refl, sym, ap, subst, arith}
-use Rattle.std.specs.Prelude.{Option, Some, None, if◌then◌else◌, ⊤}
+use Rattle.std.proofs.Common.{◌≡◌, ◌≢◌, ℕ, ◌==◌, ◌*◌, Bool, true, false, List, [], ◌∷◌, refl, arith}
+use Rattle.std.specs.Prelude.{Some, None, if◌then◌else◌, ⊤}
 use Rattle.std.proofs.lemmas.Bool.Decides.{nat_tests}
 use Rattle.guest_space.specs.Memory.{Memory, Pages}
 use Rattle.kernel_core.specs.declared.map_flags.MapFlags.{MapFlags}
-use Rattle.kernel_model.proofs.refusals.Checks.{done_stays, refused_stays, if_stays, given_stays, some_stays, choice_stays, widened_stays, stays}
+use Rattle.kernel_model.proofs.refusals.Checks.{some_stays, widened_stays, stays}
 use Rattle.kernel_model.specs.Came.{Came, Done, Refused, Waits, Did, told_as}
 use Rattle.kernel_model.specs.Laws.{StaysAt, StaysUnlessDone}
 use Rattle.kernel_model.specs.State.{Kernel, Files}
-use Rattle.number_tables.specs.MapNumbers.{map_flags_in}
 use Rattle.o32_model.proofs.Quiet.{Quiet, CallQuiet, QuietIfAny}
 use Rattle.o32_model.specs.Laws.{IsFailure, mprotect_number}
 use Rattle.o32_model.specs.Mappings.{Wish, brk, maps, mapped_as, mmap, mmap_in, munmap, msync, madvise, at_page, mremap, map_calls}

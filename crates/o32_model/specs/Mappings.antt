@@ -1,7 +1,7 @@
 -- The calls on mappings and the program break: brk(2), mmap(2), mmap2(2), munmap(2), mprotect(2), msync(2), mremap(2), madvise(2).
 -- Memory is the emulator's own: a file is asked for its bytes when it is mapped, and never again. (The places of mappings, the limit on
 -- their pages, and that pages past a file's end are zeros, are this project's own.)
-use Rattle.std.specs.Prelude.{ℕ, ◌+◌, ◌*◌, ◌%◌, ◌==◌, Bool, not, ◌&&◌, ◌||◌, List, [], ◌∷◌, Option, Some, None, Result, Ok, Err, is_some, option_and_then, nat_lt, if◌then◌else◌}
+use Rattle.std.specs.Prelude.{ℕ, ◌*◌, ◌%◌, ◌==◌, Bool, not, ◌&&◌, ◌||◌, List, [], ◌∷◌, Option, Some, None, Ok, Err, option_and_then, nat_lt, if◌then◌else◌}
 use Rattle.guest_space.specs.Break.{with_break}
 use Rattle.guest_space.specs.Bytes.{copied_out}
 use Rattle.guest_space.specs.Mapping.{mapped_run, with_protection}

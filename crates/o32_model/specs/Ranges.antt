@@ -1,6 +1,6 @@
 -- Ranges of pages that the calls on mappings act on: how many pages a length has, the place for a mapping, and a range that gets another
 -- size (mmap(2), mremap(2)). A range of pages is its first number and a count.
-use Rattle.std.specs.Prelude.{ℕ, zero, suc, ◌+◌, ◌-◌, ◌*◌, ◌/◌, ◌%◌, ◌==◌, Bool, not, ◌&&◌, Option, Some, None, nat_le, nat_lt, if◌then◌else◌}
+use Rattle.std.specs.Prelude.{ℕ, zero, suc, ◌+◌, ◌-◌, ◌/◌, ◌%◌, ◌==◌, Bool, not, ◌&&◌, Option, Some, None, nat_le, nat_lt, if◌then◌else◌}
 use Rattle.std.specs.FinMap.{get, insert, len}
 use Rattle.guest_space.specs.Break.{pages_up_to}
 use Rattle.guest_space.specs.Mapping.{with_zeros, absent_count, mapped_run, page_limit}

@@ -1,5 +1,5 @@
 -- Worked rows on mappings and the break.
-use Rattle.std.specs.Prelude.{◌≡◌, ℕ, true, false, List, [], ◌∷◌, Option, Some, None, refl}
+use Rattle.std.specs.Prelude.{◌≡◌, ℕ, [], ◌∷◌, Some, None, refl}
 use Rattle.std.specs.FinMap.{get, insert, len}
 use Rattle.guest_space.specs.Break.{with_break}
 use Rattle.guest_space.specs.Bytes.{copied_out, with_bytes}
@@ -10,8 +10,7 @@ use Rattle.kernel_core.specs.FileContent.{no_content, bytes_at as content_bytes_
 use Rattle.kernel_core.specs.Nodes.{Nodes}
 use Rattle.kernel_core.specs.declared.error.Errno.{Errno}
 use Rattle.kernel_core.specs.declared.error.Errno.TheVariants.{EACCES, EBADF, EFAULT, EINVAL, ENODEV, ENOMEM, EPERM}
-use Rattle.kernel_model.specs.Pipes.{nothing}
-use Rattle.kernel_model.specs.State.{Kernel, Files}
+use Rattle.kernel_model.specs.State.{Kernel}
 use Rattle.kernel_model.specs.Whole.{with_files}
 use Rattle.mips_exec.specs.Processor.{Processor}
 use Rattle.o32_model.proofs.rows.Small.{at_first, with_node_at, large_file, some_directory, words, guest, leaves}
