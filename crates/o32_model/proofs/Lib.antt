@@ -1,4 +1,11 @@
 pub mod FileQuiet
+pub mod MapLaws
+pub mod MapQuiet
+pub mod PartsSend
+pub mod Protections
 pub mod Quiet
+pub mod ResultQuiet
+pub mod SeeingQuiet
 pub mod TableQuiet
+pub mod WaitQuiet
 pub mod rows

@@ -1,6 +1,7 @@
 pub mod Descriptors
 pub mod Effects
 pub mod Entries
+pub mod Mappings
 pub mod Names
 pub mod NodeCalls
 pub mod Opening

@@ -6,6 +6,7 @@ pub mod Entries
 pub mod GuestBytes
 pub mod Laws
 pub mod Logs
+pub mod Mappings
 pub mod Masks
 pub mod Names
 pub mod Narrow
@@ -14,6 +15,7 @@ pub mod Opening
 pub mod PathArguments
 pub mod Paths
 pub mod Polling
+pub mod Ranges
 pub mod Results
 pub mod Seeing
 pub mod Selecting

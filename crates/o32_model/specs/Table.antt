@@ -8,6 +8,7 @@ use Rattle.number_tables.specs.Numbered.{numbered_or}
 use Rattle.o32_model.specs.Clocks.{clock_calls}
 use Rattle.o32_model.specs.Descriptors.{descriptor_calls}
 use Rattle.o32_model.specs.Entries.{entry_calls}
+use Rattle.o32_model.specs.Mappings.{map_calls}
 use Rattle.o32_model.specs.Names.{name_calls}
 use Rattle.o32_model.specs.NodeCalls.{node_calls}
 use Rattle.o32_model.specs.Opening.{opening_calls}
@@ -54,7 +55,7 @@ wait_call_or otherwise number =
     number) number) number) number
 
 abbrev pub call_of : ℕ → Option O32Call
-call_of number = io_call_or (call_in small_calls (file_call_or (wait_call_or None number) number) number) number
+call_of number = io_call_or (call_in small_calls (file_call_or (wait_call_or (call_in map_calls None number) number) number) number) number
 
 -- the calls that see more of the machine, on clocks and on signals, and all of them
 
@@ -64,8 +65,8 @@ seeing_call_in calls otherwise number = numbered_or (λ (call : SeeingCall). cal
 abbrev pub seeing_call_of : ℕ → Option SeeingCall
 seeing_call_of number = seeing_call_in seeing_clock_calls (seeing_call_in seeing_signal_calls None number) number
 
--- whether a number is that of a call on descriptors and what they have open, of a small call, of a call on files, and of a call on time
--- and readiness
+-- whether a number is that of a call on descriptors and what they have open, of a small call, of a call on files, of one on mappings, and of
+-- one on time and readiness
 abbrev pub is_io_call : ℕ → Bool
 is_io_call number = is_some (io_call_or None number)
 
@@ -74,6 +75,9 @@ is_small_call number = is_some (call_in small_calls None number)
 
 abbrev pub is_file_call : ℕ → Bool
 is_file_call number = is_some (file_call_or None number)
+
+abbrev pub is_map_call : ℕ → Bool
+is_map_call number = is_some (call_in map_calls None number)
 
 abbrev pub is_wait_call : ℕ → Bool
 is_wait_call number = is_some (wait_call_or None number) || is_some (seeing_call_in seeing_clock_calls None number)
