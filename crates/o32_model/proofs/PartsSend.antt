@@ -12,7 +12,7 @@ use Rattle.kernel_model.specs.State.{Kernel}
 use Rattle.o32_model.specs.Clocks.{gettimeofday_row}
 use Rattle.o32_model.specs.GuestBytes.{unless_null}
 use Rattle.o32_model.specs.Laws.{SendsNothing, stores_in_parts}
-use Rattle.o32_model.specs.Masks.{masked, set_at, with_own_mask}
+use Rattle.o32_model.specs.Masks.{masked, set_at, waiting_with, with_own_mask}
 use Rattle.o32_model.specs.Polling.{polled, ppolled, poll_row, ppoll_row}
 use Rattle.o32_model.specs.Selecting.{Asked, OwnMask, selected, newselected, pselected, with_pair, newselect_row, pselect6_row, mask_at}
 use Rattle.o32_model.specs.Step.{Guest, O32Step, gives}
@@ -20,6 +20,7 @@ use Rattle.o32_model.specs.Table.{call_of, step_of, o32_call}
 use Rattle.o32_model.specs.TimeLeft.{LeftForm, at_end, with_left_of, with_time_left}
 use Rattle.o32_model.specs.Times.{spec_at, spec_bytes, val_at, val_bytes}
 use Rattle.o32_model.specs.declared.outcome.Outcome.{Outcome}
+use Rattle.o32_model.specs.declared.wait.Wait.{Wait}
 use Rattle.o32_model.specs.declared.outcome.Outcome.TheVariants.{Value, Pair, Error, Sleep, Frame, Exit}
 
 module _ (guest : Guest) (left : List ℕ) where
@@ -29,18 +30,23 @@ module _ (guest : Guest) (left : List ℕ) where
   gives_sends : (did : Did Kernel ℕ) → Quiet (gives guest did left)
   gives_sends did = record { set = refl; rest = refl; sent = refl }
 
-  masked_sends : (before : Kernel) (mask : SignalSet) (step : O32Step) (outcome : Outcome) → Quiet step → Quiet (masked before mask step outcome)
+  waiting_sends : (before : Kernel) (step : O32Step) (wait : Wait) (mask : Option (Given SignalSet)) → Quiet step
+      → Quiet (waiting_with before step wait mask)
+  waiting_sends before step wait None sends = sends
+  waiting_sends before step wait (Some (Err error)) sends = sends
+  waiting_sends before step wait (Some (Ok mask)) sends = record { set = sends.set; rest = sends.rest; sent = sends.sent }
+
+  masked_sends : (before : Kernel) (mask : Option (Given SignalSet)) (step : O32Step) (outcome : Outcome) → Quiet step
+      → Quiet (masked before mask step outcome)
   masked_sends before mask step (Value value) sends = sends
   masked_sends before mask step (Pair first second) sends = sends
   masked_sends before mask step (Error error) sends = sends
-  masked_sends before mask step (Sleep wait) sends = record { set = sends.set; rest = sends.rest; sent = sends.sent }
+  masked_sends before mask step (Sleep wait) sends = waiting_sends before step wait mask sends
   masked_sends before mask step Frame sends = sends
   masked_sends before mask step (Exit status) sends = sends
 
   own_mask_sends : (before : Kernel) (mask : Option (Given SignalSet)) (step : O32Step) → Quiet step → Quiet (with_own_mask before mask step)
-  own_mask_sends before None step sends = sends
-  own_mask_sends before (Some (Err error)) step sends = sends
-  own_mask_sends before (Some (Ok mask)) step sends = masked_sends before mask step step.outcome sends
+  own_mask_sends before mask step sends = masked_sends before mask step step.outcome sends
 
   end_sends : (with_left : Memory → Memory) (step : O32Step) (outcome : Outcome) → Quiet step → Quiet (at_end with_left step outcome)
   end_sends with_left step (Value value) sends = record { set = sends.set; rest = sends.rest; sent = sends.sent }
@@ -51,9 +57,9 @@ module _ (guest : Guest) (left : List ℕ) where
   end_sends with_left step (Exit status) sends = sends
 
   time_left_sends : (form : LeftForm) (kernel : Kernel) (length : Given (Option ℕ)) (step : O32Step) → Quiet step
-      → Quiet (with_time_left form kernel length step)
+      → Quiet (with_time_left form kernel guest.memory length step)
   time_left_sends form kernel (Err error) step sends = sends
-  time_left_sends form kernel (Ok length) step sends = end_sends (with_left_of form (left_of_wait kernel kernel.clock length)) step step.outcome sends
+  time_left_sends form kernel (Ok length) step sends = end_sends (with_left_of form guest.memory (left_of_wait kernel kernel.clock length)) step step.outcome sends
 
   polled_sends : (kernel : Kernel) (address count : ℕ) (wait : Given (Option ℕ)) → Quiet (polled kernel guest address count wait left)
   polled_sends kernel address count wait = record { set = refl; rest = refl; sent = refl }

@@ -1,3 +1,4 @@
+pub mod Clocks
 pub mod Descriptors
 pub mod Effects
 pub mod Entries
@@ -6,6 +7,8 @@ pub mod Names
 pub mod NodeCalls
 pub mod Opening
 pub mod Paths
+pub mod Readiness
+pub mod Sleeps
 pub mod Small
 pub mod SmallCalls
 pub mod SmallTree

@@ -12,6 +12,7 @@ use Rattle.o32_model.specs.GuestBytes.{structure, read_as}
 use Rattle.o32_model.specs.Step.{O32Step}
 use Rattle.o32_model.specs.declared.outcome.Outcome.{Outcome}
 use Rattle.o32_model.specs.declared.outcome.Outcome.TheVariants as outcomes
+use Rattle.o32_model.specs.declared.wait.Wait.{Wait}
 
 abbrev pub set_in : List ℕ → SignalSet
 set_in bytes = words (λ k. unsigned true 4 (drop (4 * k) bytes))
@@ -24,19 +25,22 @@ set_at memory address = read_as set_in (structure memory address set_size)
 
 -- The mask stands while the call waits, and the one before it is kept with the wait. A call that does not wait leaves the mask as it is.
 
-abbrev pub masked : Kernel → SignalSet → O32Step → Outcome → O32Step
-masked before mask step (outcomes.Value value) = step
-masked before mask step (outcomes.Pair first second) = step
-masked before mask step (outcomes.Error error) = step
-masked before mask step (outcomes.Sleep wait) = record step {
+-- the mask is none where its pointer is null; where it can't be read, the call has failed
+abbrev pub waiting_with : Kernel → O32Step → Wait → Option (Given SignalSet) → O32Step
+waiting_with before step wait None = step
+waiting_with before step wait (Some (Err error)) = step
+waiting_with before step wait (Some (Ok mask)) = record step {
   kernel = with_mask step.kernel mask;
   outcome = outcomes.Sleep (record wait { mask = Some before.signals.mask });
 }
+
+abbrev pub masked : Kernel → Option (Given SignalSet) → O32Step → Outcome → O32Step
+masked before mask step (outcomes.Value value) = step
+masked before mask step (outcomes.Pair first second) = step
+masked before mask step (outcomes.Error error) = step
+masked before mask step (outcomes.Sleep wait) = waiting_with before step wait mask
 masked before mask step outcomes.Frame = step
 masked before mask step (outcomes.Exit status) = step
 
--- the mask is none where its pointer is null; where it can't be read, the call has failed
 abbrev pub with_own_mask : Kernel → Option (Given SignalSet) → O32Step → O32Step
-with_own_mask before None step = step
-with_own_mask before (Some (Err error)) step = step
-with_own_mask before (Some (Ok mask)) step = masked before mask step step.outcome
+with_own_mask before mask step = masked before mask step step.outcome

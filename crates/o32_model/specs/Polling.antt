@@ -68,7 +68,7 @@ poll_row kernel guest address count milliseconds left = polled kernel guest addr
 -- the time is read and checked, and then, where there is a mask, its size and the mask itself
 abbrev pub ppolled : Kernel → Guest → ℕ → ℕ → ℕ → Given (Option ℕ) → ℕ → Option (Given SignalSet) → List ℕ → O32Step
 ppolled kernel guest address count time length size mask left =
-    with_time_left (record { address = time; bytes = spec_bytes }) kernel length
+    with_time_left (record { address = time; bytes = spec_bytes }) kernel guest.memory length
     (with_own_mask kernel mask (polled kernel guest address count (masked_wait length size mask) left))
 
 -- the size of the mask is on the stack, and where it can't be read, that is EFAULT before all else

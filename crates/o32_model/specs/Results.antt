@@ -1,6 +1,7 @@
 -- Calls that store what they found and give a number (getcwd(2), readlink(2), time(2)), and calls that store several pieces (gettimeofday(2),
 -- poll(2), select(2)).
-use Rattle.std.specs.Prelude.{ℕ, ◌==◌, Bool, true, ◌&&◌, List, [], ◌∷◌, length, if◌then◌else◌}
+use Rattle.std.specs.Prelude.{ℕ, ◌==◌, Bool, List, [], ◌∷◌, length, take_while, if◌then◌else◌}
+use Rattle.std.specs.List.{list_all}
 use Rattle.guest_space.specs.Bytes.{copied_out}
 use Rattle.guest_space.specs.Memory.{Memory}
 use Rattle.kernel_core.specs.declared.error.Errno.TheVariants.{EFAULT}
@@ -52,14 +53,15 @@ fits memory piece = is_storable memory piece.address (length piece.bytes)
 
 -- whether each of them can be stored
 abbrev pub all_fit : Memory → List Piece → Bool
-all_fit memory [] = true
-all_fit memory (piece ∷ pieces) = fits memory piece && all_fit memory pieces
+all_fit memory pieces = list_all (fits memory) pieces
 
--- They are stored one after another, each whole or not at all. Those before the first that can't be stored stand.
+abbrev pub all_stored : Memory → List Piece → Memory
+all_stored memory [] = memory
+all_stored memory (piece ∷ pieces) = all_stored (copied_out memory piece.address piece.bytes) pieces
+
+-- They are stored one after another, each whole, up to the first that can't be.
 abbrev pub with_pieces : Memory → List Piece → Memory
-with_pieces memory [] = memory
-with_pieces memory (piece ∷ pieces) =
-    if fits memory piece then with_pieces (copied_out memory piece.address piece.bytes) pieces else memory
+with_pieces memory pieces = all_stored memory (take_while (fits memory) pieces)
 
 -- a piece unless its pointer is null
 abbrev pub piece_unless_null : ℕ → List ℕ → List Piece

@@ -87,7 +87,7 @@ selected kernel guest asked wait left =
 -- select(2), with microseconds
 abbrev pub newselected : Kernel → Guest → Asked → ℕ → Given (Option ℕ) → List ℕ → O32Step
 newselected kernel guest asked time length left =
-    with_time_left (record { address = time; bytes = val_bytes }) kernel length (selected kernel guest asked length left)
+    with_time_left (record { address = time; bytes = val_bytes }) kernel guest.memory length (selected kernel guest asked length left)
 
 -- the time's address is on the stack, and where it can't be read, that is EFAULT before all else
 unfoldable pub newselect_row : Kernel → Guest → Asked → Option ℕ → List ℕ → O32Step
@@ -118,7 +118,7 @@ mask_at memory pair = if pair == 0 then Ok no_mask else read_as (mask_of memory)
 
 abbrev pub pselected : Kernel → Guest → Asked → ℕ → Given (Option ℕ) → OwnMask → List ℕ → O32Step
 pselected kernel guest asked time length own left =
-    with_time_left (record { address = time; bytes = spec_bytes }) kernel length
+    with_time_left (record { address = time; bytes = spec_bytes }) kernel guest.memory length
     (with_own_mask kernel own.mask (selected kernel guest asked (masked_wait length own.size own.mask) left))
 
 -- the pair is read before the time

@@ -2,6 +2,7 @@
 -- nanosleep(2), poll(2), select(2), restart_syscall(2)).
 use Rattle.std.specs.Prelude.{ℕ, ◌==◌, Bool, true, ◌&&◌, not, List, [], length, replicate, slice_index, Option, Some, None, if◌then◌else◌}
 use Rattle.std.specs.Int.{w32, cast_signed}
+use Rattle.guest_space.specs.Bytes.{copied_out}
 use Rattle.guest_space.specs.Memory.{Memory}
 use Rattle.kernel_core.specs.declared.error.Errno.TheVariants.{EFAULT, EINTR}
 use Rattle.kernel_model.specs.Clock.{left_until}
@@ -91,24 +92,30 @@ has_time form = not (form.address == 0)
 abbrev pub left_bytes : LeftForm → Wait → ℕ → List ℕ
 left_bytes form wait clock = form.bytes (left_until clock wait.deadline)
 
-abbrev pub with_left : LeftForm → Wait → ℕ → WaitEnd → WaitEnd
-with_left form wait clock ended =
-    if has_time form then record ended { memory = with_stored ended.memory form.address (left_bytes form wait clock) } else ended
+abbrev pub has_room : LeftForm → Wait → ℕ → Memory → Bool
+has_room form wait clock memory = is_storable memory form.address (length (left_bytes form wait clock))
+
+-- whether it can be stored is asked of memory as it was before the end
+abbrev pub with_left : LeftForm → Wait → ℕ → Memory → WaitEnd → WaitEnd
+with_left form wait clock before ended =
+    if has_time form && has_room form wait clock before
+    then record ended { memory = copied_out ended.memory form.address (left_bytes form wait clock) }
+    else ended
 
 -- One that would be carried out again takes the time that is left, so where that can't be stored it is EINTR.
 abbrev pub again_or_interrupted : LeftForm → Wait → ℕ → Memory → Close
 again_or_interrupted form wait clock memory =
-    if has_time form && not (is_storable memory form.address (length (left_bytes form wait clock))) then closes.Error EINTR else closes.Again
+    if has_time form && not (has_room form wait clock memory) then closes.Error EINTR else closes.Again
 
 -- `pieces` are what is stored where the time is over
 abbrev pub limited_ended : LeftForm → List Piece → Wait → Cause → ℕ → Kernel → Memory → WaitEnd
 limited_ended form pieces wait Due clock kernel memory =
-    with_left form wait clock (told pieces (with_old_mask wait.mask kernel) memory)
+    with_left form wait clock memory (told pieces (with_old_mask wait.mask kernel) memory)
 limited_ended form pieces wait Accepted clock kernel memory =
-    with_left form wait clock (told pieces (with_old_mask wait.mask kernel) memory)
-limited_ended form pieces wait Handler clock kernel memory = with_left form wait clock (interrupted kernel memory)
+    with_left form wait clock memory (told pieces (with_old_mask wait.mask kernel) memory)
+limited_ended form pieces wait Handler clock kernel memory = with_left form wait clock memory (interrupted kernel memory)
 limited_ended form pieces wait Stopped clock kernel memory =
-    with_left form wait clock (ends_with (again_or_interrupted form wait clock memory) (with_old_mask wait.mask kernel) memory)
+    with_left form wait clock memory (ends_with (again_or_interrupted form wait clock memory) (with_old_mask wait.mask kernel) memory)
 
 -- select(2): no set has a descriptor
 

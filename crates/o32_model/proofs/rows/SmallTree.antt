@@ -58,3 +58,8 @@ missing name = record { directory = 1; name = name; node = None }
 abbrev pub words_of_five : ℕ → ℕ → ℕ → ℕ → ℕ → ℕ → CallWords
 words_of_five nr first second third fourth fifth =
     record { nr = nr; reg = first ∷ second ∷ third ∷ fourth ∷ []; stack = Some fifth ∷ None ∷ None ∷ None ∷ [] }
+
+-- a call with six arguments
+abbrev pub words_with_six : ℕ → ℕ → ℕ → ℕ → ℕ → ℕ → ℕ → CallWords
+words_with_six nr first second third fourth fifth sixth =
+    record { nr = nr; reg = first ∷ second ∷ third ∷ fourth ∷ []; stack = Some fifth ∷ Some sixth ∷ None ∷ None ∷ [] }
