@@ -1,14 +1,14 @@
 -- A call of a machine is that of the table, or one that sees more and moves nothing where it fails.
-use Rattle.std.proofs.Common.{◌≡◌, ℕ, ◌==◌, Bool, true, false, List, [], ◌∷◌, refl, sym, subst}
+use Rattle.std.proofs.Common.{◌≡◌, ℕ, ◌==◌, Bool, true, false, List, refl, sym, subst}
 use Rattle.std.specs.Prelude.{T, Option, Some, None, is_some, if◌then◌else◌, ⊤}
 use Rattle.kernel_core.specs.declared.error.Errno.TheVariants.{ENOSYS}
 use Rattle.kernel_model.specs.Came.{refused}
 use Rattle.kernel_model.specs.State.{Kernel}
 use Rattle.o32_model.proofs.Quiet.{Quiet, comes_to_quiet, gives_quiet, stores_quiet}
 use Rattle.o32_model.specs.Clocks.{clock_gettime_row}
-use Rattle.o32_model.specs.Seeing.{SeeingCall, restarted, restart_syscall_row, seeing_clock_calls, seeing_signal_calls}
+use Rattle.o32_model.specs.Seeing.{SeeingCall, restarted, restart_syscall_row}
 use Rattle.o32_model.specs.Step.{Guest, O32Call}
-use Rattle.o32_model.specs.Table.{call_of, seeing_call_in, seeing_call_of, step_of, seeing_step_of, o32_call, machine_call}
+use Rattle.o32_model.specs.Table.{call_of, seeing_call_of, step_of, seeing_step_of, o32_call, machine_call}
 use Rattle.o32_model.specs.declared.outcome.Outcome.TheVariants.{Sleep}
 use Rattle.o32_model.specs.declared.wait.Seen.{Seen}
 

@@ -1,6 +1,6 @@
 -- A call that fails moves nothing: the calls on time and readiness. Those that store several pieces may have stored a part.
 use Rattle.std.proofs.Common.{◌≡◌, ℕ, ◌==◌, Bool, true, false, List, [], ◌∷◌, refl, subst, arith}
-use Rattle.std.specs.Prelude.{T, Option, Some, None, if◌then◌else◌, ⊤}
+use Rattle.std.specs.Prelude.{T, Option, Some, if◌then◌else◌, ⊤}
 use Rattle.std.proofs.lemmas.Bool.Decides.{nat_tests}
 use Rattle.layouts.specs.Number.{bytes_of}
 use Rattle.o32_model.proofs.Quiet.{CallQuiet, QuietIfAny, gives_quiet, stores_quiet, unless_null_quiet}

@@ -15,4 +15,5 @@ pub mod SmallTree
 pub mod Status
 pub mod Terminal
 pub mod Transfers
+pub mod WaitEnds
 pub mod Words

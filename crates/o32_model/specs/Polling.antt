@@ -1,5 +1,5 @@
 -- Which descriptors are ready: poll(2), ppoll(2).
-use Rattle.std.specs.Prelude.{ℕ, zero, suc, ◌+◌, ◌*◌, ℤ, pos, negsuc, nat_abs, true, List, [], ◌∷◌, ◌++◌, take, drop, count_by, slice_index_or, Option, Some, None}
+use Rattle.std.specs.Prelude.{ℕ, zero, suc, ◌+◌, ◌*◌, ℤ, pos, negsuc, nat_abs, true, List, [], ◌∷◌, ◌++◌, drop, count_by, slice_index_or, Option, Some, None}
 use Rattle.guest_space.specs.Bytes.{bytes_at}
 use Rattle.guest_space.specs.Memory.{Memory}
 use Rattle.kernel_core.specs.declared.error.Errno.TheVariants.{EFAULT}
@@ -17,7 +17,7 @@ use Rattle.o32_model.specs.GuestBytes.{structure, read_as, unless_null}
 use Rattle.o32_model.specs.Masks.{set_at, with_own_mask}
 use Rattle.o32_model.specs.Results.{Piece, stores_pieces}
 use Rattle.o32_model.specs.Step.{Guest, O32Step, O32Call, gives}
-use Rattle.o32_model.specs.TimeLeft.{LeftForm, with_time_left}
+use Rattle.o32_model.specs.TimeLeft.{with_time_left}
 use Rattle.o32_model.specs.Times.{spec_at, spec_bytes}
 use Rattle.o32_model.specs.Words.{argument, signed_argument, stack_word}
 

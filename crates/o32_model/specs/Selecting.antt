@@ -1,8 +1,7 @@
 -- Which of three sets of descriptors are ready: select(2), pselect(2).
-use Rattle.std.specs.Prelude.{ℕ, zero, suc, ◌+◌, ◌-◌, ◌*◌, ◌/◌, ◌%◌, ◌^◌, ◌==◌, ℤ, Bool, true, List, [], ◌∷◌, ◌++◌, drop, sum_by, slice_index, map, nat_abs, Option, Some, None, Ok, Err, if◌then◌else◌}
+use Rattle.std.specs.Prelude.{ℕ, zero, suc, ◌+◌, ◌-◌, ◌*◌, ◌/◌, ◌%◌, ◌^◌, ◌==◌, ℤ, Bool, true, List, [], ◌∷◌, ◌++◌, drop, sum_by, Option, Some, None, Ok, Err, if◌then◌else◌}
 use Rattle.guest_space.specs.Memory.{Memory}
 use Rattle.kernel_core.specs.Bits.{has}
-use Rattle.kernel_core.specs.declared.error.Errno.{Errno}
 use Rattle.kernel_core.specs.declared.error.Errno.TheVariants.{EFAULT}
 use Rattle.kernel_model.specs.Came.{Given, refused}
 use Rattle.kernel_model.specs.Clock.{length_of, checked_or_none}
@@ -14,7 +13,7 @@ use Rattle.o32_model.specs.GuestBytes.{structure, read_as, unless_null}
 use Rattle.o32_model.specs.Masks.{set_at, with_own_mask}
 use Rattle.o32_model.specs.Results.{Piece, piece_unless_null, stores_pieces}
 use Rattle.o32_model.specs.Step.{Guest, O32Step, O32Call, gives}
-use Rattle.o32_model.specs.TimeLeft.{LeftForm, with_time_left}
+use Rattle.o32_model.specs.TimeLeft.{with_time_left}
 use Rattle.o32_model.specs.Times.{spec_at, spec_bytes, val_at, val_bytes}
 use Rattle.o32_model.specs.Words.{argument, signed_argument, stack_word}
 

@@ -1,5 +1,5 @@
 -- Worked rows on sleeping and on the interval timer.
-use Rattle.std.specs.Prelude.{◌≡◌, ℕ, true, List, [], ◌∷◌, ◌++◌, Option, Some, None, refl}
+use Rattle.std.specs.Prelude.{◌≡◌, ℕ, true, List, ◌++◌, Option, Some, None, refl}
 use Rattle.std.specs.FinMap.{get}
 use Rattle.guest_space.specs.Access.{first_denied, refusal}
 use Rattle.guest_space.specs.Bytes.{bytes_at, copied_out}
