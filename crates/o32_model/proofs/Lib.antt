@@ -6,6 +6,7 @@ pub mod Protections
 pub mod Quiet
 pub mod ResultQuiet
 pub mod SeeingQuiet
+pub mod SignalQuiet
 pub mod TableQuiet
 pub mod WaitQuiet
 pub mod rows

@@ -6,6 +6,7 @@ use Rattle.kernel_model.specs.State.{Kernel}
 use Rattle.o32_model.proofs.FileQuiet.{opening_quiet, status_quiet, entries_quiet, names_quiet, nodes_quiet}
 use Rattle.o32_model.proofs.MapQuiet.{mappings_quiet}
 use Rattle.o32_model.proofs.Quiet.{Quiet, QuietIfAny, gives_quiet, in_quiet, transfers_quiet, descriptors_quiet, terminal_quiet, small_quiet}
+use Rattle.o32_model.proofs.SignalQuiet.{signals_quiet}
 use Rattle.o32_model.proofs.WaitQuiet.{waits_quiet}
 use Rattle.o32_model.specs.Descriptors.{descriptor_calls}
 use Rattle.o32_model.specs.Entries.{entry_calls}
@@ -34,7 +35,7 @@ call_quiet number other whole =
     (in_quiet descriptor_calls _ number descriptors_quiet
     (in_quiet terminal_calls _ number terminal_quiet
     (in_quiet small_calls _ number small_quiet
-    (file_quiet number _ (waits_quiet number _ whole (mappings_quiet number other))))))
+    (file_quiet number _ (waits_quiet number _ whole (signals_quiet number _ (mappings_quiet number other)))))))
 
 step_quiet : (call : Option O32Call) → QuietIfAny call → (kernel : Kernel) (guest : Guest) (left : List ℕ) → Quiet guest left (step_of call kernel guest left)
 step_quiet None quiet kernel guest left = gives_quiet guest (refused kernel ENOSYS) left

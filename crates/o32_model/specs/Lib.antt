@@ -1,3 +1,4 @@
+pub mod Actions
 pub mod Answered
 pub mod Clocks
 pub mod Descriptors
@@ -17,12 +18,16 @@ pub mod Paths
 pub mod Polling
 pub mod Ranges
 pub mod Results
+pub mod Returns
 pub mod Seeing
 pub mod Selecting
+pub mod Sending
+pub mod SignalWaitEnds
 pub mod Sleeps
 pub mod Small
 pub mod Status
 pub mod Step
+pub mod Suspending
 pub mod Table
 pub mod Terminal
 pub mod TimeLeft
