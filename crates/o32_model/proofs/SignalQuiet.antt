@@ -1,5 +1,5 @@
 -- A call that fails moves nothing: the calls on signals.
-use Rattle.std.proofs.Common.{◌≡◌, ℕ, List, [], ◌∷◌, refl}
+use Rattle.std.proofs.Common.{ℕ, List}
 use Rattle.std.specs.Prelude.{Option, Some, None, Ok, Err}
 use Rattle.kernel_model.specs.Came.{Given, refused, told_zero}
 use Rattle.kernel_model.specs.SignalRows.{suspend}
@@ -8,7 +8,6 @@ use Rattle.kernel_model.specs.State.{Kernel}
 use Rattle.o32_model.proofs.Quiet.{Quiet, CallsQuiet, QuietIfAny, gives_quiet, stores_quiet, unless_null_quiet, in_quiet}
 use Rattle.o32_model.proofs.ResultQuiet.{result_unless_null_quiet}
 use Rattle.o32_model.specs.Actions.{action_calls, rt_sigaction_row, rt_sigprocmask_row, rt_sigpending_row, sigaltstack_row}
-use Rattle.o32_model.specs.GuestBytes.{structure}
 use Rattle.o32_model.specs.Masks.{masked, set_at, waiting_with}
 use Rattle.o32_model.specs.Returns.{return_calls, after_frame, after_rt_frame, sigreturn_row, rt_sigreturn_row}
 use Rattle.o32_model.specs.Sending.{sending_calls, kill_row, tkill_row, tgkill_row, rt_sigqueueinfo_row}

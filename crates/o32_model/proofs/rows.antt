@@ -8,6 +8,7 @@ pub mod NodeCalls
 pub mod Opening
 pub mod Paths
 pub mod Readiness
+pub mod Signals
 pub mod Sleeps
 pub mod Small
 pub mod SmallCalls

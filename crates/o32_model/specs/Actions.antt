@@ -1,5 +1,5 @@
 -- Actions, the mask, what pends, and the alternate stack: rt_sigaction(2), rt_sigprocmask(2), rt_sigpending(2), sigaltstack(2).
-use Rattle.std.specs.Prelude.{ℕ, ℤ, pos, nat_abs, List, [], ◌∷◌, map, drop, take, slice_index, Option, Some}
+use Rattle.std.specs.Prelude.{ℕ, pos, nat_abs, List, [], ◌∷◌, map, drop, slice_index, Option, Some}
 use Rattle.guest_space.specs.Memory.{Memory}
 use Rattle.kernel_model.specs.Came.{Given, told_as}
 use Rattle.kernel_model.specs.SignalRows.{set_action, change_mask, pending, set_stack}

@@ -1,7 +1,7 @@
 -- Returning from a handler: sigreturn(2), and rt_sigreturn. The frame at the stack pointer says what the registers, the mask and the alternate
 -- stack are. (The layouts of frames are this project's own profile.)
 use Rattle.std.specs.Prelude.{ℕ, List, [], ◌∷◌, Some, Ok, Err}
-use Rattle.kernel_model.specs.Came.{Given, done, refused}
+use Rattle.kernel_model.specs.Came.{Given, refused}
 use Rattle.kernel_model.specs.Pipes.{nothing}
 use Rattle.kernel_model.specs.SignalRows.{with_mask, set_stack}
 use Rattle.kernel_model.specs.State.{Kernel}

@@ -1,6 +1,6 @@
 -- How the waits for signals and the waits of transfers end (signal(7), 'Interruption of system calls and library functions by signal
 -- handlers'; rt_sigtimedwait(2), sigsuspend(2), pause(2)).
-use Rattle.std.specs.Prelude.{ℕ, ◌==◌, Bool, List, [], take, if◌then◌else◌}
+use Rattle.std.specs.Prelude.{◌==◌, Bool, [], take, if◌then◌else◌}
 use Rattle.guest_space.specs.Memory.{Memory}
 use Rattle.kernel_core.specs.declared.error.Errno.TheVariants.{EAGAIN, EINTR}
 use Rattle.kernel_model.specs.State.{Kernel}

@@ -1,14 +1,12 @@
 -- Waiting for signals: pause(2), rt_sigsuspend(2), rt_sigtimedwait(2).
-use Rattle.std.specs.Prelude.{ℕ, zero, suc, ◌+◌, List, [], ◌∷◌, Option, Some}
+use Rattle.std.specs.Prelude.{ℕ, zero, suc, ◌+◌, List, [], ◌∷◌, Some}
 use Rattle.std.specs.List.{cons_option}
-use Rattle.guest_space.specs.Memory.{Memory}
 use Rattle.kernel_core.specs.declared.signal.Sig.{Sig}
-use Rattle.kernel_model.specs.Came.{Given, told_zero}
+use Rattle.kernel_model.specs.Came.{told_zero}
 use Rattle.kernel_model.specs.Shared.{Info}
 use Rattle.kernel_model.specs.SignalRows.{accept, pause, suspend}
 use Rattle.kernel_model.specs.SignalSets.{blockable, signal_count}
 use Rattle.kernel_model.specs.State.{Kernel}
-use Rattle.kernel_model.specs.declared.time.TimeSpec.{TimeSpec}
 use Rattle.layouts.specs.Frames.{siginfo_bytes}
 use Rattle.number_tables.specs.Signals.{o32_signal, signal_of_o32}
 use Rattle.o32_model.specs.GuestBytes.{unless_null}
