@@ -1,2 +1,4 @@
+pub mod FileQuiet
 pub mod Quiet
+pub mod TableQuiet
 pub mod rows

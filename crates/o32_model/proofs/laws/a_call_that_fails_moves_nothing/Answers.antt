@@ -1,4 +1,4 @@
-use Rattle.o32_model.proofs.Quiet.{o32_call_quiet}
+use Rattle.o32_model.proofs.TableQuiet.{o32_call_quiet}
 use Rattle.o32_model.proofs.laws.a_call_that_fails_moves_nothing.Goals as goal
 
 pub returns : goal.returns
