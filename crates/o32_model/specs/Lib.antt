@@ -5,12 +5,14 @@ pub mod Entries
 pub mod GuestBytes
 pub mod Laws
 pub mod Logs
+pub mod Mappings
 pub mod Names
 pub mod Narrow
 pub mod NodeCalls
 pub mod Opening
 pub mod PathArguments
 pub mod Paths
+pub mod Ranges
 pub mod Runs
 pub mod Small
 pub mod Status

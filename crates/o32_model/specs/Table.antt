@@ -7,6 +7,7 @@ use Rattle.kernel_model.specs.State.{Kernel}
 use Rattle.number_tables.specs.Numbered.{numbered_or}
 use Rattle.o32_model.specs.Descriptors.{descriptor_calls}
 use Rattle.o32_model.specs.Entries.{entry_calls}
+use Rattle.o32_model.specs.Mappings.{map_calls}
 use Rattle.o32_model.specs.Names.{name_calls}
 use Rattle.o32_model.specs.NodeCalls.{node_calls}
 use Rattle.o32_model.specs.Opening.{opening_calls}
@@ -39,9 +40,10 @@ file_call_or otherwise number =
     number) number) number) number) number
 
 abbrev pub call_of : ℕ → Option O32Call
-call_of number = io_call_or (call_in small_calls (file_call_or None number) number) number
+call_of number = io_call_or (call_in small_calls (file_call_or (call_in map_calls None number) number) number) number
 
--- whether a number is that of a call on descriptors and what they have open, of a small call, and of a call on files
+-- whether a number is that of a call on descriptors and what they have open, of a small call, of a call on files, and of one on
+-- mappings
 abbrev pub is_io_call : ℕ → Bool
 is_io_call number = is_some (io_call_or None number)
 
@@ -50,6 +52,9 @@ is_small_call number = is_some (call_in small_calls None number)
 
 abbrev pub is_file_call : ℕ → Bool
 is_file_call number = is_some (file_call_or None number)
+
+abbrev pub is_map_call : ℕ → Bool
+is_map_call number = is_some (call_in map_calls None number)
 
 abbrev pub step_of : Option O32Call → Kernel → Guest → List ℕ → O32Step
 step_of None kernel guest left = gives guest (refused kernel ENOSYS) left
