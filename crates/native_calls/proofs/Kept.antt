@@ -20,8 +20,11 @@ use Rattle.native_calls.specs.Descriptors.{descriptor_calls, close_row, dup_row,
 use Rattle.native_calls.specs.HostBytes.{vector, asked, buffers}
 use Rattle.native_calls.specs.Ids.{id_calls, getpid_row, getppid_row}
 use Rattle.native_calls.specs.Laws.{IsFailure, MovesNothing}
+use Rattle.native_calls.specs.Names.{name_calls, openat_row, mkdirat_row, symlinkat_row, unlinkat_row, linkat_row, renameat_row, readlinkat_row}
+use Rattle.native_calls.specs.Nodes.{node_calls, truncate_row, ftruncate_row, faccessat_row, fchmod_row, fchmodat_row, newfstatat_row, utimensat_row, chdir_row, fchdir_row, getcwd_row, umask_row}
+use Rattle.native_calls.specs.System.{system_calls, uname_row, prlimit_row, getrandom_row}
 use Rattle.native_calls.specs.Status.{status_calls, lseek_row, fstat_row, sync_row, getdents_row}
-use Rattle.native_calls.specs.Step.{NativeStep, NativeCall, value, failure, reply_to, memory_after, gives, stored, stores, fills}
+use Rattle.native_calls.specs.Step.{NativeStep, NativeCall, value, failure, reply_to, memory_after, gives, stored, stores, fills, counted, counts, stored_unless_null, stores_unless_null}
 use Rattle.native_calls.specs.Table.{call_in, call_of, step_of, native_call}
 use Rattle.native_calls.specs.Terminal.{terminal_calls, ioctl_row, requested}
 use Rattle.native_calls.specs.Transfers.{transfer_calls, after_read, after_write, read_row, readv_row, pread_row, write_row, writev_row, pwrite_row}
@@ -36,15 +39,20 @@ pub record Keeps (memory left : List ℕ) (step : NativeStep) : Type 0 where
 gives_keeps : (memory : List ℕ) (did : Did Kernel ℕ) (left : List ℕ) → Keeps memory left (gives memory did left)
 gives_keeps memory did left = record { quiet = λ failed. record { stored = refl; rest = refl; sent = refl }; long = refl }
 
-kept_unless : (room : Bool) (changed memory : List ℕ) → IsFailure (if room then value 0 else failure EFAULT)
+kept_unless : (room : Bool) (count : ℕ) (changed memory : List ℕ) → IsFailure (if room then value count else failure EFAULT)
     → (if room then changed else memory) ≡ memory
-kept_unless true changed memory failed = absurd failed
-kept_unless false changed memory failed = refl
+kept_unless true count changed memory failed = absurd failed
+kept_unless false count changed memory failed = refl
+
+kept_unless_null : (null room : Bool) (changed memory : List ℕ) → IsFailure (if null then value 0 else if room then value 0 else failure EFAULT)
+    → (if room then changed else memory) ≡ memory
+kept_unless_null true room changed memory failed = absurd failed
+kept_unless_null false room changed memory failed = kept_unless room 0 changed memory failed
 
 stored_quiet : (memory : List ℕ) (address : ℕ) (came : Came (List ℕ)) → IsFailure (reply_to (stored memory address) came)
     → memory_after (written memory address) memory came ≡ memory
 stored_quiet memory address (Done bytes) failed =
-    kept_unless (is_inside memory address (length bytes)) (replaced memory (address - first_address) bytes) memory failed
+    kept_unless (is_inside memory address (length bytes)) 0 (replaced memory (address - first_address) bytes) memory failed
 stored_quiet memory address (Refused error) failed = refl
 stored_quiet memory address (Waits wake) failed = refl
 
@@ -61,6 +69,32 @@ after_long memory with_bytes (Waits wake) long = refl
 stores_keeps : (memory : List ℕ) (address : ℕ) (did : Did Kernel (List ℕ)) (left : List ℕ) → Keeps memory left (stores memory address did left)
 stores_keeps memory address did left = record {
   quiet = λ failed. record { stored = stored_quiet memory address did.came failed; rest = refl; sent = refl };
+  long = after_long memory (written memory address) did.came (written_length memory address);
+}
+
+counted_quiet : (memory : List ℕ) (address : ℕ) (came : Came (List ℕ)) → IsFailure (reply_to (counted memory address) came)
+    → memory_after (written memory address) memory came ≡ memory
+counted_quiet memory address (Done bytes) failed =
+    kept_unless (is_inside memory address (length bytes)) (length bytes) (replaced memory (address - first_address) bytes) memory failed
+counted_quiet memory address (Refused error) failed = refl
+counted_quiet memory address (Waits wake) failed = refl
+
+counts_keeps : (memory : List ℕ) (address : ℕ) (did : Did Kernel (List ℕ)) (left : List ℕ) → Keeps memory left (counts memory address did left)
+counts_keeps memory address did left = record {
+  quiet = λ failed. record { stored = counted_quiet memory address did.came failed; rest = refl; sent = refl };
+  long = after_long memory (written memory address) did.came (written_length memory address);
+}
+
+old_quiet : (memory : List ℕ) (address : ℕ) (came : Came (List ℕ)) → IsFailure (reply_to (stored_unless_null memory address) came)
+    → memory_after (written memory address) memory came ≡ memory
+old_quiet memory address (Done bytes) failed =
+    kept_unless_null (address == 0) (is_inside memory address (length bytes)) (replaced memory (address - first_address) bytes) memory failed
+old_quiet memory address (Refused error) failed = refl
+old_quiet memory address (Waits wake) failed = refl
+
+old_keeps : (memory : List ℕ) (address : ℕ) (did : Did Kernel (List ℕ)) (left : List ℕ) → Keeps memory left (stores_unless_null memory address did left)
+old_keeps memory address did left = record {
+  quiet = λ failed. record { stored = old_quiet memory address did.came failed; rest = refl; sent = refl };
   long = after_long memory (written memory address) did.came (written_length memory address);
 }
 
@@ -235,13 +269,91 @@ ids_keep = (
   ),
 )
 
+names_keep : CallsKeep name_calls
+unfolding openat_row mkdirat_row symlinkat_row unlinkat_row linkat_row renameat_row readlinkat_row
+names_keep = (
+  record { keeps = λ args kernel memory left. search gives_keeps },
+  (
+    record { keeps = λ args kernel memory left. search gives_keeps },
+    (
+      record { keeps = λ args kernel memory left. search gives_keeps },
+      (
+        record { keeps = λ args kernel memory left. search gives_keeps },
+        (
+          record { keeps = λ args kernel memory left. search gives_keeps },
+          (
+            record { keeps = λ args kernel memory left. search gives_keeps },
+            (
+              record { keeps = λ args kernel memory left. search counts_keeps },
+              tt,
+            ),
+          ),
+        ),
+      ),
+    ),
+  ),
+)
+
+nodes_keep : CallsKeep node_calls
+unfolding truncate_row ftruncate_row faccessat_row fchmod_row fchmodat_row newfstatat_row utimensat_row chdir_row fchdir_row getcwd_row umask_row
+nodes_keep = (
+  record { keeps = λ args kernel memory left. search counts_keeps },
+  (
+    record { keeps = λ args kernel memory left. search gives_keeps },
+    (
+      record { keeps = λ args kernel memory left. search gives_keeps },
+      (
+        record { keeps = λ args kernel memory left. search gives_keeps },
+        (
+          record { keeps = λ args kernel memory left. search gives_keeps },
+          (
+            record { keeps = λ args kernel memory left. search gives_keeps },
+            (
+              record { keeps = λ args kernel memory left. search gives_keeps },
+              (
+                record { keeps = λ args kernel memory left. search gives_keeps },
+                (
+                  record { keeps = λ args kernel memory left. search stores_keeps },
+                  (
+                    record { keeps = λ args kernel memory left. search gives_keeps },
+                    (
+                      record { keeps = λ args kernel memory left. search gives_keeps },
+                      tt,
+                    ),
+                  ),
+                ),
+              ),
+            ),
+          ),
+        ),
+      ),
+    ),
+  ),
+)
+
+system_keep : CallsKeep system_calls
+unfolding uname_row prlimit_row getrandom_row
+system_keep = (
+  record { keeps = λ args kernel memory left. search stores_keeps },
+  (
+    record { keeps = λ args kernel memory left. search old_keeps },
+    (
+      record { keeps = λ args kernel memory left. search (fills_keeps, written_length) },
+      tt,
+    ),
+  ),
+)
+
 call_keeps : (number : ℕ) → KeepsIfAny (call_of number)
 call_keeps number =
     in_keeps descriptor_calls _ number descriptors_keep
     (in_keeps terminal_calls _ number terminal_keeps
     (in_keeps transfer_calls _ number transfers_keep
     (in_keeps status_calls _ number status_keep
-    (in_keeps id_calls None number ids_keep tt))))
+    (in_keeps id_calls _ number ids_keep
+    (in_keeps name_calls _ number names_keep
+    (in_keeps node_calls _ number nodes_keep
+    (in_keeps system_calls None number system_keep tt)))))))
 
 step_keeps : (call : Option NativeCall) → KeepsIfAny call → (args : List ℕ) (kernel : Kernel) (memory left : List ℕ)
     → Keeps memory left (step_of call args kernel memory left)

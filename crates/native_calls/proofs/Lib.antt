@@ -1,6 +1,10 @@
 pub mod Kept
+pub mod Leaves
 pub mod Left
 pub mod Lengths
+pub mod NamesLeft
+pub mod NamesPlain
 pub mod Plain
 pub mod PlainRows
+pub mod WalkPlain
 pub mod rows

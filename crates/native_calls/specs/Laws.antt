@@ -24,18 +24,23 @@ pub record MovesNothing (memory left : List ℕ) (step : NativeStep) : Type 0 wh
   pub sent : step.sent ≡ nothing
 
 -- What a call that fails leaves of the kernel: all as it was; or SIGPIPE posted, with EPIPE (pipe(7)); or, by pipe2(2), a pipe that was
--- made and both of whose ends are closed again, with EFAULT.
+-- made and both of whose ends are closed again, with EFAULT; or what the call did, where it can't tell what was there before, with EFAULT.
 
 abbrev pub MadeAndClosed : Kernel → Option PipeFlags → Ends → Kernel → Type 0
 MadeAndClosed kernel flags ends after =
     let made = make_pipe kernel.files flags in
     (made.came ≡ Done ends) × (after ≡ without_pair (with_files kernel made.state) ends)
 
+-- The calls that change the kernel and then tell what was there before, with the place of the argument that says where to: prlimit(2).
+abbrev pub TellsOld : ℕ → ℕ → Type 0
+TellsOld number place = (number ≡ 261) × (place ≡ 3)
+
 pub data LeftByFailure (number : ℕ) (kernel : Kernel) (step : NativeStep) : Type 0 where
   AsItWas : step.kernel ≡ kernel → LeftByFailure number kernel step
   BrokenPipe : step.reply ≡ failure EPIPE → step.kernel ≡ with_sigpipe kernel (Refused EPIPE) → LeftByFailure number kernel step
   PairNotStored : number ≡ 59 → step.reply ≡ failure EFAULT → (flags : Option PipeFlags) (ends : Ends) → MadeAndClosed kernel flags ends step.kernel
       → LeftByFailure number kernel step
+  NotStored : (place : ℕ) → TellsOld number place → step.reply ≡ failure EFAULT → LeftByFailure number kernel step
 
 -- write(2) and writev(2), which may wait with a part of their bytes put
 abbrev pub MayWaitPartly : ℕ → Type 0
