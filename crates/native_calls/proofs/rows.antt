@@ -1,6 +1,9 @@
 pub mod Descriptors
+pub mod Names
+pub mod Nodes
 pub mod Small
 pub mod Status
+pub mod System
 pub mod Table
 pub mod Terminal
 pub mod Transfers

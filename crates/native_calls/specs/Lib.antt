@@ -1,5 +1,6 @@
 pub mod Answered
 pub mod Arguments
+pub mod Clocks
 pub mod Descriptors
 pub mod Flags
 pub mod History
@@ -9,6 +10,9 @@ pub mod Laws
 pub mod Names
 pub mod Nodes
 pub mod Paths
+pub mod Polls
+pub mod SignalBytes
+pub mod Signals
 pub mod Status
 pub mod Step
 pub mod System

@@ -84,8 +84,12 @@ counts memory address did left = record (stores memory address did left) { reply
 -- As `stores`, but where the address is null nothing is stored, and the reply is 0. What the row did stands, also where the bytes could not
 -- be stored.
 
+abbrev pub told_unless_null : List ℕ → ℕ → List ℕ → ℕ → Reply
+told_unless_null memory address bytes number =
+    if address == 0 then value number else if is_inside memory address (length bytes) then value number else failure EFAULT
+
 abbrev pub stored_unless_null : List ℕ → ℕ → List ℕ → Reply
-stored_unless_null memory address bytes = if address == 0 then value 0 else stored memory address bytes
+stored_unless_null memory address bytes = told_unless_null memory address bytes 0
 
 abbrev pub stores_unless_null : List ℕ → ℕ → Did Kernel (List ℕ) → List ℕ → NativeStep
 stores_unless_null memory address did left =
