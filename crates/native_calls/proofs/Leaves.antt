@@ -14,8 +14,8 @@ use Rattle.kernel_model.specs.State.{Files, Kernel}
 use Rattle.kernel_model.specs.Whole.{on_files, with_files}
 use Rattle.native_calls.proofs.Plain.{ComesPlain, Fine, FineGiven, FineUnlessNull, Plain, done_plain, fine_fault, told_plain, widened_plain}
 use Rattle.native_calls.specs.HostBytes.{given, read_as, structure, unless_null}
-use Rattle.native_calls.specs.Laws.{IsFailure, LeftByFailure, AsItWas, NotStored, MayWaitPartly, TellsOld}
-use Rattle.native_calls.specs.Step.{NativeStep, NativeCall, value, failure, reply_to, gives, fills, stored, stores, counted, counts, stored_unless_null, stores_unless_null}
+use Rattle.native_calls.specs.Laws.{IsFailure, LeftByFailure, AsItWas, NotStored, MayLackMemory, MayWaitPartly, TellsOld}
+use Rattle.native_calls.specs.Step.{NativeStep, NativeCall, value, failure, reply_to, gives, fills, stored, stores, counted, counts, told_unless_null, stored_unless_null, stores_unless_null}
 use Rattle.native_calls.specs.Table.{call_in}
 use Rattle.number_tables.specs.Errors.{native_errno}
 
@@ -25,7 +25,7 @@ pub record Leaves (number : ℕ) (kernel : Kernel) (step : NativeStep) : Type 0 
   pub failed : IsFailure step.reply → LeftByFailure number kernel step
   pub waiting : (wake : Wake) → step.reply ≡ replies.Sleep wake → wake.done ≡ 0 → step.kernel ≡ kernel
   pub partly : (wake : Wake) → step.reply ≡ replies.Sleep wake → (wake.done ≡ 0) ⊎ MayWaitPartly number
-  pub lacking : step.reply ≡ failure ENOMEM → ⊥
+  pub lacking : step.reply ≡ failure ENOMEM → MayLackMemory number
 
 abbrev pub number_in : Reply → ℕ
 number_in (replies.Done number) = nat_abs number
@@ -116,7 +116,7 @@ gives_leaves number kernel memory did left good =
       failed = λ failed. AsItWas (number_stays (λ n. n) kernel did.state did.came good.stays.stays failed);
       waiting = λ wake e none. wait_stays value ready kernel did.state did.came good.stays.stays wake e none;
       partly = λ wake e. inl (wait_done value ready did.came good.plain.plain wake e);
-      lacking = λ e. lack value ready false did.came good.plain.plain e;
+      lacking = λ e. absurd (lack value ready false did.came good.plain.plain e);
     }
 
 pub fills_leaves : (number : ℕ) (kernel : Kernel) (with_bytes : List ℕ → List ℕ) (memory : List ℕ) (did : Did Kernel (List ℕ)) (left : List ℕ) → IsGood kernel did
@@ -127,7 +127,7 @@ fills_leaves number kernel with_bytes memory did left good =
       failed = λ failed. AsItWas (number_stays length kernel did.state did.came good.stays.stays failed);
       waiting = λ wake e none. wait_stays (λ (bytes : List ℕ). value (length bytes)) ready kernel did.state did.came good.stays.stays wake e none;
       partly = λ wake e. inl (wait_done (λ (bytes : List ℕ). value (length bytes)) ready did.came good.plain.plain wake e);
-      lacking = λ e. lack (λ (bytes : List ℕ). value (length bytes)) ready false did.came good.plain.plain e;
+      lacking = λ e. absurd (lack (λ (bytes : List ℕ). value (length bytes)) ready false did.came good.plain.plain e);
     }
 
 -- a row that changes nothing, and whose bytes are stored
@@ -137,7 +137,7 @@ stores_leaves number kernel memory address did left looks plain = record {
   failed = λ failed. AsItWas looks;
   waiting = λ wake e none. looks;
   partly = λ wake e. inl (wait_done (stored memory address) (stored_ready memory address) did.came plain.plain wake e);
-  lacking = λ e. lack (stored memory address) (stored_ready memory address) false did.came plain.plain e;
+  lacking = λ e. absurd (lack (stored memory address) (stored_ready memory address) false did.came plain.plain e);
 }
 
 -- a row on files that changes nothing
@@ -168,7 +168,7 @@ counts_leaves number kernel memory address did left looks plain = record {
   failed = λ failed. AsItWas looks;
   waiting = λ wake e none. looks;
   partly = λ wake e. inl (wait_done (counted memory address) (counted_ready memory address) did.came plain.plain wake e);
-  lacking = λ e. lack (counted memory address) (counted_ready memory address) false did.came plain.plain e;
+  lacking = λ e. absurd (lack (counted memory address) (counted_ready memory address) false did.came plain.plain e);
 }
 
 pub row_counts : {V : Type 0} (number : ℕ) (kernel : Kernel) (memory : List ℕ) (address : ℕ) (bytes_of : V → List ℕ) (did : Did Files V) (left : List ℕ)
@@ -182,50 +182,109 @@ pub bytes_count : (number : ℕ) (kernel : Kernel) (memory : List ℕ) (address 
 bytes_count number kernel memory address did left looks plain =
     counts_leaves number kernel memory address (on_files kernel did) left (ap (with_files kernel) looks) (widened_plain false (with_files kernel) did plain)
 
--- What was there before, which may not be stored
+-- A row that waits with nothing done, and may be refused with any error
 
-null_waits : (null room : Bool) (wake : Wake) → (if null then value 0 else if room then value 0 else failure EFAULT) ≡ replies.Sleep wake → ⊥
-null_waits true room wake e = cc
-null_waits false room wake e = room_waits room wake e
+abbrev pub ComesIdle : {V : Type 0} → Came V → Type 0
+ComesIdle (Done found) = ⊤
+ComesIdle (Refused error) = ⊤
+ComesIdle (Waits wake) = wake.done ≡ 0
 
-null_lacks : (null room : Bool) → (if null then value 0 else if room then value 0 else failure EFAULT) ≡ failure ENOMEM → ⊥
-null_lacks true room e = cc
-null_lacks false room e = room_lacks room e
+pub plain_idle : {V : Type 0} (came : Came V) → ComesPlain false came → ComesIdle came
+plain_idle (Done found) plain = tt
+plain_idle (Refused error) plain = tt
+plain_idle (Waits wake) plain = plain
 
+-- What was there before, or what was taken away, which may not be stored
+
+told_waits : (null room : Bool) (number : ℕ) (wake : Wake)
+    → (if null then value number else if room then value number else failure EFAULT) ≡ replies.Sleep wake → ⊥
+told_waits true room number wake e = cc
+told_waits false room number wake e = counted_waits room number wake e
+
+told_lacks : (null room : Bool) (number : ℕ) → (if null then value number else if room then value number else failure EFAULT) ≡ failure ENOMEM → ⊥
+told_lacks true room number e = cc
+told_lacks false room number e = counted_lacks room number e
+
+told_fault : (null room : Bool) (number : ℕ) → IsFailure (if null then value number else if room then value number else failure EFAULT)
+    → (if null then value number else if room then value number else failure EFAULT) ≡ failure EFAULT
+told_fault true room number failed = absurd failed
+told_fault false true number failed = absurd failed
+told_fault false false number failed = refl
+
+module _ {V : Type 0} (number place : ℕ) (tells : TellsOld number place) (kernel : Kernel) (memory : List ℕ) (address : ℕ) (bytes_of : V → List ℕ)
+    (number_of : V → ℕ) where
+  abbrev told : V → Reply
+  told found = told_unless_null memory address (bytes_of found) (number_of found)
+
+  told_ready : IsReady told
+  told_ready = record {
+    waits = λ found wake e. told_waits (address == 0) (is_inside memory address (length (bytes_of found))) (number_of found) wake e;
+    lacks = λ found e. told_lacks (address == 0) (is_inside memory address (length (bytes_of found))) (number_of found) e;
+  }
+
+  told_or_stays : (new : Kernel) (came : Came V) → StaysAt kernel new came → IsFailure (reply_to told came)
+      → (new ≡ kernel) ⊎ (reply_to told came ≡ failure EFAULT)
+  told_or_stays new (Done found) stays failed =
+      inr (told_fault (address == 0) (is_inside memory address (length (bytes_of found))) (number_of found) failed)
+  told_or_stays new (Refused error) stays failed = inl stays
+  told_or_stays new (Waits wake) stays failed = absurd failed
+
+  wait_idle : (came : Came V) → ComesIdle came → (wake : Wake) → reply_to told came ≡ replies.Sleep wake → wake.done ≡ 0
+  wait_idle (Done found) idle wake e = absurd (told_ready.waits found wake e)
+  wait_idle (Refused error) idle wake e = absurd cc
+  wait_idle (Waits own) idle wake e = let same : own ≡ wake = cc in subst (λ (w : Wake). w.done ≡ 0) same idle
+
+  module _ (did : Did Kernel V) (step : NativeStep) (became : step.kernel ≡ did.state) (replied : step.reply ≡ reply_to told did.came) where
+    told_left : (did.state ≡ kernel) ⊎ (reply_to told did.came ≡ failure EFAULT) → LeftByFailure number kernel step
+    told_left (inl same) = AsItWas (became ∙ same)
+    told_left (inr fault) = NotStored place tells (replied ∙ fault)
+
+    pub told_leaves : StaysUnlessDone kernel did → ComesIdle did.came → (step.reply ≡ failure ENOMEM → MayLackMemory number) → Leaves number kernel step
+    told_leaves stays idle lacking = record {
+      failed = λ failed. told_left (told_or_stays did.state did.came stays.stays (subst IsFailure replied failed));
+      waiting = λ wake e none. became ∙ wait_stays told told_ready kernel did.state did.came stays.stays wake (sym replied ∙ e) none;
+      partly = λ wake e. inl (wait_idle did.came idle wake (sym replied ∙ e));
+      lacking = lacking;
+    }
+
+    pub good_told_leaves : IsGood kernel did → Leaves number kernel step
+    good_told_leaves good =
+        told_leaves good.stays (plain_idle did.came good.plain.plain)
+        (λ e. absurd (lack told told_ready false did.came good.plain.plain (sym replied ∙ e)))
+
+pub old_leaves : (number place : ℕ) → TellsOld number place → (kernel : Kernel) (memory : List ℕ) (address : ℕ) (did : Did Kernel (List ℕ)) (left : List ℕ)
+    → IsGood kernel did → Leaves number kernel (stores_unless_null memory address did left)
+old_leaves number place tells kernel memory address did left good =
+    good_told_leaves number place tells kernel memory address (λ bytes. bytes) (λ _. 0) did (stores_unless_null memory address did left) refl refl good
+
+-- a row that changes nothing, and whose bytes may be wanted nowhere
 null_ready : (memory : List ℕ) (address : ℕ) → IsReady (stored_unless_null memory address)
 null_ready memory address = record {
-  waits = λ bytes wake e. null_waits (address == 0) (is_inside memory address (length bytes)) wake e;
-  lacks = λ bytes e. null_lacks (address == 0) (is_inside memory address (length bytes)) e;
+  waits = λ bytes wake e. told_waits (address == 0) (is_inside memory address (length bytes)) 0 wake e;
+  lacks = λ bytes e. told_lacks (address == 0) (is_inside memory address (length bytes)) 0 e;
 }
 
-null_fault : (null room : Bool) → IsFailure (if null then value 0 else if room then value 0 else failure EFAULT)
-    → (if null then value 0 else if room then value 0 else failure EFAULT) ≡ failure EFAULT
-null_fault true room failed = absurd failed
-null_fault false true failed = absurd failed
-null_fault false false failed = refl
+pub null_leaves : (number : ℕ) (kernel : Kernel) (memory : List ℕ) (address : ℕ) (did : Did Kernel (List ℕ)) (left : List ℕ) → did.state ≡ kernel → Plain false did
+    → Leaves number kernel (stores_unless_null memory address did left)
+null_leaves number kernel memory address did left looks plain = record {
+  failed = λ failed. AsItWas looks;
+  waiting = λ wake e none. looks;
+  partly = λ wake e. inl (wait_done (stored_unless_null memory address) (null_ready memory address) did.came plain.plain wake e);
+  lacking = λ e. absurd (lack (stored_unless_null memory address) (null_ready memory address) false did.came plain.plain e);
+}
 
-old_fault : (memory : List ℕ) (address : ℕ) (kernel new : Kernel) (came : Came (List ℕ)) → StaysAt kernel new came
-    → IsFailure (reply_to (stored_unless_null memory address) came) → (new ≡ kernel) ⊎ (reply_to (stored_unless_null memory address) came ≡ failure EFAULT)
-old_fault memory address kernel new (Done bytes) stays failed = inr (null_fault (address == 0) (is_inside memory address (length bytes)) failed)
-old_fault memory address kernel new (Refused error) stays failed = inl stays
-old_fault memory address kernel new (Waits wake) stays failed = absurd failed
+-- Where a number is the reply, and other things are stored
 
-module _ (number place : ℕ) (tells : TellsOld number place) (kernel : Kernel) (memory : List ℕ) (address : ℕ) (did : Did Kernel (List ℕ)) (left : List ℕ)
-    (good : IsGood kernel did) where
-  abbrev old_step : NativeStep
-  old_step = stores_unless_null memory address did left
-
-  old_left : (old_step.kernel ≡ kernel) ⊎ (old_step.reply ≡ failure EFAULT) → LeftByFailure number kernel old_step
-  old_left (inl same) = AsItWas same
-  old_left (inr fault) = NotStored place tells fault
-
-  pub old_leaves : Leaves number kernel (stores_unless_null memory address did left)
-  old_leaves = record {
-    failed = λ failed. old_left (old_fault memory address kernel did.state did.came good.stays.stays failed);
-    waiting = λ wake e none. wait_stays (stored_unless_null memory address) (null_ready memory address) kernel did.state did.came good.stays.stays wake e none;
-    partly = λ wake e. inl (wait_done (stored_unless_null memory address) (null_ready memory address) did.came good.plain.plain wake e);
-    lacking = λ e. lack (stored_unless_null memory address) (null_ready memory address) false did.came good.plain.plain e;
-  }
+pub number_leaves : {V : Type 0} (number : ℕ) (kernel : Kernel) (size : V → ℕ) (did : Did Kernel V) (step : NativeStep) → step.kernel ≡ did.state
+    → step.reply ≡ reply_to (λ found. value (size found)) did.came → IsGood kernel did → Leaves number kernel step
+number_leaves {V} number kernel size did step became replied good =
+    let ready : IsReady (λ (found : V). value (size found)) = number_ready size in
+    record {
+      failed = λ failed. AsItWas (became ∙ number_stays size kernel did.state did.came good.stays.stays (subst IsFailure replied failed));
+      waiting = λ wake e none. became ∙ wait_stays (λ (found : V). value (size found)) ready kernel did.state did.came good.stays.stays wake (sym replied ∙ e) none;
+      partly = λ wake e. inl (wait_done (λ (found : V). value (size found)) ready did.came good.plain.plain wake (sym replied ∙ e));
+      lacking = λ e. absurd (lack (λ (found : V). value (size found)) ready false did.came good.plain.plain (sym replied ∙ e));
+    }
 
 -- Rows that change nothing
 
@@ -281,6 +340,9 @@ structure_fine meaning memory address size = read_fine meaning (structure memory
 pub zero_good : (kernel : Kernel) (did : Did Files (Unit {0})) → StaysUnlessDone kernel.files did → Plain false did → IsGood kernel (told_zero (on_files kernel did))
 zero_good kernel did stays plain = told_good (λ _. 0) kernel (on_files kernel did) (on_good kernel did stays plain)
 
+pub zero_on_kernel : (kernel : Kernel) (did : Did Kernel (Unit {0})) → StaysUnlessDone kernel did → Plain false did → IsGood kernel (told_zero did)
+zero_on_kernel kernel did stays plain = told_good (λ _. 0) kernel did (record { stays = stays; plain = plain })
+
 pub done_good : (kernel : Kernel) (found : ℕ) → IsGood kernel (done kernel found)
 done_good kernel found = record { stays = done_stays kernel kernel found; plain = done_plain false kernel found }
 
@@ -307,4 +369,3 @@ pub in_leaves : (calls : List NativeCall) (otherwise : Option NativeCall) (numbe
 in_leaves [] otherwise number leave others = others
 in_leaves (call ∷ calls) otherwise number leave others =
     found_leaves (number == call.number) number call (call_in calls otherwise number) refl leave.0 (in_leaves calls otherwise number leave.1 others)
-

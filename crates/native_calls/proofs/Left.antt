@@ -22,6 +22,7 @@ use Rattle.kernel_model.specs.State.{Files, Kernel}
 use Rattle.kernel_model.specs.Transfers.{Reading, Writing, read, reading, write, writing}
 use Rattle.kernel_model.specs.Whole.{KernelReading, is_broken_pipe, kernel_read, kernel_write, with_files, with_reading, with_sigpipe}
 use Rattle.native_calls.proofs.Leaves.{CallsLeave, IsGood, IsReady, Leaves, LeavesIfAny, Looks, done_good, fills_leaves, given_fine, gives_leaves, in_leaves, lack, looks, number_ready, on_good, read_fine, room_lacks, room_waits, row_stores, told_good, wait_done, zero_good}
+use Rattle.native_calls.proofs.ClockLeft.{clocks_leave, polls_leave, signals_leave}
 use Rattle.native_calls.proofs.NamesLeft.{names_leave, nodes_leave, system_leave}
 use Rattle.native_calls.proofs.Plain.{test_fine, FineGiven, fine_invalid}
 use Rattle.native_calls.proofs.PlainRows.{bytes_ready_plain, close_on_exec_plain, close_plain, duplicate_onto_with_plain, duplicate_plain, entries_plain, make_pipe_plain, read_at_plain, read_plain, seek_plain, set_close_on_exec_plain, set_nonblock_plain, set_status_flags_plain, set_terminal_settings_plain, status_flags_plain, status_plain, sync_plain, terminal_settings_plain, unlisted_command_plain, unlisted_request_plain, window_size_plain, write_at_plain, write_plain}
@@ -31,7 +32,10 @@ use Rattle.native_calls.specs.HostBytes.{Range, asked, if_countable, ranges_in, 
 use Rattle.native_calls.specs.Ids.{id_calls, getpid_row, getppid_row}
 use Rattle.native_calls.specs.Laws.{IsFailure, LeftByFailure, AsItWas, BrokenPipe, PairNotStored, MayWaitPartly}
 use Rattle.native_calls.specs.Step.{NativeStep, NativeCall, value, failure, reply_to, stored}
+use Rattle.native_calls.specs.Clocks.{clock_calls}
 use Rattle.native_calls.specs.Names.{name_calls}
+use Rattle.native_calls.specs.Polls.{poll_calls}
+use Rattle.native_calls.specs.Signals.{signal_calls}
 use Rattle.native_calls.specs.Nodes.{node_calls}
 use Rattle.native_calls.specs.System.{system_calls}
 use Rattle.native_calls.specs.Status.{status_bytes, status_calls, lseek_row, fstat_row, sync_row, getdents_row}
@@ -146,7 +150,7 @@ after_write_leaves number may kernel memory left fd asked bytes fine =
       failed = λ failed. write_left number kernel did.state did.came (after_write memory (kernel_write kernel None fd asked bytes) left) refl refl stays failed;
       waiting = λ wake e none. write_waits kernel did.state did.came stays wake e none;
       partly = λ wake e. inr may;
-      lacking = λ e. lack value (number_ready (λ n. n)) true did.came (write_plain kernel.files None (now kernel) fd asked bytes fine).plain e;
+      lacking = λ e. absurd (lack value (number_ready (λ n. n)) true did.came (write_plain kernel.files None (now kernel) fd asked bytes fine).plain e);
     }
 
 -- Pipes
@@ -200,7 +204,7 @@ pipe2_leaves number own kernel memory address flags left =
       failed = λ failed. pair_left number own kernel wanted room did.came (pipe2_row kernel memory address flags left) refl stays refl same (subst IsFailure same failed);
       waiting = λ wake e none. pair_waits number own kernel wanted room did.came stays wake (sym same ∙ e) none;
       partly = λ wake e. inl (wait_done (pair_reply number own kernel wanted room) (pair_ready number own kernel wanted room) did.came plain wake (sym same ∙ e));
-      lacking = λ e. lack (pair_reply number own kernel wanted room) (pair_ready number own kernel wanted room) false did.came plain (sym same ∙ e);
+      lacking = λ e. absurd (lack (pair_reply number own kernel wanted room) (pair_ready number own kernel wanted room) false did.came plain (sym same ∙ e));
     }
 
 -- Commands and requests
@@ -350,7 +354,10 @@ call_leaves number =
     (in_leaves id_calls _ number ids_leave
     (in_leaves name_calls _ number names_leave
     (in_leaves node_calls _ number nodes_leave
-    (in_leaves system_calls None number system_leave tt)))))))
+    (in_leaves system_calls _ number system_leave
+    (in_leaves clock_calls _ number clocks_leave
+    (in_leaves signal_calls _ number signals_leave
+    (in_leaves poll_calls None number polls_leave tt))))))))))
 
 unlisted_good : (kernel : Kernel) → IsGood {V = ℕ} kernel (refused kernel ENOSYS)
 unlisted_good kernel = record { stays = record { stays = refl }; plain = record { plain = record { fine = refl } } }

@@ -1,3 +1,5 @@
+pub mod ClockLeft
+pub mod ClockPlain
 pub mod Kept
 pub mod Leaves
 pub mod Left
@@ -6,5 +8,6 @@ pub mod NamesLeft
 pub mod NamesPlain
 pub mod Plain
 pub mod PlainRows
+pub mod Same
 pub mod WalkPlain
 pub mod rows

@@ -19,6 +19,7 @@ use Rattle.native_calls.proofs.NamesPlain.{access_plain, change_directory_plain,
 use Rattle.native_calls.proofs.Plain.{FineGiven, FineUnlessNull, Plain, done_plain, fine_fault, fine_invalid, fine_long, fine_process, given_plain, if_plain, ok_fine, or_none_fine, plain, some_plain}
 use Rattle.native_calls.specs.Arguments.{argument}
 use Rattle.native_calls.specs.HostBytes.{loadable}
+use Rattle.native_calls.specs.Laws.{Prlimit}
 use Rattle.native_calls.specs.Names.{name_calls, openat_row, mkdirat_row, symlinkat_row, unlinkat_row, linkat_row, renameat_row, readlinkat_row}
 use Rattle.native_calls.specs.Nodes.{node_calls, times_at, times_in, with_nul, truncate_row, ftruncate_row, faccessat_row, fchmod_row, fchmodat_row, newfstatat_row, utimensat_row, chdir_row, fchdir_row, getcwd_row, umask_row}
 use Rattle.native_calls.specs.Paths.{is_nul, path_at, path_in, path_limit}
@@ -145,11 +146,10 @@ unfolding uname_row prlimit_row getrandom_row
 system_leave = (
   record { leaves = λ args kernel memory left. stores_leaves 160 kernel memory (argument args 0) (done kernel name_bytes) left refl (done_plain false kernel name_bytes) },
   (
-    record { leaves = λ args kernel memory left. old_leaves 261 3 (refl, refl) kernel memory (argument args 3) _ left (told_good limit_bytes kernel _ (record { stays = set_limit_stays kernel _ _ _; plain = set_limit_plain kernel _ _ _ (unless_null_fine (argument args 2) (limit_at memory (argument args 2)) (structure_fine limit_in memory (argument args 2) 16)) })) },
+    record { leaves = λ args kernel memory left. old_leaves 261 3 (Prlimit refl refl) kernel memory (argument args 3) _ left (told_good limit_bytes kernel _ (record { stays = set_limit_stays kernel _ _ _; plain = set_limit_plain kernel _ _ _ (unless_null_fine (argument args 2) (limit_at memory (argument args 2)) (structure_fine limit_in memory (argument args 2) 16)) })) },
     (
       record { leaves = λ args kernel memory left. fills_leaves 278 kernel _ memory _ left (record { stays = random_bytes_stays kernel _ _ _; plain = random_bytes_plain kernel _ _ _ }) },
       tt,
     ),
   ),
 )
-

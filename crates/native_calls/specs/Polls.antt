@@ -1,6 +1,6 @@
 -- The calls that wait for descriptors: ppoll(2) (poll(2)), pselect(2) (select(2)). Their masks are read and have no effect here: whoever makes
 -- the call sets the mask.
-use Rattle.std.specs.Prelude.{ℕ, zero, suc, ◌+◌, ◌*◌, ◌/◌, ◌%◌, ◌^◌, ◌==◌, ℤ, pos, negsuc, nat_abs, Bool, false, List, [], ◌∷◌, map, drop, filter, count_by, slice_index_or, Option, Some, None, Ok, Err, if◌then◌else◌}
+use Rattle.std.specs.Prelude.{ℕ, zero, suc, ◌+◌, ◌*◌, ◌/◌, ◌%◌, ◌^◌, ◌==◌, ℤ, pos, negsuc, nat_abs, Bool, false, List, [], ◌∷◌, drop, filter, count_by, slice_index_or, Option, Some, None, Ok, Err, if◌then◌else◌}
 use Rattle.std.specs.List.{flat_map, list_any}
 use Rattle.host_mem.specs.Memory.{written}
 use Rattle.kernel_model.specs.Came.{Came, Done, Refused, Waits, Did, Given}

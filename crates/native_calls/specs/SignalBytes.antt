@@ -1,6 +1,6 @@
 -- Signals in host memory: sets, actions, the alternate stack, and what is known of a signal (Linux include/uapi/asm-generic/signal.h and
 -- siginfo.h).
-use Rattle.std.specs.Prelude.{ℕ, ◌==◌, ℤ, pos, nat_abs, false, List, [], ◌∷◌, ◌++◌, map, drop, slice_index, slice_index_or, Option, Some, None, if◌then◌else◌}
+use Rattle.std.specs.Prelude.{ℕ, ◌==◌, ℤ, pos, nat_abs, false, List, [], ◌∷◌, map, drop, slice_index, slice_index_or, Option, Some, None, if◌then◌else◌}
 use Rattle.std.specs.List.{flat_map}
 use Rattle.kernel_core.specs.declared.signal.Sig.{Sig}
 use Rattle.kernel_model.specs.Came.{Given}

@@ -2,18 +2,17 @@
 -- sigsuspend(2), sigaltstack(2).
 use Rattle.std.specs.Prelude.{ℕ, ℤ, List, [], ◌∷◌, filter_map, None}
 use Rattle.host_mem.specs.Memory.{written}
-use Rattle.kernel_core.specs.declared.reply.Reply.{Reply}
 use Rattle.kernel_core.specs.declared.signal.Sig.{Sig}
 use Rattle.kernel_model.specs.Came.{Did, told_as, told_zero}
 use Rattle.kernel_model.specs.Pipes.{nothing}
 use Rattle.kernel_model.specs.Shared.{Info}
 use Rattle.kernel_model.specs.SignalRows.{kill, kill_thread, kill_thread_of, queue, set_action, change_mask, pending, accept, suspend, set_stack}
-use Rattle.kernel_model.specs.SignalSets.{SignalSet, signal_count}
+use Rattle.kernel_model.specs.SignalSets.{signal_count}
 use Rattle.kernel_model.specs.State.{Kernel}
 use Rattle.native_calls.specs.Arguments.{argument, word, signed_word}
 use Rattle.native_calls.specs.HostBytes.{unless_null, numbers_from}
 use Rattle.native_calls.specs.SignalBytes.{named_by, set_at, set_bytes, action_at, action_bytes, stack_at, stack_bytes, sent_at, info_bytes}
-use Rattle.native_calls.specs.Step.{NativeStep, NativeCall, value, told_unless_null, reply_to, memory_after, gives, stores, stores_unless_null}
+use Rattle.native_calls.specs.Step.{NativeStep, NativeCall, told_unless_null, reply_to, memory_after, gives, stores, stores_unless_null}
 use Rattle.native_calls.specs.Times.{time_at}
 use Rattle.number_tables.specs.MaskChanges.{mask_change_of_native}
 use Rattle.number_tables.specs.Signals.{native_signal, signal_of_native}

@@ -1,6 +1,6 @@
 -- Worked rows on names: a root with the file `f`, the empty directory `d`, the link `l` to `f`, and the directory `e`, in which a file has the
 -- name `g`.
-use Rattle.std.specs.Prelude.{◌≡◌, ℕ, ◌-◌, ◌^◌, true, false, List, [], ◌∷◌, ◌++◌, codes, length, Some, None, Ok, Err, pos, refl}
+use Rattle.std.specs.Prelude.{◌≡◌, ℕ, ◌-◌, ◌^◌, true, List, [], ◌∷◌, ◌++◌, codes, length, Some, None, Ok, Err, pos, refl}
 use Rattle.std.specs.FinMap.{get, len}
 use Rattle.kernel_core.specs.FileContent.{no_content}
 use Rattle.kernel_core.specs.NameCalls.{after_create, after_link, after_mkdir, after_rename, after_rmdir, after_symlink, after_unlink, is_below}

@@ -1,9 +1,9 @@
 -- Worked rows on the node that a path or a descriptor names, on the working directory and on the mode of new nodes. The nodes are those of the
 -- rows on names.
-use Rattle.std.specs.Prelude.{◌≡◌, ℕ, ◌+◌, ◌-◌, ◌*◌, ◌^◌, true, false, List, [], ◌∷◌, ◌++◌, codes, replicate, Some, None, pos, negsuc, refl}
+use Rattle.std.specs.Prelude.{◌≡◌, ℕ, ◌+◌, ◌-◌, ◌^◌, false, List, [], ◌∷◌, ◌++◌, codes, replicate, Some, None, pos, negsuc, refl}
 use Rattle.std.specs.FinMap.{get, len, len-empty}
 use Rattle.std.specs.Ordering.{nat_cmp}
-use Rattle.kernel_core.specs.NodeCalls.{held, with_mode, with_times}
+use Rattle.kernel_core.specs.NodeCalls.{with_mode, with_times}
 use Rattle.kernel_core.specs.Nodes.{Nodes, update}
 use Rattle.kernel_core.specs.PathWalk.{components_after, ends_with_slash}
 use Rattle.kernel_core.specs.Queries.{walked, walked_from, walked_through}
@@ -16,7 +16,6 @@ use Rattle.kernel_model.specs.NodeRows.{access, after_change, after_truncate, ch
 use Rattle.kernel_model.specs.Paths.{walk}
 use Rattle.kernel_model.specs.State.{Files, Kernel}
 use Rattle.kernel_model.specs.Whole.{with_files}
-use Rattle.kernel_model.specs.declared.descriptor.Description.{Description}
 use Rattle.kernel_model.specs.declared.descriptor.Object.TheVariants.{Node}
 use Rattle.layouts.specs.Number.{bytes_of}
 use Rattle.native_calls.proofs.rows.Names.{at_working, empty, entry, file, inode, link_to_f, root, text}
