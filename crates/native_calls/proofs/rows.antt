@@ -1,6 +1,9 @@
+pub mod Clocks
 pub mod Descriptors
 pub mod Names
 pub mod Nodes
+pub mod Polls
+pub mod Signals
 pub mod Small
 pub mod Status
 pub mod System

@@ -17,25 +17,13 @@ use Rattle.kernel_model.specs.Paths.{walk}
 use Rattle.kernel_model.specs.State.{Files, Kernel}
 use Rattle.kernel_model.specs.Whole.{with_files}
 use Rattle.kernel_model.specs.declared.descriptor.Object.TheVariants.{Node}
-use Rattle.layouts.specs.Number.{bytes_of}
 use Rattle.native_calls.proofs.rows.Names.{at_working, empty, entry, file, inode, link_to_f, root, text}
-use Rattle.native_calls.proofs.rows.Small.{at_first, error, leaves, number, removed_directory, six, with_open}
+use Rattle.native_calls.proofs.rows.Small.{at_first, error, leaves, number, removed_directory, six, u32, u64, with_open, zeros}
 use Rattle.native_calls.proofs.rows.Small as small
 use Rattle.native_calls.specs.Nodes.{chdir_row, faccessat_row, fchdir_row, fchmod_row, fchmodat_row, ftruncate_row, getcwd_row, newfstatat_row, truncate_row, umask_row, utimensat_row}
 use Rattle.native_calls.specs.Paths.{path_at}
 use Rattle.native_calls.specs.Step.{NativeStep}
 use Rattle.native_calls.specs.Table.{native_call}
-
--- numbers of 4 and of 8 bytes, the lowest byte first
-
-abbrev u32 : ℕ → List ℕ
-u32 value = bytes_of false 4 value
-
-abbrev u64 : ℕ → List ℕ
-u64 value = bytes_of false 8 value
-
-abbrev zeros : ℕ → List ℕ
-zeros count = replicate count 0
 
 -- a node that is open at descriptor 3
 abbrev opened : Nodes → ℕ → Files

@@ -5,14 +5,10 @@ use Rattle.kernel_model.specs.Begin.{first_limits}
 use Rattle.kernel_model.specs.Pipes.{nothing}
 use Rattle.kernel_model.specs.State.{Kernel}
 use Rattle.kernel_model.specs.System.{random_bytes, round, set_limit}
-use Rattle.layouts.specs.Number.{bytes_of}
-use Rattle.native_calls.proofs.rows.Small.{error, number, six}
+use Rattle.native_calls.proofs.rows.Small.{error, number, six, u64}
 use Rattle.native_calls.specs.Step.{NativeStep}
 use Rattle.native_calls.specs.System.{getrandom_row, prlimit_row, uname_row}
 use Rattle.native_calls.specs.Table.{native_call}
-
-abbrev u64 : ℕ → List ℕ
-u64 value = bytes_of false 8 value
 
 -- a text with zeros behind it, so many
 abbrev place : List ℕ → ℕ → List ℕ
