@@ -8,7 +8,7 @@ use Rattle.kernel_core.specs.declared.request.Request.{Request}
 use Rattle.kernel_core.specs.declared.request.Request.TheVariants as requests
 use Rattle.kernel_model.proofs.refusals.TransferRefusals.{read_stays, write_stays}
 use Rattle.kernel_model.specs.Came.{Came, Done, Refused, Waits, Did, Given, done, refused}
-use Rattle.kernel_model.specs.Clock.{deadline, now}
+use Rattle.kernel_model.specs.Clock.{left_of_wait, now}
 use Rattle.kernel_model.specs.Readiness.{Sets, counted_fds, is_any, set_count}
 use Rattle.kernel_model.specs.Shared.{Info, PollSet}
 use Rattle.layouts.specs.Number.{bytes_of}
@@ -30,7 +30,7 @@ use Rattle.native_calls.specs.Clocks.{clock_calls, nanosleep_row, getitimer_row,
 use Rattle.native_calls.specs.Signals.{signal_calls, accepts, kill_row, tkill_row, tgkill_row, sigaltstack_row, rt_sigsuspend_row, rt_sigaction_row, rt_sigprocmask_row, rt_sigpending_row, rt_sigtimedwait_row, rt_sigqueueinfo_row}
 use Rattle.native_calls.specs.SignalBytes.{info_bytes}
 use Rattle.native_calls.specs.Times.{time_bytes}
-use Rattle.native_calls.specs.Polls.{poll_calls, SetPlaces, after_argument, at_end, fds_bytes, left_of, mask_argument_at, polled, selected, wait_at, waits_for, with_left, with_time_left, pselect_row, ppoll_row}
+use Rattle.native_calls.specs.Polls.{poll_calls, SetPlaces, after_argument, at_end, fds_bytes, mask_argument_at, polled, selected, wait_at, waits_for, with_left, with_time_left, pselect_row, ppoll_row}
 use Rattle.native_calls.specs.Names.{name_calls, openat_row, mkdirat_row, symlinkat_row, unlinkat_row, linkat_row, renameat_row, readlinkat_row}
 use Rattle.native_calls.specs.Nodes.{node_calls, truncate_row, ftruncate_row, faccessat_row, fchmod_row, fchmodat_row, newfstatat_row, utimensat_row, chdir_row, fchdir_row, getcwd_row, umask_row}
 use Rattle.native_calls.specs.System.{system_calls, uname_row, prlimit_row, getrandom_row}
@@ -175,7 +175,7 @@ with_left_length memory time (Some left) = written_length memory time (time_byte
 
 time_left_length : (kernel : Kernel) (time : ℕ) (wait : Given (Option ℕ)) (memory : List ℕ) → length (with_time_left kernel time wait memory) ≡ length memory
 time_left_length kernel time (Err error) memory = refl
-time_left_length kernel time (Ok length) memory = with_left_length memory time (left_of kernel (deadline kernel length))
+time_left_length kernel time (Ok length) memory = with_left_length memory time (left_of_wait kernel kernel.clock length)
 
 module _ {V : Type 0} (store : V → List ℕ) (count : V → ℕ) (after : List ℕ → List ℕ) (memory : List ℕ)
     (stored : (found : V) → length (store found) ≡ length memory) (longer : (bytes : List ℕ) → length (after bytes) ≡ length bytes) where

@@ -27,11 +27,6 @@ read_as meaning (Ok bytes) = Ok (meaning bytes)
 abbrev pub unless_null : {A : Type 0} → ℕ → A → Option A
 unless_null address there = if address == 0 then None else Some there
 
--- so many numbers from one on
-abbrev pub numbers_from : ℕ → ℕ → List ℕ
-numbers_from first zero = []
-numbers_from first (suc more) = first ∷ numbers_from (first + 1) more
-
 -- Buffers
 
 -- how many of so many bytes from an address on are there, up to the first that is not

@@ -4,7 +4,7 @@ use Rattle.std.specs.Prelude.{ℕ, zero, suc, ◌+◌, ◌*◌, ◌/◌, ◌%◌
 use Rattle.std.specs.List.{flat_map, list_any}
 use Rattle.host_mem.specs.Memory.{written}
 use Rattle.kernel_model.specs.Came.{Came, Done, Refused, Waits, Did, Given}
-use Rattle.kernel_model.specs.Clock.{length_of, checked_or_none, deadline, time_left}
+use Rattle.kernel_model.specs.Clock.{length_of, checked_or_none, left_of_wait}
 use Rattle.kernel_model.specs.Pipes.{nothing}
 use Rattle.kernel_model.specs.Readiness.{PollEntry, Sets, poll, select, is_any, counted_fds, masked_wait, set_count}
 use Rattle.kernel_model.specs.Shared.{PollSet}
@@ -12,9 +12,10 @@ use Rattle.kernel_model.specs.State.{Kernel}
 use Rattle.layouts.specs.Native.{native_shape}
 use Rattle.layouts.specs.Number.{bytes_of, unsigned}
 use Rattle.layouts.specs.Shape.{Shape, record_values}
+use Rattle.layouts.specs.Termios.{count_up}
 use Rattle.layouts.specs.declared.native.NativeStructure.TheVariants as structures
 use Rattle.native_calls.specs.Arguments.{argument, word, signed_word}
-use Rattle.native_calls.specs.HostBytes.{structure, read_as, unless_null, numbers_from}
+use Rattle.native_calls.specs.HostBytes.{structure, read_as, unless_null}
 use Rattle.native_calls.specs.SignalBytes.{set_at}
 use Rattle.native_calls.specs.Step.{NativeStep, NativeCall, value, reply_to, memory_after}
 use Rattle.native_calls.specs.Times.{time_at, time_bytes}
@@ -28,17 +29,13 @@ wait_at memory time = checked_or_none length_of (unless_null time (time_at memor
 -- The time left, which is stored where the time was at every end of a call, also at an error once the time was accepted, and nowhere while it
 -- waits (own). There is room for it, since the time was read.
 
-abbrev pub left_of : Kernel → Option ℕ → Option ℕ
-left_of kernel None = None
-left_of kernel (Some until) = Some (time_left kernel.clock until)
-
 abbrev pub with_left : List ℕ → ℕ → Option ℕ → List ℕ
 with_left memory time None = memory
 with_left memory time (Some left) = written memory time (time_bytes left)
 
 abbrev pub with_time_left : Kernel → ℕ → Given (Option ℕ) → List ℕ → List ℕ
 with_time_left kernel time (Err error) memory = memory
-with_time_left kernel time (Ok length) memory = with_left memory time (left_of kernel (deadline kernel length))
+with_time_left kernel time (Ok length) memory = with_left memory time (left_of_wait kernel kernel.clock length)
 
 abbrev pub at_end : {V : Type 0} → (List ℕ → List ℕ) → List ℕ → Came V → List ℕ
 at_end with_left memory (Done found) = with_left memory
@@ -108,13 +105,13 @@ abbrev pub has_fd : List ℕ → ℕ → Bool
 has_fd bytes fd = unsigned false 8 (drop (8 * (fd / 64)) bytes) / 2 ^ (fd % 64) % 2 == 1
 
 abbrev pub fds_in : ℕ → List ℕ → List ℕ
-fds_in count bytes = filter (has_fd bytes) (numbers_from 0 count)
+fds_in count bytes = filter (has_fd bytes) (count_up 0 count)
 
 abbrev pub is_among : List ℕ → ℕ → Bool
 is_among fds fd = list_any (λ other. other == fd) fds
 
 abbrev pub fds_bytes : ℕ → List ℕ → List ℕ
-fds_bytes count fds = flat_map (λ k. bytes_of false 8 (bits_where (is_among fds) (64 * k) 64)) (numbers_from 0 (set_words count))
+fds_bytes count fds = flat_map (λ k. bytes_of false 8 (bits_where (is_among fds) (64 * k) 64)) (count_up 0 (set_words count))
 
 -- the descriptors of a set; none where it is null, or nothing is counted
 abbrev pub fds_at : List ℕ → ℕ → ℕ → Given (List ℕ)

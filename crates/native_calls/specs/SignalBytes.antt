@@ -5,7 +5,7 @@ use Rattle.std.specs.List.{flat_map}
 use Rattle.kernel_core.specs.declared.signal.Sig.{Sig}
 use Rattle.kernel_model.specs.Came.{Given}
 use Rattle.kernel_model.specs.Shared.{Info}
-use Rattle.kernel_model.specs.SignalRows.{Named, Nothing, Signal, Unlisted, SentInfo}
+use Rattle.kernel_model.specs.SignalRows.{Named, Nothing, Signal, Unlisted, SentInfo, set_size}
 use Rattle.kernel_model.specs.SignalSets.{SignalSet}
 use Rattle.kernel_model.specs.declared.signal.Action.{Action}
 use Rattle.kernel_model.specs.declared.signal.SigStack.{SigStack}
@@ -20,9 +20,6 @@ use Rattle.number_tables.specs.Signals.{native_signal, signal_of_native}
 use Rattle.signal_sets.specs.NativeSets.{native_of, set_of_native}
 
 -- Sets: two numbers of 8 bytes
-
-abbrev pub set_size : ℕ
-set_size = 16
 
 abbrev pub set_in : List ℕ → SignalSet
 set_in bytes = set_of_native (unsigned false 8 bytes ∷ unsigned false 8 (drop 8 bytes) ∷ [])

@@ -9,8 +9,9 @@ use Rattle.kernel_model.specs.Shared.{Info}
 use Rattle.kernel_model.specs.SignalRows.{kill, kill_thread, kill_thread_of, queue, set_action, change_mask, pending, accept, suspend, set_stack}
 use Rattle.kernel_model.specs.SignalSets.{signal_count}
 use Rattle.kernel_model.specs.State.{Kernel}
+use Rattle.layouts.specs.Termios.{count_up}
 use Rattle.native_calls.specs.Arguments.{argument, word, signed_word}
-use Rattle.native_calls.specs.HostBytes.{unless_null, numbers_from}
+use Rattle.native_calls.specs.HostBytes.{unless_null}
 use Rattle.native_calls.specs.SignalBytes.{named_by, set_at, set_bytes, action_at, action_bytes, stack_at, stack_bytes, sent_at, info_bytes}
 use Rattle.native_calls.specs.Step.{NativeStep, NativeCall, told_unless_null, reply_to, memory_after, gives, stores, stores_unless_null}
 use Rattle.native_calls.specs.Times.{time_at}
@@ -51,7 +52,7 @@ rt_sigpending_row kernel memory address size left = stores memory address (told_
 
 -- all signals, by rising native number
 unfoldable pub native_order : List Sig
-native_order = filter_map signal_of_native (numbers_from 1 signal_count)
+native_order = filter_map signal_of_native (count_up 1 signal_count)
 
 -- The reply is the signal's number; what is known of it is stored whole, unless the address is null. A signal is gone also where that could
 -- not be stored.

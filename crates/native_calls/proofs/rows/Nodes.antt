@@ -1,6 +1,6 @@
 -- Worked rows on the node that a path or a descriptor names, on the working directory and on the mode of new nodes. The nodes are those of the
 -- rows on names.
-use Rattle.std.specs.Prelude.{◌≡◌, ℕ, ◌+◌, ◌-◌, ◌^◌, false, List, [], ◌∷◌, ◌++◌, codes, replicate, Some, None, pos, negsuc, refl}
+use Rattle.std.specs.Prelude.{◌≡◌, ℕ, ◌+◌, ◌-◌, ◌^◌, List, [], ◌∷◌, ◌++◌, codes, replicate, Some, None, pos, negsuc, refl}
 use Rattle.std.specs.FinMap.{get, len, len-empty}
 use Rattle.std.specs.Ordering.{nat_cmp}
 use Rattle.kernel_core.specs.NodeCalls.{with_mode, with_times}

@@ -7,7 +7,7 @@ use Rattle.kernel_model.specs.Pipes.{nothing}
 use Rattle.kernel_model.specs.Readiness.{poll, ready, select}
 use Rattle.kernel_model.specs.State.{Kernel}
 use Rattle.layouts.specs.Number.{bytes_of}
-use Rattle.native_calls.proofs.rows.Small.{error, number, six, u32, u64, with_pipe_of, zeros}
+use Rattle.native_calls.proofs.rows.Small.{error, number, u32, u64, with_pipe_of, zeros}
 use Rattle.native_calls.specs.Polls.{ppoll_row, pselect_row}
 use Rattle.native_calls.specs.Step.{NativeStep}
 use Rattle.native_calls.specs.Table.{native_call}

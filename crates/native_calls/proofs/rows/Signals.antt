@@ -1,22 +1,27 @@
 -- Worked rows on signals, from the first state of signals. TERM is 15, USR1 10, KILL 9, ABRT 6, CONT 18.
-use Rattle.std.specs.Prelude.{◌≡◌, ℕ, ◌+◌, ◌-◌, ◌^◌, pos, negsuc, true, false, List, [], ◌∷◌, ◌++◌, drop, replicate, Some, None, refl}
+use Rattle.std.specs.Prelude.{◌≡◌, ℕ, ◌+◌, ◌-◌, ◌^◌, pos, negsuc, true, false, List, [], ◌∷◌, ◌++◌, map, replicate, Some, None, refl}
 use Rattle.kernel_core.specs.declared.reply.Reply.{Reply}
 use Rattle.kernel_core.specs.declared.reply.Reply.TheVariants as replies
 use Rattle.kernel_core.specs.declared.signal.Sig.{Sig}
 use Rattle.kernel_core.specs.declared.signal.Sig.TheVariants.{Kill, Term, Usr1, RealTime}
 use Rattle.kernel_model.specs.Begin.{first_signals}
 use Rattle.kernel_model.specs.Pipes.{nothing}
-use Rattle.kernel_model.specs.Shared.{Info}
-use Rattle.kernel_model.specs.SignalRows.{accept, after_action, appended, change_mask, info_of, kill, kill_info, kill_thread, kill_thread_of, no_stack, pending, post, queue, set_action, set_stack, si_queue, suspend, tkill_info, with_pending}
-use Rattle.kernel_model.specs.SignalSets.{only, union}
+use Rattle.kernel_model.specs.SignalRows.{accept, after_action, appended, change_mask, info_of, kill, kill_info, kill_thread, kill_thread_of, pending, post, queue, set_action, set_stack, si_queue, suspend, tkill_info, with_pending}
+use Rattle.kernel_model.specs.SignalSets.{only}
 use Rattle.kernel_model.specs.State.{Kernel, Signals}
 use Rattle.kernel_model.specs.declared.signal.Action.{Action}
+use Rattle.layouts.specs.Termios.{count_up}
 use Rattle.native_calls.proofs.rows.Small.{error, number, six, u32, u64, zeros}
 use Rattle.native_calls.specs.Signals.{kill_row, native_order, rt_sigaction_row, rt_sigpending_row, rt_sigprocmask_row, rt_sigqueueinfo_row, rt_sigsuspend_row, rt_sigtimedwait_row, sigaltstack_row, tgkill_row, tkill_row}
 use Rattle.native_calls.specs.Step.{NativeStep}
 use Rattle.native_calls.specs.Table.{native_call}
-use Rattle.number_tables.specs.Signals.{real_time, real_time_if}
+use Rattle.number_tables.specs.Signals.{native_signal, real_time, real_time_if}
 use Rattle.signal_sets.specs.NativeSets.{bits_where, native_of, set_of_native}
+
+-- all signals stand in the order in which they are accepted, each once
+order : map native_signal native_order ≡ count_up 1 128
+unfolding native_order real_time real_time_if
+order = refl
 
 module _ (whole : Kernel) where
   abbrev with : Signals → Kernel

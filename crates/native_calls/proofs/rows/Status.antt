@@ -1,5 +1,5 @@
 -- Worked rows on what a descriptor has open: places, status, entries, syncing.
-use Rattle.std.specs.Prelude.{◌≡◌, ℕ, ◌-◌, ◌^◌, false, List, [], ◌∷◌, ◌++◌, replicate, Some, refl}
+use Rattle.std.specs.Prelude.{◌≡◌, ℕ, ◌-◌, ◌^◌, List, [], ◌∷◌, ◌++◌, replicate, Some, refl}
 use Rattle.std.specs.FinMap.{get, len-empty}
 use Rattle.std.specs.Ordering.{nat_cmp}
 use Rattle.kernel_core.specs.Nodes.{Nodes}

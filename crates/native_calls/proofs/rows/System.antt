@@ -1,5 +1,5 @@
 -- Worked rows on names, limits and chance.
-use Rattle.std.specs.Prelude.{◌≡◌, ℕ, ◌^◌, false, List, [], ◌∷◌, ◌++◌, codes, replicate, refl}
+use Rattle.std.specs.Prelude.{◌≡◌, ℕ, ◌^◌, List, [], ◌∷◌, ◌++◌, codes, replicate, refl}
 use Rattle.kernel_core.specs.declared.reply.Reply.{Reply}
 use Rattle.kernel_model.specs.Begin.{first_limits}
 use Rattle.kernel_model.specs.Pipes.{nothing}
