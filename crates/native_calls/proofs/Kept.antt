@@ -25,7 +25,7 @@ use Rattle.native_calls.specs.Arguments.{argument, word, signed_word}
 use Rattle.native_calls.specs.Descriptors.{descriptor_calls, close_row, dup_row, dup3_row, pipe2_row, fcntl_row}
 use Rattle.native_calls.specs.HostBytes.{vector, asked, buffers}
 use Rattle.native_calls.specs.Ids.{id_calls, getpid_row, getppid_row}
-use Rattle.native_calls.specs.Laws.{IsFailure, MayStoreTimeLeft, MovesNothing, StreamsNothing}
+use Rattle.native_calls.specs.Laws.{IsFailure, MayStoreTimeLeft, MovesNothing, KeepsStreams}
 use Rattle.native_calls.specs.Clocks.{clock_calls, nanosleep_row, getitimer_row, setitimer_row, clock_gettime_row, clock_getres_row, clock_nanosleep_row}
 use Rattle.native_calls.specs.Signals.{signal_calls, accepts, kill_row, tkill_row, tgkill_row, sigaltstack_row, rt_sigsuspend_row, rt_sigaction_row, rt_sigprocmask_row, rt_sigpending_row, rt_sigtimedwait_row, rt_sigqueueinfo_row}
 use Rattle.native_calls.specs.SignalBytes.{info_bytes}
@@ -45,7 +45,7 @@ use Rattle.native_calls.specs.Transfers.{transfer_calls, after_read, after_write
 -- what a step keeps of host memory and of what is left of the input
 pub record Keeps (number : ℕ) (memory left : List ℕ) (step : NativeStep) : Type 0 where
   pub quiet : IsFailure step.reply → MovesNothing memory left step ⊎ MayStoreTimeLeft number
-  pub still : IsFailure step.reply → StreamsNothing left step
+  pub still : IsFailure step.reply → KeepsStreams left step
   pub long : length step.memory ≡ length memory
 
 gives_keeps : (number : ℕ) (memory : List ℕ) (did : Did Kernel ℕ) (left : List ℕ) → Keeps number memory left (gives memory did left)

@@ -1,4 +1,4 @@
--- Flags that a call takes a few of (openat(2), unlinkat(2)). That any other flag is refused is this project's own.
+-- Flags, of which a call takes a few and refuses any other (EINVAL of unlinkat(2), linkat(2), fstatat(2), utimensat(2)).
 use Rattle.std.specs.Prelude.{ℕ, ◌*◌, ◌==◌, Bool, List, [], ◌∷◌, sum_by, Option, Some, None, if◌then◌else◌}
 use Rattle.kernel_core.specs.Bits.{one_if, has}
 

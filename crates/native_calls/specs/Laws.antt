@@ -18,7 +18,7 @@ IsFailure (replies.Done (negsuc number)) = ⊤
 IsFailure (replies.Sleep wake) = ⊥
 
 -- what is left of the input stays, and nothing is sent
-pub record StreamsNothing (left : List ℕ) (step : NativeStep) : Type 0 where
+pub record KeepsStreams (left : List ℕ) (step : NativeStep) : Type 0 where
   pub rest : step.left ≡ left
   pub sent : step.sent ≡ nothing
 

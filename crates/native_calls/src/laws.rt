@@ -1,7 +1,7 @@
 //! Laws over the definitions, each the contract of a function that does nothing. (The rules are this
 //! project's own.)
 
-ghost use Rattle.native_calls.specs.Laws.{IsFailure, LeftByFailure, MayLackMemory, MayStoreTimeLeft, MayWaitPartly, MovesNothing, StreamsNothing, TellsOld};
+ghost use Rattle.native_calls.specs.Laws.{IsFailure, LeftByFailure, MayLackMemory, MayStoreTimeLeft, MayWaitPartly, MovesNothing, KeepsStreams, TellsOld};
 ghost use Rattle.native_calls.specs.Step.{failure};
 ghost use Rattle.native_calls.specs.Table.{native_call};
 ghost use Rattle.kernel_core.specs.declared.error.Errno.TheVariants.{ENOMEM};
@@ -19,7 +19,7 @@ pub fn a_call_that_fails_moves_nothing()
         ⊎ MayStoreTimeLeft number }
     ensures streams { (number : ℕ) (args : List ℕ) (kernel : Kernel) (memory left : List ℕ)
         → IsFailure (native_call number args kernel memory left).reply
-        → StreamsNothing left (native_call number args kernel memory left) }
+        → KeepsStreams left (native_call number args kernel memory left) }
 {}
 
 /// No call makes host memory longer or shorter.
