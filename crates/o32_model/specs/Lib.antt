@@ -19,6 +19,7 @@ pub mod Polling
 pub mod Ranges
 pub mod Results
 pub mod Returns
+pub mod Runs
 pub mod Seeing
 pub mod Selecting
 pub mod Sending
@@ -33,5 +34,6 @@ pub mod Terminal
 pub mod TimeLeft
 pub mod Times
 pub mod Transfers
+pub mod Turn
 pub mod WaitEnds
 pub mod Words

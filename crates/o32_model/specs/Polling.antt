@@ -71,7 +71,7 @@ ppolled kernel guest address count time length size mask left =
     with_time_left (record { address = time; bytes = spec_bytes }) kernel guest.memory length
     (with_own_mask kernel mask (polled kernel guest address count (masked_wait length size mask) left))
 
--- the size of the mask is on the stack, and where it can't be read, that is EFAULT before all else
+-- the size of the mask is on the stack, and where it can't be read, that is EFAULT before all else (own)
 unfoldable pub ppoll_row : Kernel → Guest → ℕ → ℕ → ℕ → ℕ → Option ℕ → List ℕ → O32Step
 ppoll_row kernel guest address count time mask None left = gives guest (refused kernel EFAULT) left
 ppoll_row kernel guest address count time mask (Some size) left =

@@ -88,13 +88,13 @@ abbrev pub newselected : Kernel → Guest → Asked → ℕ → Given (Option �
 newselected kernel guest asked time length left =
     with_time_left (record { address = time; bytes = val_bytes }) kernel guest.memory length (selected kernel guest asked length left)
 
--- the time's address is on the stack, and where it can't be read, that is EFAULT before all else
+-- the time's address is on the stack, and where it can't be read, that is EFAULT before all else (own)
 unfoldable pub newselect_row : Kernel → Guest → Asked → Option ℕ → List ℕ → O32Step
 newselect_row kernel guest asked None left = gives guest (refused kernel EFAULT) left
 newselect_row kernel guest asked (Some time) left =
     newselected kernel guest asked time (checked_or_none select_length (unless_null time (val_at guest.memory time))) left
 
--- pselect(2), with nanoseconds and a mask: its address and its size stand in a pair of words, and there is no mask where the pair's pointer or
+-- pselect(2), with nanoseconds and a mask; both of its words on the stack are needed (own): its address and its size stand in a pair of words, and there is no mask where the pair's pointer or
 -- the mask's is null
 
 pub record OwnMask : Type 0 where

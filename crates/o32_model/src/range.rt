@@ -1,7 +1,7 @@
 //! One buffer of a vector (readv(2)).
 
 /// A buffer of a vector: struct iovec of Linux `include/uapi/linux/uio.h`.
-#[derive(Clone, Copy)]
+#[derive(Clone, Copy, Default)]
 pub struct Range {
     /// The address of its first byte.
     pub address: u32,

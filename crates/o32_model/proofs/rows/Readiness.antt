@@ -113,8 +113,8 @@ module _ (whole : Kernel) (nodes : Nodes) (processor : Processor) (memory : Memo
   unfolding poll_row poll entries_in ready
   poll_unstored loaded held asked room = simp (loaded, held, asked, room) refl
 
-  -- the first entry stands
-  poll_second_unstored : first_denied Load memory.pages 65536 16 ≡ None → bytes_at memory.pages 65536 16 ≡ entry 3 1 77 ++ entry 4 4 77 → bytes_at memory.pages 65536 6 ≡ u32 3 ++ u16 1 → bytes_at memory.pages 65544 6 ≡ u32 4 ++ u16 4 → first_denied Store memory.pages 65536 8 ≡ None → first_denied Store memory.pages 65544 8 ≡ Some (record { addr = 65544; why = Forbidden }) → called piped (words 4188 65536 2 0 0) ≡ leaves piped (copied_out memory 65536 (entry 3 1 1)) (Error EFAULT)
+  -- the second entry lies on a page that may not be written, and the first stands
+  poll_second_unstored : first_denied Load memory.pages 69624 16 ≡ None → bytes_at memory.pages 69624 16 ≡ entry 3 1 77 ++ entry 4 4 77 → bytes_at memory.pages 69624 6 ≡ u32 3 ++ u16 1 → bytes_at memory.pages 69632 6 ≡ u32 4 ++ u16 4 → first_denied Store memory.pages 69624 8 ≡ None → first_denied Store memory.pages 69632 8 ≡ Some (record { addr = 69632; why = Forbidden }) → called piped (words 4188 69624 2 0 0) ≡ leaves piped (copied_out memory 69624 (entry 3 1 1)) (Error EFAULT)
   unfolding poll_row poll entries_in ready
   poll_second_unstored loaded held asked asked_then room full = simp (loaded, held, asked, asked_then, room, full) refl
 
@@ -179,8 +179,8 @@ module _ (whole : Kernel) (nodes : Nodes) (processor : Processor) (memory : Memo
   unfolding newselect_row select fds_below fds_bytes ready
   select_two loaded set room loaded_then set_then room_then = simp (loaded, set, room, loaded_then, set_then, room_then) refl
 
-  -- the first set stands
-  select_second_unstored : first_denied Load memory.pages 65536 4 ≡ None → bytes_at memory.pages 65536 4 ≡ u32 0x18 → first_denied Store memory.pages 65536 4 ≡ None → first_denied Load memory.pages 65540 4 ≡ None → bytes_at memory.pages 65540 4 ≡ u32 0x10 → first_denied Store memory.pages 65540 4 ≡ Some (record { addr = 65540; why = Forbidden }) → called piped (words_with_six 4142 5 65536 65540 0 0 0) ≡ leaves piped (copied_out memory 65536 (u32 8)) (Error EFAULT)
+  -- the second set lies on a page that may not be written, and the first stands
+  select_second_unstored : first_denied Load memory.pages 65536 4 ≡ None → bytes_at memory.pages 65536 4 ≡ u32 0x18 → first_denied Store memory.pages 65536 4 ≡ None → first_denied Load memory.pages 69632 4 ≡ None → bytes_at memory.pages 69632 4 ≡ u32 0x10 → first_denied Store memory.pages 69632 4 ≡ Some (record { addr = 69632; why = Forbidden }) → called piped (words_with_six 4142 5 65536 69632 0 0 0) ≡ leaves piped (copied_out memory 65536 (u32 8)) (Error EFAULT)
   unfolding newselect_row select fds_below fds_bytes ready
   select_second_unstored loaded set room loaded_then set_then full = simp (loaded, set, room, loaded_then, set_then, full) refl
 

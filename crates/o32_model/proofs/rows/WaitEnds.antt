@@ -130,13 +130,13 @@ module _ (whole : Kernel) (memory : Memory) where
 
   -- select of five descriptors in two sets, with microseconds, and pselect6, with nanoseconds
   abbrev selecting : ℕ → Wait
-  selecting nr = waits nr (5 ∷ 65536 ∷ 0 ∷ 65540 ∷ 65792 ∷ 0 ∷ []) (Some 1_000_000_000) None
+  selecting nr = waits nr (5 ∷ 65536 ∷ 0 ∷ 69632 ∷ 65792 ∷ 0 ∷ []) (Some 1_000_000_000) None
 
-  select_over : first_denied Store memory.pages 65536 4 ≡ None → first_denied Store memory.pages 65540 4 ≡ None → first_denied Store memory.pages 65792 8 ≡ None → wait_ended (selecting 4142) Due 1_000_000_000 whole memory ≡ ends_with (closes.Value 0) whole (copied_out (copied_out (copied_out memory 65536 (u32 0)) 65540 (u32 0)) 65792 (u32 0 ++ u32 0))
+  select_over : first_denied Store memory.pages 65536 4 ≡ None → first_denied Store memory.pages 69632 4 ≡ None → first_denied Store memory.pages 65792 8 ≡ None → wait_ended (selecting 4142) Due 1_000_000_000 whole memory ≡ ends_with (closes.Value 0) whole (copied_out (copied_out (copied_out memory 65536 (u32 0)) 69632 (u32 0)) 65792 (u32 0 ++ u32 0))
   unfolding fds_bytes
   select_over room room_then left_room = simp (room, room_then, left_room) refl
 
-  select_over_unstored : first_denied Store memory.pages 65536 4 ≡ None → first_denied Store memory.pages 65540 4 ≡ Some (record { addr = 65540; why = Forbidden }) → first_denied Store memory.pages 65792 8 ≡ None → wait_ended (selecting 4142) Due 1_000_000_000 whole memory ≡ ends_with (closes.Error EFAULT) whole (copied_out (copied_out memory 65536 (u32 0)) 65792 (u32 0 ++ u32 0))
+  select_over_unstored : first_denied Store memory.pages 65536 4 ≡ None → first_denied Store memory.pages 69632 4 ≡ Some (record { addr = 69632; why = Forbidden }) → first_denied Store memory.pages 65792 8 ≡ None → wait_ended (selecting 4142) Due 1_000_000_000 whole memory ≡ ends_with (closes.Error EFAULT) whole (copied_out (copied_out memory 65536 (u32 0)) 65792 (u32 0 ++ u32 0))
   unfolding fds_bytes
   select_over_unstored room full left_room = simp (room, full, left_room) refl
 

@@ -1,0 +1,2 @@
+pub mod Nul
+pub mod Denials
