@@ -1,6 +1,6 @@
 -- The first NUL of bytes that are looked at piece by piece.
-use Rattle.std.proofs.Common.{ℕ, ◌≡◌, ◌+◌, ◌-◌, ◌≤◌, ◌<◌, Bool, true, false, not, cond, List, ◌++◌, length, take, get_or, Option, Some, None, Ok, Err, nat_lt, nat_eq, refl, sym, ap, ◌∙◌, arith, append_assoc, position, is_some, unwrap_or}
-use Rattle.std.specs.List.{position_or_len, prefix_len}
+use Rattle.std.proofs.Common.{ℕ, ◌≡◌, ◌+◌, ◌-◌, ◌≤◌, ◌<◌, Bool, true, false, not, cond, List, ◌++◌, length, take, Option, Some, None, Ok, Err, nat_lt, nat_eq, refl, sym, ap, ◌∙◌, arith, append_assoc, position, is_some, unwrap_or}
+use Rattle.std.specs.List.{position_or_len}
 use Rattle.std.proofs.Math.Seq.{take-append-add}
 use Rattle.std.proofs.lemmas.Bool.Decides.{nat_tests}
 use Rattle.std.proofs.lemmas.List.{take-append-le, length-append, length-take-le, get_or-take, take_all}

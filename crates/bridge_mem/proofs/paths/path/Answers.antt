@@ -1,4 +1,4 @@
-use Rattle.std.proofs.Common.{◌≡◌, ◌+◌, ◌≤◌, ◌<◌, ◌∙◌, Err, Ok, sym, ap, refl, arith, vec_len, length, position, cond, eq-eqb}
+use Rattle.std.proofs.Common.{◌≡◌, ◌+◌, ◌∙◌, Err, Ok, sym, ap, refl, arith, vec_len, length, position, cond, eq-eqb}
 use Rattle.guest_space.specs.Bytes.{bytes_at}
 use Rattle.guest_space.specs.declared.access.Access.TheVariants.{Load}
 use Rattle.guest_space.proofs.ByteLemmas.{bytes_at-zero, length-bytes_at}
