@@ -13,3 +13,6 @@ pub use paths::{PathError, path};
 pub use structures::{load_structure, store_structure};
 pub use vectors::Vector;
 pub use words::{args, six_words, stack_pair};
+
+#[cfg(test)]
+mod tests;
