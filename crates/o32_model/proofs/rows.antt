@@ -1,7 +1,15 @@
 pub mod Descriptors
 pub mod Effects
+pub mod Entries
+pub mod Mappings
+pub mod Names
+pub mod NodeCalls
+pub mod Opening
+pub mod Paths
 pub mod Small
 pub mod SmallCalls
+pub mod SmallTree
+pub mod Status
 pub mod Terminal
 pub mod Transfers
 pub mod Words

@@ -1,6 +1,8 @@
 -- Words of the laws. (The laws are this project's own.)
 use Rattle.std.specs.Prelude.{◌≡◌, ℕ, List, ⊤}
+use Rattle.guest_space.specs.Bytes.{byte_at}
 use Rattle.kernel_model.specs.Pipes.{nothing}
+use Rattle.kernel_model.specs.State.{Kernel}
 use Rattle.o32_model.specs.Step.{Guest, O32Step}
 use Rattle.o32_model.specs.declared.outcome.Outcome.{Outcome}
 use Rattle.o32_model.specs.declared.outcome.Outcome.TheVariants.{Value, Pair, Error, Sleep, Frame, Exit}
@@ -17,6 +19,19 @@ IsFailure (Exit status) = ⊥
 -- memory, the processor and what is left of the input stay, and nothing is sent
 pub record MovesNothing (guest : Guest) (left : List ℕ) (step : O32Step) : Type 0 where
   pub stored : step.memory ≡ guest.memory
+  pub set : step.processor ≡ guest.processor
+  pub rest : step.left ≡ left
+  pub sent : step.sent ≡ nothing
+
+-- the one call that may fail with a part of its work done
+abbrev pub mprotect_number : ℕ
+mprotect_number = 4125
+
+-- after it all is as before but protections
+pub record ChangesProtections (kernel : Kernel) (guest : Guest) (left : List ℕ) (step : O32Step) : Type 0 where
+  pub became : step.kernel ≡ kernel
+  pub bytes : (address : ℕ) → byte_at step.memory.pages address ≡ byte_at guest.memory.pages address
+  pub break : step.memory.program_break ≡ guest.memory.program_break
   pub set : step.processor ≡ guest.processor
   pub rest : step.left ≡ left
   pub sent : step.sent ≡ nothing

@@ -6,7 +6,13 @@ use Rattle.kernel_model.specs.Came.{refused}
 use Rattle.kernel_model.specs.State.{Kernel}
 use Rattle.number_tables.specs.Numbered.{numbered_or}
 use Rattle.o32_model.specs.Descriptors.{descriptor_calls}
+use Rattle.o32_model.specs.Entries.{entry_calls}
+use Rattle.o32_model.specs.Mappings.{map_calls}
+use Rattle.o32_model.specs.Names.{name_calls}
+use Rattle.o32_model.specs.NodeCalls.{node_calls}
+use Rattle.o32_model.specs.Opening.{opening_calls}
 use Rattle.o32_model.specs.Small.{small_calls}
+use Rattle.o32_model.specs.Status.{status_calls}
 use Rattle.o32_model.specs.Step.{Guest, O32Step, O32Call, gives}
 use Rattle.o32_model.specs.Terminal.{terminal_calls}
 use Rattle.o32_model.specs.Transfers.{transfer_calls}
@@ -15,7 +21,8 @@ use Rattle.o32_model.specs.Transfers.{transfer_calls}
 abbrev pub call_in : List O32Call → Option O32Call → ℕ → Option O32Call
 call_in calls otherwise number = numbered_or (λ (call : O32Call). call.number) calls otherwise number
 
--- the calls on descriptors and what they have open, and all calls
+-- the calls on descriptors and what they have open; the calls on files by their names, on status, places and entries; and all calls
+
 abbrev pub io_call_or : Option O32Call → ℕ → Option O32Call
 io_call_or otherwise number =
     call_in transfer_calls
@@ -23,15 +30,31 @@ io_call_or otherwise number =
     (call_in terminal_calls otherwise
     number) number) number
 
-abbrev pub call_of : ℕ → Option O32Call
-call_of number = io_call_or (call_in small_calls None number) number
+abbrev pub file_call_or : Option O32Call → ℕ → Option O32Call
+file_call_or otherwise number =
+    call_in opening_calls
+    (call_in status_calls
+    (call_in entry_calls
+    (call_in name_calls
+    (call_in node_calls otherwise
+    number) number) number) number) number
 
--- whether a number is that of a call on descriptors and what they have open, and of a small call
+abbrev pub call_of : ℕ → Option O32Call
+call_of number = io_call_or (call_in small_calls (file_call_or (call_in map_calls None number) number) number) number
+
+-- whether a number is that of a call on descriptors and what they have open, of a small call, of a call on files, and of one on
+-- mappings
 abbrev pub is_io_call : ℕ → Bool
 is_io_call number = is_some (io_call_or None number)
 
 abbrev pub is_small_call : ℕ → Bool
 is_small_call number = is_some (call_in small_calls None number)
+
+abbrev pub is_file_call : ℕ → Bool
+is_file_call number = is_some (file_call_or None number)
+
+abbrev pub is_map_call : ℕ → Bool
+is_map_call number = is_some (call_in map_calls None number)
 
 abbrev pub step_of : Option O32Call → Kernel → Guest → List ℕ → O32Step
 step_of None kernel guest left = gives guest (refused kernel ENOSYS) left
