@@ -1,5 +1,5 @@
 -- The first denied byte of two pieces of memory, one behind the other.
-use Rattle.std.proofs.Common.{ℕ, zero, suc, ◌≡◌, ◌+◌, ◌≤◌, ◌<◌, Option, Some, None, refl, sym, ap, ◌∙◌, arith}
+use Rattle.std.proofs.Common.{ℕ, zero, suc, ◌≡◌, ◌+◌, Option, Some, None, refl, sym, ap, ◌∙◌, arith}
 use Rattle.guest_space.specs.Memory.{Pages}
 use Rattle.guest_space.specs.declared.access.Access.{Access}
 use Rattle.guest_space.specs.declared.access.Denied.{Denied}

@@ -1,2 +1,4 @@
-pub mod Nul
 pub mod Denials
+pub mod Iovecs
+pub mod Nul
+pub mod Ranges

@@ -1,6 +1,6 @@
 -- The first NUL of bytes that are looked at piece by piece.
-use Rattle.std.proofs.Common.{ℕ, ◌≡◌, ◌+◌, ◌-◌, ◌≤◌, ◌<◌, Bool, true, false, not, cond, List, ◌++◌, length, take, get_or, Option, Some, None, Ok, Err, nat_lt, nat_eq, refl, sym, ap, ◌∙◌, arith, append_assoc, position, is_some, unwrap_or}
-use Rattle.std.specs.List.{position_or_len, prefix_len}
+use Rattle.std.proofs.Common.{ℕ, ◌≡◌, ◌+◌, ◌-◌, ◌≤◌, ◌<◌, Bool, true, false, not, cond, List, ◌++◌, length, take, Option, Some, None, Ok, Err, nat_lt, nat_eq, refl, sym, ap, subst, ◌∙◌, arith, append_assoc, position, is_some, unwrap_or}
+use Rattle.std.specs.List.{position_or_len}
 use Rattle.std.proofs.Math.Seq.{take-append-add}
 use Rattle.std.proofs.lemmas.Bool.Decides.{nat_tests}
 use Rattle.std.proofs.lemmas.List.{take-append-le, length-append, length-take-le, get_or-take, take_all}
@@ -13,6 +13,9 @@ use Rattle.guest_space.specs.Memory.{Memory}
 use Rattle.guest_space.proofs.ByteLemmas.{bytes_at-append, bytes_at-same, length-bytes_at}
 use Rattle.guest_space.proofs.Uses.{readable_prefix-le}
 use Rattle.kernel_core.specs.declared.error.Errno.TheVariants.{EFAULT, ENAMETOOLONG}
+use Rattle.bridge_mem.specs.Paths.{IsPathAnswer}
+use Rattle.bridge_mem.specs.declared.paths.PathError.{PathError}
+use Rattle.bridge_mem.specs.declared.paths.PathError.TheVariants.{TooLong, Fault}
 use Rattle.o32_model.specs.Paths.{path_at, path_in, is_nul, path_limit}
 
 -- a place, or none where it is the end
@@ -39,9 +42,6 @@ at_end n m a b is = grind (arith, nat_tests)
 
 before_end : (n m a b : ℕ) → n < m → cond (nat_eq n m) a b ≡ b
 before_end n m a b below = grind (arith, nat_tests)
-
-pub apart : (n m : ℕ) → (n ≡ m → ⊥) → nat_eq n m ≡ false
-apart n m ne = grind (arith, nat_tests)
 
 module _ {X : Type 0} (p : X → Bool) where
   -- none in the first piece: the place in the second is counted on
@@ -182,3 +182,14 @@ module _ (memory : Memory) (addr room : ℕ) (readable : room ≡ readable_prefi
             let piece = bytes_at memory.pages a size in
             let all : take size piece ≡ piece = take_all size piece (omega (arith, length-bytes_at memory.pages size a)) in
             ap (position is_nul) (text ∙ ap (λ s. front ++ s) all) ∙ position-neither is_nul front piece none found
+
+-- the error tells why there is no path
+pub without-path : (memory : Memory) (addr room : ℕ) (error : PathError) → room ≡ readable_prefix memory.pages addr path_limit
+    → (bytes : List ℕ) → bytes ≡ bytes_at memory.pages addr room → position is_nul bytes ≡ None
+    → error ≡ cond (nat_eq room path_limit) TooLong Fault → IsPathAnswer (path_at memory addr) (Err error)
+without-path memory addr room error readable bytes is none why =
+    subst (λ e. IsPathAnswer (path_at memory addr) (Err e)) (sym why) (by_test (nat_eq room path_limit) (path-none memory addr room readable bytes is none))
+  where
+    by_test : (b : Bool) → path_at memory addr ≡ Err (cond b ENAMETOOLONG EFAULT) → IsPathAnswer (path_at memory addr) (Err (cond b TooLong Fault))
+    by_test true is = is
+    by_test false is = is

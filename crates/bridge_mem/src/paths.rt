@@ -1,5 +1,6 @@
 //! Paths in the program's memory.
-ghost use Rattle.std.specs.Prelude.{◌≡◌, ◌<◌, ◌≤◌, ◌++◌, IfOk, OnOk, IfSome, None, is_some, unwrap_or, length, take, position};
+ghost use Rattle.std.specs.Prelude.{◌≡◌, ◌<◌, ◌≤◌, ◌++◌, IfOk, OnOk, IfSome, None, is_some, unwrap_or, length, take, position, ◌==◌, if◌then◌else◌};
+ghost use Rattle.bridge_mem.specs.declared.paths.PathError.TheVariants as errors;
 ghost use Rattle.guest_space.specs.Access.{first_denied};
 ghost use Rattle.guest_space.specs.Bytes.{bytes_at};
 ghost use Rattle.guest_space.specs.declared.access.Access.TheVariants.{Load};
@@ -51,10 +52,17 @@ pub fn path(alloc: Global, space: &Space, addr: u32) -> Result<Bytes, PathError>
             return Ok(Bytes::from(bytes));
         }
     }
+    Err(why_none(room))
+}
+
+/// Why there is no path where none of the first bytes is NUL, and just so many of them may be loaded.
+fn why_none(room: usize) -> PathError
+    ensures { result ≡ (if room == path_limit then errors.TooLong else errors.Fault) }
+{
     if room == PATH_MAX {
-        Err(PathError::TooLong)
+        PathError::TooLong
     } else {
-        Err(PathError::Fault)
+        PathError::Fault
     }
 }
 

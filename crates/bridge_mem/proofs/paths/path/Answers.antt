@@ -1,11 +1,10 @@
-use Rattle.std.proofs.Common.{◌≡◌, ◌+◌, ◌≤◌, ◌<◌, ◌∙◌, Err, Ok, sym, ap, refl, arith, vec_len, length, position, cond, eq-eqb}
+use Rattle.std.proofs.Common.{◌≡◌, ◌+◌, ◌∙◌, Ok, sym, ap, refl, arith, vec_len, length, position}
 use Rattle.guest_space.specs.Bytes.{bytes_at}
 use Rattle.guest_space.specs.declared.access.Access.TheVariants.{Load}
 use Rattle.guest_space.proofs.ByteLemmas.{bytes_at-zero, length-bytes_at}
-use Rattle.kernel_core.specs.declared.error.Errno.TheVariants.{EFAULT, ENAMETOOLONG}
-use Rattle.o32_model.specs.Paths.{is_nul, path_limit}
+use Rattle.o32_model.specs.Paths.{is_nul}
 use Rattle.bridge_mem.proofs.Denials.{none_denied-rest}
-use Rattle.bridge_mem.proofs.Nul.{found-path, found-short, found-plain, more-first, more-plain, path-none, apart}
+use Rattle.bridge_mem.proofs.Nul.{found-path, found-short, found-plain, more-first, more-plain, without-path}
 use Rattle.bridge_mem.proofs.paths.path.Goals as goal
 use Rattle.bridge_mem.proofs.paths.path.Goals.{Else-branch, After-from}
 
@@ -68,16 +67,8 @@ loop-bytes-preserved c = record {
   within = omega (arith, longer c);
 }
 
-pub returns-then-room-eq-PATH_MAX-clause-answer : goal.returns-then-room-eq-PATH_MAX-clause-answer
-returns-then-room-eq-PATH_MAX-clause-answer c =
-    let room : vec_len c.loop-bytes.bytes ≡ c.readable-room.result = omega arith in
-    path-none c.args.space.now c.args.addr c.readable-room.result c.readable-room.ensures.value c.loop-bytes.bytes.items
-    (c.loop-bytes.invariant.first ∙ ap (bytes_at c.args.space.now.pages c.args.addr) room) c.loop-bytes.invariant.plain
-    ∙ ap (λ b. Err (cond b ENAMETOOLONG EFAULT)) (eq-eqb c.readable-room.result path_limit c.if-room-eq-PATH_MAX.true)
-
 pub returns-clause-answer : goal.returns-clause-answer
 returns-clause-answer c =
     let room : vec_len c.loop-bytes.bytes ≡ c.readable-room.result = omega arith in
-    path-none c.args.space.now c.args.addr c.readable-room.result c.readable-room.ensures.value c.loop-bytes.bytes.items
-    (c.loop-bytes.invariant.first ∙ ap (bytes_at c.args.space.now.pages c.args.addr) room) c.loop-bytes.invariant.plain
-    ∙ ap (λ b. Err (cond b ENAMETOOLONG EFAULT)) (apart c.readable-room.result path_limit c.if-room-eq-PATH_MAX.false)
+    without-path c.args.space.now c.args.addr c.readable-room.result c.why_none.result c.readable-room.ensures.value c.loop-bytes.bytes.items
+    (c.loop-bytes.invariant.first ∙ ap (bytes_at c.args.space.now.pages c.args.addr) room) c.loop-bytes.invariant.plain c.why_none.ensures
