@@ -28,14 +28,6 @@ pub record MovesNothing (memory left : List ℕ) (step : NativeStep) : Type 0 wh
   pub rest : step.left ≡ left
   pub sent : step.sent ≡ nothing
 
--- What a call that fails leaves of the kernel: all as it was; or SIGPIPE posted, with EPIPE (pipe(7)); or, by pipe2(2), a pipe that was
--- made and both of whose ends are closed again, with EFAULT; or what the call did, where it can't tell what was there before, with EFAULT.
-
-abbrev pub MadeAndClosed : Kernel → Option PipeFlags → Ends → Kernel → Type 0
-MadeAndClosed kernel flags ends after =
-    let made = make_pipe kernel.files flags in
-    (made.came ≡ Done ends) × (after ≡ without_pair (with_files kernel made.state) ends)
-
 -- A call that changes the kernel and tells what was there before, or what it took away, and the place of the argument that says where to.
 pub data TellsOld (number place : ℕ) : Type 0 where
   Setitimer : number ≡ 103 → place ≡ 2 → TellsOld number place
@@ -44,6 +36,14 @@ pub data TellsOld (number place : ℕ) : Type 0 where
   Sigprocmask : number ≡ 135 → place ≡ 2 → TellsOld number place
   Sigtimedwait : number ≡ 137 → place ≡ 1 → TellsOld number place
   Prlimit : number ≡ 261 → place ≡ 3 → TellsOld number place
+
+-- What a call that fails leaves of the kernel: all as it was; or SIGPIPE posted, with EPIPE (pipe(7)); or, by pipe2(2), a pipe that was
+-- made and both of whose ends are closed again, with EFAULT; or what the call did, where it can't tell what was there before, with EFAULT.
+
+abbrev pub MadeAndClosed : Kernel → Option PipeFlags → Ends → Kernel → Type 0
+MadeAndClosed kernel flags ends after =
+    let made = make_pipe kernel.files flags in
+    (made.came ≡ Done ends) × (after ≡ without_pair (with_files kernel made.state) ends)
 
 pub data LeftByFailure (number : ℕ) (kernel : Kernel) (step : NativeStep) : Type 0 where
   AsItWas : step.kernel ≡ kernel → LeftByFailure number kernel step
