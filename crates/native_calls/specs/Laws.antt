@@ -1,5 +1,6 @@
 -- Words of the laws. (The laws are this project's own.)
 use Rattle.std.specs.Prelude.{◌≡◌, ◌⊎◌, ℕ, pos, negsuc, List, Option, ⊤}
+use Rattle.host_mem.specs.Memory.{written}
 use Rattle.kernel_core.specs.declared.error.Errno.TheVariants.{EFAULT, EPIPE}
 use Rattle.kernel_core.specs.declared.reply.Reply.{Reply}
 use Rattle.kernel_core.specs.declared.reply.Reply.TheVariants as replies
@@ -10,6 +11,7 @@ use Rattle.kernel_model.specs.State.{Kernel}
 use Rattle.kernel_model.specs.Whole.{with_files, with_sigpipe}
 use Rattle.native_calls.specs.Descriptors.{without_pair}
 use Rattle.native_calls.specs.Step.{NativeStep, failure}
+use Rattle.native_calls.specs.Times.{time_bytes}
 
 -- a reply below 0, which is an error's
 abbrev pub IsFailure : Reply → Type 0
@@ -56,9 +58,12 @@ pub data LeftByFailure (number : ℕ) (kernel : Kernel) (step : NativeStep) : Ty
 abbrev pub MayWaitPartly : ℕ → Type 0
 MayWaitPartly number = (number ≡ 64) ⊎ (number ≡ 66)
 
--- pselect(2) and ppoll(2), which store the time left at an error too
-abbrev pub MayStoreTimeLeft : ℕ → Type 0
-MayStoreTimeLeft number = (number ≡ 72) ⊎ (number ≡ 73)
+-- pselect(2) and ppoll(2), which store the time left at an error too, and nothing else
+pub record StoresTimeLeft (number : ℕ) (memory : List ℕ) (step : NativeStep) : Type 0 where
+  pub own : (number ≡ 72) ⊎ (number ≡ 73)
+  pub time : ℕ
+  pub remaining : ℕ
+  pub stored : step.memory ≡ written memory time (time_bytes remaining)
 
 -- sigaltstack(2), to which a stack may be too small
 abbrev pub MayLackMemory : ℕ → Type 0

@@ -1,5 +1,5 @@
 -- Worked rows on time, at the time 1000 of the clock, which began 5 s past the Epoch.
-use Rattle.std.specs.Prelude.{◌≡◌, ℕ, ◌-◌, ◌*◌, ◌^◌, List, [], ◌∷◌, ◌++◌, replicate, Some, refl}
+use Rattle.std.specs.Prelude.{◌≡◌, ℕ, ◌+◌, ◌-◌, ◌*◌, ◌^◌, List, [], ◌∷◌, ◌++◌, replicate, Some, refl}
 use Rattle.kernel_core.specs.declared.reply.Reply.{Reply}
 use Rattle.kernel_core.specs.declared.reply.Reply.TheVariants as replies
 use Rattle.kernel_model.specs.Clock.{arm_timer, read_clock, read_timer, resolution, second, sleep, unarmed}
@@ -43,6 +43,11 @@ module _ (whole : Kernel) where
   unfolding clock_gettime_row read_clock
   process = refl
 
+  -- of a clock's id the low 32 bits count
+  by_low_bits : call 113 (six (2 ^ 32 + 5) 65536 0 0) (replicate 16 7) ≡ comes (time 5 1000) (number 0)
+  unfolding clock_gettime_row read_clock
+  by_low_bits = refl
+
   no_such_clock : call 113 (six 8 0 0 0) [] ≡ comes [] (error 22)
   unfolding clock_gettime_row read_clock
   no_such_clock = refl
@@ -68,6 +73,10 @@ module _ (whole : Kernel) where
   resolution_at_null : call 114 (six 7 0 0 0) [] ≡ comes [] (number 0)
   unfolding clock_getres_row resolution
   resolution_at_null = refl
+
+  resolution_by_low_bits : call 114 (six (2 ^ 32) 0 0 0) [] ≡ comes [] (number 0)
+  unfolding clock_getres_row resolution
+  resolution_by_low_bits = refl
 
   resolution_outside : call 114 (six 7 1 0 0) [] ≡ comes [] (error 14)
   unfolding clock_getres_row resolution
@@ -109,6 +118,19 @@ module _ (whole : Kernel) where
   for_a_time : call 115 (six 7 0 65536 0) (time 0 500) ≡ comes (time 0 500) (sleep_until 1500)
   unfolding clock_nanosleep_row sleep
   for_a_time = refl
+
+  sleep_by_low_bits : call 115 (six (2 ^ 32 + 7) (2 ^ 32 + 1) 65536 0) (time 0 1500) ≡ comes (time 0 1500) (sleep_until 1500)
+  unfolding clock_nanosleep_row sleep
+  sleep_by_low_bits = refl
+
+  -- before the epoch
+  until_before_the_epoch : call 115 (six 0 1 65536 0) (time 4 0) ≡ comes (time 4 0) (number 0)
+  unfolding clock_nanosleep_row sleep
+  until_before_the_epoch = refl
+
+  sleep_with_wrong_time : call 115 (six 1 0 65536 0) (time 0 1_000_000_000) ≡ comes (time 0 1_000_000_000) (error 22)
+  unfolding clock_nanosleep_row sleep
+  sleep_with_wrong_time = refl
 
   until_real_time : call 115 (six 0 1 65536 0) (time 5 3000) ≡ comes (time 5 3000) (sleep_until 3000)
   unfolding clock_nanosleep_row sleep
@@ -154,6 +176,11 @@ module _ (whole : Kernel) where
   unfolding setitimer_row arm_timer
   disarms = refl
 
+  -- of a timer's number the low 32 bits count; a value of 0 disarms, whatever the period
+  disarms_by_zero : native_call 103 (six (2 ^ 32) 65536 0 0) with_timer (time 1 0 ++ time 0 0) [] ≡ comes_armed unarmed (time 1 0 ++ time 0 0) (number 0)
+  unfolding setitimer_row arm_timer
+  disarms_by_zero = refl
+
   -- it is armed also where what was there can't be stored
   armed_all_the_same : native_call 103 (six 0 65536 65537 0) with_timer setting [] ≡ comes_armed timer_armed setting (error 14)
   unfolding setitimer_row arm_timer
@@ -171,11 +198,19 @@ module _ (whole : Kernel) where
   unfolding setitimer_row arm_timer
   too_many_microseconds = refl
 
+  value_below_zero : call 103 (six 0 65536 0 0) (time 0 0 ++ time (2 ^ 64 - 1) 0) ≡ comes (time 0 0 ++ time (2 ^ 64 - 1) 0) (error 22)
+  unfolding setitimer_row arm_timer
+  value_below_zero = refl
+
   -- getitimer
 
   shows : native_call 102 (six 0 65536 0 0) with_timer (replicate 32 7) [] ≡ comes_armed with_timer.timer (time 3 1 ++ time 0 1) (number 0)
   unfolding getitimer_row read_timer
   shows = refl
+
+  shows_by_low_bits : native_call 102 (six (2 ^ 32) 65536 0 0) with_timer (replicate 32 7) [] ≡ comes_armed with_timer.timer (time 3 1 ++ time 0 1) (number 0)
+  unfolding getitimer_row read_timer
+  shows_by_low_bits = refl
 
   shows_another : call 102 (six 2 0 0 0) [] ≡ comes [] (error 22)
   unfolding getitimer_row read_timer

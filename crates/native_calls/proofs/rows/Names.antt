@@ -1,6 +1,6 @@
 -- Worked rows on names: a root with the file `f`, the empty directory `d`, the link `l` to `f`, and the directory `e`, in which a file has the
 -- name `g`.
-use Rattle.std.specs.Prelude.{◌≡◌, ℕ, ◌-◌, ◌^◌, true, List, [], ◌∷◌, ◌++◌, codes, length, replicate, Some, None, Ok, Err, pos, refl}
+use Rattle.std.specs.Prelude.{◌≡◌, ℕ, ◌+◌, ◌-◌, ◌^◌, true, List, [], ◌∷◌, ◌++◌, codes, length, replicate, Some, None, Ok, Err, pos, refl}
 use Rattle.std.specs.FinMap.{get, len}
 use Rattle.kernel_core.specs.FileContent.{no_content}
 use Rattle.kernel_core.specs.NameCalls.{after_create, after_link, after_mkdir, after_rename, after_rmdir, after_symlink, after_unlink, is_below}
@@ -81,6 +81,20 @@ no_nul bytes long = simp long refl
 no_nul_before_the_end : (bytes : List ℕ) → length bytes ≡ 4095 → path_in bytes None ≡ Err EFAULT
 no_nul_before_the_end bytes short = simp short refl
 
+-- 4095 bytes and a NUL, 4096 bytes and a NUL, and 4095 bytes at the end of memory
+
+path_of_4095 : path_at (replicate 4095 97 ++ 0 ∷ []) 65536 ≡ Ok (replicate 4095 97)
+unfolding path_at
+path_of_4095 = refl
+
+path_of_4096 : path_at (replicate 4096 97 ++ 0 ∷ []) 65536 ≡ Err ENAMETOOLONG
+unfolding path_at
+path_of_4096 = refl
+
+path_without_nul : path_at (replicate 4095 97) 65536 ≡ Err EFAULT
+unfolding path_at
+path_without_nul = refl
+
 -- up to the first NUL
 path_of_two : path_at (7 ∷ 47 ∷ 100 ∷ 0 ∷ 101 ∷ 0 ∷ []) 65537 ≡ Ok (47 ∷ 100 ∷ [])
 unfolding path_at
@@ -106,6 +120,11 @@ module _ (whole : Kernel) (nodes : Nodes) (at_1 : get nodes 1 ≡ Some root) (at
   open_f : call 56 (six at_working 65536 0 0) (text (codes "f")) ≡ does (after_open (at_first nodes) reads 3 2) (text (codes "f")) 3
   unfolding openat_row open_file path_at walk walked walked_from walked_through components_after ends_with_slash reads root file inode entry
   open_f = simp (at_1, at_2) refl
+
+  -- of an int the low 32 bits count
+  open_by_low_bits : call 56 (six (2 ^ 32 - 100) 65536 (2 ^ 32) 0) (text (codes "f")) ≡ does (after_open (at_first nodes) reads 3 2) (text (codes "f")) 3
+  unfolding openat_row open_file path_at walk walked walked_from walked_through components_after ends_with_slash reads root file inode entry
+  open_by_low_bits = simp (at_1, at_2) refl
 
   -- a path that begins with a slash leads from the root, whatever the descriptor; the root follows `..` too
   open_from_root : call 56 (six 99 65536 0x80000 0) (text (codes "/../l")) ≡ does (after_open (at_first nodes) (record reads { cloexec = true }) 3 2) (text (codes "/../l")) 3
@@ -186,10 +205,6 @@ module _ (whole : Kernel) (nodes : Nodes) (at_1 : get nodes 1 ≡ Some root) (at
   unfolding openat_row open_file path_at walk walked walked_from walked_through components_after ends_with_slash root inode entry
   open_new some few = simp (at_1, some, few) refl
 
-  open_full : len nodes ≡ 65536 → call 56 (six at_working 65536 0x41 438) (text (codes "x")) ≡ refuses (text (codes "x")) 28
-  unfolding openat_row open_file path_at walk walked walked_from walked_through components_after ends_with_slash root inode entry
-  open_full full = simp (at_1, full) refl
-
   -- mkdirat: of 07777 ten bits count, and 01777 less 022 is 01755
   mkdir_new : len nodes ≡ 6 → live_entries nodes ≡ 5 → call 34 (six at_working 65536 0xFFF 0) (text (codes "x/"))
       ≡ does (with_nodes (at_first nodes) (after_mkdir nodes (missing 1 (codes "x")) (new_number nodes) 1005 (now whole))) (text (codes "x/")) 0
@@ -218,6 +233,11 @@ module _ (whole : Kernel) (nodes : Nodes) (at_1 : get nodes 1 ≡ Some root) (at
       ≡ does (with_nodes (at_first nodes) (after_rmdir nodes (there 1 (codes "d") 3) 3 (now whole))) (text (codes "d")) 0
   unfolding unlinkat_row remove_name path_at walk walked walked_from walked_through components_after ends_with_slash root empty inode entry
   remove_d = simp (at_1, at_3) refl
+
+  remove_by_low_bits : call 35 (six at_working 65536 (2 ^ 32 + 0x200) 0) (text (codes "d"))
+      ≡ does (with_nodes (at_first nodes) (after_rmdir nodes (there 1 (codes "d") 3) 3 (now whole))) (text (codes "d")) 0
+  unfolding unlinkat_row remove_name path_at walk walked walked_from walked_through components_after ends_with_slash root empty inode entry
+  remove_by_low_bits = simp (at_1, at_3) refl
 
   remove_file : call 35 (six at_working 65536 0x200 0) (text (codes "f")) ≡ refuses (text (codes "f")) 20
   unfolding unlinkat_row remove_name path_at walk walked walked_from walked_through components_after ends_with_slash root file inode entry
@@ -262,6 +282,10 @@ module _ (whole : Kernel) (nodes : Nodes) (at_1 : get nodes 1 ≡ Some root) (at
   unfolding symlinkat_row make_link path_at
   symlink_unreadable = refl
 
+  symlink_target_unreadable : call 36 (six 0 99 65536 0) (text (codes "f")) ≡ refuses (text (codes "f")) 14
+  unfolding symlinkat_row make_link path_at
+  symlink_target_unreadable = refl
+
   -- linkat: the old name stands at 65536, the new one at 65538
   link_f : live_entries nodes ≡ 5 → call 37 (five at_working 65536 at_working 65538 0) (text (codes "f") ++ text (codes "x"))
       ≡ does (with_nodes (at_first nodes) (after_link nodes 2 (missing 1 (codes "x")) (now whole))) (text (codes "f") ++ text (codes "x")) 0
@@ -273,6 +297,16 @@ module _ (whole : Kernel) (nodes : Nodes) (at_1 : get nodes 1 ≡ Some root) (at
       ≡ does (with_nodes (at_first nodes) (after_link nodes 2 (missing 1 (codes "x")) (now whole))) (text (codes "l") ++ text (codes "x")) 0
   unfolding linkat_row link path_at walk walked walked_from walked_through components_after ends_with_slash root file link_to_f inode entry
   link_followed few = simp (at_1, at_2, at_4, few) refl
+
+  link_by_low_bits : live_entries nodes ≡ 5 → call 37 (five at_working 65536 at_working 65538 (2 ^ 32 + 0x400)) (text (codes "l") ++ text (codes "x"))
+      ≡ does (with_nodes (at_first nodes) (after_link nodes 2 (missing 1 (codes "x")) (now whole))) (text (codes "l") ++ text (codes "x")) 0
+  unfolding linkat_row link path_at walk walked walked_from walked_through components_after ends_with_slash root file link_to_f inode entry
+  link_by_low_bits few = simp (at_1, at_2, at_4, few) refl
+
+  -- the old name is read too
+  link_old_unreadable : call 37 (five 99 0 99 65536 0x1000) (text (codes "f")) ≡ refuses (text (codes "f")) 14
+  unfolding linkat_row link path_at
+  link_old_unreadable = refl
 
   link_not_followed : live_entries nodes ≡ 5 → call 37 (five at_working 65536 at_working 65538 0) (text (codes "l") ++ text (codes "x"))
       ≡ does (with_nodes (at_first nodes) (after_link nodes 4 (missing 1 (codes "x")) (now whole))) (text (codes "l") ++ text (codes "x")) 0
@@ -334,13 +368,22 @@ module _ (whole : Kernel) (nodes : Nodes) (at_1 : get nodes 1 ≡ Some root) (at
   unfolding renameat_row rename path_at
   rename_unreadable = refl
 
+  rename_old_unreadable : call 38 (six 99 0 99 65536) (text (codes "f")) ≡ refuses (text (codes "f")) 14
+  unfolding renameat_row rename path_at
+  rename_old_unreadable = refl
+
   -- readlinkat: `l` stands at 65538, and its text is one byte
   read_target : call 78 (six at_working 65538 65536 9) (7 ∷ 7 ∷ text (codes "l")) ≡ does (at_first nodes) (102 ∷ 7 ∷ text (codes "l")) 1
   unfolding readlinkat_row read_link path_at walk walked walked_from walked_through components_after ends_with_slash root link_to_f inode entry
   read_target = simp (at_1, at_4) refl
 
-  -- of a size the low 32 bits count, with a sign
-  read_target_into_none : call 78 (six 99 65536 65536 (2 ^ 64 - 1)) (text (codes "l")) ≡ refuses (text (codes "l")) 22
+  -- of a size the low 32 bits count, with a sign: 9, and -1
+
+  read_by_low_bits : call 78 (six at_working 65538 65536 (2 ^ 32 + 9)) (7 ∷ 7 ∷ text (codes "l")) ≡ does (at_first nodes) (102 ∷ 7 ∷ text (codes "l")) 1
+  unfolding readlinkat_row read_link path_at walk walked walked_from walked_through components_after ends_with_slash root link_to_f inode entry
+  read_by_low_bits = simp (at_1, at_4) refl
+
+  read_target_into_none : call 78 (six 99 65536 65536 (2 ^ 32 - 1)) (text (codes "l")) ≡ refuses (text (codes "l")) 22
   unfolding readlinkat_row read_link path_at
   read_target_into_none = refl
 
@@ -351,3 +394,21 @@ module _ (whole : Kernel) (nodes : Nodes) (at_1 : get nodes 1 ≡ Some root) (at
   read_target_outside : call 78 (six at_working 65536 65538 9) (text (codes "l")) ≡ refuses (text (codes "l")) 14
   unfolding readlinkat_row read_link path_at walk walked walked_from walked_through components_after ends_with_slash root link_to_f inode entry
   read_target_outside = simp (at_1, at_4) refl
+
+  read_path_unreadable : call 78 (six 99 0 65536 0) [] ≡ refuses [] 14
+  unfolding readlinkat_row read_link path_at
+  read_path_unreadable = refl
+
+-- a link whose text is longer than the size: a prefix of it
+module _ (whole : Kernel) (nodes : Nodes) (at_1 : get nodes 1 ≡ Some root) (at_4 : get nodes 4 ≡ Some (inode 511 1 (Link (codes "abc")))) where
+  read_prefix : native_call 78 (six at_working 65539 65536 2) (with_files whole (at_first nodes)) (7 ∷ 7 ∷ 7 ∷ text (codes "l")) []
+      ≡ leaves whole (at_first nodes) (97 ∷ 98 ∷ 7 ∷ text (codes "l")) [] (number 2)
+  unfolding readlinkat_row read_link path_at walk walked walked_from walked_through components_after ends_with_slash root inode entry
+  read_prefix = simp (at_1, at_4) refl
+
+-- a full file system, of whose nodes the root alone is known
+module _ (whole : Kernel) (nodes : Nodes) (full : len nodes ≡ 65536)
+    (at_1 : get nodes 1 ≡ Some (inode 493 3 (Directory (record { parent = Some 1; greatest = 3; entries = entry 3 (codes "d") 2 ∷ [] })))) where
+  open_full : native_call 56 (six at_working 65536 0x41 438) (with_files whole (at_first nodes)) (text (codes "x")) [] ≡ leaves whole (at_first nodes) (text (codes "x")) [] (error 28)
+  unfolding openat_row open_file path_at walk walked walked_from walked_through components_after ends_with_slash inode entry
+  open_full = simp (at_1, full) refl

@@ -87,6 +87,20 @@ module _ (whole : Kernel) (nodes : Nodes) (at_1 : get nodes 1 ≡ Some root) (at
   unfolding ftruncate_row truncate_open
   ftruncate_below_zero = refl
 
+  -- of a descriptor the low 32 bits count, here and below
+
+  ftruncate_by_low_bits : call 46 (six (2 ^ 32) (2 ^ 64 - 1) 0 0) [] ≡ refuses [] 22
+  unfolding ftruncate_row truncate_open
+  ftruncate_by_low_bits = refl
+
+  to_a_stream_by_low_bits : call 50 (six (2 ^ 32) 0 0 0) [] ≡ refuses [] 20
+  unfolding fchdir_row change_to_open
+  to_a_stream_by_low_bits = refl
+
+  mode_of_stream_by_low_bits : call 52 (six (2 ^ 32) 0 0 0) [] ≡ does (at_first nodes) [] 0
+  unfolding fchmod_row change_open_mode
+  mode_of_stream_by_low_bits = refl
+
   ftruncate_closed : call 46 (six 3 (2 ^ 64 - 1) 0 0) [] ≡ refuses [] 9
   unfolding ftruncate_row truncate_open
   ftruncate_closed = refl
@@ -96,6 +110,11 @@ module _ (whole : Kernel) (nodes : Nodes) (at_1 : get nodes 1 ≡ Some root) (at
   may_be_read : call 48 (six at_working 65536 6 0) (text (codes "l")) ≡ does (at_first nodes) (text (codes "l")) 0
   unfolding faccessat_row access path_at walk walked walked_from walked_through components_after ends_with_slash root link_to_f file inode entry
   may_be_read = simp (at_1, at_2, at_4) refl
+
+  -- of a mode the low 32 bits count
+  may_be_read_by_low_bits : call 48 (six at_working 65536 (2 ^ 32 + 6) 0) (text (codes "f")) ≡ does (at_first nodes) (text (codes "f")) 0
+  unfolding faccessat_row access path_at walk walked walked_from walked_through components_after ends_with_slash root file inode entry
+  may_be_read_by_low_bits = simp (at_1, at_2) refl
 
   not_executable : call 48 (six at_working 65536 1 0) (text (codes "f")) ≡ refuses (text (codes "f")) 13
   unfolding faccessat_row access path_at walk walked walked_from walked_through components_after ends_with_slash root file inode entry
@@ -169,6 +188,11 @@ module _ (whole : Kernel) (nodes : Nodes) (at_1 : get nodes 1 ≡ Some root) (at
   unfolding getcwd_row working_directory names_to
   in_root some = simp some refl
 
+  -- of a size all 64 bits count
+  in_root_with_room : len nodes ≡ 6 → call 17 (six 65536 (2 ^ 32 + 1) 0 0) (7 ∷ 7 ∷ []) ≡ does (at_first nodes) (47 ∷ 0 ∷ []) 2
+  unfolding getcwd_row working_directory names_to
+  in_root_with_room some = simp some refl
+
   in_d : len nodes ≡ 6 → call_with (record (at_first nodes) { directory = 3 }) 17 (six 65536 100 0 0) (replicate 4 7)
       ≡ does (record (at_first nodes) { directory = 3 }) (47 ∷ 100 ∷ 0 ∷ 7 ∷ []) 3
   unfolding getcwd_row working_directory names_to root empty inode entry
@@ -205,6 +229,11 @@ module _ (whole : Kernel) (nodes : Nodes) (at_1 : get nodes 1 ≡ Some root) (at
       ≡ does (at_first nodes) (u64 2 ++ u64 1 ++ u32 4480 ++ u32 1 ++ u32 0 ++ u32 0 ++ u64 0 ++ zeros 8 ++ u64 0 ++ u32 4096 ++ zeros 4 ++ u64 0 ++ zeros 48 ++ zeros 8 ++ text []) 0
   unfolding newfstatat_row status_at_path status path_at
   status_of_input = refl
+
+  -- of flags the low 32 bits count; -100 is the working directory
+  status_of_working : call 79 (six at_working 65664 65536 (2 ^ 32 + 0x1000)) (replicate 128 7 ++ text []) ≡ does (at_first nodes) (u64 1 ++ u64 1 ++ u32 16877 ++ u32 4 ++ u32 0 ++ u32 0 ++ u64 0 ++ zeros 8 ++ u64 4096 ++ u32 4096 ++ zeros 4 ++ u64 8 ++ zeros 48 ++ zeros 8 ++ text []) 0
+  unfolding newfstatat_row status_at_path path_at root inode
+  status_of_working = simp at_1 refl
 
   status_of_closed : call 79 (six 3 65536 65536 0x1000) (text []) ≡ refuses (text []) 9
   unfolding newfstatat_row status_at_path status path_at
@@ -243,6 +272,12 @@ module _ (whole : Kernel) (nodes : Nodes) (at_1 : get nodes 1 ≡ Some root) (at
   unfolding utimensat_row set_times path_at walk walked walked_from walked_through components_after ends_with_slash root link_to_f inode entry
   now_and_left = simp (at_1, at_4) refl
 
+  -- both are left, and the change time is set all the same
+  both_left : call 88 (six at_working 65568 65536 0) (times 0 0x3FFFFFFE 0 0x3FFFFFFE ++ text (codes "f"))
+      ≡ does (with_nodes (at_first nodes) (update nodes 2 (with_times None None (now whole)))) (times 0 0x3FFFFFFE 0 0x3FFFFFFE ++ text (codes "f")) 0
+  unfolding utimensat_row set_times path_at walk walked walked_from walked_through components_after ends_with_slash root file inode entry
+  both_left = simp (at_1, at_2) refl
+
   -- null times mean now, and a null path the descriptor itself
   times_of_open_f : call_with (opened nodes 2) 88 (six 3 0 0 0) []
       ≡ does (with_nodes (opened nodes 2) (update nodes 2 (with_times (Some (now whole)) (Some (now whole)) (now whole)))) [] 0
@@ -252,6 +287,10 @@ module _ (whole : Kernel) (nodes : Nodes) (at_1 : get nodes 1 ≡ Some root) (at
   times_of_stream : call 88 (six 0 0 0 0x100) [] ≡ does (at_first nodes) [] 0
   unfolding utimensat_row set_times
   times_of_stream = refl
+
+  times_by_low_bits : call 88 (six (2 ^ 32) 0 0 (2 ^ 32 + 0x100)) [] ≡ does (at_first nodes) [] 0
+  unfolding utimensat_row set_times
+  times_by_low_bits = refl
 
   times_of_no_path : call 88 (six at_working 0 0 0) [] ≡ refuses [] 9
   unfolding utimensat_row set_times

@@ -1,5 +1,5 @@
 -- Worked rows on waiting for descriptors, at the time 1000 of the clock: 3 is the read end of a pipe and 4 its write end.
-use Rattle.std.specs.Prelude.{◌≡◌, ℕ, ◌+◌, ◌-◌, ◌^◌, false, List, [], ◌∷◌, ◌++◌, replicate, Some, None, refl}
+use Rattle.std.specs.Prelude.{◌≡◌, ℕ, ◌+◌, ◌-◌, ◌^◌, true, false, Bool, List, [], ◌∷◌, ◌++◌, replicate, Some, None, refl}
 use Rattle.kernel_core.specs.Nodes.{Nodes}
 use Rattle.kernel_core.specs.declared.reply.Reply.{Reply}
 use Rattle.kernel_core.specs.declared.reply.Reply.TheVariants as replies
@@ -7,7 +7,7 @@ use Rattle.kernel_model.specs.Pipes.{nothing}
 use Rattle.kernel_model.specs.Readiness.{poll, ready, select}
 use Rattle.kernel_model.specs.State.{Kernel}
 use Rattle.layouts.specs.Number.{bytes_of}
-use Rattle.native_calls.proofs.rows.Small.{error, number, u32, u64, with_pipe_of, zeros}
+use Rattle.native_calls.proofs.rows.Small.{error, number, pipe, u32, u64, with_pipe_at, with_pipe_of, zeros}
 use Rattle.native_calls.specs.Polls.{ppoll_row, pselect_row}
 use Rattle.native_calls.specs.Step.{NativeStep}
 use Rattle.native_calls.specs.Table.{native_call}
@@ -50,6 +50,24 @@ module _ (whole : Kernel) (nodes : Nodes) where
   unfolding ppoll_row poll ready
   out_alone = refl
 
+  -- of a number of entries the low 32 bits count
+  poll_by_low_bits : call [] 73 (args_of 65536 (2 ^ 32 + 1) 0 0 0 0) (entry 4 4 0) ≡ comes [] (entry 4 4 4) (number 1)
+  unfolding ppoll_row poll ready
+  poll_by_low_bits = refl
+
+  -- a pipe without writers is hung up, 0x10, and one without readers in error, 8, which is told unasked
+
+  abbrev closed_pipe : Bool → Bool → Kernel
+  closed_pipe readers writers = record whole { files = with_pipe_at nodes (record (pipe []) { readers = readers; writers = writers }); clock = 1000 }
+
+  hung_up : (native_call 73 (args_of 65536 1 0 0 0 0) (closed_pipe true false) (entry 3 0 0) []).memory ≡ entry 3 0 0x10
+  unfolding ppoll_row poll ready
+  hung_up = refl
+
+  in_error : (native_call 73 (args_of 65536 1 0 0 0 0) (closed_pipe false true) (entry 4 0 0) []).memory ≡ entry 4 0 8
+  unfolding ppoll_row poll ready
+  in_error = refl
+
   poll_waits : call [] 73 (args_of 65536 1 65544 0 0 0) (entry 3 1 9 ++ u64 0 ++ u64 5) ≡ comes [] (entry 3 1 9 ++ u64 0 ++ u64 5) (sleep_until 1005)
   unfolding ppoll_row poll ready
   poll_waits = refl
@@ -66,6 +84,10 @@ module _ (whole : Kernel) (nodes : Nodes) where
   poll_nothing : call [] 73 (args_of 0 0 65536 0 0 0) (u64 0 ++ u64 0) ≡ comes [] (u64 0 ++ u64 0) (number 0)
   unfolding ppoll_row poll
   poll_nothing = refl
+
+  poll_nothing_without_end : call [] 73 (args_of 0 0 0 0 0 0) [] ≡ comes [] [] (replies.Sleep (record { done = 0; until = None }))
+  unfolding ppoll_row poll
+  poll_nothing_without_end = refl
 
   -- a mask of 16 bytes may be any
   poll_with_mask : call (7 ∷ []) 73 (args_of 65536 1 0 65544 16 0) (entry 3 1 0 ++ replicate 16 255) ≡ comes (7 ∷ []) (entry 3 1 1 ++ replicate 16 255) (number 1)
@@ -94,7 +116,16 @@ module _ (whole : Kernel) (nodes : Nodes) where
   unfolding ppoll_row poll
   poll_too_many = refl
 
-  -- the time left is stored at an error too: a deadline is at most 2^63 - 1
+  -- the time was accepted, and the time left is stored: a deadline is at most 2^63 - 1
+
+  poll_too_many_later : call [] 73 (args_of 0 1025 65536 0 0 0) (u64 (2 ^ 40) ++ u64 0) ≡ comes [] (u64 9_223_372_036 ++ u64 854_774_807) (error 22)
+  unfolding ppoll_row poll
+  poll_too_many_later = refl
+
+  poll_mask_of_8_later : call [] 73 (args_of 0 0 65536 1 (2 ^ 32 + 16) 0) (u64 (2 ^ 40) ++ u64 0) ≡ comes [] (u64 9_223_372_036 ++ u64 854_774_807) (error 22)
+  unfolding ppoll_row poll
+  poll_mask_of_8_later = refl
+
   poll_unreadable : call [] 73 (args_of 0 1 65536 0 0 0) (u64 (2 ^ 40) ++ u64 0) ≡ comes [] (u64 9_223_372_036 ++ u64 854_774_807) (error 14)
   unfolding ppoll_row poll
   poll_unreadable = refl
@@ -116,6 +147,44 @@ module _ (whole : Kernel) (nodes : Nodes) where
   two_words : call (7 ∷ []) 72 (args_of 65 65536 0 0 0 0) (u64 8 ++ zeros 8) ≡ comes (7 ∷ []) (u64 8 ++ zeros 8) (number 1)
   unfolding pselect_row select ready bits_where
   two_words = refl
+
+  -- of a count the low 32 bits count, and a mask of 16 bytes may be any: the pair stands behind the set, and the mask behind the pair
+  select_by_low_bits : call (7 ∷ []) 72 (args_of (2 ^ 32 + 4) 65536 0 0 0 65544) (u64 8 ++ u64 65560 ++ u64 16 ++ replicate 16 255)
+      ≡ comes (7 ∷ []) (u64 8 ++ u64 65560 ++ u64 16 ++ replicate 16 255) (number 1)
+  unfolding pselect_row select ready bits_where
+  select_by_low_bits = refl
+
+  -- a set for writing alone
+  select_to_write : call [] 72 (args_of 5 0 65536 0 0 0) (u64 16) ≡ comes [] (u64 16) (number 1)
+  unfolding pselect_row select ready bits_where
+  select_to_write = refl
+
+  -- what is hung up can be read, and what is in error be written
+
+  select_hung_up : (native_call 72 (args_of 4 65536 0 0 0 0) (closed_pipe true false) (u64 8) []).reply ≡ number 1
+  unfolding pselect_row select ready bits_where
+  select_hung_up = refl
+
+  select_in_error : (native_call 72 (args_of 5 0 65536 0 0 0) (closed_pipe false true) (u64 16) []).reply ≡ number 1
+  unfolding pselect_row select ready bits_where
+  select_in_error = refl
+
+  select_without_end : call [] 72 (args_of 4 65536 0 0 0 0) (u64 8) ≡ comes [] (u64 8) (replies.Sleep (record { done = 0; until = None }))
+  unfolding pselect_row select ready
+  select_without_end = refl
+
+  -- nothing is counted, and no set is read
+  select_nothing : call [] 72 (args_of 0 1 1 1 65536 0) (u64 0 ++ u64 5) ≡ comes [] (u64 0 ++ u64 5) (sleep_until 1005)
+  unfolding pselect_row select
+  select_nothing = refl
+
+  select_time_unreadable : call [] 72 (args_of 4 65536 0 0 1 0) (u64 8) ≡ comes [] (u64 8) (error 14)
+  unfolding pselect_row select
+  select_time_unreadable = refl
+
+  other_sets_unreadable : call [] 72 (args_of 4 0 1 0 0 0) [] ≡ call [] 72 (args_of 4 0 0 1 0 0) []
+  unfolding pselect_row select
+  other_sets_unreadable = refl
 
   select_waits : call [] 72 (args_of 4 65536 0 0 65544 0) (u64 8 ++ u64 0 ++ u64 5) ≡ comes [] (u64 8 ++ u64 0 ++ u64 5) (sleep_until 1005)
   unfolding pselect_row select ready

@@ -6,7 +6,8 @@ use Rattle.kernel_core.specs.declared.signal.Sig.{Sig}
 use Rattle.kernel_core.specs.declared.signal.Sig.TheVariants.{Kill, Term, Usr1, RealTime}
 use Rattle.kernel_model.specs.Begin.{first_signals}
 use Rattle.kernel_model.specs.Pipes.{nothing}
-use Rattle.kernel_model.specs.SignalRows.{accept, after_action, appended, change_mask, info_of, kill, kill_info, kill_thread, kill_thread_of, pending, post, queue, set_action, set_stack, si_queue, suspend, tkill_info, with_pending}
+use Rattle.kernel_model.specs.Shared.{Info}
+use Rattle.kernel_model.specs.SignalRows.{accept, after_action, appended, change_mask, info_of, kill, kill_info, kill_thread, kill_thread_of, no_action, pending, post, queue, set_action, set_stack, si_queue, suspend, tkill_info, with_pending}
 use Rattle.kernel_model.specs.SignalSets.{only}
 use Rattle.kernel_model.specs.State.{Kernel, Signals}
 use Rattle.kernel_model.specs.declared.signal.Action.{Action}
@@ -56,6 +57,16 @@ module _ (whole : Kernel) where
   unfolding kill_row kill post term_pends
   kill_group = refl
 
+  -- of a process and of a signal the low 32 bits count, here and below
+
+  kill_by_low_bits : call 129 (six (2 ^ 32 + 100) (2 ^ 32 + 15) 0 0) [] ≡ leaves term_pends [] (number 0)
+  unfolding kill_row kill post term_pends
+  kill_by_low_bits = refl
+
+  kill_group_by_low_bits : call 129 (six (2 ^ 32 - 100) 15 0 0) [] ≡ leaves term_pends [] (number 0)
+  unfolding kill_row kill post term_pends
+  kill_group_by_low_bits = refl
+
   kill_nothing : call 129 (six 0 0 0 0) [] ≡ leaves first_signals [] (number 0)
   unfolding kill_row kill
   kill_nothing = refl
@@ -83,6 +94,22 @@ module _ (whole : Kernel) where
   kill_thread_itself : call 130 (six 100 15 0 0) [] ≡ leaves (appended first_signals (tkill_info Term)) [] (number 0)
   unfolding tkill_row kill_thread post
   kill_thread_itself = refl
+
+  kill_thread_by_low_bits : call 130 (six (2 ^ 32 + 100) (2 ^ 32 + 15) 0 0) [] ≡ leaves (appended first_signals (tkill_info Term)) [] (number 0)
+  unfolding tkill_row kill_thread post
+  kill_thread_by_low_bits = refl
+
+  kill_thread_of_by_low_bits : call 131 (six (2 ^ 32 + 100) (2 ^ 32 + 100) (2 ^ 32 + 15) 0) [] ≡ leaves (appended first_signals (tkill_info Term)) [] (number 0)
+  unfolding tgkill_row kill_thread_of post
+  kill_thread_of_by_low_bits = refl
+
+  kill_thread_by_129 : call 130 (six 100 129 0 0) [] ≡ refuses [] 22
+  unfolding tkill_row kill_thread real_time real_time_if
+  kill_thread_by_129 = refl
+
+  kill_thread_when_full : call_with full 131 (six 100 100 40 0) [] ≡ leaves full [] (error 11)
+  unfolding tgkill_row kill_thread_of post full forty real_time real_time_if
+  kill_thread_when_full = refl
 
   kill_thread_0 : call 130 (six 0 15 0 0) [] ≡ refuses [] 22
   unfolding tkill_row kill_thread
@@ -121,6 +148,15 @@ module _ (whole : Kernel) where
   unfolding rt_sigqueueinfo_row queue post
   queued_by_timer = refl
 
+  queued_by_low_bits : call 138 (six (2 ^ 32 + 100) (2 ^ 32 + 15) 65536 0) (sent 0 0 (2 ^ 32 - 1) 7 0 9)
+      ≡ leaves (appended first_signals (info_of Term si_queue 7 9)) (sent 0 0 (2 ^ 32 - 1) 7 0 9) (number 0)
+  unfolding rt_sigqueueinfo_row queue post
+  queued_by_low_bits = refl
+
+  queue_when_full : call_with full 138 (six 100 40 65536 0) (zeros 128) ≡ leaves full (zeros 128) (error 11)
+  unfolding rt_sigqueueinfo_row queue post full forty real_time real_time_if
+  queue_when_full = refl
+
   queue_to_group : call 138 (six 0 129 0 0) [] ≡ refuses [] 3
   unfolding rt_sigqueueinfo_row queue
   queue_to_group = refl
@@ -158,6 +194,24 @@ module _ (whole : Kernel) where
   action_told : call_with acts 134 (six 10 0 65536 16) (replicate 32 7) ≡ leaves acts (action 4096 0x10000004 (2 ^ 14) 1) (number 0)
   unfolding rt_sigaction_row set_action caught acts native_of bits_where real_time real_time_if
   action_told = refl
+
+  action_told_by_low_bits : call_with acts 134 (six (2 ^ 32 + 10) 0 65536 16) (replicate 32 7) ≡ leaves acts (action 4096 0x10000004 (2 ^ 14) 1) (number 0)
+  unfolding rt_sigaction_row set_action caught acts native_of bits_where real_time real_time_if
+  action_told_by_low_bits = refl
+
+  -- of a set's size all 64 bits count, here and below
+  action_by_size : call 134 (six 10 0 0 (2 ^ 32 + 16)) [] ≡ refuses [] 22
+  unfolding rt_sigaction_row set_action
+  action_by_size = refl
+
+  action_for_stop : call 134 (six 19 1 0 16) [] ≡ refuses [] 22
+  unfolding rt_sigaction_row set_action
+  action_for_stop = refl
+
+  -- a new action that ignores removes what pends, and flags in the high word are dropped
+  ignores_term : call_with term_pends 134 (six 15 65536 0 16) (action 1 (2 ^ 32) 0 0) ≡ leaves (after_action first_signals Term (record no_action { handler = 1 })) (action 1 (2 ^ 32) 0 0) (number 0)
+  unfolding rt_sigaction_row set_action term_pends set_of_native bits_where real_time real_time_if
+  ignores_term = refl
 
   -- what was there of KILL may be asked for
   action_of_kill : call 134 (six 9 0 0 16) [] ≡ leaves first_signals [] (number 0)
@@ -208,6 +262,14 @@ module _ (whole : Kernel) where
   unfolding rt_sigprocmask_row change_mask blocks set_of_native native_of bits_where real_time real_time_if
   mask_set = refl
 
+  unblocked_by_low_bits : call_with (blocks (only Usr1)) 135 (six (2 ^ 32 + 1) 65536 0 16) (u64 (2 ^ 9) ++ u64 0) ≡ leaves (blocks (0 ∷ 0 ∷ 0 ∷ 0 ∷ [])) (u64 (2 ^ 9) ++ u64 0) (number 0)
+  unfolding rt_sigprocmask_row change_mask blocks set_of_native native_of bits_where real_time real_time_if
+  unblocked_by_low_bits = refl
+
+  mask_by_size : call 135 (six 0 0 0 (2 ^ 32 + 16)) [] ≡ refuses [] 22
+  unfolding rt_sigprocmask_row change_mask
+  mask_by_size = refl
+
   -- without a set the kind may be any
   mask_told : call_with (blocks (only Usr1)) 135 (six 9 0 65536 16) (replicate 16 7) ≡ leaves (blocks (only Usr1)) (u64 (2 ^ 9) ++ u64 0) (number 0)
   unfolding rt_sigprocmask_row change_mask blocks native_of bits_where real_time real_time_if
@@ -238,6 +300,10 @@ module _ (whole : Kernel) where
   pends_by_8 : call 136 (six 65536 8 0 0) [] ≡ refuses [] 22
   unfolding rt_sigpending_row pending
   pends_by_8 = refl
+
+  pends_by_size : call 136 (six 65536 (2 ^ 32 + 16) 0 0) [] ≡ refuses [] 22
+  unfolding rt_sigpending_row pending
+  pends_by_size = refl
 
   pends_at_null : call 136 (six 0 16 0 0) [] ≡ refuses [] 14
   unfolding rt_sigpending_row pending native_of bits_where real_time real_time_if
@@ -297,6 +363,26 @@ module _ (whole : Kernel) where
   unfolding rt_sigtimedwait_row accept
   accepts_by_8 = refl
 
+  accepts_by_size : call 137 (six 0 1 65536 (2 ^ 32 + 16)) [] ≡ refuses [] 22
+  unfolding rt_sigtimedwait_row accept
+  accepts_by_size = refl
+
+  accepts_without_end : call 137 (six 65536 0 0 16) both ≡ leaves first_signals both (replies.Sleep (record { done = 0; until = None }))
+  unfolding rt_sigtimedwait_row accept both native_order set_of_native bits_where real_time real_time_if
+  accepts_without_end = refl
+
+  -- of two of one signal the first is taken; its code, -3 in the kernel, is told as -2
+  abbrev coded : ℕ → Info
+  coded value = info_of forty (negsuc 2) 7 value
+
+  two_pend : Signals
+  two_pend = with_pending first_signals forty (coded 5 ∷ coded 6 ∷ [])
+
+  accepts_first : call_with two_pend 137 (six 65536 65552 0 16) (u64 (2 ^ 39) ++ u64 0 ++ replicate 128 7)
+      ≡ leaves (with_pending first_signals forty (coded 6 ∷ [])) (u64 (2 ^ 39) ++ u64 0 ++ sent 40 0 (2 ^ 32 - 2) 7 0 5) (number 40)
+  unfolding rt_sigtimedwait_row accept two_pend forty native_order set_of_native bits_where real_time real_time_if
+  accepts_first = refl
+
   -- rt_sigsuspend: the mask is read and has no effect
 
   suspends : call 133 (six 65536 16 0 0) (replicate 16 255) ≡ leaves first_signals (replicate 16 255) (replies.Sleep (record { done = 0; until = None }))
@@ -310,6 +396,10 @@ module _ (whole : Kernel) where
   suspends_by_15 : call 133 (six 0 15 0 0) [] ≡ refuses [] 22
   unfolding rt_sigsuspend_row suspend
   suspends_by_15 = refl
+
+  suspends_by_size : call 133 (six 0 (2 ^ 32 + 16) 0 0) [] ≡ refuses [] 22
+  unfolding rt_sigsuspend_row suspend
+  suspends_by_size = refl
 
   -- sigaltstack: sp, flags, 4 bytes of nothing, size; at first it is disabled
 
@@ -338,6 +428,15 @@ module _ (whole : Kernel) where
   stack_with_flag_3 : call 132 (six 65536 0 0 0) (stack 0 3 0) ≡ refuses (stack 0 3 0) 22
   unfolding sigaltstack_row set_stack
   stack_with_flag_3 = refl
+
+  -- what stands between the flags and the size is not looked at
+  stack_with_padding : call 132 (six 65536 0 0 0) (u64 (2 ^ 40) ++ u32 0 ++ replicate 4 255 ++ u64 2048) ≡ leaves with_stack (u64 (2 ^ 40) ++ u32 0 ++ replicate 4 255 ++ u64 2048) (number 0)
+  unfolding sigaltstack_row set_stack
+  stack_with_padding = refl
+
+  stack_with_flag_4 : call 132 (six 65536 0 0 0) (stack 0 4 2048) ≡ refuses (stack 0 4 2048) 22
+  unfolding sigaltstack_row set_stack
+  stack_with_flag_4 = refl
 
   stack_too_small : call 132 (six 65536 0 0 0) (stack 0 0 2047) ≡ refuses (stack 0 0 2047) 12
   unfolding sigaltstack_row set_stack

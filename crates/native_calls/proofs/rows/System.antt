@@ -1,5 +1,5 @@
 -- Worked rows on names, limits and chance.
-use Rattle.std.specs.Prelude.{◌≡◌, ℕ, ◌^◌, List, [], ◌∷◌, ◌++◌, codes, replicate, refl}
+use Rattle.std.specs.Prelude.{◌≡◌, ℕ, ◌+◌, ◌^◌, List, [], ◌∷◌, ◌++◌, codes, replicate, slice_set, refl}
 use Rattle.kernel_core.specs.declared.reply.Reply.{Reply}
 use Rattle.kernel_model.specs.Begin.{first_limits}
 use Rattle.kernel_model.specs.Pipes.{nothing}
@@ -38,14 +38,24 @@ module _ (whole : Kernel) where
   abbrev limited : Kernel
   limited = record whole { limits = first_limits }
 
+  -- that of descriptors changed alone, whose place in the kernel is 5
+  abbrev with_nofile : ℕ → ℕ → Kernel
+  with_nofile soft hard = record whole { limits = slice_set first_limits 5 (record { soft = soft; hard = hard }) }
+
+  -- AS is 9, and its place in the kernel 6
+  as_set : call_with limited 261 (six 0 9 65536 0) (u64 1 ++ u64 2)
+      ≡ comes (record whole { limits = slice_set first_limits 6 (record { soft = 1; hard = 2 }) }) (u64 1 ++ u64 2) (number 0)
+  unfolding prlimit_row set_limit
+  as_set = refl
+
   limit_set : call_with limited 261 (six 100 7 65536 65552) (u64 10 ++ u64 1024 ++ replicate 16 7)
-      ≡ comes (call_with limited 261 (six 0 7 65536 0) (u64 10 ++ u64 1024)).kernel (u64 10 ++ u64 1024 ++ u64 1024 ++ u64 1024) (number 0)
+      ≡ comes (with_nofile 10 1024) (u64 10 ++ u64 1024 ++ u64 1024 ++ u64 1024) (number 0)
   unfolding prlimit_row set_limit
   limit_set = refl
 
-  -- what was set is told
-  limit_told : call_with (call_with limited 261 (six 0 7 65536 0) (u64 10 ++ u64 1000)).kernel 261 (six 0 7 0 65536) (replicate 16 7)
-      ≡ comes (call_with limited 261 (six 0 7 65536 0) (u64 10 ++ u64 1000)).kernel (u64 10 ++ u64 1000) (number 0)
+  -- what was set is told; of the process and of the resource the low 32 bits count
+  limit_told : call_with (with_nofile 10 1000) 261 (six (2 ^ 32 + 100) (2 ^ 32 + 7) 0 65536) (replicate 16 7)
+      ≡ comes (with_nofile 10 1000) (u64 10 ++ u64 1000) (number 0)
   unfolding prlimit_row set_limit
   limit_told = refl
 
@@ -55,7 +65,7 @@ module _ (whole : Kernel) where
 
   -- the new limit is set also where the old one can't be stored
   old_limit_outside : call_with limited 261 (six 0 7 65536 65537) (u64 10 ++ u64 1024)
-      ≡ comes (call_with limited 261 (six 0 7 65536 0) (u64 10 ++ u64 1024)).kernel (u64 10 ++ u64 1024) (error 14)
+      ≡ comes (with_nofile 10 1024) (u64 10 ++ u64 1024) (error 14)
   unfolding prlimit_row set_limit
   old_limit_outside = refl
 
@@ -108,3 +118,8 @@ module _ (whole : Kernel) where
   random_flags_6 : call_with (chancy 0) 278 (six 0 1 6 0) [] ≡ comes (chancy 0) [] (error 22)
   unfolding getrandom_row random_bytes
   random_flags_6 = refl
+
+  -- of flags the low 32 bits count, and of a count all 64
+  random_by_low_bits : call_with (chancy 0) 278 (six 65536 (2 ^ 32 + 1) (2 ^ 32 + 1) 0) (7 ∷ 7 ∷ []) ≡ comes (chancy 2) (1 ∷ 2 ∷ []) (number 2)
+  unfolding getrandom_row random_bytes round
+  random_by_low_bits = refl
