@@ -201,6 +201,11 @@ module _ (whole : Kernel) (nodes : Nodes) (at_1 : get nodes 1 ≡ Some root) (at
   unfolding openat_row open_file path_at walk
   open_from_stream = refl
 
+  -- a component of 256 bytes
+  open_long_component : call 56 (six at_working 65536 0 0) (text (replicate 256 97)) ≡ refuses (text (replicate 256 97)) 36
+  unfolding openat_row open_file path_at walk walked walked_from walked_through components_after ends_with_slash
+  open_long_component = refl
+
   -- 0666 less 022 is 0644
   open_new : len nodes ≡ 6 → live_entries nodes ≡ 5 → call 56 (six at_working 65536 0x41 438) (text (codes "x"))
       ≡ does (after_open (with_nodes (at_first nodes) (after_create nodes (missing 1 (codes "x")) (new_number nodes) 420 (now whole)))
@@ -257,6 +262,10 @@ module _ (whole : Kernel) (nodes : Nodes) (at_1 : get nodes 1 ≡ Some root) (at
   unfolding unlinkat_row remove_name path_at walk walked walked_from walked_through components_after ends_with_slash
   remove_root = refl
 
+  remove_dot : call 35 (six at_working 65536 0x200 0) (text (codes "d/.")) ≡ refuses (text (codes "d/.")) 22
+  unfolding unlinkat_row remove_name path_at walk walked walked_from walked_through components_after ends_with_slash root empty inode entry
+  remove_dot = simp (at_1, at_3) refl
+
   -- other flags are refused once the path is read
   unlink_with_other_flags : call 35 (six 99 65536 0x100 0) (text (codes "f")) ≡ refuses (text (codes "f")) 22
   unfolding unlinkat_row remove_name path_at
@@ -275,6 +284,10 @@ module _ (whole : Kernel) (nodes : Nodes) (at_1 : get nodes 1 ≡ Some root) (at
   symlink_to_nothing : call 36 (six 65537 99 65538 0) (text (codes "f") ++ text (codes "x")) ≡ refuses (text (codes "f") ++ text (codes "x")) 2
   unfolding symlinkat_row make_link path_at
   symlink_to_nothing = refl
+
+  symlink_there : call 36 (six 65536 at_working 65538 0) (text (codes "f") ++ text (codes "d")) ≡ refuses (text (codes "f") ++ text (codes "d")) 17
+  unfolding symlinkat_row make_link path_at walk walked walked_from walked_through components_after ends_with_slash root empty inode entry
+  symlink_there = simp (at_1, at_3) refl
 
   symlink_unreadable : call 36 (six 65537 99 0 0) (text (codes "f")) ≡ refuses (text (codes "f")) 14
   unfolding symlinkat_row make_link path_at
@@ -327,6 +340,14 @@ module _ (whole : Kernel) (nodes : Nodes) (at_1 : get nodes 1 ≡ Some root) (at
   unfolding linkat_row link path_at walk walked walked_from walked_through components_after ends_with_slash root empty inode entry
   link_to_directory = simp (at_1, at_3) refl
 
+  link_there : call 37 (five at_working 65536 at_working 65538 0) (text (codes "f") ++ text (codes "l")) ≡ refuses (text (codes "f") ++ text (codes "l")) 17
+  unfolding linkat_row link path_at walk walked walked_from walked_through components_after ends_with_slash root file link_to_f inode entry
+  link_there = simp (at_1, at_2, at_4) refl
+
+  link_before_slash : call 37 (five at_working 65536 at_working 65538 0) (text (codes "f") ++ text (codes "x/")) ≡ refuses (text (codes "f") ++ text (codes "x/")) 2
+  unfolding linkat_row link path_at walk walked walked_from walked_through components_after ends_with_slash root file inode entry
+  link_before_slash = simp (at_1, at_2) refl
+
   -- renameat
   rename_f : call 38 (six at_working 65536 at_working 65538) (text (codes "f") ++ text (codes "d/x"))
       ≡ does (with_nodes (at_first nodes) (after_rename nodes (there 1 (codes "f") 2) (missing 3 (codes "x")) 2 (now whole))) (text (codes "f") ++ text (codes "d/x")) 0
@@ -341,6 +362,26 @@ module _ (whole : Kernel) (nodes : Nodes) (at_1 : get nodes 1 ≡ Some root) (at
   rename_into_itself : len nodes ≡ 6 → call 38 (six at_working 65536 at_working 65538) (text (codes "d") ++ text (codes "d/x")) ≡ refuses (text (codes "d") ++ text (codes "d/x")) 22
   unfolding renameat_row rename path_at walk walked walked_from walked_through components_after ends_with_slash is_below root empty inode entry
   rename_into_itself some = simp (at_1, at_3, some) refl
+
+  rename_missing : call 38 (six at_working 65536 at_working 65538) (text (codes "x") ++ text (codes "y")) ≡ refuses (text (codes "x") ++ text (codes "y")) 2
+  unfolding renameat_row rename path_at walk walked walked_from walked_through components_after ends_with_slash root inode entry
+  rename_missing = simp at_1 refl
+
+  rename_dot : call 38 (six at_working 65536 at_working 65538) (text (codes ".") ++ text (codes "x")) ≡ refuses (text (codes ".") ++ text (codes "x")) 16
+  unfolding renameat_row rename path_at walk walked walked_from walked_through components_after ends_with_slash root inode entry
+  rename_dot = simp at_1 refl
+
+  rename_file_onto_directory : call 38 (six at_working 65536 at_working 65538) (text (codes "f") ++ text (codes "d")) ≡ refuses (text (codes "f") ++ text (codes "d")) 21
+  unfolding renameat_row rename path_at walk walked walked_from walked_through components_after ends_with_slash root file empty inode entry
+  rename_file_onto_directory = simp (at_1, at_2, at_3) refl
+
+  rename_directory_onto_file : len nodes ≡ 6 → call 38 (six at_working 65536 at_working 65538) (text (codes "d") ++ text (codes "f")) ≡ refuses (text (codes "d") ++ text (codes "f")) 20
+  unfolding renameat_row rename path_at walk walked walked_from walked_through components_after ends_with_slash is_below root file empty inode entry
+  rename_directory_onto_file some = simp (at_1, at_2, at_3, some) refl
+
+  rename_onto_filled : len nodes ≡ 6 → call 38 (six at_working 65536 at_working 65538) (text (codes "d") ++ text (codes "e")) ≡ refuses (text (codes "d") ++ text (codes "e")) 39
+  unfolding renameat_row rename path_at walk walked walked_from walked_through components_after ends_with_slash is_below root empty filled inode entry
+  rename_onto_filled some = simp (at_1, at_3, at_6, some) refl
 
   rename_unreadable : call 38 (six 99 65536 99 65540) (text (codes "f")) ≡ refuses (text (codes "f")) 14
   unfolding renameat_row rename path_at

@@ -117,6 +117,11 @@ module _ (whole : Kernel) where
   unfolding getrandom_row random_bytes round
   byte_by_low_word = refl
 
+  -- and of the count all 64
+  long_count : call_with (chancy 0) 278 (six 65536 (2 ^ 32 + 1) 0 0) (7 ∷ 7 ∷ []) ≡ comes (chancy 2) (1 ∷ 2 ∷ []) (number 2)
+  unfolding getrandom_row random_bytes round
+  long_count = refl
+
   no_bytes : call_with (chancy 0) 278 (six 0 0 4 0) [] ≡ comes (chancy 0) [] (number 0)
   unfolding getrandom_row random_bytes round
   no_bytes = refl
