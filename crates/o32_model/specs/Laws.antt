@@ -1,6 +1,7 @@
 -- Words of the laws. (The laws are this project's own.)
-use Rattle.std.specs.Prelude.{◌≡◌, ℕ, List, ⊤}
-use Rattle.guest_space.specs.Bytes.{byte_at}
+use Rattle.std.specs.Prelude.{◌≡◌, ℕ, List, option_map, ⊤}
+use Rattle.std.specs.FinMap.{get}
+use Rattle.guest_space.specs.Memory.{MappedPage}
 use Rattle.kernel_model.specs.Pipes.{nothing}
 use Rattle.kernel_model.specs.State.{Kernel}
 use Rattle.o32_model.specs.Step.{Guest, O32Step}
@@ -27,11 +28,16 @@ pub record MovesNothing (guest : Guest) (left : List ℕ) (step : O32Step) : Typ
 abbrev pub mprotect_number : ℕ
 mprotect_number = 4125
 
--- after it all is as before but protections
+-- a page but for its protection
+abbrev pub unprotected : MappedPage → MappedPage
+unprotected page = record page { protection = 0 }
+
+-- after it all is as before but protections: each page is there or not as before, with its bytes, and is ready or not as before
 pub record ChangesProtections (kernel : Kernel) (guest : Guest) (left : List ℕ) (step : O32Step) : Type 0 where
   pub became : step.kernel ≡ kernel
-  pub bytes : (address : ℕ) → byte_at step.memory.pages address ≡ byte_at guest.memory.pages address
+  pub pages : (number : ℕ) → option_map unprotected (get step.memory.pages number) ≡ option_map unprotected (get guest.memory.pages number)
   pub break : step.memory.program_break ≡ guest.memory.program_break
+  pub start : step.memory.break_start ≡ guest.memory.break_start
   pub set : step.processor ≡ guest.processor
   pub rest : step.left ≡ left
   pub sent : step.sent ≡ nothing

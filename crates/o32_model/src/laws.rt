@@ -21,7 +21,8 @@ pub fn a_call_that_fails_moves_nothing()
         → MovesNothing guest left (o32_call kernel guest left) }
 {}
 
-/// mprotect(2) changes protections alone, whether it fails or not: it writes no byte.
+/// mprotect(2) changes protections alone, whether it fails or not: the pages that are there, their bytes,
+/// the break and all else stay.
 pub fn mprotect_changes_protections()
     ensures { (kernel : Kernel) (guest : Guest) (left : List ℕ)
         → guest.words.nr ≡ mprotect_number

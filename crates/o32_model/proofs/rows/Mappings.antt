@@ -157,6 +157,11 @@ module _ (whole : Kernel) (nodes : Nodes) (processor : Processor) (memory : Memo
   unfolding mmap greatest_place greatest_among
   no_place = refl
 
+  -- as long as no free run, though the limit is not passed
+  no_free_run : greatest_place memory.pages 80_000 ≡ None → at_start (words_of_map 4210 0 327_680_000 3 0x802 0 0) ≡ refuses ENOMEM
+  unfolding mmap
+  no_free_run place = simp place refl
+
   past_the_limit : greatest_place memory.pages 1 ≡ Some 0x6ffff → get memory.pages 0x6ffff ≡ None → len memory.pages ≡ 131_072 → at_start (words_of_map 4210 0 4096 3 0x802 0 0) ≡ refuses ENOMEM
   unfolding mmap absent_count
   past_the_limit place free count = simp (place, free, count) refl
@@ -270,14 +275,15 @@ module _ (whole : Kernel) (nodes : Nodes) (processor : Processor) (memory : Memo
     unfolding mremap resized mapped_run absent_count
     may_not_move next count = simp (first, next, count) refl
 
-    nowhere : get memory.pages 0x21 ≡ Some page → len memory.pages ≡ 5 → greatest_place memory.pages 2 ≡ None
-        → at_start (words 4167 0x20000 4096 4097 1) ≡ refuses ENOMEM
-    unfolding mremap resized mapped_run absent_count
-    nowhere next count place = simp (first, next, count, place) refl
-
     grown_past_the_limit : len memory.pages ≡ 131_072 → at_start (words 4167 0x20000 4096 4097 1) ≡ refuses ENOMEM
     unfolding mremap resized mapped_run
     grown_past_the_limit count = simp (first, count) refl
+
+  -- 80,000 pages, for which four pages between 0x10000 and 0x70000 can leave no run; behind the last page where a range may grow
+  nowhere : (page : MappedPage) → get memory.pages 0x7F7EF ≡ Some page → len memory.pages ≡ 5 → greatest_place memory.pages 80_000 ≡ None
+      → at_start (words 4167 0x7F7E_F000 4096 327_680_000 1) ≡ refuses ENOMEM
+  unfolding mremap resized mapped_run
+  nowhere page last count place = simp (last, count, place) refl
 
   protect_off_a_page : at_start (words 4125 0x20001 4096 3 0) ≡ refuses EINVAL
   unfolding mprotect
