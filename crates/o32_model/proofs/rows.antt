@@ -12,4 +12,5 @@ pub mod SmallTree
 pub mod Status
 pub mod Terminal
 pub mod Transfers
+pub mod Turns
 pub mod Words
