@@ -19,7 +19,7 @@ use Rattle.kernel_model.specs.Whole.{with_files}
 use Rattle.mips_exec.specs.Processor.{Processor}
 use Rattle.o32_model.proofs.rows.Small.{at_first, page_of, words, guest, leaves}
 use Rattle.o32_model.proofs.rows.SmallTree.{mode_and_links, root_inode, file_inode, directory_inode, link_inode, missing, words_of_five}
-use Rattle.o32_model.specs.Names.{mkdir_row, unlink_row, link_row, linkat_row, symlink_row, readlink_row, rename_row}
+use Rattle.o32_model.specs.Names.{mkdir_row, remove_row, link_row, linkat_row, symlink_row, readlink_row, rename_row}
 use Rattle.o32_model.specs.Paths.{path_at}
 use Rattle.o32_model.specs.Step.{O32Step}
 use Rattle.o32_model.specs.Table.{o32_call}
@@ -55,15 +55,15 @@ module _ (whole : Kernel) (nodes : Nodes) (processor : Processor) (memory : Memo
   mkdirat_too_long long = simp long refl
 
   rmdir_unread : path_at memory 65536 ≡ Err EFAULT → at_start (words 4040 65536 0 0 0) ≡ refuses EFAULT
-  unfolding unlink_row remove_name
+  unfolding remove_row remove_name
   rmdir_unread unread = simp unread refl
 
   unlink_unread : path_at memory 65536 ≡ Err EFAULT → at_start (words 4010 65536 0 0 0) ≡ refuses EFAULT
-  unfolding unlink_row remove_name
+  unfolding remove_row remove_name
   unlink_unread unread = simp unread refl
 
   unlinkat_too_long : path_at memory 65536 ≡ Err ENAMETOOLONG → at_start (words 4294 9 65536 0x400 0) ≡ refuses ENAMETOOLONG
-  unfolding unlink_row remove_name
+  unfolding remove_row remove_name
   unlinkat_too_long long = simp long refl
 
   link_unread : path_at memory 65536 ≡ Err EFAULT → at_start (words 4009 65536 69632 0 0) ≡ refuses EFAULT
@@ -113,7 +113,7 @@ module _ (whole : Kernel) (nodes : Nodes) (processor : Processor) (memory : Memo
   mkdirat_closed path = simp path refl
 
   unlinkat_stream : path_at memory 65536 ≡ Ok (codes "n") → at_start (words 4294 0 65536 0 0) ≡ refuses ENOTDIR
-  unfolding unlink_row remove_name walk
+  unfolding remove_row remove_name walk
   unlinkat_stream path = simp path refl
 
   renameat_closed : path_at memory 65536 ≡ Ok (codes "f") → path_at memory 69632 ≡ Ok (codes "n") → at_start (words 4295 9 65536 0xFFFF_FF9C 69632) ≡ refuses EBADF
@@ -131,7 +131,7 @@ module _ (whole : Kernel) (nodes : Nodes) (processor : Processor) (memory : Memo
   -- flags: those that are not listed, and those on the stack that can't be read, which comes before all else
 
   unlinkat_unlisted : path_at memory 65536 ≡ Ok (codes "n") → at_start (words 4294 9 65536 0x300 0) ≡ refuses EINVAL
-  unfolding unlink_row remove_name
+  unfolding remove_row remove_name
   unlinkat_unlisted path = simp path refl
 
   linkat_unlisted : path_at memory 65536 ≡ Ok (codes "f") → path_at memory 69632 ≡ Ok (codes "n") → at_start (words_of_five 4296 9 65536 9 69632 0x100) ≡ refuses EINVAL
@@ -186,11 +186,11 @@ module _ (whole : Kernel) (nodes : Nodes) (processor : Processor) (memory : Memo
     mkdir_no_room path full = simp (path, full, at_1) refl
 
     unlink_missing : path_at memory 65536 ≡ Ok (codes "n") → at_start (words 4010 65536 0 0 0) ≡ refuses ENOENT
-    unfolding unlink_row remove_name walk walked walked_from walked_through components_after ends_with_slash root_inode mode_and_links
+    unfolding remove_row remove_name walk walked walked_from walked_through components_after ends_with_slash root_inode mode_and_links
     unlink_missing path = simp (path, at_1) refl
 
     rmdir_root : path_at memory 65536 ≡ Ok (codes "/") → at_start (words 4040 65536 0 0 0) ≡ refuses EBUSY
-    unfolding unlink_row remove_name walk walked walked_from walked_through components_after ends_with_slash root_inode mode_and_links
+    unfolding remove_row remove_name walk walked walked_from walked_through components_after ends_with_slash root_inode mode_and_links
     rmdir_root path = simp path refl
 
     rename_dot : path_at memory 65536 ≡ Ok (codes ".") → path_at memory 69632 ≡ Ok (codes "n") → at_start (words 4038 65536 69632 0 0) ≡ refuses EBUSY
@@ -200,15 +200,15 @@ module _ (whole : Kernel) (nodes : Nodes) (processor : Processor) (memory : Memo
     -- the file `f`
     module _ (at_2 : get nodes 2 ≡ Some file_inode) where
       unlink_file : path_at memory 65536 ≡ Ok (codes "f") → at_start (words 4010 65536 0 0 0) ≡ becomes (after_unlink nodes (record { directory = 1; name = codes "f"; node = Some 2 }) 2 (now whole))
-      unfolding unlink_row remove_name walk walked walked_from walked_through components_after ends_with_slash root_inode mode_and_links file_inode
+      unfolding remove_row remove_name walk walked walked_from walked_through components_after ends_with_slash root_inode mode_and_links file_inode
       unlink_file path = simp (path, at_1, at_2) refl
 
       unlinkat_file : path_at memory 65536 ≡ Ok (codes "/f") → at_start (words 4294 9 65536 0 0) ≡ becomes (after_unlink nodes (record { directory = 1; name = codes "f"; node = Some 2 }) 2 (now whole))
-      unfolding unlink_row remove_name walk walked walked_from walked_through components_after ends_with_slash root_inode mode_and_links file_inode
+      unfolding remove_row remove_name walk walked walked_from walked_through components_after ends_with_slash root_inode mode_and_links file_inode
       unlinkat_file path = simp (path, at_1, at_2) refl
 
       rmdir_file : path_at memory 65536 ≡ Ok (codes "f") → at_start (words 4040 65536 0 0 0) ≡ refuses ENOTDIR
-      unfolding unlink_row remove_name walk walked walked_from walked_through components_after ends_with_slash root_inode mode_and_links file_inode
+      unfolding remove_row remove_name walk walked walked_from walked_through components_after ends_with_slash root_inode mode_and_links file_inode
       rmdir_file path = simp (path, at_1, at_2) refl
 
       mkdir_old : path_at memory 65536 ≡ Ok (codes "f") → at_start (words 4039 65536 511 0 0) ≡ refuses EEXIST
@@ -234,19 +234,19 @@ module _ (whole : Kernel) (nodes : Nodes) (processor : Processor) (memory : Memo
     -- the directory `d`
     module _ (at_3 : get nodes 3 ≡ Some directory_inode) where
       rmdir_directory : path_at memory 65536 ≡ Ok (codes "d") → at_start (words 4040 65536 0 0 0) ≡ becomes (after_rmdir nodes (record { directory = 1; name = codes "d"; node = Some 3 }) 3 (now whole))
-      unfolding unlink_row remove_name walk walked walked_from walked_through components_after ends_with_slash root_inode mode_and_links directory_inode
+      unfolding remove_row remove_name walk walked walked_from walked_through components_after ends_with_slash root_inode mode_and_links directory_inode
       rmdir_directory path = simp (path, at_1, at_3) refl
 
       unlinkat_directory : path_at memory 65536 ≡ Ok (codes "d") → at_start (words 4294 0xFFFF_FF9C 65536 0x200 0) ≡ becomes (after_rmdir nodes (record { directory = 1; name = codes "d"; node = Some 3 }) 3 (now whole))
-      unfolding unlink_row remove_name walk walked walked_from walked_through components_after ends_with_slash root_inode mode_and_links directory_inode
+      unfolding remove_row remove_name walk walked walked_from walked_through components_after ends_with_slash root_inode mode_and_links directory_inode
       unlinkat_directory path = simp (path, at_1, at_3) refl
 
       unlink_directory : path_at memory 65536 ≡ Ok (codes "d") → at_start (words 4010 65536 0 0 0) ≡ refuses EISDIR
-      unfolding unlink_row remove_name walk walked walked_from walked_through components_after ends_with_slash root_inode mode_and_links directory_inode
+      unfolding remove_row remove_name walk walked walked_from walked_through components_after ends_with_slash root_inode mode_and_links directory_inode
       unlink_directory path = simp (path, at_1, at_3) refl
 
       rmdir_dots : path_at memory 65536 ≡ Ok (codes "d/..") → at_start (words 4040 65536 0 0 0) ≡ refuses ENOTEMPTY
-      unfolding unlink_row remove_name walk walked walked_from walked_through components_after ends_with_slash root_inode mode_and_links directory_inode
+      unfolding remove_row remove_name walk walked walked_from walked_through components_after ends_with_slash root_inode mode_and_links directory_inode
       rmdir_dots path = simp (path, at_1, at_3) refl
 
       link_directory : path_at memory 65536 ≡ Ok (codes "d") → path_at memory 69632 ≡ Ok (codes "n") → at_start (words 4009 65536 69632 0 0) ≡ refuses EPERM
@@ -269,13 +269,13 @@ module _ (whole : Kernel) (nodes : Nodes) (processor : Processor) (memory : Memo
 
     -- the target of a link, without a NUL
     module _ (at_4 : get nodes 4 ≡ Some (mode_and_links 511 1 (Link (codes "xyz")))) where
-      readlink_whole : path_at memory 65536 ≡ Ok (codes "l") → get memory.pages 16 ≡ Some (page_of []) → at_start (words 4085 65536 65792 9 0) ≡ leaves whole (at_first nodes) processor (copied_out memory 65792 (codes "xyz")) [] (Value 3)
+      readlink_whole : path_at memory 65536 ≡ Ok (codes "l") → (held : List ℕ) → get memory.pages 16 ≡ Some (page_of held) → at_start (words 4085 65536 65792 9 0) ≡ leaves whole (at_first nodes) processor (copied_out memory 65792 (codes "xyz")) [] (Value 3)
       unfolding readlink_row read_link walk walked walked_from walked_through components_after ends_with_slash root_inode mode_and_links first_denied refusal
-      readlink_whole path kept = simp (path, kept, at_1, at_4) refl
+      readlink_whole path held kept = simp (path, kept, at_1, at_4) refl
 
-      readlinkat_first : path_at memory 65536 ≡ Ok (codes "/l") → get memory.pages 16 ≡ Some (page_of []) → at_start (words 4298 9 65536 65792 2) ≡ leaves whole (at_first nodes) processor (copied_out memory 65792 (codes "xy")) [] (Value 2)
+      readlinkat_first : path_at memory 65536 ≡ Ok (codes "/l") → (held : List ℕ) → get memory.pages 16 ≡ Some (page_of held) → at_start (words 4298 9 65536 65792 2) ≡ leaves whole (at_first nodes) processor (copied_out memory 65792 (codes "xy")) [] (Value 2)
       unfolding readlink_row read_link walk walked walked_from walked_through components_after ends_with_slash root_inode mode_and_links first_denied refusal
-      readlinkat_first path kept = simp (path, kept, at_1, at_4) refl
+      readlinkat_first path held kept = simp (path, kept, at_1, at_4) refl
 
       -- all of it is stored, or none
       readlink_unstored : path_at memory 65536 ≡ Ok (codes "l") → (held : List ℕ) → get memory.pages 16 ≡ Some (page_of held) → get memory.pages 17 ≡ None → at_start (words 4085 65536 69630 9 0) ≡ refuses EFAULT

@@ -285,9 +285,9 @@ module _ (whole : Kernel) (nodes : Nodes) (processor : Processor) (memory : Memo
   fchdir_closed = refl
 
   -- a slash and a NUL
-  cwd_root : len nodes ≡ 6 → get memory.pages 16 ≡ Some (page_of []) → at_start (words 4203 65536 2 0 0) ≡ leaves whole (at_first nodes) processor (copied_out memory 65536 (47 ∷ 0 ∷ [])) [] (Value 2)
+  cwd_root : len nodes ≡ 6 → (held : List ℕ) → get memory.pages 16 ≡ Some (page_of held) → at_start (words 4203 65536 2 0 0) ≡ leaves whole (at_first nodes) processor (copied_out memory 65536 (47 ∷ 0 ∷ [])) [] (Value 2)
   unfolding getcwd_row working_directory names_to first_denied refusal
-  cwd_root six kept = simp (six, kept) refl
+  cwd_root six held kept = simp (six, kept) refl
 
   cwd_short : len nodes ≡ 6 → at_start (words 4203 65536 1 0 0) ≡ refuses ERANGE
   unfolding getcwd_row working_directory names_to
@@ -300,9 +300,9 @@ module _ (whole : Kernel) (nodes : Nodes) (processor : Processor) (memory : Memo
   abbrev in_directory : Files
   in_directory = record (at_first nodes) { directory = 3 }
 
-  cwd_directory : len nodes ≡ 6 → get nodes 1 ≡ Some root_inode → get nodes 3 ≡ Some directory_inode → get memory.pages 16 ≡ Some (page_of []) → called (with_files whole in_directory) (words 4203 65536 9 0 0) ≡ leaves whole in_directory processor (copied_out memory 65536 (codes "/d" ++ 0 ∷ [])) [] (Value 3)
+  cwd_directory : len nodes ≡ 6 → get nodes 1 ≡ Some root_inode → get nodes 3 ≡ Some directory_inode → (held : List ℕ) → get memory.pages 16 ≡ Some (page_of held) → called (with_files whole in_directory) (words 4203 65536 9 0 0) ≡ leaves whole in_directory processor (copied_out memory 65536 (codes "/d" ++ 0 ∷ [])) [] (Value 3)
   unfolding getcwd_row working_directory names_to first_denied refusal root_inode directory_inode mode_and_links
-  cwd_directory six at_1 at_3 kept = simp (six, at_1, at_3, kept) refl
+  cwd_directory six at_1 at_3 held kept = simp (six, at_1, at_3, kept) refl
 
   cwd_removed : len nodes ≡ 6 → get nodes 3 ≡ Some removed_inode → called (with_files whole in_directory) (words 4203 65536 0 0 0) ≡ stays in_directory (Error ENOENT)
   unfolding getcwd_row working_directory names_to removed_inode mode_and_links

@@ -1,5 +1,5 @@
 -- Worked rows on opening and seeking.
-use Rattle.std.specs.Prelude.{◌≡◌, ℕ, true, [], ◌∷◌, codes, Some, None, Ok, Err, refl}
+use Rattle.std.specs.Prelude.{◌≡◌, ℕ, List, true, [], ◌∷◌, codes, Some, None, Ok, Err, refl}
 use Rattle.std.specs.FinMap.{get, len}
 use Rattle.guest_space.specs.Access.{first_denied, refusal}
 use Rattle.guest_space.specs.Bytes.{copied_out}
@@ -242,18 +242,18 @@ module _ (whole : Kernel) (nodes : Nodes) (processor : Processor) (memory : Memo
 
   -- with an offset of 64 bits
 
-  place_of_64_bits : get memory.pages 16 ≡ Some (page_of []) → with_node 0x8000_0000 (words_of_five 4140 3 0 0 65536 1) ≡ leaves whole (with_node_at nodes 0x8000_0000) processor (copied_out memory 65536 (0 ∷ 0 ∷ 0 ∷ 0 ∷ 0x80 ∷ 0 ∷ 0 ∷ 0 ∷ [])) [] (Value 0)
+  place_of_64_bits : (held : List ℕ) → get memory.pages 16 ≡ Some (page_of held) → with_node 0x8000_0000 (words_of_five 4140 3 0 0 65536 1) ≡ leaves whole (with_node_at nodes 0x8000_0000) processor (copied_out memory 65536 (0 ∷ 0 ∷ 0 ∷ 0 ∷ 0x80 ∷ 0 ∷ 0 ∷ 0 ∷ [])) [] (Value 0)
   unfolding llseek_row seek first_denied refusal
-  place_of_64_bits kept = simp kept refl
+  place_of_64_bits held kept = simp kept refl
 
-  high_word_first : get memory.pages 16 ≡ Some (page_of []) → with_node 7 (words_of_five 4140 3 1 2 65536 0) ≡ leaves whole (with_node_at nodes 0x1_0000_0002) processor (copied_out memory 65536 (0 ∷ 0 ∷ 0 ∷ 1 ∷ 0 ∷ 0 ∷ 0 ∷ 2 ∷ [])) [] (Value 0)
+  high_word_first : (held : List ℕ) → get memory.pages 16 ≡ Some (page_of held) → with_node 7 (words_of_five 4140 3 1 2 65536 0) ≡ leaves whole (with_node_at nodes 0x1_0000_0002) processor (copied_out memory 65536 (0 ∷ 0 ∷ 0 ∷ 1 ∷ 0 ∷ 0 ∷ 0 ∷ 2 ∷ [])) [] (Value 0)
   unfolding llseek_row seek first_denied refusal
-  high_word_first kept = simp kept refl
+  high_word_first held kept = simp kept refl
 
   -- by -1
-  back_from_end : get memory.pages 16 ≡ Some (page_of []) → get nodes 5 ≡ Some large_inode → with_node 7 (words_of_five 4140 3 0xFFFF_FFFF 0xFFFF_FFFF 65536 2) ≡ leaves whole (with_node_at nodes 0x7FFF_FFFF) processor (copied_out memory 65536 (0 ∷ 0 ∷ 0 ∷ 0 ∷ 0x7F ∷ 0xFF ∷ 0xFF ∷ 0xFF ∷ [])) [] (Value 0)
+  back_from_end : (held : List ℕ) → get memory.pages 16 ≡ Some (page_of held) → get nodes 5 ≡ Some large_inode → with_node 7 (words_of_five 4140 3 0xFFFF_FFFF 0xFFFF_FFFF 65536 2) ≡ leaves whole (with_node_at nodes 0x7FFF_FFFF) processor (copied_out memory 65536 (0 ∷ 0 ∷ 0 ∷ 0 ∷ 0x7F ∷ 0xFF ∷ 0xFF ∷ 0xFF ∷ [])) [] (Value 0)
   unfolding llseek_row seek first_denied refusal large_inode mode_and_links
-  back_from_end kept at_5 = simp (kept, at_5) refl
+  back_from_end held kept at_5 = simp (kept, at_5) refl
 
   -- 2^44 + 1
   past_greatest : with_node 7 (words_of_five 4140 3 0x1000 1 65536 0) ≡ node_stays 7 (Error EINVAL)
