@@ -6,6 +6,7 @@ pub mod Names
 pub mod NodeCalls
 pub mod Opening
 pub mod Paths
+pub mod Renaming
 pub mod Small
 pub mod SmallCalls
 pub mod SmallTree
