@@ -1,31 +1,19 @@
 -- A call that fails moves nothing: the calls on files.
-use Rattle.std.proofs.Common.{◌≡◌, ℕ, List, length, refl}
-use Rattle.guest_space.specs.Bytes.{copied_out}
-use Rattle.guest_space.specs.Memory.{Memory}
-use Rattle.kernel_model.specs.Came.{Came, Done, Refused, Waits, Did}
+use Rattle.std.proofs.Common.{ℕ, List, length}
+use Rattle.kernel_model.specs.Came.{Did}
 use Rattle.kernel_model.specs.State.{Kernel}
-use Rattle.o32_model.proofs.Quiet.{Quiet, CallsQuiet, kept_unless, gives_quiet, stores_quiet, fills_quiet}
+use Rattle.o32_model.proofs.ResultQuiet.{result_quiet}
+use Rattle.o32_model.proofs.Quiet.{Quiet, CallsQuiet, gives_quiet, stores_quiet, fills_quiet}
 use Rattle.o32_model.specs.Entries.{entry_calls, getdents_row}
-use Rattle.o32_model.specs.GuestBytes.{is_storable, with_stored}
-use Rattle.o32_model.specs.Laws.{IsFailure}
 use Rattle.o32_model.specs.Names.{name_calls, mkdir_row, remove_row, link_row, linkat_row, symlink_row, readlink_row, rename_row}
 use Rattle.o32_model.specs.NodeCalls.{node_calls, access_row, chmod_row, fchmod_row, utimensat_row, truncate_row, ftruncate_row, sync_row, chdir_row, fchdir_row, getcwd_row, umask_row}
 use Rattle.o32_model.specs.Opening.{opening_calls, open_row, lseek_row, llseek_row}
 use Rattle.o32_model.specs.Status.{status_calls, stat_row, fstat_row, stat64_row, fstat64_row, fstatat64_row}
-use Rattle.o32_model.specs.Step.{Guest, outcome_of, memory_after}
-use Rattle.o32_model.specs.Texts.{stored_text, stores_text}
-use Rattle.o32_model.specs.declared.call_words.CallWords.{CallWords}
-
-stored_text_quiet : (words : CallWords) (memory : Memory) (address : ℕ) (came : Came (List ℕ))
-    → IsFailure (outcome_of (stored_text memory address) words came) → memory_after (with_stored memory address) memory came ≡ memory
-stored_text_quiet words memory address (Done bytes) failed =
-    kept_unless (is_storable memory address (length bytes)) (length bytes) (copied_out memory address bytes) memory failed
-stored_text_quiet words memory address (Refused error) failed = refl
-stored_text_quiet words memory address (Waits wake) failed = refl
+use Rattle.o32_model.specs.Step.{Guest}
+use Rattle.o32_model.specs.Results.{stores_text}
 
 text_quiet : (guest : Guest) (address : ℕ) (did : Did Kernel (List ℕ)) (left : List ℕ) → Quiet guest left (stores_text guest address did left)
-text_quiet guest address did left =
-    λ failed. record { stored = stored_text_quiet guest.words guest.memory address did.came failed; set = refl; rest = refl; sent = refl }
+text_quiet guest address did left = result_quiet (λ bytes. bytes) length guest address did left
 
 pub opening_quiet : CallsQuiet opening_calls
 unfolding open_row lseek_row llseek_row

@@ -55,12 +55,12 @@ pub stores_quiet : (guest : Guest) (address : ℕ) (did : Did Kernel (List ℕ))
 stores_quiet guest address did left =
     λ failed. record { stored = stored_quiet guest.words guest.memory address did.came failed; set = refl; rest = refl; sent = refl }
 
-one_quiet : (null : Bool) (guest : Guest) (left : List ℕ) (one other : O32Step) → Quiet guest left one → Quiet guest left other
+pub one_quiet : (null : Bool) (guest : Guest) (left : List ℕ) (one other : O32Step) → Quiet guest left one → Quiet guest left other
     → Quiet guest left (if null then one else other)
 one_quiet true guest left one other quiet others = quiet
 one_quiet false guest left one other quiet others = others
 
-unless_null_quiet : (guest : Guest) (address : ℕ) (did : Did Kernel (List ℕ)) (left : List ℕ)
+pub unless_null_quiet : (guest : Guest) (address : ℕ) (did : Did Kernel (List ℕ)) (left : List ℕ)
     → Quiet guest left (stores_unless_null guest address did left)
 unless_null_quiet guest address did left =
     one_quiet (address == 0) guest left (gives guest (told_as (λ _. 0) did) left) (stores guest address did left)

@@ -1,3 +1,4 @@
+pub mod Clocks
 pub mod Descriptors
 pub mod Effects
 pub mod Entries
@@ -6,7 +7,10 @@ pub mod Names
 pub mod NodeCalls
 pub mod Opening
 pub mod Paths
+pub mod Readiness
 pub mod Renaming
+pub mod Signals
+pub mod Sleeps
 pub mod Small
 pub mod SmallCalls
 pub mod SmallTree
@@ -14,4 +18,5 @@ pub mod Status
 pub mod Terminal
 pub mod Transfers
 pub mod Turns
+pub mod WaitEnds
 pub mod Words

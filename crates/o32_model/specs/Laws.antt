@@ -1,8 +1,8 @@
 -- Words of the laws. (The laws are this project's own.)
-use Rattle.std.specs.Prelude.{◌≡◌, ℕ, ◌==◌, Bool, List, [], ◌∷◌, None, is_some, option_map, ⊤}
+use Rattle.std.specs.Prelude.{Bool, List, None, [], is_some, option_map, ℕ, ⊤, ◌==◌, ◌∷◌, ◌≡◌}
+use Rattle.guest_space.specs.Memory.{MappedPage}
 use Rattle.std.specs.FinMap.{get}
 use Rattle.std.specs.List.{list_any}
-use Rattle.guest_space.specs.Memory.{MappedPage}
 use Rattle.kernel_model.specs.Pipes.{nothing}
 use Rattle.kernel_model.specs.State.{Kernel}
 use Rattle.o32_model.specs.Small.{small_calls}
@@ -27,7 +27,7 @@ pub record MovesNothing (guest : Guest) (left : List ℕ) (step : O32Step) : Typ
   pub rest : step.left ≡ left
   pub sent : step.sent ≡ nothing
 
--- the one call that may fail with a part of its work on memory done
+-- the call that may fail with a part of the protections changed
 abbrev pub mprotect_number : ℕ
 mprotect_number = 4125
 
@@ -41,6 +41,20 @@ pub record ChangesProtections (kernel : Kernel) (guest : Guest) (left : List ℕ
   pub pages : (number : ℕ) → option_map unprotected (get step.memory.pages number) ≡ option_map unprotected (get guest.memory.pages number)
   pub break : step.memory.program_break ≡ guest.memory.program_break
   pub start : step.memory.break_start ≡ guest.memory.break_start
+  pub set : step.processor ≡ guest.processor
+  pub rest : step.left ≡ left
+  pub sent : step.sent ≡ nothing
+
+-- the calls that may fail with a part stored: gettimeofday, _newselect, poll, pselect6 and ppoll, which store several pieces in order, or what
+-- is left of a time
+abbrev pub part_numbers : List ℕ
+part_numbers = 4078 ∷ 4142 ∷ 4188 ∷ 4301 ∷ 4302 ∷ []
+
+abbrev pub stores_in_parts : ℕ → Bool
+stores_in_parts number = list_any (λ part. number == part) part_numbers
+
+-- the processor and what is left of the input stay, and nothing is sent
+pub record SendsNothing (guest : Guest) (left : List ℕ) (step : O32Step) : Type 0 where
   pub set : step.processor ≡ guest.processor
   pub rest : step.left ≡ left
   pub sent : step.sent ≡ nothing

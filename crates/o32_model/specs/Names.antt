@@ -10,7 +10,7 @@ use Rattle.kernel_model.specs.Whole.{on_files, marked}
 use Rattle.o32_model.specs.PathArguments.{base, one_flag}
 use Rattle.o32_model.specs.Paths.{path_at}
 use Rattle.o32_model.specs.Step.{Guest, O32Step, O32Call, gives}
-use Rattle.o32_model.specs.Texts.{stores_text}
+use Rattle.o32_model.specs.Results.{stores_text}
 use Rattle.o32_model.specs.Words.{argument, signed_argument, stack_word}
 
 -- Directories

@@ -1,6 +1,6 @@
 -- The calls on the node that a path or a descriptor names: access(2), chmod(2), utimensat(2), truncate(2), fsync(2); on the working directory
 -- and the umask: chdir(2), getcwd(2), umask(2).
-use Rattle.std.specs.Prelude.{ℕ, ◌*◌, ℤ, Bool, not, List, [], ◌∷◌, ◌++◌, drop, slice_index_or, pos, Option, option_map}
+use Rattle.std.specs.Prelude.{ℕ, ◌*◌, ℤ, Bool, not, List, [], ◌∷◌, ◌++◌, drop, Option, option_map}
 use Rattle.std.specs.Int.{w64, cast_signed}
 use Rattle.guest_space.specs.Memory.{Memory}
 use Rattle.kernel_model.specs.Came.{Given, told_as, told_zero}
@@ -9,14 +9,13 @@ use Rattle.kernel_model.specs.NodeRows.{Times, access, change_mode, change_open_
 use Rattle.kernel_model.specs.Paths.{Base, Working}
 use Rattle.kernel_model.specs.State.{Kernel}
 use Rattle.kernel_model.specs.Whole.{on_files, marked}
-use Rattle.kernel_model.specs.declared.time.TimeSpec.{TimeSpec}
 use Rattle.layouts.specs.O32.{time}
-use Rattle.layouts.specs.Shape.{record_values}
 use Rattle.o32_model.specs.GuestBytes.{structure, read_as, unless_null}
 use Rattle.o32_model.specs.PathArguments.{base, nofollow_flag, one_flag}
 use Rattle.o32_model.specs.Paths.{path_at}
 use Rattle.o32_model.specs.Step.{Guest, O32Step, O32Call, gives}
-use Rattle.o32_model.specs.Texts.{stores_text}
+use Rattle.o32_model.specs.Results.{stores_text}
+use Rattle.o32_model.specs.Times.{spec_in}
 use Rattle.o32_model.specs.Words.{argument, signed_argument, pair}
 
 -- Access and modes
@@ -35,16 +34,9 @@ fchmod_row kernel guest fd mode left =
 
 -- Times
 
--- seconds and nanoseconds, each a signed number of 32 bits
-abbrev pub time_of : List ℤ → TimeSpec
-time_of values = record { seconds = slice_index_or values 0 (pos 0); nanoseconds = slice_index_or values 1 (pos 0) }
-
-abbrev pub time_in : List ℕ → TimeSpec
-time_in bytes = time_of (record_values time bytes)
-
 -- the time of access and then that of modification
 abbrev pub times_in : List ℕ → Times
-times_in bytes = record { access = time_in bytes; modified = time_in (drop time.size bytes) }
+times_in bytes = record { access = spec_in bytes; modified = spec_in (drop time.size bytes) }
 
 abbrev pub times_size : ℕ
 times_size = 2 * time.size

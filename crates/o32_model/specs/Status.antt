@@ -10,10 +10,9 @@ use Rattle.kernel_model.specs.NodeRows.{StatusFlags, status_at_path}
 use Rattle.kernel_model.specs.Paths.{Base, Working}
 use Rattle.kernel_model.specs.State.{Kernel}
 use Rattle.kernel_model.specs.Whole.{on_files}
-use Rattle.layouts.specs.Number.{value_of, low_number}
 use Rattle.layouts.specs.O32.{stat, stat64}
 use Rattle.layouts.specs.Shape.{record_bytes}
-use Rattle.o32_model.specs.Narrow.{narrowed}
+use Rattle.o32_model.specs.Narrow.{narrowed, low_word}
 use Rattle.o32_model.specs.PathArguments.{base, nofollow_flag, no_automount_flag, empty_path_flag, has_only}
 use Rattle.o32_model.specs.Paths.{path_at}
 use Rattle.o32_model.specs.Step.{Guest, O32Step, O32Call, stores}
@@ -25,7 +24,7 @@ use Rattle.o32_model.specs.Words.{argument}
 -- the whole seconds of a time, of which a field of 32 bits keeps the low ones, and the nanoseconds past them
 
 abbrev pub stored_seconds : ℤ → ℤ
-stored_seconds time = value_of true 4 (low_number 4 (whole_seconds time))
+stored_seconds time = low_word (whole_seconds time)
 
 abbrev pub part_of_second : ℤ → ℤ
 part_of_second time = int_rem_euclid time (pos second)

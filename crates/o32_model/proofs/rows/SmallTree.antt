@@ -59,6 +59,11 @@ abbrev pub words_of_five : ℕ → ℕ → ℕ → ℕ → ℕ → ℕ → CallW
 words_of_five nr first second third fourth fifth =
     record { nr = nr; reg = first ∷ second ∷ third ∷ fourth ∷ []; stack = Some fifth ∷ None ∷ None ∷ None ∷ [] }
 
+-- a call with six arguments
+abbrev pub words_with_six : ℕ → ℕ → ℕ → ℕ → ℕ → ℕ → ℕ → CallWords
+words_with_six nr first second third fourth fifth sixth =
+    record { nr = nr; reg = first ∷ second ∷ third ∷ fourth ∷ []; stack = Some fifth ∷ Some sixth ∷ None ∷ None ∷ [] }
+
 -- Nodes for another tree: the root with the directories `d` and `e`, the file `f` and the file `m` with the number 2^32 - 1
 
 unfoldable pub other_root : Inode
