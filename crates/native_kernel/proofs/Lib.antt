@@ -1,0 +1,2 @@
+pub mod ErrorNumbers
+pub mod Quietly

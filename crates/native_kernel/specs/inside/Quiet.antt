@@ -1,0 +1,17 @@
+-- A call that reaches no stream. (The form is this project's own.)
+use Rattle.std.specs.Prelude.{◌≡◌, ℕ, List}
+use Rattle.kernel_core.specs.declared.reply.Reply.{Reply}
+use Rattle.kernel_model.specs.Pipes.{nothing}
+use Rattle.kernel_model.specs.State.{Kernel}
+use Rattle.native_calls.specs.Step.{NativeStep}
+
+-- it takes none of what is left of the input, sends nothing, and does the rest as its step says
+pub record Quietly (step : NativeStep) (reply : Reply) (kernel : Kernel) (memory left : List ℕ) : Type 0 where
+  pub answered : reply ≡ step.reply
+  pub became : kernel ≡ step.kernel
+  pub stored : memory ≡ step.memory
+  pub rest : step.left ≡ left
+  pub sent : step.sent ≡ nothing
+
+abbrev pub IsQuiet : (List ℕ → NativeStep) → Reply → Kernel → List ℕ → Type 0
+IsQuiet step reply kernel memory = (left : List ℕ) → Quietly (step left) reply kernel memory left
