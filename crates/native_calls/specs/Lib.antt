@@ -1,6 +1,7 @@
 pub mod Answered
 pub mod Arguments
 pub mod Descriptors
+pub mod History
 pub mod HostBytes
 pub mod Ids
 pub mod Laws

@@ -1,5 +1,5 @@
 -- What calls do to the machine as a list of effects, and what it is to carry them out. (The journal is this project's own.)
-use Rattle.std.specs.Prelude.{◌≡◌, ℕ, ◌+◌, ◌==◌, List, [], ◌∷◌, ◌++◌, length, Option, Some, None, is_none, nat_le, nat_lt, if◌then◌else◌}
+use Rattle.std.specs.Prelude.{◌≡◌, ◌⊎◌, ℕ, ◌+◌, ◌^◌, ◌==◌, ◌<◌, ◌≤◌, All, List, [], ◌∷◌, ◌++◌, length, Option, Some, None, is_none, nat_le, nat_lt, if◌then◌else◌}
 use Rattle.std.specs.FinMap.{len}
 use Rattle.guest_space.specs.Access.{first_denied}
 use Rattle.guest_space.specs.Bytes.{with_bytes}
@@ -86,8 +86,28 @@ carried_on (effect ∷ effects) (Some target) = carried_on effects (carried targ
 abbrev pub carried_all : Target → List Effect → Option Target
 carried_all target effects = carried_on effects (Some target)
 
--- What is kept of effects has become more, and those that came lead from one state to another.
+-- What an effect of a call is like: its numbers fit the fields that they are kept in, its pages are some of the program's, a protection has
+-- three bits, and an output is one of the two. A call sets no register in this way: its outcome says what it returns.
+
+-- how many pages the program's half of memory has (TASK_SIZE32 of Linux arch/mips)
+abbrev pub user_pages : ℕ
+user_pages = 524280
+
+pub record ArePages (first count : ℕ) : Type 0 where
+  pub begins : first < user_pages
+  pub ends : first + count ≤ user_pages
+
+abbrev pub IsFormed : Effect → Type 0
+IsFormed (Register number value) = ⊥
+IsFormed (Write address bytes) = (address < 2 ^ 32) × (length bytes < 2 ^ 32)
+IsFormed (Map first count protection) = ArePages first count × (protection ≤ 7)
+IsFormed (Unmap first count) = ArePages first count
+IsFormed (Protect first count protection) = ArePages first count × (protection ≤ 7)
+IsFormed (Output stream bytes) = ((stream ≡ 1) ⊎ (stream ≡ 2)) × (length bytes < 2 ^ 32)
+
+-- What is kept of effects has become more, and those that came, each formed as one, lead from one state to another.
 pub record Effected (old new : Option (List Effect)) (from to : Target) : Type 0 where
   pub more : List Effect
   pub kept : new ≡ with_more old more
+  pub formed : All IsFormed more
   pub leads : carried_all from more ≡ Some to

@@ -1,11 +1,14 @@
+pub mod Answered
 pub mod Descriptors
 pub mod Effects
 pub mod GuestBytes
 pub mod Laws
 pub mod Logs
+pub mod Runs
 pub mod Small
 pub mod Step
 pub mod Table
 pub mod Terminal
 pub mod Transfers
+pub mod Turn
 pub mod Words

@@ -1,0 +1,105 @@
+-- The machine of an o32 program over the kernel, and one turn of it (MIPS32 Architecture for Programmers, Volume II, Release 2, for a step of
+-- the processor; signal(7) for the signal of a fault). What a turn is, that a fault's signal kills in the turn after its own, and how long a
+-- turn takes, is this project's own.
+use Rattle.std.specs.Prelude.{ℕ, ◌+◌, Bool, List, Option, Some, None, is_some}
+use Rattle.guest_space.specs.Memory.{Memory}
+use Rattle.kernel_core.specs.declared.finish.Finish.{Finish}
+use Rattle.kernel_core.specs.declared.finish.Finish.TheVariants.{Exited, Killed}
+use Rattle.kernel_core.specs.declared.signal.Sig.{Sig}
+use Rattle.kernel_model.specs.Pipes.{Sent, nothing}
+use Rattle.kernel_model.specs.State.{Kernel}
+use Rattle.mips_exec.specs.Processor.{Processor}
+use Rattle.mips_exec.specs.Step.{step_of}
+use Rattle.mips_exec.specs.declared.Stepped.{Stepped}
+use Rattle.mips_exec.specs.declared.Stepped.TheVariants.{Next, Syscall, Fault}
+use Rattle.number_tables.specs.Signals.{o32_signal}
+use Rattle.o32_model.specs.Step.{Guest, O32Step}
+use Rattle.o32_model.specs.Table.{o32_call}
+use Rattle.o32_model.specs.Words.{call_words, returned}
+use Rattle.o32_model.specs.declared.outcome.Outcome.{Outcome}
+use Rattle.o32_model.specs.declared.outcome.Outcome.TheVariants as outcomes
+use Rattle.o32_model.specs.declared.wait.Wait.{Wait}
+
+-- The processor with its memory; the kernel; the call that waits; and the signal of the fault that the last turn met
+pub record Machine : Type 0 where
+  pub processor : Processor
+  pub memory : Memory
+  pub kernel : Kernel
+  pub wait : Option Wait
+  pub fault : Option Sig
+
+-- What one turn leaves: the machine, and what is left of the input; what it sends to the outputs; and how it ends the process
+pub record Turn : Type 0 where
+  pub machine : Machine
+  pub left : List ℕ
+  pub sent : Sent
+  pub over : Option Finish
+
+abbrev pub goes_on : Machine → List ℕ → Sent → Turn
+goes_on machine left sent = record { machine = machine; left = left; sent = sent; over = None }
+
+abbrev pub ends : Machine → List ℕ → Sent → Finish → Turn
+ends machine left sent finish = record { machine = machine; left = left; sent = sent; over = Some finish }
+
+-- Calls
+
+-- what a call finds of the program
+abbrev pub guest_of : Processor → Memory → Guest
+guest_of processor memory = record { words = call_words processor memory; processor = processor; memory = memory }
+
+-- the machine behind a call: its result is in the registers, or it waits
+abbrev pub behind : O32Step → Option Wait → Machine
+behind step wait = record {
+  processor = returned step.processor step.outcome;
+  memory = step.memory;
+  kernel = step.kernel;
+  wait = wait;
+  fault = None;
+}
+
+abbrev pub after_outcome : O32Step → Outcome → Turn
+after_outcome step (outcomes.Value value) = goes_on (behind step None) step.left step.sent
+after_outcome step (outcomes.Pair first second) = goes_on (behind step None) step.left step.sent
+after_outcome step (outcomes.Error error) = goes_on (behind step None) step.left step.sent
+after_outcome step outcomes.Frame = goes_on (behind step None) step.left step.sent
+after_outcome step (outcomes.Sleep wait) = goes_on (behind step (Some wait)) step.left step.sent
+after_outcome step (outcomes.Exit status) = ends (behind step None) step.left step.sent (Exited status)
+
+abbrev pub after_call : O32Step → Turn
+after_call step = after_outcome step step.outcome
+
+-- Instructions
+
+-- a turn with an instruction takes this many nanoseconds of the clock
+abbrev pub later : ℕ → Turn → Turn
+later quantum turn = record turn { machine = record turn.machine { kernel = record turn.machine.kernel { clock = turn.machine.kernel.clock + quantum } } }
+
+abbrev pub stepped : Processor → Memory → Kernel → Option Sig → Machine
+stepped processor memory kernel fault = record { processor = processor; memory = memory; kernel = kernel; wait = None; fault = fault }
+
+-- what one step of the processor comes to
+abbrev pub after_step : Processor → Memory → Kernel → List ℕ → Stepped → Turn
+after_step processor memory kernel left Next = goes_on (stepped processor memory kernel None) left nothing
+after_step processor memory kernel left Syscall = after_call (o32_call kernel (guest_of processor memory) left)
+after_step processor memory kernel left (Fault signal code address) = goes_on (stepped processor memory kernel (Some signal)) left nothing
+
+-- one instruction, with its call
+abbrev pub instructed : ℕ → Machine → List ℕ → Turn
+instructed quantum machine left =
+    let step = step_of machine.processor machine.memory in
+    later quantum (after_step step.processor step.memory machine.kernel left step.came)
+
+-- Turns
+
+-- The fault of the turn before kills the process.
+abbrev pub after_fault : ℕ → Machine → List ℕ → Option Sig → Turn
+after_fault quantum machine left (Some signal) = ends machine left nothing (Killed (o32_signal signal))
+after_fault quantum machine left None = instructed quantum machine left
+
+-- one turn of a machine that does not wait
+unfoldable pub turn_of : ℕ → Machine → List ℕ → Turn
+turn_of quantum machine left = after_fault quantum machine left machine.fault
+
+-- A call waits, and nothing can come that would end its wait: no turn follows.
+abbrev pub is_blocked : Machine → Bool
+is_blocked machine = is_some machine.wait
