@@ -1,2 +1,3 @@
 pub mod ErrorNumbers
 pub mod Quietly
+pub mod OtherNumbers

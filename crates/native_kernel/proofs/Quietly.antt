@@ -38,10 +38,11 @@ call_is step reply kernel memory contents quiet left told =
       to_err = gains_none_of contents.err (step left).sent.err (ap (λ (s : Sent). s.err) q.sent);
     }
 
-pub stopped_first : (step : List ℕ → NativeStep) (stop : Stop) (kernel : Kernel) (memory : List ℕ) (contents : Contents)
-    → IsCall step (Err stop) kernel memory contents contents
-stopped_first step stop kernel memory contents left told = record {
+pub stopped_first : (step : NativeStep) (contents : Contents) → Stopped step contents contents
+stopped_first step contents = record {
   rest = inl refl;
-  to_out = none_of_sent contents.out (step left).sent.out;
-  to_err = none_of_sent contents.err (step left).sent.err;
+  to_out = none_of_sent contents.out step.sent.out;
+  to_err = none_of_sent contents.err step.sent.err;
 }
+
+pub ruleset over_devices = (call_is, stopped_first)

@@ -6,9 +6,12 @@ ghost use Rattle.native_calls.specs.Table.{native_call};
 ghost use Rattle.native_kernel.specs.inside.Quiet.{IsQuiet};
 ghost use Rattle.outside.specs.Streams.{NoCountFell, contents};
 
-use crate::arguments::low_word;
 use crate::ids;
 use crate::kernel::NativeKernel;
+use crate::numbers::{
+    CLOSE, DUP, DUP3, FCNTL, FDATASYNC, FSTAT, FSYNC, GETDENTS64, GETPID, GETPPID, IOCTL, LSEEK, PIPE2,
+    PREAD64, PWRITE64, READ, READV, WRITE, WRITEV,
+};
 use crate::replies::failure;
 use host_mem::HostMem;
 use kernel_core::{Errno, NoMemory, Reply, Stop};
@@ -21,7 +24,7 @@ impl NativeKernel {
     /// `Done` has the result, or below 0 the native number of an error with its sign turned; a number
     /// that no call has is ENOSYS. `Sleep` comes where the call waits. A call that waits holds no wait:
     /// made again, it is tried again. After a `Stop` the kernel is not used again.
-    #[tactic(auto, using(crate::proofs::Quietly::call_is))]
+    #[tactic(auto, using(crate::proofs::Quietly::over_devices))]
     pub fn call<I: Source, O: Sink, E: Sink>(
         &mut self,
         nr: u64,
@@ -34,22 +37,31 @@ impl NativeKernel {
         ensures cause { StopsOnlyIfRose I.faults O.faults E.faults result dev.old dev.new }
         ensures counts { NoCountFell I.faults O.faults E.faults dev.old dev.new }
     {
-        if (63..=66).contains(&nr) {
-            return Err(Stop::NoMemory);
+        match nr {
+            READ | WRITE | READV | WRITEV => Err(Stop::NoMemory),
+            _ => match self.quiet_call(nr, args, mem) {
+                Ok(reply) => Ok(reply),
+                Err(NoMemory) => Err(Stop::NoMemory),
+            },
         }
-        let reply = self.quiet_call(nr, args, mem)?;
-        Ok(reply)
     }
 
     /// A call that reaches no stream.
-    fn quiet_call(&mut self, nr: u64, args: [u64; 6], mem: &mut HostMem) -> Result<Reply, NoMemory>
+    #[tactic(auto, unfolding(native_calls::specs::Ids::getpid_row, native_calls::specs::Ids::getppid_row))]
+    fn quiet_call(
+        &mut self,
+        nr: u64,
+        args: [u64; 6],
+        mem: &mut HostMem,
+    ) -> Result<Reply, NoMemory>
         requires { (nr < 63) ⊎ (66 < nr) }
         ensures { IfOk result (λ reply. IsQuiet (native_call nr args self.old mem.old) reply self.new mem.new) }
     {
         match nr {
-            23 | 24 | 25 | 29 | 57 | 59 | 61 | 62 | 67 | 68 | 80 | 82 | 83 => Err(NoMemory),
-            172 => Ok(ids::process_id()),
-            173 => Ok(ids::parent_id()),
+            DUP | DUP3 | FCNTL | IOCTL | CLOSE | PIPE2 | GETDENTS64 | LSEEK => Err(NoMemory),
+            PREAD64 | PWRITE64 | FSTAT | FSYNC | FDATASYNC => Err(NoMemory),
+            GETPID => Ok(ids::process_id()),
+            GETPPID => Ok(ids::parent_id()),
             _ => Ok(failure(Errno::ENOSYS)),
         }
     }

@@ -2,10 +2,10 @@
 //! host memory.
 #![tactic(auto)]
 
-mod arguments;
 mod call;
 mod ids;
 mod kernel;
+mod numbers;
 mod replies;
 mod starting;
 

@@ -1,6 +1,8 @@
 //! Replies.
 ghost use Rattle.std.specs.Prelude.{◌≡◌};
-ghost use Rattle.native_calls.specs.Step.{failure, value};
+ghost use Rattle.kernel_model.specs.Came.{came_as};
+ghost use Rattle.native_calls.specs.Step.{failure, reply_to, value};
+ghost use Rattle.native_files.specs.Answers.{came_of};
 
 use kernel_core::{Errno, Reply};
 use number_tables::NativeNumber;
@@ -12,3 +14,4 @@ pub(crate) fn failure(error: Errno) -> Reply
 {
     Reply::Done(-(error.to_native() as i64))
 }
+

@@ -1,7 +1,8 @@
 //! A kernel that begins.
-ghost use Rattle.std.specs.Prelude.{◌≡◌, IfOk, option_map};
+ghost use Rattle.std.specs.Prelude.{◌≡◌, ◌+◌, ◌*◌, ◌^◌, ◌<◌, IfOk, option_map};
 ghost use Rattle.kernel_core.specs.ValidTree.{IsValidTree};
 ghost use Rattle.kernel_model.specs.Begin.{first_limits, first_state};
+ghost use Rattle.kernel_model.specs.Clock.{second};
 ghost use Rattle.native_kernel.specs.Settings.{settings_of, size_of};
 ghost use Rattle.schedule.specs.Ranges.{IsGivenSchedule};
 

@@ -1,9 +1,10 @@
 -- A call that reaches no stream. (The form is this project's own.)
 use Rattle.std.specs.Prelude.{◌≡◌, ℕ, List}
 use Rattle.kernel_core.specs.declared.reply.Reply.{Reply}
+use Rattle.kernel_model.specs.Came.{Did}
 use Rattle.kernel_model.specs.Pipes.{nothing}
 use Rattle.kernel_model.specs.State.{Kernel}
-use Rattle.native_calls.specs.Step.{NativeStep}
+use Rattle.native_calls.specs.Step.{NativeStep, value, reply_to}
 
 -- it takes none of what is left of the input, sends nothing, and does the rest as its step says
 pub record Quietly (step : NativeStep) (reply : Reply) (kernel : Kernel) (memory left : List ℕ) : Type 0 where
@@ -15,3 +16,8 @@ pub record Quietly (step : NativeStep) (reply : Reply) (kernel : Kernel) (memory
 
 abbrev pub IsQuiet : (List ℕ → NativeStep) → Reply → Kernel → List ℕ → Type 0
 IsQuiet step reply kernel memory = (left : List ℕ) → Quietly (step left) reply kernel memory left
+
+-- what a call that replies a number came to
+pub record Gives (did : Did Kernel ℕ) (reply : Reply) (kernel : Kernel) : Type 0 where
+  pub answered : reply ≡ reply_to value did.came
+  pub became : kernel ≡ did.state
