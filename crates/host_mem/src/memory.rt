@@ -1,7 +1,5 @@
 //! The bytes by their addresses.
-ghost use Rattle.std.specs.Borrow.{sem};
 ghost use Rattle.std.specs.Prelude.{◌≡◌, ◌+◌, ◌-◌, ◌++◌, [], length, IfOk, OnOk, OnErr, Some, None, option_map, if◌then◌else◌};
-ghost use Rattle.host_mem.specs.Lends.{LendsBytes};
 ghost use Rattle.host_mem.specs.Memory.{bytes_at, is_inside, room_from, written, padded, end_address, first_address};
 
 use crate::part::replace_part;
@@ -88,14 +86,6 @@ impl HostMem {
             }
             None => false,
         }
-    }
-
-    /// The bytes from the first address on, to be written in place. It takes no memory.
-    pub fn as_mut_slice(&mut self) -> &mut [u8]
-        ensures* writes_back { sem 𝓛 (LendsBytes self.entry result) }
-        ensures bytes { result.now ≡ self.old }
-    {
-        self.bytes.as_mut_slice()
     }
 
     /// Takes all bytes away. It takes no memory.
