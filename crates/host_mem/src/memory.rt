@@ -1,5 +1,7 @@
 //! The bytes by their addresses.
-ghost use Rattle.std.specs.Prelude.{◌≡◌, ◌+◌, ◌-◌, ◌++◌, [], length, IfOk, OnOk, OnErr, Some, None, option_map, if◌then◌else◌};
+ghost use Rattle.std.specs.Prelude.{◌≡◌, ◌+◌, ◌-◌, ◌%◌, ◌++◌, [], length, replicate, IfOk, OnOk, OnErr, Some, None, option_map, if◌then◌else◌};
+ghost use Rattle.std.specs.Borrow.{sem};
+ghost use Rattle.host_mem.specs.Lending.{lends_bytes};
 ghost use Rattle.host_mem.specs.Memory.{bytes_at, is_inside, room_from, written, padded, end_address, first_address};
 
 use crate::part::replace_part;
@@ -45,12 +47,32 @@ impl HostMem {
         ensures address { IfOk result (λ address. address ≡ end_address (padded self.old)) }
         ensures err { OnErr result (self.new ≡ self.old) }
     {
-        let padding = (8 - self.bytes.len() % 8) % 8;
+        let padding = self.padding();
         self.bytes.reserve(padding + bytes.len())?;
         self.bytes.extend_from_slice(&ZEROS[..padding])?;
         let address = FIRST_ADDRESS + self.bytes.len() as u64;
         self.bytes.extend_from_slice(bytes)?;
         Ok(address)
+    }
+
+    /// Adds `count` zeros as [`HostMem::push`] adds bytes, and gives their address. After NoMemory nothing
+    /// has changed.
+    pub fn push_zeros(&mut self, count: u32) -> Result<u64, NoMemory>
+        ensures ok { OnOk result (self.new ≡ padded self.old ++ replicate count 0) }
+        ensures address { IfOk result (λ address. address ≡ end_address (padded self.old)) }
+        ensures err { OnErr result (self.new ≡ self.old) }
+    {
+        let place = self.bytes.len() + self.padding();
+        self.bytes.resize(place + count as usize, 0)?;
+        Ok(FIRST_ADDRESS + place as u64)
+    }
+
+    /// All bytes, to be written in place. It takes no memory.
+    pub fn as_mut_slice(&mut self) -> &mut [u8]
+        ensures* writes_back { sem 𝓛 (lends_bytes self.entry result) }
+        ensures value { result.now ≡ self.old }
+    {
+        self.bytes.as_mut_slice()
     }
 
     /// The `len` bytes from `addr` on, or None where they are not all there. No byte is there from 65,536 up
@@ -93,6 +115,13 @@ impl HostMem {
         ensures empty { self.new ≡ [] }
     {
         self.bytes.clear();
+    }
+
+    /// How many zeros stand before the next structure.
+    fn padding(&self) -> usize
+        ensures { result ≡ (8 - length self.now % 8) % 8 }
+    {
+        (8 - self.bytes.len() % 8) % 8
     }
 
     /// The place of the first of these bytes, where they are all there.
