@@ -1,3 +1,7 @@
 pub mod ErrorNumbers
-pub mod Quietly
+pub mod OpenNumbers
 pub mod OtherNumbers
+pub mod Pairs
+pub mod Quietly
+pub mod Read
+pub mod TerminalLemmas

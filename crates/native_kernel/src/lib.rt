@@ -2,12 +2,17 @@
 //! host memory.
 #![tactic(auto)]
 
+mod arguments;
 mod call;
+mod descriptors;
 mod ids;
 mod kernel;
 mod numbers;
+mod pipes;
 mod replies;
 mod starting;
+mod structures;
+mod terminal;
 
 pub use kernel::NativeKernel;
 pub use kernel_core::{NoMemory, Reply, Stop, Wake};

@@ -15,3 +15,23 @@ pub(crate) fn failure(error: Errno) -> Reply
     Reply::Done(-(error.to_native() as i64))
 }
 
+
+/// What a call that tells nothing came to, as a reply.
+pub(crate) fn zero(came: Result<(), Errno>) -> Reply
+    ensures { result ≡ reply_to value (came_as (λ _. 0) (came_of came)) }
+{
+    match came {
+        Ok(()) => Reply::Done(0),
+        Err(error) => failure(error),
+    }
+}
+
+/// What a call that gives a descriptor came to, as a reply.
+pub(crate) fn number(came: Result<u32, Errno>) -> Reply
+    ensures { result ≡ reply_to value (came_of came) }
+{
+    match came {
+        Ok(number) => Reply::Done(i64::from(number)),
+        Err(error) => failure(error),
+    }
+}
