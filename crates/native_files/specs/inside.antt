@@ -1,3 +1,6 @@
+pub mod Contents
 pub mod Ends
 pub mod Events
 pub mod Kept
+pub mod Lengths
+pub mod Steps

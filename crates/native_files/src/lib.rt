@@ -7,13 +7,18 @@ mod events;
 mod files;
 mod flags;
 mod flow;
+mod lengths;
+mod nodes;
 mod pipes;
+mod progress;
 mod readiness;
+mod reading;
 mod starting;
 
 pub use files::Files;
-pub use kernel_core::{CoreError, Errno, NoMemory};
+pub use kernel_core::{CoreError, Errno, NoMemory, Stop};
 pub use pipes::{Ends, PipeFlags};
+pub use progress::{Entry, Progress, Status};
 
 #[cfg(test)]
 mod tests;
