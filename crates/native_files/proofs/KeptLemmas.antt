@@ -20,7 +20,7 @@ use Rattle.kernel_model.specs.declared.descriptor.Description.{Description}
 use Rattle.kernel_model.specs.declared.descriptor.Object.{Object}
 use Rattle.kernel_model.specs.declared.descriptor.Object.TheVariants as objects
 use Rattle.kernel_model.proofs.LeastFree.{least_free}
-use Rattle.native_vfs.specs.Held.{ChangesHeld}
+use Rattle.native_vfs.specs.Held.{ChangesHeld, KeepsHeld}
 use Rattle.native_vfs.specs.Keyed.{Keyed, number_at as node_at, inode_at, IsLiveKey}
 use Rattle.native_files.specs.inside.Kept.{AreKept, node_in, holders_in}
 
@@ -294,3 +294,14 @@ live-shared {A} table fd onto cloexec = by (number_at table fd)
     by : (o : Option ℕ) → (shared_at table onto cloexec o).live ≡ table.live
     by None = refl
     by (Some number) = refl
+
+-- a call on a node's content keeps how often nodes are held
+pub AreKept-content : (system now : Keyed) (live : List (Option Description)) (keys : List ℕ) (directory : ℕ) → now.keys ≡ system.keys → KeepsHeld system now → IsFileSystem now.nodes
+    → AreKept system live keys directory → AreKept now live keys directory
+AreKept-content system now live keys directory same held valid are = record {
+  keyed = record { sized = are.keyed.sized; leads = λ n node at. ap (λ k. get k (get_or keys n 0)) same ∙ are.keyed.leads n node at };
+  home = ap (λ k. is_some (get k directory)) same ∙ are.home;
+  holds = λ node.
+      held.holds node ∙ are.holds node ∙ ap (λ k. count_by (has_open (is_node node)) live + one (unwrap_or (get k directory) 0 == node)) (sym same);
+  valid = valid;
+}

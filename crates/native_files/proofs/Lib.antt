@@ -9,3 +9,4 @@ pub mod KeptLemmas
 pub mod NodeFacts
 pub mod PipePlaces
 pub mod PlaceLemmas
+pub mod WriteSteps

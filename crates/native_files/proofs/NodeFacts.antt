@@ -82,6 +82,19 @@ module _ (nodes : Nodes) (valid : IsFileSystem nodes) (number : ℕ) where
       by None kind allowed is = absurd (let bad : None ≡ Some FileKind = kind in cc)
       by (Some inode) kind allowed is = by_content inode.content (same_Some (kind_of inode.content) FileKind kind) allowed is
 
+  -- and takes no more bytes than there are
+  pub write-within : kind_at nodes number ≡ Some FileKind → (at count length : ℕ) → IfSome (file_at nodes number) (λ content. count ≡ write_length nodes content at length) → count ≤ length
+  write-within kind at count length is = by (get nodes number) kind is
+    where
+      by_content : (content : NodeContent) → kind_of content ≡ FileKind → IfSome (file_in content) (λ c. count ≡ write_length nodes c at length) → count ≤ length
+      by_content (File content) kind is = let least = longest_most content.blocks at length (spare_blocks nodes) in omega (arith, is, least)
+      by_content (Directory listing) kind is = absurd (cc)
+      by_content (Link target) kind is = absurd (cc)
+
+      by : (o : Option Inode) → option_map (λ i. kind_of i.content) o ≡ Some FileKind → IfSome (in_inode file_in o) (λ c. count ≡ write_length nodes c at length) → count ≤ length
+      by None kind is = absurd (let bad : None ≡ Some FileKind = kind in cc)
+      by (Some inode) kind is = by_content inode.content (same_Some (kind_of inode.content) FileKind kind) is
+
   size_small : (links : ℕ) (content : NodeContent) → IsLiveContent nodes number links content → content_size content ≤ greatest_size
   size_small links (File content) is = is.0.small
   size_small links (Directory listing) is = omega arith

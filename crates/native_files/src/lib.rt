@@ -14,6 +14,7 @@ mod progress;
 mod readiness;
 mod reading;
 mod starting;
+mod writing;
 
 pub use files::Files;
 pub use kernel_core::{CoreError, Errno, NoMemory, Stop};

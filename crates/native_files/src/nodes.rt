@@ -25,6 +25,7 @@ use native_vfs::{NodeKind, Status as NodeStatus, Vfs};
 const NODE_DEVICE: u64 = 1;
 
 /// What a write to a file took.
+#[derive(Clone, Copy)]
 pub(crate) struct Written {
     /// How many bytes.
     pub(crate) count: usize,
@@ -82,6 +83,7 @@ pub(crate) fn write_file(
     ensures same { vfs.new.keys ≡ vfs.old.keys }
     ensures held { KeepsHeld vfs.old vfs.new }
     ensures valid { IsFileSystem vfs.new.nodes }
+    ensures within { IfOk result (λ written. written.count ≤ length bytes.now) }
 {
     match vfs.kind(key) {
         NodeKind::File => {

@@ -2,7 +2,7 @@
 use Rattle.std.specs.Prelude.{◌≡◌, ℕ, ◌+◌, ⊤, ℤ, Bool, List, [], length, take, Option, Some, None, unwrap_or, Result, Ok, Err}
 use Rattle.kernel_core.specs.FileContent.{FileContent}
 use Rattle.kernel_core.specs.NodeCalls.{write_length, write_refusal, after_write}
-use Rattle.kernel_core.specs.Nodes.{Nodes, NodeContent, File, Directory, Link}
+use Rattle.kernel_core.specs.Nodes.{Nodes, NodeContent, File, Directory, Link, file_at}
 use Rattle.kernel_core.specs.declared.core_error.CoreError.{CoreError}
 use Rattle.kernel_core.specs.declared.core_error.CoreError.TheVariants as errors
 use Rattle.kernel_core.specs.declared.core_error.Stop.TheVariants as stops
@@ -11,10 +11,12 @@ use Rattle.kernel_model.specs.Came.{Came, Did, Done, Given, Refused}
 use Rattle.kernel_model.specs.ContentRows as contents
 use Rattle.kernel_model.specs.Descriptions.{content_at, node_of}
 use Rattle.kernel_model.specs.State.{Files}
-use Rattle.kernel_model.specs.Transfers.{Reading, file_bytes, read_content, read_object, reading, transferring, write_place}
+use Rattle.kernel_model.specs.Transfers.{Reading, file_bytes, read_content, read_object, reading, transferring, write_content, write_place}
 use Rattle.kernel_model.specs.declared.descriptor.Description.{Description}
 use Rattle.kernel_model.specs.declared.descriptor.Object.{Object}
 use Rattle.native_files.specs.declared.nodes.Written.{Written}
+use Rattle.native_files.specs.declared.progress.Progress.{Progress}
+use Rattle.native_files.specs.declared.progress.Progress.TheVariants as progress
 use Rattle.native_vfs.specs.declared.place.Status.{Status}
 
 -- the number of a node that is open
@@ -30,6 +32,21 @@ read_asked files left fd description asked room =
 abbrev pub read_asked_at : Files → ℕ → Given ℕ → ℕ → ℕ → Did Files (List ℕ)
 read_asked_at files at asked node room =
     transferring files asked room [] (λ most. read_content files at most (λ _. files) (content_at files.nodes node))
+
+-- a write of as many bytes as are asked for and can be loaded, to a node at a place
+abbrev pub write_asked_at : Files → ℤ → Description → ℕ → ℕ → Given ℕ → List ℕ → Did Files ℕ
+write_asked_at files now description node at asked bytes =
+    transferring files asked (length bytes) 0 (λ most.
+    write_content files None now description node at (take most bytes) (λ files _. files) (file_at files.nodes node))
+
+-- a transfer that does not wait: the row's answer, or memory ran out
+abbrev pub AnswersCount : Did Files ℕ → Result Progress CoreError → Files → Type 0
+AnswersCount step (Ok (progress.Done count)) state = (step.came ≡ Done count) × (state ≡ step.state)
+AnswersCount step (Ok (progress.Waits wake)) state = ⊥
+AnswersCount step (Err (errors.Refused error)) state = (step.came ≡ Refused error) × (state ≡ step.state)
+AnswersCount step (Err (errors.Stop stops.NoMemory)) state = ⊤
+AnswersCount step (Err (errors.Stop stops.ReadFault)) state = ⊥
+AnswersCount step (Err (errors.Stop stops.WriteFault)) state = ⊥
 
 -- what a read of at most so many bytes at a place comes to
 abbrev pub content_read : ℕ → ℕ → Option NodeContent → Came (List ℕ)

@@ -1,15 +1,19 @@
 -- Pipes by their numbers, as steps of `kernel_model`.
-use Rattle.std.specs.Prelude.{ℕ, ⊤, Bool, List, Option, Some, None, Result, Ok, Err}
+use Rattle.std.specs.Prelude.{ℕ, ⊤, Bool, ◌≡◌, List, [], length, Option, Some, None, Result, Ok, Err}
 use Rattle.kernel_core.specs.declared.core_error.CoreError.{CoreError}
 use Rattle.kernel_core.specs.declared.core_error.CoreError.TheVariants as errors
+use Rattle.kernel_core.specs.declared.core_error.Stop.TheVariants as stops
 use Rattle.kernel_core.specs.declared.error.Errno.{Errno}
 use Rattle.kernel_core.specs.declared.error.Errno.TheVariants.{EBADF}
 use Rattle.kernel_model.specs.Came.{Came, Done, Refused, Waits}
-use Rattle.kernel_model.specs.Pipes.{PipeStep, stays, read_pipe, write_pipe}
-use Rattle.kernel_model.specs.State.{Pipe}
+use Rattle.kernel_model.specs.Pipes.{PipeStep, more_sent, stays, read_pipe, write_pipe}
+use Rattle.kernel_model.specs.State.{Files, Pipe}
 use Rattle.kernel_model.specs.Table.{with_slot}
+use Rattle.kernel_model.specs.declared.stream.Stream.{Stream}
 use Rattle.native_files.specs.declared.progress.Progress.{Progress}
 use Rattle.native_files.specs.declared.progress.Progress.TheVariants as progress
+use Rattle.outside.specs.Count.{Rose}
+use Rattle.outside.specs.Output.{GainsText, GainsBetween}
 
 -- what a transfer that can't end early comes to
 abbrev pub reached : Result Progress Errno → Came ℕ
@@ -42,3 +46,19 @@ piped pipe (Some after) = after
 abbrev pub stepped : List (Option Pipe) → ℕ → Option Pipe → List (Option Pipe)
 stepped pipes number None = pipes
 stepped pipes number (Some pipe) = with_slot pipes number (Some pipe)
+
+-- All bytes are sent to the device of a stream and counted, or a first part is sent: the texts are the device's.
+abbrev pub SendsSo : Files → Stream → List ℕ → Result Progress CoreError → Files → Option (List ℕ) → Option (List ℕ) → Type 0
+SendsSo files stream bytes (Ok (progress.Done count)) state before after =
+    (count ≡ length bytes) × (state ≡ record files { flow = more_sent files.flow stream (length bytes) }) × GainsText before after bytes
+SendsSo files stream bytes (Ok (progress.Waits wake)) state before after = ⊥
+SendsSo files stream bytes (Err (errors.Refused error)) state before after = ⊥
+SendsSo files stream bytes (Err (errors.Stop stop)) state before after = GainsBetween before after [] bytes
+
+-- it stops where memory ran out, or where the device counted a fault
+abbrev pub SinkStops : Result Progress CoreError → ℕ → ℕ → Type 0
+SinkStops (Ok progress) before after = ⊤
+SinkStops (Err (errors.Refused error)) before after = ⊤
+SinkStops (Err (errors.Stop stops.NoMemory)) before after = ⊤
+SinkStops (Err (errors.Stop stops.ReadFault)) before after = ⊥
+SinkStops (Err (errors.Stop stops.WriteFault)) before after = Rose before after
