@@ -2,6 +2,9 @@ pub mod ErrorNumbers
 pub mod OpenNumbers
 pub mod OtherNumbers
 pub mod Pairs
+pub mod Parts
 pub mod Quietly
 pub mod Read
+pub mod Sending
+pub mod Taking
 pub mod TerminalLemmas

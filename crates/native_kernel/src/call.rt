@@ -6,6 +6,7 @@ ghost use Rattle.native_calls.specs.Table.{native_call};
 ghost use Rattle.native_kernel.specs.inside.Quiet.{IsQuiet};
 ghost use Rattle.outside.specs.Streams.{NoCountFell, contents};
 
+use crate::arguments::low_word;
 use crate::ids;
 use crate::kernel::NativeKernel;
 use crate::numbers::{
@@ -38,7 +39,17 @@ impl NativeKernel {
         ensures counts { NoCountFell I.faults O.faults E.faults dev.old dev.new }
     {
         match nr {
-            READ | WRITE | READV | WRITEV => Err(Stop::NoMemory),
+            READ => self.read(low_word(args[0]), args[1], args[2], mem, &mut dev.input),
+            WRITE => self.write(
+                low_word(args[0]),
+                args[1],
+                args[2],
+                mem,
+                &mut dev.out,
+                &mut dev.err,
+            ),
+            READV => Err(Stop::NoMemory),
+            WRITEV => Err(Stop::NoMemory),
             _ => match self.quiet_call(nr, args, mem) {
                 Ok(reply) => Ok(reply),
                 Err(NoMemory) => Err(Stop::NoMemory),
@@ -47,7 +58,7 @@ impl NativeKernel {
     }
 
     /// A call that reaches no stream.
-    #[tactic(auto, unfolding(native_calls::specs::Ids::getpid_row, native_calls::specs::Ids::getppid_row))]
+    #[tactic(auto, unfolding(native_calls::specs::Descriptors::close_row, native_calls::specs::Descriptors::dup_row, native_calls::specs::Descriptors::dup3_row, native_calls::specs::Descriptors::fcntl_row, native_calls::specs::Status::lseek_row, native_calls::specs::Status::sync_row, native_calls::specs::Ids::getpid_row, native_calls::specs::Ids::getppid_row))]
     fn quiet_call(
         &mut self,
         nr: u64,
@@ -58,8 +69,19 @@ impl NativeKernel {
         ensures { IfOk result (λ reply. IsQuiet (native_call nr args self.old mem.old) reply self.new mem.new) }
     {
         match nr {
-            DUP | DUP3 | FCNTL | IOCTL | CLOSE | PIPE2 | GETDENTS64 | LSEEK => Err(NoMemory),
-            PREAD64 | PWRITE64 | FSTAT | FSYNC | FDATASYNC => Err(NoMemory),
+            DUP => Ok(self.dup(low_word(args[0]))),
+            DUP3 => Ok(self.dup3(low_word(args[0]), low_word(args[1]), low_word(args[2]))),
+            FCNTL => Ok(self.fcntl(low_word(args[0]), low_word(args[1]), args[2])),
+            IOCTL => Ok(self.ioctl(low_word(args[0]), low_word(args[1]), args[2], mem)),
+            CLOSE => Ok(self.close(low_word(args[0]))),
+            PIPE2 => self.pipe2(args[0], low_word(args[1]), mem),
+            GETDENTS64 => Err(NoMemory),
+            LSEEK => Err(NoMemory),
+            PREAD64 => Ok(self.pread(low_word(args[0]), args[1], args[2], args[3].cast_signed(), mem)),
+            PWRITE64 => self.pwrite(low_word(args[0]), args[1], args[2], args[3].cast_signed(), mem),
+            FSTAT => Err(NoMemory),
+            FSYNC => Ok(self.sync(low_word(args[0]))),
+            FDATASYNC => Ok(self.sync(low_word(args[0]))),
             GETPID => Ok(ids::process_id()),
             GETPPID => Ok(ids::parent_id()),
             _ => Ok(failure(Errno::ENOSYS)),

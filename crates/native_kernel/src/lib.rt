@@ -11,8 +11,10 @@ mod numbers;
 mod pipes;
 mod replies;
 mod starting;
+mod status;
 mod structures;
 mod terminal;
+mod transfers;
 
 pub use kernel::NativeKernel;
 pub use kernel_core::{NoMemory, Reply, Stop, Wake};

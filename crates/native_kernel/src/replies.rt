@@ -1,10 +1,13 @@
 //! Replies.
 ghost use Rattle.std.specs.Prelude.{◌≡◌};
 ghost use Rattle.kernel_model.specs.Came.{came_as};
+ghost use Rattle.kernel_model.specs.Transfers.{transfer_limit};
 ghost use Rattle.native_calls.specs.Step.{failure, reply_to, value};
-ghost use Rattle.native_files.specs.Answers.{came_of};
+ghost use Rattle.native_files.specs.Answers.{MovesWithin, came_of, moved};
+ghost use Rattle.native_kernel.specs.inside.Moving.{settled};
 
-use kernel_core::{Errno, Reply};
+use kernel_core::{CoreError, Errno, Reply, Stop};
+use native_files::Progress;
 use number_tables::NativeNumber;
 
 /// An error as a reply: its native number with the sign turned.
@@ -33,5 +36,18 @@ pub(crate) fn number(came: Result<u32, Errno>) -> Reply
     match came {
         Ok(number) => Reply::Done(i64::from(number)),
         Err(error) => failure(error),
+    }
+}
+
+/// What a transfer came to, as the end of a call.
+pub(crate) fn settled(came: Result<Progress, CoreError>) -> Result<Reply, Stop>
+    requires { MovesWithin transfer_limit (moved came) }
+    ensures { result ≡ settled came }
+{
+    match came {
+        Ok(Progress::Done(count)) => Ok(Reply::Done(count as i64)),
+        Ok(Progress::Waits(wake)) => Ok(Reply::Sleep(wake)),
+        Err(CoreError::Refused(error)) => Ok(failure(error)),
+        Err(CoreError::Stop(stop)) => Err(stop),
     }
 }

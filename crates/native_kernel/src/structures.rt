@@ -1,15 +1,16 @@
 //! Structures in host memory.
-ghost use Rattle.std.specs.Prelude.{◌≡◌, ◌+◌, ◌<◌, ◌≤◌, IsTrue, drop, false, length};
+ghost use Rattle.std.specs.Prelude.{◌≡◌, ℕ, ◌+◌, ◌<◌, ◌≤◌, IsTrue, drop, false, length};
 ghost use Rattle.host_mem.specs.Memory.{written};
 ghost use Rattle.layouts.specs.Native.{native_shape};
 ghost use Rattle.layouts.specs.Number.{unsigned};
 ghost use Rattle.layouts.specs.Shape.{are_in_range, record_bytes};
 ghost use Rattle.native_calls.specs.HostBytes.{accessible, loadable};
 ghost use Rattle.native_calls.specs.Step.{stored};
+ghost use Rattle.native_kernel.specs.inside.Moving.{part_place};
 
 use crate::replies::failure;
 use byteorder::{ByteOrder, LittleEndian};
-use host_mem::HostMem;
+use host_mem::{FIRST_ADDRESS, HostMem};
 use kernel_core::{Errno, Reply};
 use layouts::{NativeStructure, native_layout, put_record};
 
@@ -73,5 +74,18 @@ pub(crate) fn loadable(mem: &HostMem, address: u64, count: u64) -> &[u8]
     match mem.read(address, accessible(mem, address, count) as u64) {
         Some(bytes) => bytes,
         None => &[],
+    }
+}
+
+/// Where those bytes begin in memory; 0 where there are none.
+pub(crate) fn part_place(mem: &HostMem, address: u64, room: usize) -> usize
+    requires { (count : ℕ) × (room ≡ accessible mem.now address count) }
+    ensures place { result ≡ part_place address room }
+    ensures within { result + room ≤ length mem.now }
+{
+    if room == 0 {
+        0
+    } else {
+        (address - FIRST_ADDRESS) as usize
     }
 }

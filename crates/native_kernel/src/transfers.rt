@@ -1,0 +1,182 @@
+//! The calls that move bytes of one buffer: read(2), write(2), pread(2), pwrite(2).
+ghost use Rattle.std.specs.Prelude.{◌≡◌, ℕ, ◌+◌, ◌≤◌, List, Some, None, Ok, IfOk, OnOk, length};
+ghost use Rattle.kernel_core.specs.FileSystem.{IsTime};
+ghost use Rattle.kernel_core.specs.declared.signal.Sig.TheVariants.{Pipe};
+ghost use Rattle.kernel_model.specs.Clock as clock;
+ghost use Rattle.kernel_model.specs.SignalRows.{kill_info};
+ghost use Rattle.kernel_model.specs.Transfers.{read, transfer_limit};
+ghost use Rattle.kernel_model.specs.Whole.{kernel_write, on_files};
+ghost use Rattle.native_calls.specs.Transfers.{after_write, pread_row, pwrite_row, read_row, write_row};
+ghost use Rattle.native_files.specs.Answers.{MovesWithin, ReadStops, moved};
+ghost use Rattle.native_kernel.specs.inside.Moving.{IsReading, IsWriting, ReadingStops, ReadsInto, WritingStops, after_came, settled};
+ghost use Rattle.native_kernel.specs.inside.Quiet.{IsQuiet};
+
+use crate::kernel::NativeKernel;
+use crate::replies::{failure, settled};
+use crate::structures::{accessible, loadable, part_place};
+use host_mem::HostMem;
+use kernel_core::{CoreError, Errno, Info, NoMemory, Reply, Sig, Stop};
+use native_files::{Files, Progress};
+use outside::{Sink, Source};
+
+/// Who sends SIGPIPE: the process itself, by kill(2) (SI_USER).
+const SENT_BY_KILL: i32 = 0;
+const OWN_ID: u32 = 100;
+
+impl NativeKernel {
+    /// read(2): EBADF, EFAULT, and the refusals of what is open.
+    #[tactic(auto, unfolding(native_calls::specs::Transfers::read_row, kernel_model::specs::Whole::kernel_read))]
+    pub(crate) fn read<I: Source>(
+        &mut self,
+        fd: u32,
+        buffer: u64,
+        count: u64,
+        mem: &mut HostMem,
+        input: &mut I,
+    ) -> Result<Reply, Stop>
+        ensures row { IsReading (read_row self.old mem.old fd buffer count) result self.new mem.new (I.left input.old) (I.left input.new) }
+        ensures stops { ReadingStops result (I.faults input.old) (I.faults input.new) }
+        ensures later { I.faults input.old ≤ I.faults input.new }
+    {
+        let room = accessible(mem, buffer, count);
+        let place = part_place(mem, buffer, room);
+        let came = read_part(&mut self.files, fd, count, mem.as_mut_slice(), place, room, input);
+        settled(came)
+    }
+
+    /// write(2): EBADF, EFAULT, and the refusals of what is open; EPIPE comes with SIGPIPE.
+    #[tactic(auto, unfolding(native_calls::specs::Transfers::write_row))]
+    pub(crate) fn write<O: Sink, E: Sink>(
+        &mut self,
+        fd: u32,
+        buffer: u64,
+        count: u64,
+        mem: &HostMem,
+        out: &mut O,
+        err: &mut E,
+    ) -> Result<Reply, Stop>
+        ensures row { IsWriting (write_row self.old mem.now fd buffer count) result self.new mem.now
+            (O.written out.old) (O.written out.new) (E.written err.old) (E.written err.new) }
+        ensures stops { WritingStops result (O.faults out.old) (O.faults out.new) (E.faults err.old) (E.faults err.new) }
+        ensures out_later { O.faults out.old ≤ O.faults out.new }
+        ensures err_later { E.faults err.old ≤ E.faults err.new }
+    {
+        self.send(fd, Ok(count), loadable(mem, buffer, count), out, err)
+    }
+
+    /// pread(2): EBADF, EINVAL below 0, ESPIPE, EFAULT, EISDIR.
+    #[tactic(auto, unfolding(native_calls::specs::Transfers::pread_row))]
+    pub(crate) fn pread(
+        &self,
+        fd: u32,
+        buffer: u64,
+        count: u64,
+        at: i64,
+        mem: &mut HostMem,
+    ) -> Reply
+        ensures { IsQuiet (pread_row self.now mem.old fd buffer count at) result self.now mem.new }
+    {
+        let room = accessible(mem, buffer, count);
+        let place = part_place(mem, buffer, room);
+        let part = &mut mem.as_mut_slice()[place..place + room];
+        match self.files.read_at(fd, at, Ok(count), part) {
+            Err(error) => failure(error),
+            Ok(count) => Reply::Done(count as i64),
+        }
+    }
+
+    /// pwrite(2): EBADF, EINVAL below 0, ESPIPE, EFAULT, EFBIG, ENOSPC.
+    #[tactic(auto, unfolding(native_calls::specs::Transfers::pwrite_row))]
+    pub(crate) fn pwrite(
+        &mut self,
+        fd: u32,
+        buffer: u64,
+        count: u64,
+        at: i64,
+        mem: &HostMem,
+    ) -> Result<Reply, NoMemory>
+        ensures { IfOk result (λ reply. IsQuiet (pwrite_row self.old mem.now fd buffer count at) reply self.new mem.now) }
+    {
+        let now = self.real_time();
+        match self.files.write_at(now, fd, at, Ok(count), loadable(mem, buffer, count)) {
+            Ok(count) => Ok(Reply::Done(count as i64)),
+            Err(CoreError::Refused(error)) => Ok(failure(error)),
+            Err(CoreError::Stop(_)) => Err(NoMemory),
+        }
+    }
+
+    /// Writes bytes to what a descriptor has open, and posts SIGPIPE with EPIPE; `asked` is how many bytes
+    /// the program names, or what was wrong with its vector.
+    pub(crate) fn send<O: Sink, E: Sink>(
+        &mut self,
+        fd: u32,
+        asked: Result<u64, Errno>,
+        bytes: &[u8],
+        out: &mut O,
+        err: &mut E,
+    ) -> Result<Reply, Stop>
+        ensures row { (memory : List ℕ) → IsWriting (after_write memory (kernel_write self.old None fd asked bytes.now)) result self.new memory
+            (O.written out.old) (O.written out.new) (E.written err.old) (E.written err.new) }
+        ensures stops { WritingStops result (O.faults out.old) (O.faults out.new) (E.faults err.old) (E.faults err.new) }
+        ensures out_later { O.faults out.old ≤ O.faults out.new }
+        ensures err_later { E.faults err.old ≤ E.faults err.new }
+    {
+        let now = self.real_time();
+        let came = self.files.write(now, fd, asked, bytes, out, err);
+        self.post_if_broken(&came)?;
+        settled(came)
+    }
+
+    /// Posts SIGPIPE where a write came to EPIPE.
+    fn post_if_broken(&mut self, came: &Result<Progress, CoreError>) -> Result<(), NoMemory>
+        ensures { OnOk result (self.new ≡ after_came self.old (moved came.now)) }
+    {
+        if let Err(CoreError::Refused(Errno::EPIPE)) = came {
+            self.signals.post(pipe_info(), false)?;
+        }
+        Ok(())
+    }
+
+    /// The time that nodes are marked with, in nanoseconds since the Unix epoch.
+    fn real_time(&self) -> i128
+        ensures time { result ≡ clock.now self.now }
+        ensures within { IsTime result }
+    {
+        (self.epoch + u128::from(self.clock)) as i128
+    }
+}
+
+/// Reads into a part of memory.
+fn read_part<I: Source>(
+    files: &mut Files,
+    fd: u32,
+    count: u64,
+    memory: &mut [u8],
+    place: usize,
+    room: usize,
+    input: &mut I,
+) -> Result<Progress, CoreError>
+    requires { place + room ≤ length memory.old }
+    ensures row { (left : List ℕ) → I.left input.old ≡ Some left → ReadsInto (read files.old left fd (Ok count) room) (moved result) files.new
+        (I.left input.old) (I.left input.new) memory.old place room memory.new }
+    ensures within { MovesWithin transfer_limit (moved result) }
+    ensures stops { ReadStops result (I.faults input.old) (I.faults input.new) }
+    ensures later { I.faults input.old ≤ I.faults input.new }
+{
+    files.read(fd, Ok(count), &mut memory[place..place + room], input)
+}
+
+/// SIGPIPE, sent by the process itself (pipe(7)).
+fn pipe_info() -> Info
+    ensures { result ≡ kill_info Pipe }
+{
+    Info {
+        sig: Sig::Pipe,
+        code: SENT_BY_KILL,
+        errno: 0,
+        pid: OWN_ID,
+        uid: 0,
+        value: 0,
+        addr: 0,
+    }
+}
