@@ -1,5 +1,5 @@
 //! The files of a process.
-ghost use Rattle.std.specs.Prelude.{◌≡◌, ◌<◌, Some, None, IfSome, OnOk, option_map};
+ghost use Rattle.std.specs.Prelude.{◌≡◌, ◌<◌, Some, None, IfSome, OnOk, length, option_map};
 ghost use Rattle.kernel_model.specs.Always.{IsTable};
 ghost use Rattle.kernel_model.specs.DescriptorRows.{after_close, after_duplicate};
 ghost use Rattle.kernel_model.specs.Descriptions.{node_of, opened, readable, writable};
@@ -54,6 +54,13 @@ impl Files {
         ensures { result ≡ opened self.now fd }
     {
         self.table.get(fd)
+    }
+
+    /// There are 1,024 places of descriptors, whatever is open.
+    pub fn whole(&self)
+        ensures { length self.now.table.fds ≡ descriptor_limit }
+    {
+        let _number = self.table.number(0);
     }
 
     /// Opens a descriptor that leads to a new description, which has no node open.
@@ -141,8 +148,8 @@ impl Files {
     }
 
     /// Closes a descriptor: of the last one of a description the end of a pipe is closed, or the node is
-    /// released. One that is not open stays so.
-    pub(crate) fn close_open(&mut self, fd: u32)
+    /// released. One that is not open stays so. It takes no memory.
+    pub fn close_open(&mut self, fd: u32)
         ensures closed { self.new ≡ after_close self.old fd }
         ensures free { slot self.new.table.fds fd ≡ None }
     {
