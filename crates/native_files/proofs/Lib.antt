@@ -9,4 +9,5 @@ pub mod KeptLemmas
 pub mod NodeFacts
 pub mod PipePlaces
 pub mod PlaceLemmas
+pub mod Places
 pub mod WriteSteps

@@ -3,4 +3,5 @@ pub mod Ends
 pub mod Events
 pub mod Kept
 pub mod Lengths
+pub mod Places
 pub mod Steps

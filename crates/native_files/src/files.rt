@@ -56,6 +56,13 @@ impl Files {
         self.table.get(fd)
     }
 
+    /// There are 1,024 places of descriptors, whatever is open.
+    pub fn whole(&self)
+        ensures { length self.now.table.fds ≡ descriptor_limit }
+    {
+        let _number = self.table.number(0);
+    }
+
     /// Opens a descriptor that leads to a new description, which has no node open.
     pub(crate) fn insert(
         &mut self,

@@ -8,6 +8,7 @@ mod files;
 mod flags;
 mod flow;
 mod lengths;
+mod looking;
 mod nodes;
 mod pipes;
 mod progress;
