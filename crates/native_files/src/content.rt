@@ -1,12 +1,11 @@
 //! The calls on what a descriptor has open: fsync(2), and the requests of ioctl_tty(2).
 ghost use Rattle.std.specs.Prelude.{◌≡◌};
 ghost use Rattle.kernel_model.specs.ContentRows.{if_stream, set_terminal_settings, sync, terminal_settings, window_size};
-ghost use Rattle.kernel_model.specs.Descriptions.{output_of};
 ghost use Rattle.native_files.specs.Answers.{came_of};
 
 use crate::files::Files;
 use kernel_core::Errno;
-use kernel_model::{Object, Stream, Terminal, TerminalSettings, Winsize};
+use kernel_model::{Object, Terminal, TerminalSettings, Winsize};
 
 impl Files {
     /// Writes what a node has to the disk, where there is nothing to do (fsync(2), fdatasync(2)). EBADF where
@@ -85,22 +84,6 @@ impl Files {
             Some(description) => match self.terminal_of(description.object) {
                 None => Err(Errno::ENOTTY),
                 Some(terminal) => Ok(terminal.size),
-            },
-        }
-    }
-
-    /// Which output a descriptor leads to: 1 for standard output and 2 for standard error, by whichever
-    /// number it is open; None for anything else, and where it is not open.
-    pub fn output(&self, fd: u32) -> Option<u8>
-        ensures { result ≡ output_of self.now fd }
-    {
-        match self.opened(fd) {
-            None => None,
-            Some(description) => match description.object {
-                Object::Stream(Stream::Input) => None,
-                Object::Stream(Stream::Out) => Some(1),
-                Object::Stream(Stream::Err) => Some(2),
-                Object::ReadEnd(_) | Object::WriteEnd(_) | Object::Node(_) => None,
             },
         }
     }

@@ -147,13 +147,6 @@ impl Files {
         );
     }
 
-    /// There are 1,024 descriptors: it does nothing, and tells its callers this.
-    pub fn whole(&self)
-        ensures { length self.now.table.fds ≡ descriptor_limit }
-    {
-        let _table_is_whole = self.table.number(0);
-    }
-
     /// Closes a descriptor: of the last one of a description the end of a pipe is closed, or the node is
     /// released. One that is not open stays so. It takes no memory.
     pub fn close_open(&mut self, fd: u32)
