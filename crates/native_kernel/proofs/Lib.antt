@@ -6,5 +6,7 @@ pub mod Parts
 pub mod Quietly
 pub mod Read
 pub mod Sending
+pub mod Storing
 pub mod Taking
 pub mod TerminalLemmas
+pub mod VectorLemmas

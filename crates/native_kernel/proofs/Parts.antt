@@ -1,6 +1,9 @@
 -- Parts of host memory that are written in place.
-use Rattle.std.proofs.Common.{◌≡◌, ℕ, zero, suc, ◌+◌, ◌-◌, ◌<◌, ◌≤◌, ◌==◌, Bool, true, false, List, [], ◌∷◌, ◌++◌, length, take, drop, refl, sym, ap, ◌∙◌, subst, arith, append_assoc, append-nil, add-zero, take-append-drop, length-take-le, length-drop, length-append, drop-drop, drop-append-le, if◌then◌else◌}
+use Rattle.std.proofs.Common.{◌≡◌, ℕ, zero, suc, ◌+◌, ◌-◌, ◌<◌, ◌≤◌, ◌==◌, Bool, true, false, List, [], ◌∷◌, ◌++◌, length, take, drop, refl, sym, ap, ◌∙◌, subst, arith, append_assoc, append-nil, add-zero, if◌then◌else◌}
+use Rattle.std.proofs.lemmas.List.{take-append-drop, length-take-le, length-drop, drop-drop, drop-append-le, length-append}
+use Rattle.std.proofs.Math.ListN.{drop_of_length-le}
 use Rattle.std.proofs.lemmas.Bool.Decides.{nat_tests}
+use Rattle.host_mem.specs.Lending.{overwritten}
 use Rattle.host_mem.specs.Memory.{first_address, end_address, is_inside, room_from, replaced, written}
 use Rattle.native_calls.specs.HostBytes.{accessible, loadable}
 use Rattle.native_kernel.specs.inside.Moving.{part_place}
@@ -76,3 +79,16 @@ part_written memory bytes address count (suc more) e few =
     let inside = part_inside memory address count (suc more) e in
     part_replaced memory bytes (part_place address (suc more)) (suc more) inside few
     ∙ sym (written_there memory bytes address (inside_of memory address count (length bytes) (omega arith) (omega arith)))
+
+-- memory that was lent whole is what was left of it
+pub overwritten_all : (memory new : List ℕ) → length new ≡ length memory → overwritten memory new ≡ new
+overwritten_all memory new long =
+    let none : drop (length new) memory ≡ [] = drop_of_length-le memory (omega arith) in
+    ap (λ (t : List ℕ). take (length memory) (new ++ t)) none
+    ∙ ap (λ (t : List ℕ). take (length memory) t) (append-nil new)
+    ∙ ap (λ (n : ℕ). take n new) (sym long)
+    ∙ taken_whole new
+  where
+    taken_whole : (xs : List ℕ) → take (length xs) xs ≡ xs
+    taken_whole [] = refl
+    taken_whole (x ∷ xs) = ap (λ (t : List ℕ). x ∷ t) (taken_whole xs)

@@ -1,20 +1,25 @@
 -- What a read into memory is as a call.
-use Rattle.std.proofs.Common.{◌≡◌, ℕ, ◌+◌, ◌≤◌, List, [], ◌++◌, length, take, drop, Option, Some, None, Result, Ok, Err, refl, sym, ap, ◌∙◌, subst, arith, length-append}
+use Rattle.std.proofs.Common.{◌≡◌, ℕ, ℤ, ◌+◌, ◌≤◌, List, [], ◌++◌, length, take, drop, Option, Some, None, Result, Ok, Err, refl, sym, ap, ◌∙◌, subst, arith}
+use Rattle.std.proofs.lemmas.List.{length-append}
 use Rattle.host_mem.specs.Memory.{written}
+use Rattle.kernel_core.specs.declared.core_error.Stop.{Stop}
 use Rattle.kernel_core.specs.declared.core_error.CoreError.{CoreError}
 use Rattle.kernel_core.specs.declared.core_error.CoreError.TheVariants as errors
-use Rattle.kernel_model.specs.Came.{Came, Done, Refused, Waits, Did, widened}
+use Rattle.kernel_core.specs.declared.reply.Reply.{Reply}
+use Rattle.kernel_model.specs.Came.{Came, Done, Refused, Waits, Did, came_as, widened}
 use Rattle.kernel_model.specs.State.{Kernel, Files}
-use Rattle.kernel_model.specs.Transfers.{Reading, read}
-use Rattle.kernel_model.specs.Whole.{with_files, with_reading}
+use Rattle.kernel_model.specs.Transfers.{Reading, read, read_at}
+use Rattle.kernel_model.specs.Whole.{with_files, with_reading, kernel_read}
 use Rattle.native_calls.specs.HostBytes.{accessible}
-use Rattle.native_calls.specs.Step.{NativeStep, value, failure}
-use Rattle.native_calls.specs.Transfers.{after_read}
-use Rattle.native_files.specs.Answers.{HasRead, ReadsSo, moved}
+use Rattle.native_calls.specs.Step.{NativeStep, value, failure, reply_to, memory_after}
+use Rattle.native_calls.specs.Transfers.{after_read, pread_row, read_row}
+use Rattle.native_files.specs.Answers.{HasRead, ReadsSo, filled, moved}
 use Rattle.native_files.specs.declared.progress.Progress.{Progress}
 use Rattle.native_files.specs.declared.progress.Progress.TheVariants as progress
-use Rattle.native_kernel.proofs.Parts.{part_inside, part_kept, part_written}
-use Rattle.native_kernel.specs.inside.Moving.{Takes, ReadsInto, part_place, settled}
+use Rattle.host_mem.specs.Lending.{overwritten}
+use Rattle.native_kernel.proofs.Parts.{overwritten_all, part_inside, part_kept, part_written}
+use Rattle.native_kernel.specs.inside.Moving.{FillsPart, Takes, ReadsInto, part_place, settled}
+use Rattle.native_kernel.specs.inside.Quiet.{Quietly}
 
 -- the step of a call that reads, by what its row did
 abbrev pub reading_step : (List ℕ → List ℕ) → List ℕ → Kernel → Did Reading (List ℕ) → NativeStep
@@ -65,3 +70,68 @@ taken_into kernel memory new buffer count room did came files before after e int
         ∙ ap (λ (t : List ℕ). take place memory ++ (t ++ drop (place + room) memory)) h
         ∙ part_kept memory place room (part_inside memory buffer count room e))
     into.did
+
+-- read(2) as a call
+pub read_is : (kernel after : Kernel) (held files : Files) (memory new : List ℕ) (fd buffer count room place : ℕ) (rest : List ℕ)
+    (came : Result Progress CoreError) (result : Result Reply Stop) (before behind : Option (List ℕ))
+    → ReadsInto (read held rest fd (Ok count) room) (moved came) files before behind memory place room new
+    → held ≡ kernel.files → after ≡ with_files kernel files → length new ≡ length memory
+    → room ≡ accessible memory buffer count → place ≡ part_place buffer room → result ≡ settled came
+    → Takes (read_row kernel memory fd buffer count rest) result after (overwritten memory new) before behind
+unfolding read_row kernel_read
+read_is kernel after held files memory new fd buffer count room place rest came result before behind into same became long e at end =
+    let whole : overwritten memory new ≡ new = overwritten_all memory new long in
+    let here : ReadsInto (read kernel.files rest fd (Ok count) (accessible memory buffer count)) (moved came) files before behind memory (part_place buffer (accessible memory buffer count)) (accessible memory buffer count) new =
+    subst (λ (r : ℕ). ReadsInto (read kernel.files rest fd (Ok count) r) (moved came) files before behind memory (part_place buffer r) r new) e
+    (subst (λ (p : ℕ). ReadsInto (read kernel.files rest fd (Ok count) room) (moved came) files before behind memory p room new) at
+    (subst (λ (f : Files). ReadsInto (read f rest fd (Ok count) room) (moved came) files before behind memory place room new) same into)) in
+    let taken = taken_into kernel memory new buffer count (accessible memory buffer count) (read kernel.files rest fd (Ok count) (accessible memory buffer count)) came files before behind refl here in
+    subst (λ (r : Result Reply Stop). Takes (reading_step (written memory buffer) memory kernel (read kernel.files rest fd (Ok count) (accessible memory buffer count))) r after (overwritten memory new) before behind) (sym end)
+    (subst (λ (k : Kernel). Takes (reading_step (written memory buffer) memory kernel (read kernel.files rest fd (Ok count) (accessible memory buffer count))) (settled came) k (overwritten memory new) before behind) (sym became)
+    (subst (λ (m : List ℕ). Takes (reading_step (written memory buffer) memory kernel (read kernel.files rest fd (Ok count) (accessible memory buffer count))) (settled came) (with_files kernel files) m before behind) (sym whole) taken))
+
+length_told : (row : Came (List ℕ)) → reply_to value (came_as length row) ≡ reply_to (λ bytes. value (length bytes)) row
+length_told (Done bytes) = refl
+length_told (Refused error) = refl
+length_told (Waits wake) = refl
+
+filled_by : (memory new part : List ℕ) (buffer count : ℕ) (row : Came (List ℕ))
+    → let room = accessible memory buffer count in let place = part_place buffer room in
+    length part ≡ room → new ≡ take place memory ++ (part ++ drop (place + room) memory) → part ≡ filled (take room (drop place memory)) row
+    → new ≡ memory_after (written memory buffer) memory row
+filled_by memory new part buffer count (Done bytes) sized whole did =
+    let room : ℕ = accessible memory buffer count in
+    let place : ℕ = part_place buffer room in
+    whole ∙ ap (λ (t : List ℕ). take place memory ++ (t ++ drop (place + room) memory)) did
+    ∙ part_written memory bytes buffer count room refl (few_of bytes (drop (length bytes) (take room (drop place memory))) part room did sized)
+filled_by memory new part buffer count (Refused error) sized whole did =
+    let room : ℕ = accessible memory buffer count in
+    let place : ℕ = part_place buffer room in
+    whole ∙ ap (λ (t : List ℕ). take place memory ++ (t ++ drop (place + room) memory)) did ∙ part_kept memory place room (part_inside memory buffer count room refl)
+filled_by memory new part buffer count (Waits wake) sized whole did =
+    let room : ℕ = accessible memory buffer count in
+    let place : ℕ = part_place buffer room in
+    whole ∙ ap (λ (t : List ℕ). take place memory ++ (t ++ drop (place + room) memory)) did ∙ part_kept memory place room (part_inside memory buffer count room refl)
+
+-- pread(2) as a call
+pub pread_is : (kernel : Kernel) (held : Files) (memory new left : List ℕ) (fd buffer count room place : ℕ) (at : ℤ) (came : Came ℕ) (reply : Reply)
+    → came ≡ came_as length (read_at held fd at (Ok count) room).came → (read_at held fd at (Ok count) room).state ≡ held
+    → FillsPart (read_at held fd at (Ok count) room).came memory place room new
+    → held ≡ kernel.files → length new ≡ length memory → room ≡ accessible memory buffer count → place ≡ part_place buffer room
+    → reply ≡ reply_to value came
+    → Quietly (pread_row kernel memory fd buffer count at left) reply kernel (overwritten memory new) left
+unfolding pread_row
+pread_is kernel held memory new left fd buffer count room place at came reply told state fills same long e p answered =
+    let rows = ap (λ (f : Files). read_at f fd at (Ok count) room) same ∙ ap (λ (r : ℕ). read_at kernel.files fd at (Ok count) r) e in
+    let row = read_at kernel.files fd at (Ok count) (accessible memory buffer count) in
+    let here : FillsPart row.came memory (part_place buffer (accessible memory buffer count)) (accessible memory buffer count) new =
+    subst (λ (r : ℕ). FillsPart row.came memory (part_place buffer r) r new) e
+    (subst (λ (q : ℕ). FillsPart row.came memory q room new) p
+    (subst (λ (c : Came (List ℕ)). FillsPart c memory place room new) (ap (λ d. d.came) rows) fills)) in
+    record {
+      answered = answered ∙ ap (λ (c : Came ℕ). reply_to value c) (told ∙ ap (λ d. came_as length d.came) rows) ∙ length_told row.came;
+      became = ap (λ (f : Files). with_files kernel f) (sym same ∙ sym state ∙ ap (λ d. d.state) rows);
+      stored = overwritten_all memory new long ∙ filled_by memory new here.part buffer count row.came here.sized here.whole here.did;
+      rest = refl;
+      sent = refl;
+    }

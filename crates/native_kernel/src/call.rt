@@ -48,8 +48,15 @@ impl NativeKernel {
                 &mut dev.out,
                 &mut dev.err,
             ),
-            READV => Err(Stop::NoMemory),
-            WRITEV => Err(Stop::NoMemory),
+            READV => self.readv(low_word(args[0]), args[1], args[2], mem, &mut dev.input),
+            WRITEV => self.writev(
+                low_word(args[0]),
+                args[1],
+                args[2],
+                mem,
+                &mut dev.out,
+                &mut dev.err,
+            ),
             _ => match self.quiet_call(nr, args, mem) {
                 Ok(reply) => Ok(reply),
                 Err(NoMemory) => Err(Stop::NoMemory),
@@ -58,7 +65,7 @@ impl NativeKernel {
     }
 
     /// A call that reaches no stream.
-    #[tactic(auto, unfolding(native_calls::specs::Descriptors::close_row, native_calls::specs::Descriptors::dup_row, native_calls::specs::Descriptors::dup3_row, native_calls::specs::Descriptors::fcntl_row, native_calls::specs::Status::lseek_row, native_calls::specs::Status::sync_row, native_calls::specs::Ids::getpid_row, native_calls::specs::Ids::getppid_row))]
+    #[tactic(auto, unfolding(native_calls::specs::Descriptors::close_row, native_calls::specs::Descriptors::dup_row, native_calls::specs::Descriptors::dup3_row, native_calls::specs::Descriptors::fcntl_row, native_calls::specs::Status::lseek_row, native_calls::specs::Status::fstat_row, native_calls::specs::Status::sync_row, native_calls::specs::Ids::getpid_row, native_calls::specs::Ids::getppid_row))]
     fn quiet_call(
         &mut self,
         nr: u64,
@@ -76,10 +83,10 @@ impl NativeKernel {
             CLOSE => Ok(self.close(low_word(args[0]))),
             PIPE2 => self.pipe2(args[0], low_word(args[1]), mem),
             GETDENTS64 => Err(NoMemory),
-            LSEEK => Err(NoMemory),
+            LSEEK => Ok(self.lseek(low_word(args[0]), args[1].cast_signed(), low_word(args[2]))),
             PREAD64 => Ok(self.pread(low_word(args[0]), args[1], args[2], args[3].cast_signed(), mem)),
             PWRITE64 => self.pwrite(low_word(args[0]), args[1], args[2], args[3].cast_signed(), mem),
-            FSTAT => Err(NoMemory),
+            FSTAT => Ok(self.fstat(low_word(args[0]), args[1], mem)),
             FSYNC => Ok(self.sync(low_word(args[0]))),
             FDATASYNC => Ok(self.sync(low_word(args[0]))),
             GETPID => Ok(ids::process_id()),

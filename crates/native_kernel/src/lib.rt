@@ -15,6 +15,7 @@ mod status;
 mod structures;
 mod terminal;
 mod transfers;
+mod vectors;
 
 pub use kernel::NativeKernel;
 pub use kernel_core::{NoMemory, Reply, Stop, Wake};

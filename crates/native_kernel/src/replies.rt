@@ -1,5 +1,5 @@
 //! Replies.
-ghost use Rattle.std.specs.Prelude.{◌≡◌};
+ghost use Rattle.std.specs.Prelude.{◌≡◌, ◌≤◌, IfOk};
 ghost use Rattle.kernel_model.specs.Came.{came_as};
 ghost use Rattle.kernel_model.specs.Transfers.{transfer_limit};
 ghost use Rattle.native_calls.specs.Step.{failure, reply_to, value};
@@ -35,6 +35,17 @@ pub(crate) fn number(came: Result<u32, Errno>) -> Reply
 {
     match came {
         Ok(number) => Reply::Done(i64::from(number)),
+        Err(error) => failure(error),
+    }
+}
+
+/// What a call that moves bytes at a place came to, as a reply.
+pub(crate) fn counted(came: Result<usize, Errno>) -> Reply
+    requires { IfOk came (λ count. count ≤ transfer_limit) }
+    ensures { result ≡ reply_to value (came_of came) }
+{
+    match came {
+        Ok(count) => Reply::Done(count as i64),
         Err(error) => failure(error),
     }
 }

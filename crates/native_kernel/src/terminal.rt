@@ -1,11 +1,12 @@
 //! ioctl(2): the requests on a terminal and on descriptors.
 ghost use Rattle.std.specs.Prelude.{◌≡◌, length};
 ghost use Rattle.kernel_model.specs.Came.{told_as, told_zero};
-ghost use Rattle.kernel_model.specs.ContentRows.{set_terminal_settings, terminal_settings, window_size};
+ghost use Rattle.kernel_model.specs.ContentRows.{bytes_ready, set_terminal_settings, terminal_settings, window_size};
 ghost use Rattle.kernel_model.specs.Whole.{on_files};
-ghost use Rattle.native_calls.specs.Terminal.{ioctl_row, settings_at, settings_bytes, settings_in, settings_values, switch_at, window_bytes};
+ghost use Rattle.native_calls.specs.Terminal.{int_bytes, ioctl_row, settings_at, settings_bytes, settings_in, settings_values, switch_at, window_bytes};
 ghost use Rattle.native_kernel.specs.inside.Quiet.{Gives, IsQuiet, Stores};
 
+use crate::arguments::low_word;
 use crate::kernel::NativeKernel;
 use crate::replies::{failure, zero};
 use crate::structures::{byte_at, put, store, word_at};
@@ -39,7 +40,7 @@ impl NativeKernel {
             Some(Request::Tcsetsw) => self.set_settings(fd, address, mem),
             Some(Request::Tcsetsf) => self.set_settings(fd, address, mem),
             Some(Request::Tiocgwinsz) => self.window_size(fd, address, mem),
-            Some(Request::Fionread) => failure(Errno::ENOTTY),
+            Some(Request::Fionread) => self.bytes_ready(fd, address, mem),
             Some(Request::Fionbio) => zero(self.files.set_nonblock(fd, switch_at(mem, address))),
             Some(Request::Fioclex) => zero(self.files.set_close_on_exec(fd, true)),
             Some(Request::Fionclex) => zero(self.files.set_close_on_exec(fd, false)),
@@ -72,6 +73,17 @@ impl NativeKernel {
         match self.files.window_size(fd) {
             Err(error) => failure(error),
             Ok(size) => store(mem, address, &window_bytes(size)),
+        }
+    }
+
+    /// FIONREAD.
+    fn bytes_ready(&self, fd: u32, address: u64, mem: &mut HostMem) -> Reply
+        ensures { Stores (told_as int_bytes (on_files self.now (bytes_ready self.now.files fd))) address
+            result self.now mem.old mem.new }
+    {
+        match self.files.bytes_ready(fd) {
+            Err(error) => failure(error),
+            Ok(count) => store(mem, address, &low_word(count).to_le_bytes()),
         }
     }
 }

@@ -2,17 +2,18 @@
 ghost use Rattle.std.specs.Prelude.{◌≡◌, ℕ, ◌+◌, ◌≤◌, List, Some, None, Ok, IfOk, OnOk, length};
 ghost use Rattle.kernel_core.specs.FileSystem.{IsTime};
 ghost use Rattle.kernel_core.specs.declared.signal.Sig.TheVariants.{Pipe};
+ghost use Rattle.kernel_model.specs.Came.{came_as};
 ghost use Rattle.kernel_model.specs.Clock as clock;
 ghost use Rattle.kernel_model.specs.SignalRows.{kill_info};
-ghost use Rattle.kernel_model.specs.Transfers.{read, transfer_limit};
+ghost use Rattle.kernel_model.specs.Transfers.{read, read_at, transfer_limit};
 ghost use Rattle.kernel_model.specs.Whole.{kernel_write, on_files};
 ghost use Rattle.native_calls.specs.Transfers.{after_write, pread_row, pwrite_row, read_row, write_row};
-ghost use Rattle.native_files.specs.Answers.{MovesWithin, ReadStops, moved};
-ghost use Rattle.native_kernel.specs.inside.Moving.{IsReading, IsWriting, ReadingStops, ReadsInto, WritingStops, after_came, settled};
+ghost use Rattle.native_files.specs.Answers.{MovesWithin, ReadStops, came_of, moved};
+ghost use Rattle.native_kernel.specs.inside.Moving.{FillsPart, IsReading, IsWriting, ReadingStops, ReadsInto, WritingStops, after_came, settled};
 ghost use Rattle.native_kernel.specs.inside.Quiet.{IsQuiet};
 
 use crate::kernel::NativeKernel;
-use crate::replies::{failure, settled};
+use crate::replies::{counted, failure, settled};
 use crate::structures::{accessible, loadable, part_place};
 use host_mem::HostMem;
 use kernel_core::{CoreError, Errno, Info, NoMemory, Reply, Sig, Stop};
@@ -78,11 +79,8 @@ impl NativeKernel {
     {
         let room = accessible(mem, buffer, count);
         let place = part_place(mem, buffer, room);
-        let part = &mut mem.as_mut_slice()[place..place + room];
-        match self.files.read_at(fd, at, Ok(count), part) {
-            Err(error) => failure(error),
-            Ok(count) => Reply::Done(count as i64),
-        }
+        let memory = mem.as_mut_slice();
+        counted(read_part_at(&self.files, fd, at, count, memory, place, room))
     }
 
     /// pwrite(2): EBADF, EINVAL below 0, ESPIPE, EFAULT, EFBIG, ENOSPC.
@@ -123,8 +121,10 @@ impl NativeKernel {
     {
         let now = self.real_time();
         let came = self.files.write(now, fd, asked, bytes, out, err);
-        self.post_if_broken(&came)?;
-        settled(came)
+        match self.post_if_broken(&came) {
+            Ok(()) => settled(came),
+            Err(NoMemory) => Err(Stop::NoMemory),
+        }
     }
 
     /// Posts SIGPIPE where a write came to EPIPE.
@@ -164,6 +164,25 @@ fn read_part<I: Source>(
     ensures later { I.faults input.old ≤ I.faults input.new }
 {
     files.read(fd, Ok(count), &mut memory[place..place + room], input)
+}
+
+/// Reads into a part of memory from a place of a file on.
+fn read_part_at(
+    files: &Files,
+    fd: u32,
+    at: i64,
+    count: u64,
+    memory: &mut [u8],
+    place: usize,
+    room: usize,
+) -> Result<usize, Errno>
+    requires { place + room ≤ length memory.old }
+    ensures came { came_of result ≡ came_as length (read_at files.now fd at (Ok count) room).came }
+    ensures state { (read_at files.now fd at (Ok count) room).state ≡ files.now }
+    ensures stored { FillsPart (read_at files.now fd at (Ok count) room).came memory.old place room memory.new }
+    ensures within { IfOk result (λ moved. moved ≤ transfer_limit) }
+{
+    files.read_at(fd, at, Ok(count), &mut memory[place..place + room])
 }
 
 /// SIGPIPE, sent by the process itself (pipe(7)).

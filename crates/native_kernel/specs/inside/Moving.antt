@@ -13,7 +13,7 @@ use Rattle.kernel_model.specs.State.{Kernel, Files}
 use Rattle.kernel_model.specs.Transfers.{Reading}
 use Rattle.kernel_model.specs.Whole.{with_sigpipe}
 use Rattle.native_calls.specs.Step.{NativeStep, value, failure}
-use Rattle.native_files.specs.Answers.{ReadsSo}
+use Rattle.native_files.specs.Answers.{ReadsSo, filled}
 use Rattle.native_files.specs.declared.progress.Progress.{Progress}
 use Rattle.native_files.specs.declared.progress.Progress.TheVariants as progress
 use Rattle.outside.specs.Count.{Rose}
@@ -62,6 +62,13 @@ pub record ReadsInto (step : Did Reading (List ℕ)) (came : Option (Came ℕ)) 
   pub sized : length part ≡ room
   pub whole : new ≡ take place old ++ (part ++ drop (place + room) old)
   pub did : ReadsSo step came state before after (take room (drop place old)) part
+
+-- what a read at a place leaves of the part of memory from a place on that has `room` bytes
+pub record FillsPart (came : Came (List ℕ)) (old : List ℕ) (place room : ℕ) (new : List ℕ) : Type 0 where
+  pub part : List ℕ
+  pub sized : length part ≡ room
+  pub whole : new ≡ take place old ++ (part ++ drop (place + room) old)
+  pub did : part ≡ filled (take room (drop place old)) came
 
 -- Writing
 
