@@ -67,6 +67,13 @@ impl HostMem {
         Ok(FIRST_ADDRESS + place as u64)
     }
 
+    /// All bytes. It takes no memory.
+    pub fn as_slice(&self) -> &[u8]
+        ensures { result.now ≡ self.now }
+    {
+        self.bytes.as_slice()
+    }
+
     /// All bytes, to be written in place. It takes no memory.
     pub fn as_mut_slice(&mut self) -> &mut [u8]
         ensures* writes_back { sem 𝓛 (lends_bytes self.entry result) }

@@ -52,6 +52,19 @@ fn writes_and_clears(rt: HostRuntime) -> Result<(), Fail> {
 }
 
 #[test]
+fn zeros_and_bytes_in_place(rt: HostRuntime) -> Result<(), Fail> {
+    let mut memory = HostMem::new(rt.alloc());
+    memory.push(b"abc").ok().ok_or("no memory")?;
+    assert_eq!(rt; memory.push_zeros(2).ok(), Some(65_544));
+    assert!(rt; memory.as_slice() == b"abc\0\0\0\0\0\0\0".as_slice());
+    for byte in memory.as_mut_slice() {
+        *byte = b'x';
+    }
+    assert!(rt; memory.read(65_543, 3) == Some(b"xxx".as_slice()));
+    Ok(())
+}
+
+#[test]
 fn room_to_the_end(rt: HostRuntime) -> Result<(), Fail> {
     let mut memory = HostMem::new(rt.alloc());
     assert_eq!(rt; memory.room_from(65_536), 0);

@@ -1,184 +1,52 @@
 -- What a call leaves of the kernel where it fails or waits; which calls wait with a part done; and that none is refused with ENOMEM.
-use Rattle.std.proofs.Common.{◌≡◌, ℕ, ◌*◌, ◌==◌, ◌∙◌, Bool, true, false, List, [], ◌∷◌, length, zero, suc, refl, sym, ap, subst, inl, inr}
-use Rattle.std.specs.Prelude.{pos, neg_ℤ, nat_abs, ◌⊎◌, Option, Some, None, Ok, Err, if◌then◌else◌, nat_lt, ⊤}
-use Rattle.std.proofs.lemmas.Bool.{eqb-true}
+use Rattle.std.proofs.Common.{◌≡◌, ℕ, ◌*◌, ◌==◌, ◌∙◌, Bool, true, false, List, [], refl, sym, ap, subst, inl, inr}
+use Rattle.std.specs.Prelude.{◌⊎◌, Option, Some, None, Ok, Err, if◌then◌else◌, nat_lt}
 use Rattle.host_mem.specs.Memory.{bytes_at, is_inside}
 use Rattle.kernel_core.specs.declared.error.Errno.TheVariants.{EACCES, EAGAIN, EBADF, EBUSY, EEXIST, EFAULT, EFBIG, EINTR, EINVAL, EISDIR, ELOOP, EMFILE, ENAMETOOLONG, ENODEV, ENOENT, ENOMEM, ENOSPC, ENOSYS, ENOTDIR, ENOTEMPTY, ENOTTY, EOVERFLOW, EPERM, EPIPE, ERANGE, ESPIPE, ESRCH}
 use Rattle.kernel_core.specs.declared.reply.Reply.{Reply}
 use Rattle.kernel_core.specs.declared.reply.Reply.TheVariants as replies
 use Rattle.kernel_core.specs.declared.request.Request.{Request}
 use Rattle.kernel_core.specs.declared.request.Request.TheVariants as requests
-use Rattle.kernel_model.proofs.refusals.Checks.{done_stays, widened_stays}
+use Rattle.kernel_model.proofs.refusals.Checks.{widened_stays}
 use Rattle.kernel_model.proofs.refusals.ContentRefusals.{entries_stays, seek_stays, set_terminal_settings_stays, sync_stays}
 use Rattle.kernel_model.proofs.refusals.DescriptorRefusals.{close_on_exec_stays, close_stays, duplicate_onto_with_stays, duplicate_stays, make_pipe_stays, set_close_on_exec_stays, set_nonblock_stays, set_status_flags_stays, status_flags_stays, unlisted_command_stays, unlisted_request_stays}
 use Rattle.kernel_model.proofs.refusals.TransferRefusals.{read_at_stays, read_stays, write_at_stays, write_stays}
-use Rattle.kernel_model.specs.Came.{Came, Done, Refused, Waits, Did, Given, done, refused, widened, with_some, came_as, told_as, told_zero}
+use Rattle.kernel_model.specs.Came.{Came, Done, Refused, Waits, Did, Given, done, refused, widened, came_as}
 use Rattle.kernel_model.specs.Clock.{now}
 use Rattle.kernel_model.specs.ContentRows.{bytes_ready, status, terminal_settings, window_size}
 use Rattle.kernel_model.specs.DescriptorRows.{Ends, PipeFlags, make_pipe}
-use Rattle.kernel_model.specs.Laws.{StaysAt, StaysUnlessDone}
+use Rattle.kernel_model.specs.Laws.{StaysAt}
 use Rattle.kernel_model.specs.Shared.{Errno, Wake}
 use Rattle.kernel_model.specs.SignalRows.{own_id, parent_id}
 use Rattle.kernel_model.specs.State.{Files, Kernel}
 use Rattle.kernel_model.specs.Transfers.{Reading, Writing, read, reading, write, writing}
-use Rattle.kernel_model.specs.Whole.{KernelReading, is_broken_pipe, kernel_read, kernel_write, on_files, with_files, with_reading, with_sigpipe}
-use Rattle.native_calls.proofs.Plain.{ComesPlain, Fine, FineGiven, Plain, done_plain, fine_fault, fine_invalid, told_plain, widened_plain}
+use Rattle.kernel_model.specs.Whole.{KernelReading, is_broken_pipe, kernel_read, kernel_write, with_files, with_reading, with_sigpipe}
+use Rattle.native_calls.proofs.Leaves.{CallsLeave, IsGood, IsReady, Leaves, LeavesIfAny, Looks, done_good, fills_leaves, given_fine, gives_leaves, in_leaves, lack, looks, number_ready, on_good, read_fine, room_lacks, room_waits, row_stores, told_good, wait_done, zero_good}
+use Rattle.native_calls.proofs.ClockLeft.{clocks_leave, polls_leave, signals_leave}
+use Rattle.native_calls.proofs.NamesLeft.{names_leave, nodes_leave, system_leave}
+use Rattle.native_calls.proofs.Plain.{test_fine, FineGiven, fine_invalid}
 use Rattle.native_calls.proofs.PlainRows.{bytes_ready_plain, close_on_exec_plain, close_plain, duplicate_onto_with_plain, duplicate_plain, entries_plain, make_pipe_plain, read_at_plain, read_plain, seek_plain, set_close_on_exec_plain, set_nonblock_plain, set_status_flags_plain, set_terminal_settings_plain, status_flags_plain, status_plain, sync_plain, terminal_settings_plain, unlisted_command_plain, unlisted_request_plain, window_size_plain, write_at_plain, write_plain}
 use Rattle.native_calls.specs.Arguments.{argument, word}
 use Rattle.native_calls.specs.Descriptors.{Command, commanded, commands, pipe_flags, dup_row, dup3_row, close_row, pipe2_row, fcntl_row, descriptor_calls, kept_if, pair_bytes, pair_size}
-use Rattle.native_calls.specs.HostBytes.{asked, given, if_countable, ranges_in, read_as, structure, sum_limit, total, vector, vector_limit, vector_structures}
+use Rattle.native_calls.specs.HostBytes.{asked, if_countable, ranges_in, read_as, structure, sum_limit, total, vector, vector_limit, vector_structures}
 use Rattle.native_calls.specs.Ids.{id_calls, getpid_row, getppid_row}
 use Rattle.native_calls.specs.Laws.{IsFailure, LeftByFailure, AsItWas, BrokenPipe, PairNotStored, MayWaitPartly}
-use Rattle.native_calls.specs.Step.{NativeStep, NativeCall, value, failure, reply_to, gives, fills, stored, stores}
+use Rattle.native_calls.specs.Step.{NativeStep, NativeCall, value, failure, reply_to, stored}
+use Rattle.native_calls.specs.Clocks.{clock_calls}
+use Rattle.native_calls.specs.Names.{name_calls}
+use Rattle.native_calls.specs.Polls.{poll_calls}
+use Rattle.native_calls.specs.Signals.{signal_calls}
+use Rattle.native_calls.specs.Nodes.{node_calls}
+use Rattle.native_calls.specs.System.{system_calls}
 use Rattle.native_calls.specs.Status.{status_bytes, status_calls, lseek_row, fstat_row, sync_row, getdents_row}
-use Rattle.native_calls.specs.Table.{call_in, call_of, step_of, native_call}
+use Rattle.native_calls.specs.Table.{call_of, step_of, native_call}
 use Rattle.native_calls.specs.Terminal.{int_bytes, settings_at, settings_bytes, set_cloexec_to, set_settings, switch_at, terminal_calls, ioctl_row, requested, window_bytes}
 use Rattle.native_calls.specs.Transfers.{transfer_calls, after_read, after_write, read_row, readv_row, pread_row, write_row, writev_row, pwrite_row}
 use Rattle.native_calls.specs.declared.range.Range.{Range}
-use Rattle.number_tables.specs.Errors.{native_errno}
 use Rattle.number_tables.specs.Numbered.{numbered}
 use Rattle.number_tables.specs.Requests.{request_of_native}
 
--- Replies
-
-pub record Leaves (number : ℕ) (kernel : Kernel) (step : NativeStep) : Type 0 where
-  pub failed : IsFailure step.reply → LeftByFailure number kernel step
-  pub waiting : (wake : Wake) → step.reply ≡ replies.Sleep wake → wake.done ≡ 0 → step.kernel ≡ kernel
-  pub partly : (wake : Wake) → step.reply ≡ replies.Sleep wake → (wake.done ≡ 0) ⊎ MayWaitPartly number
-  pub lacking : step.reply ≡ failure ENOMEM → ⊥
-
-abbrev number_in : Reply → ℕ
-number_in (replies.Done number) = nat_abs number
-number_in (replies.Sleep wake) = 0
-
-abs_neg : (n : ℕ) → nat_abs (neg_ℤ (pos n)) ≡ n
-abs_neg zero = refl
-abs_neg (suc n) = refl
-
-not_lack : (error : Errno) → Fine error → failure error ≡ failure ENOMEM → ⊥
-not_lack error fine same =
-    let is : native_errno error ≡ 12 = sym (abs_neg (native_errno error)) ∙ ap number_in same in
-    let equal : (native_errno error == 12) ≡ true = ap (λ n. n == 12) is in
-    let wrong : true ≡ false = sym equal ∙ fine.fine in
-    cc
-
--- what the value of a row is as a reply: neither a wait nor ENOMEM
-record IsReady {V : Type 0} (reply_of : V → Reply) : Type 0 where
-  pub waits : (found : V) (wake : Wake) → reply_of found ≡ replies.Sleep wake → ⊥
-  pub lacks : (found : V) → reply_of found ≡ failure ENOMEM → ⊥
-
-number_ready : {V : Type 0} (size : V → ℕ) → IsReady (λ found. value (size found))
-number_ready size = record { waits = λ found wake e. cc; lacks = λ found e. cc }
-
-room_waits : (room : Bool) (wake : Wake) → (if room then value 0 else failure EFAULT) ≡ replies.Sleep wake → ⊥
-room_waits true wake e = cc
-room_waits false wake e = cc
-
-room_lacks : (room : Bool) → (if room then value 0 else failure EFAULT) ≡ failure ENOMEM → ⊥
-room_lacks true e = cc
-room_lacks false e = cc
-
-stored_ready : (memory : List ℕ) (address : ℕ) → IsReady (stored memory address)
-stored_ready memory address = record {
-  waits = λ bytes wake e. room_waits (is_inside memory address (length bytes)) wake e;
-  lacks = λ bytes e. room_lacks (is_inside memory address (length bytes)) e;
-}
-
-module _ {V : Type 0} (reply_of : V → Reply) (ready : IsReady reply_of) where
-  wait_done : (came : Came V) → ComesPlain false came → (wake : Wake) → reply_to reply_of came ≡ replies.Sleep wake → wake.done ≡ 0
-  wait_done (Done found) plain wake e = absurd (ready.waits found wake e)
-  wait_done (Refused error) plain wake e = absurd cc
-  wait_done (Waits own) plain wake e = let same : own ≡ wake = cc in subst (λ (w : Wake). w.done ≡ 0) same plain
-
-  wait_stays : {S : Type 0} (old new : S) (came : Came V) → StaysAt old new came → (wake : Wake) → reply_to reply_of came ≡ replies.Sleep wake
-      → wake.done ≡ 0 → new ≡ old
-  wait_stays old new (Done found) stays wake e none = absurd (ready.waits found wake e)
-  wait_stays old new (Refused error) stays wake e none = stays
-  wait_stays old new (Waits own) stays wake e none = let same : own ≡ wake = cc in stays (ap (λ (w : Wake). w.done) same ∙ none)
-
-  lack : (partly : Bool) (came : Came V) → ComesPlain partly came → reply_to reply_of came ≡ failure ENOMEM → ⊥
-  lack partly (Done found) plain e = ready.lacks found e
-  lack partly (Refused error) plain e = not_lack error plain e
-  lack partly (Waits own) plain e = cc
-
-number_stays : {S V : Type 0} (size : V → ℕ) (old new : S) (came : Came V) → StaysAt old new came
-    → IsFailure (reply_to (λ found. value (size found)) came) → new ≡ old
-number_stays size old new (Done found) stays failed = absurd failed
-number_stays size old new (Refused error) stays failed = stays
-number_stays size old new (Waits wake) stays failed = absurd failed
-
--- Steps
-
--- a row that a call may apply
-pub record IsGood {V : Type 0} (kernel : Kernel) (did : Did Kernel V) : Type 0 where
-  pub stays : StaysUnlessDone kernel did
-  pub plain : Plain false did
-
-on_good : {V : Type 0} (kernel : Kernel) (did : Did Files V) → StaysUnlessDone kernel.files did → Plain false did → IsGood kernel (on_files kernel did)
-on_good kernel did stays plain = record { stays = widened_stays (with_files kernel) kernel.files did stays; plain = widened_plain false (with_files kernel) did plain }
-
-told_at : {S V W : Type 0} (meaning : V → W) (old new : S) (came : Came V) → StaysAt old new came → StaysAt old new (came_as meaning came)
-told_at meaning old new (Done found) stays = tt
-told_at meaning old new (Refused error) stays = stays
-told_at meaning old new (Waits wake) stays = stays
-
-told_good : {V W : Type 0} (meaning : V → W) (kernel : Kernel) (did : Did Kernel V) → IsGood kernel did → IsGood kernel (told_as meaning did)
-told_good meaning kernel did good = record {
-  stays = record { stays = told_at meaning kernel did.state did.came good.stays.stays };
-  plain = told_plain false meaning did good.plain;
-}
-
-gives_leaves : (number : ℕ) (kernel : Kernel) (memory : List ℕ) (did : Did Kernel ℕ) (left : List ℕ) → IsGood kernel did
-    → Leaves number kernel (gives memory did left)
-gives_leaves number kernel memory did left good =
-    let ready : IsReady value = number_ready (λ n. n) in
-    record {
-      failed = λ failed. AsItWas (number_stays (λ n. n) kernel did.state did.came good.stays.stays failed);
-      waiting = λ wake e none. wait_stays value ready kernel did.state did.came good.stays.stays wake e none;
-      partly = λ wake e. inl (wait_done value ready did.came good.plain.plain wake e);
-      lacking = λ e. lack value ready false did.came good.plain.plain e;
-    }
-
-fills_leaves : (number : ℕ) (kernel : Kernel) (with_bytes : List ℕ → List ℕ) (memory : List ℕ) (did : Did Kernel (List ℕ)) (left : List ℕ) → IsGood kernel did
-    → Leaves number kernel (fills with_bytes memory did left)
-fills_leaves number kernel with_bytes memory did left good =
-    let ready : IsReady (λ (bytes : List ℕ). value (length bytes)) = number_ready length in
-    record {
-      failed = λ failed. AsItWas (number_stays length kernel did.state did.came good.stays.stays failed);
-      waiting = λ wake e none. wait_stays (λ (bytes : List ℕ). value (length bytes)) ready kernel did.state did.came good.stays.stays wake e none;
-      partly = λ wake e. inl (wait_done (λ (bytes : List ℕ). value (length bytes)) ready did.came good.plain.plain wake e);
-      lacking = λ e. lack (λ (bytes : List ℕ). value (length bytes)) ready false did.came good.plain.plain e;
-    }
-
--- a row that changes nothing, and whose bytes are stored
-stores_leaves : (number : ℕ) (kernel : Kernel) (memory : List ℕ) (address : ℕ) (did : Did Kernel (List ℕ)) (left : List ℕ) → did.state ≡ kernel → Plain false did
-    → Leaves number kernel (stores memory address did left)
-stores_leaves number kernel memory address did left looks plain = record {
-  failed = λ failed. AsItWas looks;
-  waiting = λ wake e none. looks;
-  partly = λ wake e. inl (wait_done (stored memory address) (stored_ready memory address) did.came plain.plain wake e);
-  lacking = λ e. lack (stored memory address) (stored_ready memory address) false did.came plain.plain e;
-}
-
--- a row on files that changes nothing
-row_stores : {V : Type 0} (number : ℕ) (kernel : Kernel) (memory : List ℕ) (address : ℕ) (bytes_of : V → List ℕ) (did : Did Files V) (left : List ℕ)
-    → did.state ≡ kernel.files → Plain false did → Leaves number kernel (stores memory address (told_as bytes_of (on_files kernel did)) left)
-row_stores number kernel memory address bytes_of did left looks plain =
-    stores_leaves number kernel memory address (told_as bytes_of (on_files kernel did)) left (ap (with_files kernel) looks)
-    (told_plain false bytes_of (on_files kernel did) (widened_plain false (with_files kernel) did plain))
-
-record Looks {V : Type 0} (files : Files) (did : Did Files V) : Type 0 where
-  pub same : did.state ≡ files
-
-done_looks : {V : Type 0} (files : Files) (found : V) → Looks files (done files found)
-done_looks files found = record { same = refl }
-
-some_looks : {V A : Type 0} (files : Files) (error : Errno) (found : Option A) (rest : A → Did Files V) → ((value : A) → Looks files (rest value))
-    → Looks files (with_some files error found rest)
-some_looks files error None rest looks = record { same = refl }
-some_looks files error (Some found) rest looks = looks found
-
-ruleset looks = (done_looks, some_looks)
+-- Rows that change nothing
 
 status_looks : (files : Files) (fd : ℕ) → Looks files (status files fd)
 unfolding status
@@ -196,19 +64,7 @@ window_looks : (files : Files) (fd : ℕ) → Looks files (window_size files fd)
 unfolding window_size
 window_looks files fd = search looks depth 14
 
--- What is read from memory
-
-given_fine : (found : Option (List ℕ)) → FineGiven (given found)
-given_fine None = record { fine = fine_fault }
-given_fine (Some bytes) = record { fine = tt }
-
-read_fine : {A B : Type 0} (meaning : A → B) (from : Given A) → FineGiven from → FineGiven (read_as meaning from)
-read_fine meaning (Err error) fine = record { fine = fine.fine }
-read_fine meaning (Ok found) fine = record { fine = tt }
-
-test_fine : {A : Type 0} (test : Bool) (first second : Given A) → FineGiven first → FineGiven second → FineGiven (if test then first else second)
-test_fine true first second fine other = fine
-test_fine false first second fine other = other
+-- Vectors
 
 countable_fine : (ranges : Given (List Range)) → FineGiven ranges → FineGiven (if_countable ranges)
 countable_fine (Err error) fine = record { fine = fine.fine }
@@ -295,7 +151,7 @@ after_write_leaves number may kernel memory left fd asked bytes fine =
       failed = λ failed. write_left number kernel did.state did.came (after_write memory (kernel_write kernel None fd asked bytes) left) refl refl stays failed;
       waiting = λ wake e none. write_waits kernel did.state did.came stays wake e none;
       partly = λ wake e. inr may;
-      lacking = λ e. lack value (number_ready (λ n. n)) true did.came (write_plain kernel.files None (now kernel) fd asked bytes fine).plain e;
+      lacking = λ e. absurd (lack value (number_ready (λ n. n)) true did.came (write_plain kernel.files None (now kernel) fd asked bytes fine).plain e);
     }
 
 -- Pipes
@@ -349,13 +205,10 @@ pipe2_leaves number own kernel memory address flags left =
       failed = λ failed. pair_left number own kernel wanted room did.came (pipe2_row kernel memory address flags left) refl stays refl same (subst IsFailure same failed);
       waiting = λ wake e none. pair_waits number own kernel wanted room did.came stays wake (sym same ∙ e) none;
       partly = λ wake e. inl (wait_done (pair_reply number own kernel wanted room) (pair_ready number own kernel wanted room) did.came plain wake (sym same ∙ e));
-      lacking = λ e. lack (pair_reply number own kernel wanted room) (pair_ready number own kernel wanted room) false did.came plain (sym same ∙ e);
+      lacking = λ e. absurd (lack (pair_reply number own kernel wanted room) (pair_ready number own kernel wanted room) false did.came plain (sym same ∙ e));
     }
 
 -- Commands and requests
-
-zero_good : (kernel : Kernel) (did : Did Files (Unit {0})) → StaysUnlessDone kernel.files did → Plain false did → IsGood kernel (told_zero (on_files kernel did))
-zero_good kernel did stays plain = told_good (λ _. 0) kernel (on_files kernel did) (on_good kernel did stays plain)
 
 record CommandIsGood (found : Option Command) : Type 0 where
   pub good : (kernel : Kernel) (fd argument : ℕ) → IsGood kernel (commanded kernel fd argument found)
@@ -414,28 +267,6 @@ module _ (number : ℕ) (kernel : Kernel) (memory : List ℕ) (fd address : ℕ)
   requested_leaves (Some requests.Fionclex) = cloexec_leaves false
 
 -- Calls of the table
-
-record CallLeaves (number : ℕ) (call : NativeCall) : Type 0 where
-  pub leaves : (args : List ℕ) (kernel : Kernel) (memory left : List ℕ) → Leaves number kernel (call.step args kernel memory left)
-
-abbrev CallsLeave : List NativeCall → Type 0
-CallsLeave [] = ⊤
-CallsLeave (call ∷ calls) = CallLeaves call.number call × CallsLeave calls
-
-abbrev LeavesIfAny : ℕ → Option NativeCall → Type 0
-LeavesIfAny number None = ⊤
-LeavesIfAny number (Some call) = CallLeaves number call
-
-found_leaves : (found : Bool) (number : ℕ) (call : NativeCall) (otherwise : Option NativeCall) → (number == call.number) ≡ found
-    → CallLeaves call.number call → LeavesIfAny number otherwise → LeavesIfAny number (if found then Some call else otherwise)
-found_leaves true number call otherwise e leaves others = subst (λ n. CallLeaves n call) (sym (eqb-true number call.number e)) leaves
-found_leaves false number call otherwise e leaves others = others
-
-in_leaves : (calls : List NativeCall) (otherwise : Option NativeCall) (number : ℕ) → CallsLeave calls → LeavesIfAny number otherwise
-    → LeavesIfAny number (call_in calls otherwise number)
-in_leaves [] otherwise number leave others = others
-in_leaves (call ∷ calls) otherwise number leave others =
-    found_leaves (number == call.number) number call (call_in calls otherwise number) refl leave.0 (in_leaves calls otherwise number leave.1 others)
 
 descriptors_leave : CallsLeave descriptor_calls
 unfolding dup_row dup3_row fcntl_row close_row
@@ -505,9 +336,6 @@ status_leave = (
   ),
 )
 
-done_good : (kernel : Kernel) (found : ℕ) → IsGood kernel (done kernel found)
-done_good kernel found = record { stays = done_stays kernel kernel found; plain = done_plain false kernel found }
-
 ids_leave : CallsLeave id_calls
 unfolding getpid_row getppid_row
 ids_leave = (
@@ -524,7 +352,13 @@ call_leaves number =
     (in_leaves terminal_calls _ number terminal_leaves
     (in_leaves transfer_calls _ number transfers_leave
     (in_leaves status_calls _ number status_leave
-    (in_leaves id_calls None number ids_leave tt))))
+    (in_leaves id_calls _ number ids_leave
+    (in_leaves name_calls _ number names_leave
+    (in_leaves node_calls _ number nodes_leave
+    (in_leaves system_calls _ number system_leave
+    (in_leaves clock_calls _ number clocks_leave
+    (in_leaves signal_calls _ number signals_leave
+    (in_leaves poll_calls None number polls_leave tt))))))))))
 
 unlisted_good : (kernel : Kernel) → IsGood {V = ℕ} kernel (refused kernel ENOSYS)
 unlisted_good kernel = record { stays = record { stays = refl }; plain = record { plain = record { fine = refl } } }

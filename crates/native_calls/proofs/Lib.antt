@@ -1,6 +1,13 @@
+pub mod ClockLeft
+pub mod ClockPlain
 pub mod Kept
+pub mod Leaves
 pub mod Left
 pub mod Lengths
+pub mod NamesLeft
+pub mod NamesPlain
 pub mod Plain
 pub mod PlainRows
+pub mod Same
+pub mod WalkPlain
 pub mod rows

@@ -1,6 +1,12 @@
+pub mod Clocks
 pub mod Descriptors
+pub mod Names
+pub mod Nodes
+pub mod Polls
+pub mod Signals
 pub mod Small
 pub mod Status
+pub mod System
 pub mod Table
 pub mod Terminal
 pub mod Transfers

@@ -24,6 +24,10 @@ abbrev pub read_as : {A B : Type 0} → (A → B) → Given A → Given B
 read_as meaning (Err error) = Err error
 read_as meaning (Ok bytes) = Ok (meaning bytes)
 
+-- A pointer that may be null: nothing is read there.
+abbrev pub unless_null : {A : Type 0} → ℕ → A → Option A
+unless_null address there = if address == 0 then None else Some there
+
 -- Buffers
 
 -- how many of so many bytes from an address on are there, up to the first that is not

@@ -1,5 +1,5 @@
 -- What a call does, and how what a row of the kernel came to becomes its reply (syscall(2), errno(3)).
-use Rattle.std.specs.Prelude.{ℕ, pos, neg_ℤ, List, length, if◌then◌else◌}
+use Rattle.std.specs.Prelude.{ℕ, ◌==◌, pos, neg_ℤ, List, length, if◌then◌else◌}
 use Rattle.host_mem.specs.Memory.{is_inside, written}
 use Rattle.kernel_core.specs.declared.error.Errno.TheVariants.{EFAULT}
 use Rattle.kernel_core.specs.declared.reply.Reply.{Reply}
@@ -72,6 +72,28 @@ fills with_bytes memory did left = record {
   sent = nothing;
   reply = reply_to (λ bytes. value (length bytes)) did.came;
 }
+
+-- The row's bytes are stored whole, and the reply is their number; where there is no room for all, nothing is stored, and that is EFAULT.
+
+abbrev pub counted : List ℕ → ℕ → List ℕ → Reply
+counted memory address bytes = if is_inside memory address (length bytes) then value (length bytes) else failure EFAULT
+
+abbrev pub counts : List ℕ → ℕ → Did Kernel (List ℕ) → List ℕ → NativeStep
+counts memory address did left = record (stores memory address did left) { reply = reply_to (counted memory address) did.came }
+
+-- As `stores`, but where the address is null nothing is stored, and the reply is 0. What the row did stands, also where the bytes could not
+-- be stored.
+
+abbrev pub told_unless_null : List ℕ → ℕ → List ℕ → ℕ → Reply
+told_unless_null memory address bytes number =
+    if address == 0 then value number else if is_inside memory address (length bytes) then value number else failure EFAULT
+
+abbrev pub stored_unless_null : List ℕ → ℕ → List ℕ → Reply
+stored_unless_null memory address bytes = told_unless_null memory address bytes 0
+
+abbrev pub stores_unless_null : List ℕ → ℕ → Did Kernel (List ℕ) → List ℕ → NativeStep
+stores_unless_null memory address did left =
+    record (stores memory address did left) { reply = reply_to (stored_unless_null memory address) did.came }
 
 -- A call of the table: its number, and what it does by its six arguments, the kernel, host memory and what is left of the input
 pub record NativeCall : Type 0 where

@@ -1,21 +1,25 @@
 //! Laws over the definitions, each the contract of a function that does nothing. (The rules are this
 //! project's own.)
 
-ghost use Rattle.native_calls.specs.Laws.{IsFailure, LeftByFailure, MayWaitPartly, MovesNothing};
+ghost use Rattle.native_calls.specs.Laws.{IsFailure, LeftByFailure, MayLackMemory, MayStoreTimeLeft, MayWaitPartly, MovesNothing, KeepsStreams, TellsOld};
 ghost use Rattle.native_calls.specs.Step.{failure};
 ghost use Rattle.native_calls.specs.Table.{native_call};
 ghost use Rattle.kernel_core.specs.declared.error.Errno.TheVariants.{ENOMEM};
 ghost use Rattle.kernel_core.specs.declared.reply.Reply.TheVariants.{Sleep};
 ghost use Rattle.kernel_model.specs.Shared.{Wake};
 ghost use Rattle.kernel_model.specs.State.{Kernel};
-ghost use Rattle.std.specs.Prelude.{◌≡◌, ◌≢◌, ◌⊎◌, ℕ, List, length};
+ghost use Rattle.std.specs.Prelude.{◌≡◌, ◌⊎◌, ℕ, List, length, slice_set};
 
 /// A call that fails moves nothing: no byte of memory is written, none of the input is taken, and none
-/// is sent.
+/// is sent; but pselect(2) and ppoll(2) store the time left.
 pub fn a_call_that_fails_moves_nothing()
-    ensures { (number : ℕ) (args : List ℕ) (kernel : Kernel) (memory left : List ℕ)
+    ensures moved { (number : ℕ) (args : List ℕ) (kernel : Kernel) (memory left : List ℕ)
         → IsFailure (native_call number args kernel memory left).reply
-        → MovesNothing memory left (native_call number args kernel memory left) }
+        → MovesNothing memory left (native_call number args kernel memory left)
+        ⊎ MayStoreTimeLeft number }
+    ensures streams { (number : ℕ) (args : List ℕ) (kernel : Kernel) (memory left : List ℕ)
+        → IsFailure (native_call number args kernel memory left).reply
+        → KeepsStreams left (native_call number args kernel memory left) }
 {}
 
 /// No call makes host memory longer or shorter.
@@ -24,8 +28,9 @@ pub fn a_call_keeps_the_length_of_memory()
         → length (native_call number args kernel memory left).memory ≡ length memory }
 {}
 
-/// What a call that fails leaves of the kernel: all as it was, but for SIGPIPE's post with EPIPE, and for
-/// a pipe2(2) that can't store its pair, which made a pipe and closed both its ends again.
+/// What a call that fails leaves of the kernel: all as it was, but for SIGPIPE's post with EPIPE, for a
+/// pipe2(2) that can't store its pair, which made a pipe and closed both its ends again, and for a call
+/// that did what it was asked and can't store what was there before.
 pub fn a_call_that_fails_leaves_the_kernel()
     ensures { (number : ℕ) (args : List ℕ) (kernel : Kernel) (memory left : List ℕ)
         → IsFailure (native_call number args kernel memory left).reply
@@ -44,8 +49,18 @@ pub fn a_call_that_waits_leaves_the_kernel()
         → (wake.done ≡ 0) ⊎ MayWaitPartly number }
 {}
 
-/// No call is refused with ENOMEM.
-pub fn no_call_is_refused_for_want_of_memory()
+/// Where a call is to store what was there before, or what it took away, is nothing to the kernel: it
+/// becomes what it becomes where that is told nowhere.
+pub fn where_something_is_told_is_nothing_to_the_kernel()
+    ensures { (number place : ℕ) (args : List ℕ) (kernel : Kernel) (memory left : List ℕ)
+        → TellsOld number place
+        → (native_call number args kernel memory left).kernel
+        ≡ (native_call number (slice_set args place 0) kernel memory left).kernel }
+{}
+
+/// No call is refused with ENOMEM but sigaltstack(2), for a stack that is too small.
+pub fn sigaltstack_alone_is_refused_for_want_of_memory()
     ensures { (number : ℕ) (args : List ℕ) (kernel : Kernel) (memory left : List ℕ)
-        → (native_call number args kernel memory left).reply ≢ failure ENOMEM }
+        → (native_call number args kernel memory left).reply ≡ failure ENOMEM
+        → MayLackMemory number }
 {}

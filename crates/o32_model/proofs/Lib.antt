@@ -1,2 +1,12 @@
+pub mod FileQuiet
+pub mod MapLaws
+pub mod MapQuiet
+pub mod PartsSend
+pub mod Protections
 pub mod Quiet
+pub mod ResultQuiet
+pub mod SeeingQuiet
+pub mod SignalQuiet
+pub mod TableQuiet
+pub mod WaitQuiet
 pub mod rows

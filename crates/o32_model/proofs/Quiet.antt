@@ -1,13 +1,13 @@
--- A call that fails moves nothing.
+-- A call that fails moves nothing: how steps are made, and the calls on descriptors and the small ones.
 use Rattle.std.proofs.Common.{◌≡◌, ℕ, ◌%◌, ◌^◌, ◌==◌, Bool, true, false, List, [], ◌∷◌, length, refl, ap}
 use Rattle.std.specs.Prelude.{Option, Some, None, if◌then◌else◌, ⊤}
 use Rattle.guest_space.specs.Bytes.{copied_out}
 use Rattle.guest_space.specs.Memory.{Memory}
-use Rattle.kernel_core.specs.declared.error.Errno.TheVariants.{EFAULT, ENOSYS}
+use Rattle.kernel_core.specs.declared.error.Errno.TheVariants.{EFAULT}
 use Rattle.kernel_core.specs.declared.request.Request.{Request}
 use Rattle.kernel_core.specs.declared.request.Request.TheVariants as requests
 use Rattle.kernel_model.proofs.refusals.TransferRefusals.{read_stays, write_stays}
-use Rattle.kernel_model.specs.Came.{Came, Done, Refused, Waits, Did, Given, done, refused, told_as}
+use Rattle.kernel_model.specs.Came.{Came, Done, Refused, Waits, Did, Given, done, told_as}
 use Rattle.kernel_model.specs.Clock.{now}
 use Rattle.kernel_model.specs.DescriptorRows.{make_pipe}
 use Rattle.kernel_model.specs.Laws.{StaysAt}
@@ -20,7 +20,7 @@ use Rattle.o32_model.specs.GuestBytes.{is_storable, with_stored}
 use Rattle.o32_model.specs.Laws.{IsFailure, MovesNothing}
 use Rattle.o32_model.specs.Small.{small_calls, names_bytes, number_row, exit_row, set_thread_area_row, set_robust_list_row, uname_row, getrlimit_row, prlimit_row, getrandom_row, stores_unless_null}
 use Rattle.o32_model.specs.Step.{Guest, O32Step, O32Call, value, failure, outcome_of, memory_after, comes_to, gives, stored, stores, fills}
-use Rattle.o32_model.specs.Table.{call_in, call_of, step_of, o32_call}
+use Rattle.o32_model.specs.Table.{call_in}
 use Rattle.o32_model.specs.Terminal.{terminal_calls, ioctl_row, requested}
 use Rattle.o32_model.specs.Transfers.{transfer_calls, after_read, after_write, read_row, readv_row, pread_row, write_row, writev_row, pwrite_row, small_file_limit}
 use Rattle.o32_model.specs.declared.call_words.CallWords.{CallWords}
@@ -29,38 +29,38 @@ use Rattle.o32_model.specs.declared.outcome.Outcome.TheVariants.{Exit}
 
 -- Steps
 
-abbrev Quiet : Guest → List ℕ → O32Step → Type 0
+abbrev pub Quiet : Guest → List ℕ → O32Step → Type 0
 Quiet guest left step = IsFailure step.outcome → MovesNothing guest left step
 
-comes_to_quiet : {V : Type 0} (of_value : V → Outcome) (guest : Guest) (did : Did Kernel V) (left : List ℕ)
+pub comes_to_quiet : {V : Type 0} (of_value : V → Outcome) (guest : Guest) (did : Did Kernel V) (left : List ℕ)
     → Quiet guest left (comes_to of_value guest did left)
 comes_to_quiet of_value guest did left = λ failed. record { stored = refl; set = refl; rest = refl; sent = refl }
 
-gives_quiet : (guest : Guest) (did : Did Kernel ℕ) (left : List ℕ) → Quiet guest left (gives guest did left)
+pub gives_quiet : (guest : Guest) (did : Did Kernel ℕ) (left : List ℕ) → Quiet guest left (gives guest did left)
 gives_quiet guest did left = comes_to_quiet value guest did left
 
-kept_unless : (room : Bool) (changed memory : Memory) → IsFailure (if room then value 0 else failure EFAULT)
+pub kept_unless : (room : Bool) (result : ℕ) (changed memory : Memory) → IsFailure (if room then value result else failure EFAULT)
     → (if room then changed else memory) ≡ memory
-kept_unless true changed memory failed = absurd failed
-kept_unless false changed memory failed = refl
+kept_unless true result changed memory failed = absurd failed
+kept_unless false result changed memory failed = refl
 
 stored_quiet : (words : CallWords) (memory : Memory) (address : ℕ) (came : Came (List ℕ))
     → IsFailure (outcome_of (stored memory address) words came) → memory_after (with_stored memory address) memory came ≡ memory
 stored_quiet words memory address (Done bytes) failed =
-    kept_unless (is_storable memory address (length bytes)) (copied_out memory address bytes) memory failed
+    kept_unless (is_storable memory address (length bytes)) 0 (copied_out memory address bytes) memory failed
 stored_quiet words memory address (Refused error) failed = refl
 stored_quiet words memory address (Waits wake) failed = refl
 
-stores_quiet : (guest : Guest) (address : ℕ) (did : Did Kernel (List ℕ)) (left : List ℕ) → Quiet guest left (stores guest address did left)
+pub stores_quiet : (guest : Guest) (address : ℕ) (did : Did Kernel (List ℕ)) (left : List ℕ) → Quiet guest left (stores guest address did left)
 stores_quiet guest address did left =
     λ failed. record { stored = stored_quiet guest.words guest.memory address did.came failed; set = refl; rest = refl; sent = refl }
 
-one_quiet : (null : Bool) (guest : Guest) (left : List ℕ) (one other : O32Step) → Quiet guest left one → Quiet guest left other
+pub one_quiet : (null : Bool) (guest : Guest) (left : List ℕ) (one other : O32Step) → Quiet guest left one → Quiet guest left other
     → Quiet guest left (if null then one else other)
 one_quiet true guest left one other quiet others = quiet
 one_quiet false guest left one other quiet others = others
 
-unless_null_quiet : (guest : Guest) (address : ℕ) (did : Did Kernel (List ℕ)) (left : List ℕ)
+pub unless_null_quiet : (guest : Guest) (address : ℕ) (did : Did Kernel (List ℕ)) (left : List ℕ)
     → Quiet guest left (stores_unless_null guest address did left)
 unless_null_quiet guest address did left =
     one_quiet (address == 0) guest left (gives guest (told_as (λ _. 0) did) left) (stores guest address did left)
@@ -72,7 +72,7 @@ filled_quiet with_bytes words memory (Done bytes) failed = absurd failed
 filled_quiet with_bytes words memory (Refused error) failed = refl
 filled_quiet with_bytes words memory (Waits wake) failed = refl
 
-fills_quiet : (with_bytes : List ℕ → Memory) (guest : Guest) (did : Did Kernel (List ℕ)) (left : List ℕ)
+pub fills_quiet : (with_bytes : List ℕ → Memory) (guest : Guest) (did : Did Kernel (List ℕ)) (left : List ℕ)
     → Quiet guest left (fills with_bytes guest did left)
 fills_quiet with_bytes guest did left =
     λ failed. record { stored = filled_quiet with_bytes guest.words guest.memory did.came failed; set = refl; rest = refl; sent = refl }
@@ -133,14 +133,14 @@ requested_quiet kernel guest fd address left (Some requests.Fionclex) = gives_qu
 
 -- Calls of the table
 
-record CallQuiet (call : O32Call) : Type 0 where
+pub record CallQuiet (call : O32Call) : Type 0 where
   pub quiet : (kernel : Kernel) (guest : Guest) (left : List ℕ) → Quiet guest left (call.step kernel guest left)
 
-abbrev CallsQuiet : List O32Call → Type 0
+abbrev pub CallsQuiet : List O32Call → Type 0
 CallsQuiet [] = ⊤
 CallsQuiet (call ∷ calls) = CallQuiet call × CallsQuiet calls
 
-abbrev QuietIfAny : Option O32Call → Type 0
+abbrev pub QuietIfAny : Option O32Call → Type 0
 QuietIfAny None = ⊤
 QuietIfAny (Some call) = CallQuiet call
 
@@ -149,13 +149,13 @@ found_quiet : (found : Bool) (call : O32Call) (otherwise : Option O32Call) → C
 found_quiet true call otherwise quiet others = quiet
 found_quiet false call otherwise quiet others = others
 
-in_quiet : (calls : List O32Call) (otherwise : Option O32Call) (number : ℕ) → CallsQuiet calls → QuietIfAny otherwise
+pub in_quiet : (calls : List O32Call) (otherwise : Option O32Call) (number : ℕ) → CallsQuiet calls → QuietIfAny otherwise
     → QuietIfAny (call_in calls otherwise number)
 in_quiet [] otherwise number quiet others = others
 in_quiet (call ∷ calls) otherwise number quiet others =
     found_quiet (number == call.number) call (call_in calls otherwise number) quiet.0 (in_quiet calls otherwise number quiet.1 others)
 
-transfers_quiet : CallsQuiet transfer_calls
+pub transfers_quiet : CallsQuiet transfer_calls
 unfolding read_row write_row readv_row writev_row pread_row pwrite_row
 transfers_quiet = (
   record { quiet = λ kernel guest left. after_read_quiet kernel _ guest left _ _ _ },
@@ -177,7 +177,7 @@ transfers_quiet = (
   ),
 )
 
-descriptors_quiet : CallsQuiet descriptor_calls
+pub descriptors_quiet : CallsQuiet descriptor_calls
 unfolding close_row dup_row pipe_row fcntl_row dup2_row dup3_row pipe2_row
 descriptors_quiet = (
   record { quiet = λ kernel guest left. gives_quiet guest _ left },
@@ -207,7 +207,7 @@ descriptors_quiet = (
   ),
 )
 
-terminal_quiet : CallsQuiet terminal_calls
+pub terminal_quiet : CallsQuiet terminal_calls
 unfolding ioctl_row
 terminal_quiet = (record { quiet = λ kernel guest left. requested_quiet kernel guest _ _ left _ }, tt)
 
@@ -233,7 +233,7 @@ uname_quiet : (kernel : Kernel) (guest : Guest) (address : ℕ) (left : List ℕ
 unfolding uname_row
 uname_quiet kernel guest address left = stores_quiet guest address (done kernel names_bytes) left
 
-small_quiet : CallsQuiet small_calls
+pub small_quiet : CallsQuiet small_calls
 unfolding getrlimit_row prlimit_row getrandom_row
 small_quiet = (
   record { quiet = λ kernel guest left. exit_quiet kernel guest _ left },
@@ -290,17 +290,3 @@ small_quiet = (
     ),
   ),
 )
-
-call_quiet : (number : ℕ) → QuietIfAny (call_of number)
-call_quiet number =
-    in_quiet transfer_calls _ number transfers_quiet
-    (in_quiet descriptor_calls _ number descriptors_quiet
-    (in_quiet terminal_calls _ number terminal_quiet
-    (in_quiet small_calls None number small_quiet tt)))
-
-step_quiet : (call : Option O32Call) → QuietIfAny call → (kernel : Kernel) (guest : Guest) (left : List ℕ) → Quiet guest left (step_of call kernel guest left)
-step_quiet None quiet kernel guest left = gives_quiet guest (refused kernel ENOSYS) left
-step_quiet (Some call) quiet kernel guest left = quiet.quiet kernel guest left
-
-pub o32_call_quiet : (kernel : Kernel) (guest : Guest) (left : List ℕ) → Quiet guest left (o32_call kernel guest left)
-o32_call_quiet kernel guest left = step_quiet (call_of guest.words.nr) (call_quiet guest.words.nr) kernel guest left

@@ -1,5 +1,6 @@
 -- What calls read and write in the program's memory: structures, buffers, and vectors of buffers (readv(2)). (That a structure is stored
 -- whole or not at all, and that a transfer moves the longest prefix of its bytes that can be accessed, is this project's own.)
+pub use Rattle.o32_model.specs.declared.range.Range.{Range}
 use Rattle.std.specs.Prelude.{ℕ, zero, suc, ◌+◌, ◌-◌, ◌*◌, ◌^◌, ◌==◌, ℤ, pos, nat_abs, Bool, List, [], ◌∷◌, ◌++◌, take, drop, length, slice_index_or, sum_by, Option, Some, None, is_none, Ok, Err, nat_lt, if◌then◌else◌}
 use Rattle.guest_space.specs.Access.{first_denied, readable_prefix, writable_prefix}
 use Rattle.guest_space.specs.Bytes.{bytes_at, copied_out}
@@ -49,11 +50,6 @@ abbrev pub loadable : Memory → ℕ → ℕ → List ℕ
 loadable memory address count = bytes_at memory.pages address (readable_prefix memory.pages address count)
 
 -- Vectors
-
--- one buffer of a vector
-pub record Range : Type 0 where
-  pub address : ℕ
-  pub length : ℕ
 
 -- how many buffers a vector has at most (UIO_MAXIOV of Linux include/uapi/linux/uio.h)
 abbrev pub vector_limit : ℕ

@@ -8,9 +8,11 @@ mod call_words;
 pub mod laws;
 mod log;
 mod outcome;
+mod range;
 mod wait;
 
 pub use call_words::CallWords;
 pub use log::Log;
 pub use outcome::Outcome;
+pub use range::Range;
 pub use wait::{Cause, Close, Seen, Wait};

@@ -1,6 +1,6 @@
 -- A small state for worked rows: 0, 1 and 2 are the streams, as at first, and of eight places of descriptors and descriptions and two of
 -- pipes the others are free.
-use Rattle.std.specs.Prelude.{ℕ, true, false, List, [], ◌∷◌, Option, Some, None, codes, pos, negsuc, neg_ℤ}
+use Rattle.std.specs.Prelude.{ℕ, true, false, List, [], ◌∷◌, replicate, Option, Some, None, codes, pos, negsuc, neg_ℤ}
 use Rattle.kernel_core.specs.FileContent.{no_content}
 use Rattle.kernel_core.specs.Nodes.{Nodes, Inode, NodeContent, File, Directory}
 use Rattle.kernel_core.specs.declared.open_flags.Access.TheVariants.{Read, Write, ReadWrite}
@@ -16,6 +16,7 @@ use Rattle.kernel_model.specs.declared.descriptor.Descriptor.{Descriptor}
 use Rattle.kernel_model.specs.declared.descriptor.Description.{Description}
 use Rattle.kernel_model.specs.declared.descriptor.Object.TheVariants.{ReadEnd, WriteEnd, Node}
 use Rattle.kernel_model.specs.declared.stream.Stream.TheVariants.{Input, Out, Err}
+use Rattle.layouts.specs.Number.{bytes_of}
 use Rattle.native_calls.specs.Step.{NativeStep}
 
 -- Descriptors and descriptions
@@ -147,6 +148,17 @@ some_directory = inode 2 (Directory (record { parent = Some 1; greatest = 3; ent
 unfoldable pub removed_directory : Inode
 unfolding inode
 removed_directory = inode 0 (Directory (record { parent = None; greatest = 2; entries = [] }))
+
+-- numbers of 4 and of 8 bytes, the lowest byte first, and so many zeros
+
+abbrev pub u32 : ℕ → List ℕ
+u32 value = bytes_of false 4 value
+
+abbrev pub u64 : ℕ → List ℕ
+u64 value = bytes_of false 8 value
+
+abbrev pub zeros : ℕ → List ℕ
+zeros count = replicate count 0
 
 -- Calls and replies
 

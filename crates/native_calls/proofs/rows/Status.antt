@@ -1,27 +1,15 @@
 -- Worked rows on what a descriptor has open: places, status, entries, syncing.
-use Rattle.std.specs.Prelude.{◌≡◌, ℕ, ◌-◌, ◌^◌, false, List, [], ◌∷◌, ◌++◌, replicate, Some, refl}
+use Rattle.std.specs.Prelude.{◌≡◌, ℕ, ◌-◌, ◌^◌, List, [], ◌∷◌, ◌++◌, replicate, Some, refl}
 use Rattle.std.specs.FinMap.{get, len-empty}
 use Rattle.std.specs.Ordering.{nat_cmp}
 use Rattle.kernel_core.specs.Nodes.{Nodes}
 use Rattle.kernel_model.specs.ContentRows.{seek, status, entries, sync}
 use Rattle.kernel_model.specs.State.{Kernel}
 use Rattle.kernel_model.specs.Whole.{with_files}
-use Rattle.layouts.specs.Number.{bytes_of}
-use Rattle.native_calls.proofs.rows.Small.{at_first, with_pipe_of, on_a_terminal, with_node_at, empty_file, some_directory, removed_directory, aged_file, inode, six, leaves, number, error}
+use Rattle.native_calls.proofs.rows.Small.{aged_file, at_first, empty_file, error, inode, leaves, number, on_a_terminal, removed_directory, six, some_directory, u32, u64, with_node_at, with_pipe_of, zeros}
 use Rattle.native_calls.specs.Status.{lseek_row, fstat_row, sync_row, getdents_row}
 use Rattle.native_calls.specs.Step.{NativeStep}
 use Rattle.native_calls.specs.Table.{native_call}
-
--- numbers of 4 and of 8 bytes, the lowest byte first
-abbrev u32 : ℕ → List ℕ
-u32 value = bytes_of false 4 value
-
-abbrev u64 : ℕ → List ℕ
-u64 value = bytes_of false 8 value
-
--- so many zeros
-abbrev zeros : ℕ → List ℕ
-zeros count = replicate count 0
 
 module _ (whole : Kernel) (nodes : Nodes) where
   abbrev at_start : ℕ → List ℕ → List ℕ → NativeStep

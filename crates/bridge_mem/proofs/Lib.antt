@@ -1,0 +1,4 @@
+pub mod Denials
+pub mod Iovecs
+pub mod Nul
+pub mod Ranges
