@@ -32,6 +32,7 @@ module _ (files : Files) (description : Description) (number : ℕ) where
   write_end-came bytes (Some pipe) = refl
 
 pub ruleset read_ends = (read_end-state, read_end-came)
+
 pub ruleset write_ends = (write_end-state, write_end-came)
 
 -- A pipe gives no more bytes than are asked for, and a read that waits has moved none.

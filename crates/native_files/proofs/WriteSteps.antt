@@ -60,9 +60,10 @@ module _ (files : Files) (now : ℤ) (description : Description) (node at : ℕ)
         let nodes_are : after_write files.nodes node (write_place description.flags.append at content) (take (write_length files.nodes content (write_place description.flags.append at content) (length bytes)) bytes) now ≡ nodes
         = ap (λ n. after_write files.nodes node (write_place description.flags.append at content) (take n bytes) now) (sym has.count) ∙ sym has.became in
         let end_is : write_place description.flags.append at content + write_length files.nodes content (write_place description.flags.append at content) (length bytes) ≡ written.end
-        = ap (λ n. write_place description.flags.append at content + n) (sym has.count) ∙ sym has.end in
-        (ap (λ s. s.came) came ∙ ap Done (sym has.count),
-        ap (λ s. s.state) came ∙ (λ i. after (record files { nodes = nodes_are i }) (end_is i)))
+        = ap (λ n. write_place description.flags.append at content + n) (sym has.count) ∙ sym has.end in (
+          ap (λ s. s.came) came ∙ ap Done (sym has.count),
+          ap (λ s. s.state) came ∙ (λ i. after (record files { nodes = nodes_are i }) (end_is i)),
+        )
 
     file_written : (result : Result Written CoreError) → WritesFile files.nodes now node (write_place description.flags.append at content) bytes content result nodes → WroteSo whole result files nodes after
     file_written (Ok written) has = taken written has

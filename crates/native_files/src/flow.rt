@@ -295,11 +295,7 @@ fn write_to(
 
 /// All bytes where there is room for them; of more than go whole as many as there is room for; the rest
 /// waits, or is left for a description that does not wait (pipe(7)).
-fn write_ends(
-    ends: &mut PipeEnds<Pipe>,
-    nonblock: bool,
-    bytes: &[u8],
-) -> Result<Progress, Errno>
+fn write_ends(ends: &mut PipeEnds<Pipe>, nonblock: bool, bytes: &[u8]) -> Result<Progress, Errno>
     ensures pipe { ends.new ≡ piped ends.old (write_pipe ends.old nonblock bytes.now).pipe }
     ensures came { reached result ≡ (write_pipe ends.old nonblock bytes.now).came }
 {

@@ -17,7 +17,11 @@ pub(crate) fn most_of(asked: Result<u64, Errno>, accessible: usize) -> Result<us
             if accessible == 0 {
                 return Err(Errno::EFAULT);
             }
-            Ok(count.min(accessible as u64).min(u64::from(GREATEST_TRANSFER)) as usize)
+            Ok(
+                count
+                    .min(accessible as u64)
+                    .min(u64::from(GREATEST_TRANSFER)) as usize,
+            )
         }
     }
 }

@@ -47,12 +47,7 @@ pub(crate) fn key_at(table: &Table<Description>, node_keys: &[usize], fd: u32) -
 
 /// Reads a file from byte `at` on into the beginning of a buffer, as far as it goes, and tells how many
 /// bytes. EISDIR for a directory; EBADF for a symbolic link.
-pub(crate) fn read_file(
-    vfs: &Vfs,
-    key: usize,
-    at: u64,
-    buffer: &mut [u8],
-) -> Result<usize, Errno>
+pub(crate) fn read_file(vfs: &Vfs, key: usize, at: u64, buffer: &mut [u8]) -> Result<usize, Errno>
     requires live { IsLiveKey vfs.now key }
     requires valid { IsFileSystem vfs.now.nodes }
     ensures came { came_of result ≡ came_as length (content_read at (length buffer.old) (content_at vfs.now.nodes (number_at vfs.now key))) }

@@ -5,9 +5,11 @@ use Rattle.native_vfs.specs.Keyed.{number_at}
 
 pub overflow_add-result : goal.overflow_add-result
 overflow_add-result c =
-    omega (arith,
-    write-end c.args.vfs.now.nodes c.requires.valid (number_at c.args.vfs.now c.args.key) c.in-File.ensures c.write_begin-begin.result c.in-Ok.count (length c.args.bytes.now)
-    c.write_begin-begin.type_inv c.in-Ok.ensures.answer c.in-Ok.ensures.count)
+    omega (
+      arith,
+      write-end c.args.vfs.now.nodes c.requires.valid (number_at c.args.vfs.now c.args.key) c.in-File.ensures c.write_begin-begin.result c.in-Ok.count (length c.args.bytes.now)
+          c.write_begin-begin.type_inv c.in-Ok.ensures.answer c.in-Ok.ensures.count,
+    )
 
 pub returns-in-Ok-clause-within : goal.returns-in-Ok-clause-within
 returns-in-Ok-clause-within c =
