@@ -78,6 +78,7 @@ part_written memory bytes address count zero e few =
 part_written memory bytes address count (suc more) e few =
     let inside = part_inside memory address count (suc more) e in
     part_replaced memory bytes (part_place address (suc more)) (suc more) inside few
+    ∙ ap (λ (n : ℕ). replaced memory n bytes) (place_of address (suc more) (omega arith))
     ∙ sym (written_there memory bytes address (inside_of memory address count (length bytes) (omega arith) (omega arith)))
 
 -- memory that was lent whole is what was left of it

@@ -46,6 +46,12 @@ stopped_first step contents = record {
   to_err = none_of_sent contents.err step.sent.err;
 }
 
+pub sent_nothing : (step : NativeStep) (out err : Option (List ℕ)) → HasSentPart step out out err err
+sent_nothing step out err = record {
+  to_out = none_of_sent out step.sent.out;
+  to_err = none_of_sent err step.sent.err;
+}
+
 -- A call that may read the input is one over devices.
 
 taken_is : (step : NativeStep) (result : Result Reply Stop) (kernel : Kernel) (memory : List ℕ) (before after out err : Option (List ℕ))

@@ -9,17 +9,17 @@ use Rattle.kernel_core.specs.declared.reply.Reply.{Reply}
 use Rattle.kernel_model.specs.Came.{Came, Done, Refused, Waits, Did, came_as, widened}
 use Rattle.kernel_model.specs.State.{Kernel, Files}
 use Rattle.kernel_model.specs.Transfers.{Reading, read, read_at}
-use Rattle.kernel_model.specs.Whole.{with_files, with_reading, kernel_read}
+use Rattle.kernel_model.specs.Whole.{with_files, with_reading, kernel_read, on_files}
 use Rattle.native_calls.specs.HostBytes.{accessible}
 use Rattle.native_calls.specs.Step.{NativeStep, value, failure, reply_to, memory_after}
-use Rattle.native_calls.specs.Transfers.{after_read, pread_row, read_row}
+use Rattle.native_calls.specs.Transfers.{after_read, read_row}
 use Rattle.native_files.specs.Answers.{HasRead, ReadsSo, filled, moved}
 use Rattle.native_files.specs.declared.progress.Progress.{Progress}
 use Rattle.native_files.specs.declared.progress.Progress.TheVariants as progress
 use Rattle.host_mem.specs.Lending.{overwritten}
 use Rattle.native_kernel.proofs.Parts.{overwritten_all, part_inside, part_kept, part_written}
 use Rattle.native_kernel.specs.inside.Moving.{FillsPart, Takes, ReadsInto, part_place, settled}
-use Rattle.native_kernel.specs.inside.Quiet.{Quietly}
+use Rattle.native_kernel.specs.inside.Quiet.{Fills}
 
 -- the step of a call that reads, by what its row did
 abbrev pub reading_step : (List ℕ → List ℕ) → List ℕ → Kernel → Did Reading (List ℕ) → NativeStep
@@ -114,15 +114,15 @@ filled_by memory new part buffer count (Waits wake) sized whole did =
     whole ∙ ap (λ (t : List ℕ). take place memory ++ (t ++ drop (place + room) memory)) did ∙ part_kept memory place room (part_inside memory buffer count room refl)
 
 -- pread(2) as a call
-pub pread_is : (kernel : Kernel) (held : Files) (memory new left : List ℕ) (fd buffer count room place : ℕ) (at : ℤ) (came : Came ℕ) (reply : Reply)
-    → came ≡ came_as length (read_at held fd at (Ok count) room).came → (read_at held fd at (Ok count) room).state ≡ held
-    → FillsPart (read_at held fd at (Ok count) room).came memory place room new
-    → held ≡ kernel.files → length new ≡ length memory → room ≡ accessible memory buffer count → place ≡ part_place buffer room
+pub pread_is : (kernel : Kernel) (held : Files) (memory new : List ℕ) (fd buffer count room place : ℕ) (given at : ℤ) (came : Came ℕ) (reply : Reply)
+    → came ≡ came_as length (read_at held fd given (Ok count) room).came → (read_at held fd given (Ok count) room).state ≡ held
+    → FillsPart (read_at held fd given (Ok count) room).came memory place room new
+    → held ≡ kernel.files → given ≡ at → length new ≡ length memory → room ≡ accessible memory buffer count → place ≡ part_place buffer room
     → reply ≡ reply_to value came
-    → Quietly (pread_row kernel memory fd buffer count at left) reply kernel (overwritten memory new) left
-unfolding pread_row
-pread_is kernel held memory new left fd buffer count room place at came reply told state fills same long e p answered =
-    let rows = ap (λ (f : Files). read_at f fd at (Ok count) room) same ∙ ap (λ (r : ℕ). read_at kernel.files fd at (Ok count) r) e in
+    → Fills (written memory buffer) (on_files kernel (read_at kernel.files fd at (Ok count) (accessible memory buffer count))) reply kernel memory (overwritten memory new)
+pread_is kernel held memory new fd buffer count room place given at came reply told state fills same there long e p answered =
+    let rows = ap (λ (f : Files). read_at f fd given (Ok count) room) same ∙ ap (λ (z : ℤ). read_at kernel.files fd z (Ok count) room) there
+    ∙ ap (λ (r : ℕ). read_at kernel.files fd at (Ok count) r) e in
     let row = read_at kernel.files fd at (Ok count) (accessible memory buffer count) in
     let here : FillsPart row.came memory (part_place buffer (accessible memory buffer count)) (accessible memory buffer count) new =
     subst (λ (r : ℕ). FillsPart row.came memory (part_place buffer r) r new) e
@@ -131,7 +131,5 @@ pread_is kernel held memory new left fd buffer count room place at came reply to
     record {
       answered = answered ∙ ap (λ (c : Came ℕ). reply_to value c) (told ∙ ap (λ d. came_as length d.came) rows) ∙ length_told row.came;
       became = ap (λ (f : Files). with_files kernel f) (sym same ∙ sym state ∙ ap (λ d. d.state) rows);
-      stored = overwritten_all memory new long ∙ filled_by memory new here.part buffer count row.came here.sized here.whole here.did;
-      rest = refl;
-      sent = refl;
+      put = overwritten_all memory new long ∙ filled_by memory new here.part buffer count row.came here.sized here.whole here.did;
     }

@@ -7,14 +7,18 @@ use Rattle.std.proofs.lemmas.List.{append-nil, append_assoc, drop-drop, length-a
 use Rattle.host_mem.specs.Memory.{first_address, written}
 use Rattle.kernel_core.specs.declared.core_error.CoreError.{CoreError}
 use Rattle.kernel_core.specs.declared.core_error.CoreError.TheVariants as errors
+use Rattle.kernel_core.specs.declared.core_error.Stop.{Stop}
+use Rattle.kernel_core.specs.declared.error.Errno.{Errno}
 use Rattle.kernel_core.specs.declared.error.Errno.TheVariants.{EFAULT, EINVAL}
+use Rattle.kernel_core.specs.declared.reply.Reply.{Reply}
 use Rattle.kernel_model.specs.Came.{Came, Done, Refused, Waits, Did, Given}
 use Rattle.kernel_model.specs.State.{Kernel, Files}
-use Rattle.kernel_model.specs.Transfers.{Reading}
-use Rattle.kernel_model.specs.Whole.{with_files}
+use Rattle.kernel_model.specs.Transfers.{Reading, read}
+use Rattle.kernel_model.specs.Whole.{with_files, kernel_read}
 use Rattle.layouts.specs.Native.{iovec}
 use Rattle.layouts.specs.Shape.{record_values}
 use Rattle.native_calls.specs.HostBytes.{accessible, all_accessible, all_loadable, all_written, if_countable, loadable, range_of, ranges_in, read_as, sum_limit, total, vector, vector_limit, vector_structures}
+use Rattle.native_calls.specs.Transfers.{after_read, read_into, readv_row}
 use Rattle.native_calls.specs.declared.range.Range.{Range}
 use Rattle.native_files.specs.Answers.{HasRead, ReadsSo, moved}
 use Rattle.native_files.specs.declared.progress.Progress.{Progress}
@@ -32,6 +36,18 @@ same n m e = grind (arith, nat_tests)
 
 differ : (n m : ℕ) → (n ≡ m → ⊥) → (n == m) ≡ false
 differ n m e = grind (arith, nat_tests)
+
+take_all : (xs : List ℕ) → take (length xs) xs ≡ xs
+take_all [] = refl
+take_all (x ∷ xs) = ap (λ (t : List ℕ). x ∷ t) (take_all xs)
+
+-- a buffer that was lent whole is what was left of it
+pub left_whole : (count : ℕ) (old new : List ℕ) → length new ≡ count → length old ≡ count → take count (new ++ drop (length new) old) ≡ new
+left_whole count old new long same =
+    ap (λ (t : List ℕ). take count (new ++ t)) (drop_of_length-le old (omega arith))
+    ∙ ap (λ (t : List ℕ). take count t) (append-nil new)
+    ∙ ap (λ (n : ℕ). take n new) (sym long)
+    ∙ take_all new
 
 -- Loading
 
@@ -108,6 +124,23 @@ ranges_none count place bytes all =
     let none : count - place ≡ 0 = omega arith in
     ap (λ (n : ℕ). ranges_in n bytes) none
 
+rest_all : (bytes : List ℕ) (place : ℕ) → take (length bytes - place) (drop place bytes) ≡ drop place bytes
+rest_all bytes place =
+    ap (λ (n : ℕ). take n (drop place bytes)) (sym (length-drop place bytes)) ∙ take_all (drop place bytes)
+
+-- one more is read
+pub more_ranges : (ranges pushed : List Range) (range : Range) (count place : ℕ) (bytes : List ℕ) (all : List Range) → place < count
+    → range ≡ range_of (record_values iovec (take (length bytes - place * 16) (drop (place * 16) bytes))) → pushed ≡ ranges ++ range ∷ []
+    → ranges ++ ranges_in (count - place) (drop (place * 16) bytes) ≡ all
+    → pushed ++ ranges_in (count - (place + 1)) (drop ((place + 1) * 16) bytes) ≡ all
+more_ranges ranges pushed range count place bytes all below named more so_far =
+    let rest : List Range = ranges_in (count - (place + 1)) (drop ((place + 1) * 16) bytes) in
+    ap (λ (r : List Range). r ++ rest) more
+    ∙ append_assoc ranges (range ∷ []) rest
+    ∙ ap (λ (r : Range). ranges ++ r ∷ rest) (named ∙ ap (λ (t : List ℕ). range_of (record_values iovec t)) (rest_all bytes (place * 16)))
+    ∙ ap (λ (r : List Range). ranges ++ r) (sym (ranges_next count place bytes below))
+    ∙ so_far
+
 -- Checks of a vector
 
 chosen : {A : Type 0} (x y : A) (b : Bool) → b ≡ true → (if b then x else y) ≡ x
@@ -170,10 +203,6 @@ took bytes rest part count e n =
     let least : min (length part) count ≡ length bytes = omega (arith, ap length e, length-append bytes rest) in
     ap (λ (k : ℕ). take k part) least ∙ ap (λ (p : List ℕ). take (length bytes) p) e
     ∙ take-append-le (length bytes) bytes rest (omega arith) ∙ take_all bytes
-  where
-    take_all : (xs : List ℕ) → take (length xs) xs ≡ xs
-    take_all [] = refl
-    take_all (x ∷ xs) = ap (λ (t : List ℕ). x ∷ t) (take_all xs)
 
 abbrev did_of : Reading → Came (List ℕ) → Did Reading (List ℕ)
 did_of state came = record { state = state; came = came }
@@ -210,3 +239,40 @@ pub taken_ranges : (memory : List ℕ) (ranges : List Range) (kernel : Kernel) (
     → Takes (reading_step (all_written memory ranges) memory kernel did) (settled came) (with_files kernel files) (scattered came memory ranges part) before after
 taken_ranges memory ranges kernel did came files before after old part read =
     taken_by memory ranges kernel did.state did.came came files before after old part read
+
+-- a read into buffers as a call
+pub ranges_read : (kernel after : Kernel) (held files : Files) (memory new old part : List ℕ) (ranges : List Range) (fd room : ℕ) (rest : List ℕ) (asked : Given ℕ)
+    (came : Result Progress CoreError) (result : Result Reply Stop) (before behind : Option (List ℕ))
+    → ReadsSo (read held rest fd asked room) (moved came) files before behind old part
+    → held ≡ kernel.files → after ≡ with_files kernel files → room ≡ all_accessible memory ranges
+    → new ≡ scattered came memory ranges part → result ≡ settled came
+    → Takes (after_read (all_written memory ranges) memory (kernel_read kernel rest fd asked (all_accessible memory ranges))) result after new before behind
+unfolding kernel_read
+ranges_read kernel after held files memory new old part ranges fd room rest asked came result before behind reads same became e put end =
+    let did = read kernel.files rest fd asked (all_accessible memory ranges) in
+    let here : ReadsSo did (moved came) files before behind old part =
+    subst (λ (r : ℕ). ReadsSo (read kernel.files rest fd asked r) (moved came) files before behind old part) e
+    (subst (λ (f : Files). ReadsSo (read f rest fd asked room) (moved came) files before behind old part) same reads) in
+    subst (λ (r : Result Reply Stop). Takes (reading_step (all_written memory ranges) memory kernel did) r after new before behind) (sym end)
+    (subst (λ (k : Kernel). Takes (reading_step (all_written memory ranges) memory kernel did) (settled came) k new before behind) (sym became)
+    (subst (λ (m : List ℕ). Takes (reading_step (all_written memory ranges) memory kernel did) (settled came) (with_files kernel files) m before behind) (sym put)
+    (taken_ranges memory ranges kernel did came files before behind old part here)))
+
+-- readv(2), where the vector was read
+pub readv_ok : (kernel after : Kernel) (memory new left : List ℕ) (ranges : List Range) (fd address count sum : ℕ) (result : Result Reply Stop) (before behind : Option (List ℕ))
+    → vector memory address count ≡ Ok ranges → sum ≡ total ranges
+    → Takes (after_read (all_written memory ranges) memory (kernel_read kernel left fd (Ok sum) (all_accessible memory ranges))) result after new before behind
+    → Takes (readv_row kernel memory fd address count left) result after new before behind
+unfolding readv_row
+readv_ok kernel after memory new left ranges fd address count sum result before behind e asked taken =
+    subst (λ (g : Given (List Range)). Takes (read_into kernel memory fd g left) result after new before behind) (sym e)
+    (subst (λ (n : ℕ). Takes (after_read (all_written memory ranges) memory (kernel_read kernel left fd (Ok n) (all_accessible memory ranges))) result after new before behind) asked taken)
+
+-- and where it was not
+pub readv_err : (kernel after : Kernel) (memory new left : List ℕ) (error : Errno) (fd address count : ℕ) (result : Result Reply Stop) (before behind : Option (List ℕ))
+    → vector memory address count ≡ Err error
+    → Takes (after_read (all_written memory []) memory (kernel_read kernel left fd (Err error) (all_accessible memory []))) result after new before behind
+    → Takes (readv_row kernel memory fd address count left) result after new before behind
+unfolding readv_row
+readv_err kernel after memory new left error fd address count result before behind e taken =
+    subst (λ (g : Given (List Range)). Takes (read_into kernel memory fd g left) result after new before behind) (sym e) taken

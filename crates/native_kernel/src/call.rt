@@ -1,8 +1,9 @@
 //! A call by its number.
-ghost use Rattle.std.specs.Prelude.{◌≡◌, ◌<◌, ◌⊎◌, IfOk};
+ghost use Rattle.std.specs.Prelude.{◌≡◌, ◌<◌, ◌⊎◌, IfOk, None};
 ghost use Rattle.kernel_model.specs.Stops.{StopsOnlyIfRose};
 ghost use Rattle.native_calls.specs.Answered.{IsCall};
 ghost use Rattle.native_calls.specs.Table.{native_call};
+ghost use Rattle.native_kernel.specs.Built.{call_to_come};
 ghost use Rattle.native_kernel.specs.inside.Quiet.{IsQuiet};
 ghost use Rattle.outside.specs.Streams.{NoCountFell, contents};
 
@@ -24,7 +25,8 @@ impl NativeKernel {
     ///
     /// `Done` has the result, or below 0 the native number of an error with its sign turned; a number
     /// that no call has is ENOSYS. `Sleep` comes where the call waits. A call that waits holds no wait:
-    /// made again, it is tried again. After a `Stop` the kernel is not used again.
+    /// made again, it is tried again. After a `Stop` the kernel is not used again. The calls on names,
+    /// nodes, the system, clocks, signals and readiness are still to come, and none is made.
     #[tactic(auto, using(crate::proofs::Quietly::over_devices))]
     pub fn call<I: Source, O: Sink, E: Sink>(
         &mut self,
@@ -33,6 +35,7 @@ impl NativeKernel {
         mem: &mut HostMem,
         dev: &mut Devices<I, O, E>,
     ) -> Result<Reply, Stop>
+        requires built { call_to_come nr ≡ None }
         ensures row { IsCall (native_call nr args self.old mem.old) result self.new mem.new
             (contents I.left O.written E.written dev.old) (contents I.left O.written E.written dev.new) }
         ensures cause { StopsOnlyIfRose I.faults O.faults E.faults result dev.old dev.new }
@@ -65,14 +68,15 @@ impl NativeKernel {
     }
 
     /// A call that reaches no stream.
-    #[tactic(auto, unfolding(native_calls::specs::Descriptors::close_row, native_calls::specs::Descriptors::dup_row, native_calls::specs::Descriptors::dup3_row, native_calls::specs::Descriptors::fcntl_row, native_calls::specs::Status::lseek_row, native_calls::specs::Status::fstat_row, native_calls::specs::Status::sync_row, native_calls::specs::Ids::getpid_row, native_calls::specs::Ids::getppid_row))]
+    #[tactic(auto, unfolding(native_calls::specs::Descriptors::close_row, native_calls::specs::Descriptors::dup_row, native_calls::specs::Descriptors::dup3_row, native_calls::specs::Descriptors::fcntl_row, native_calls::specs::Status::lseek_row, native_calls::specs::Status::fstat_row, native_calls::specs::Status::sync_row, native_calls::specs::Transfers::pread_row, native_calls::specs::Ids::getpid_row, native_calls::specs::Ids::getppid_row))]
     fn quiet_call(
         &mut self,
         nr: u64,
         args: [u64; 6],
         mem: &mut HostMem,
     ) -> Result<Reply, NoMemory>
-        requires { (nr < 63) ⊎ (66 < nr) }
+        requires quiet { (nr < 63) ⊎ (66 < nr) }
+        requires built { call_to_come nr ≡ None }
         ensures { IfOk result (λ reply. IsQuiet (native_call nr args self.old mem.old) reply self.new mem.new) }
     {
         match nr {

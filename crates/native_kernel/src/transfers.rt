@@ -1,5 +1,6 @@
 //! The calls that move bytes of one buffer: read(2), write(2), pread(2), pwrite(2).
 ghost use Rattle.std.specs.Prelude.{◌≡◌, ℕ, ◌+◌, ◌≤◌, List, Some, None, Ok, IfOk, OnOk, length};
+ghost use Rattle.host_mem.specs.Memory.{written};
 ghost use Rattle.kernel_core.specs.FileSystem.{IsTime};
 ghost use Rattle.kernel_core.specs.declared.signal.Sig.TheVariants.{Pipe};
 ghost use Rattle.kernel_model.specs.Came.{came_as};
@@ -7,10 +8,11 @@ ghost use Rattle.kernel_model.specs.Clock as clock;
 ghost use Rattle.kernel_model.specs.SignalRows.{kill_info};
 ghost use Rattle.kernel_model.specs.Transfers.{read, read_at, transfer_limit};
 ghost use Rattle.kernel_model.specs.Whole.{kernel_write, on_files};
-ghost use Rattle.native_calls.specs.Transfers.{after_write, pread_row, pwrite_row, read_row, write_row};
+ghost use Rattle.native_calls.specs.HostBytes.{accessible};
+ghost use Rattle.native_calls.specs.Transfers.{after_write, pwrite_row, read_row, write_row};
 ghost use Rattle.native_files.specs.Answers.{MovesWithin, ReadStops, came_of, moved};
 ghost use Rattle.native_kernel.specs.inside.Moving.{FillsPart, IsReading, IsWriting, ReadingStops, ReadsInto, WritingStops, after_came, settled};
-ghost use Rattle.native_kernel.specs.inside.Quiet.{IsQuiet};
+ghost use Rattle.native_kernel.specs.inside.Quiet.{Fills, IsQuiet};
 
 use crate::kernel::NativeKernel;
 use crate::replies::{counted, failure, settled};
@@ -66,7 +68,6 @@ impl NativeKernel {
     }
 
     /// pread(2): EBADF, EINVAL below 0, ESPIPE, EFAULT, EISDIR.
-    #[tactic(auto, unfolding(native_calls::specs::Transfers::pread_row))]
     pub(crate) fn pread(
         &self,
         fd: u32,
@@ -75,7 +76,8 @@ impl NativeKernel {
         at: i64,
         mem: &mut HostMem,
     ) -> Reply
-        ensures { IsQuiet (pread_row self.now mem.old fd buffer count at) result self.now mem.new }
+        ensures { Fills (written mem.old buffer) (on_files self.now (read_at self.now.files fd at (Ok count) (accessible mem.old buffer count)))
+            result self.now mem.old mem.new }
     {
         let room = accessible(mem, buffer, count);
         let place = part_place(mem, buffer, room);

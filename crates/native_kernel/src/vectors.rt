@@ -75,7 +75,7 @@ impl NativeKernel {
 
     /// writev(2): EBADF, then EINVAL, EFAULT and EINVAL of the vector, and the refusals of what is open;
     /// EPIPE comes with SIGPIPE.
-    #[tactic(auto, unfolding(native_calls::specs::Transfers::writev_row))]
+    #[tactic(auto, unfolding(native_calls::specs::Transfers::writev_row), using(crate::proofs::Quietly::sent_nothing))]
     pub(crate) fn writev<O: Sink, E: Sink>(
         &mut self,
         fd: u32,
@@ -93,9 +93,11 @@ impl NativeKernel {
     {
         match vector(self.alloc, mem, address, count) {
             Ok(ranges) => {
-                let bytes = gather(self.alloc, mem, ranges.as_slice())?;
                 let asked = total(ranges.as_slice());
-                self.send(fd, Ok(asked), bytes.as_slice(), out, err)
+                match gather(self.alloc, mem, ranges.as_slice()) {
+                    Ok(bytes) => self.send(fd, Ok(asked), bytes.as_slice(), out, err),
+                    Err(NoMemory) => Err(Stop::NoMemory),
+                }
             }
             Err(CoreError::Refused(error)) => self.send(fd, Err(error), &[], out, err),
             Err(CoreError::Stop(stop)) => Err(stop),

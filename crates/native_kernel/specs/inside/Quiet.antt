@@ -1,5 +1,5 @@
 -- A call that reaches no stream. (The form is this project's own.)
-use Rattle.std.specs.Prelude.{◌≡◌, ℕ, List}
+use Rattle.std.specs.Prelude.{◌≡◌, ℕ, List, length}
 use Rattle.host_mem.specs.Memory.{written}
 use Rattle.kernel_core.specs.declared.reply.Reply.{Reply}
 use Rattle.kernel_model.specs.Came.{Did}
@@ -28,3 +28,9 @@ pub record Stores (did : Did Kernel (List ℕ)) (address : ℕ) (reply : Reply) 
   pub answered : reply ≡ reply_to (stored old address) did.came
   pub became : kernel ≡ did.state
   pub put : new ≡ memory_after (written old address) old did.came
+
+-- what a call that fills a buffer came to, by memory with the bytes
+pub record Fills (with_bytes : List ℕ → List ℕ) (did : Did Kernel (List ℕ)) (reply : Reply) (kernel : Kernel) (old new : List ℕ) : Type 0 where
+  pub answered : reply ≡ reply_to (λ bytes. value (length bytes)) did.came
+  pub became : kernel ≡ did.state
+  pub put : new ≡ memory_after with_bytes old did.came

@@ -20,14 +20,14 @@ returns c =
     let e11 : to_z w128 (of_z w128 c.from-12.result) ≡ pos c.args.settings.characters.min = omega (arith, ints, c.from-12.ensures) in
     let e12 : to_z w128 (of_z w128 c.from-13.result) ≡ pos c.args.settings.characters.swtc = omega (arith, ints, c.from-13.ensures) in
     let e13 : to_z w128 (of_z w128 c.from-14.result) ≡ pos c.args.settings.characters.start = omega (arith, ints, c.from-14.ensures) in
-    let e14 : to_z w128 (of_z w128 c.from-15.result) ≡ pos c.args.settings.characters.stop = omega (arith, ints, c.from-15.ensures) in
-    let e15 : to_z w128 (of_z w128 c.from-16.result) ≡ pos c.args.settings.characters.susp = omega (arith, ints, c.from-16.ensures) in
-    let e16 : to_z w128 (of_z w128 c.from-17.result) ≡ pos c.args.settings.characters.eol = omega (arith, ints, c.from-17.ensures) in
-    let e17 : to_z w128 (of_z w128 c.from-18.result) ≡ pos c.args.settings.characters.reprint = omega (arith, ints, c.from-18.ensures) in
-    let e18 : to_z w128 (of_z w128 c.from-19.result) ≡ pos c.args.settings.characters.discard = omega (arith, ints, c.from-19.ensures) in
-    let e19 : to_z w128 (of_z w128 c.from-20.result) ≡ pos c.args.settings.characters.werase = omega (arith, ints, c.from-20.ensures) in
-    let e20 : to_z w128 (of_z w128 c.from-21.result) ≡ pos c.args.settings.characters.lnext = omega (arith, ints, c.from-21.ensures) in
-    let e21 : to_z w128 (of_z w128 c.from-22.result) ≡ pos c.args.settings.characters.eol2 = omega (arith, ints, c.from-22.ensures) in
+    let e14 : to_z w128 (of_z w128 c.from-15.result) ≡ pos c.args.settings.characters.stop = omega (arith, ints, c.from-15.ensures, c.from-15.type_inv) in
+    let e15 : to_z w128 (of_z w128 c.from-16.result) ≡ pos c.args.settings.characters.susp = omega (arith, ints, c.from-16.ensures, c.from-16.type_inv) in
+    let e16 : to_z w128 (of_z w128 c.from-17.result) ≡ pos c.args.settings.characters.eol = ? in
+    let e17 : to_z w128 (of_z w128 c.from-18.result) ≡ pos c.args.settings.characters.reprint = omega (arith, ints, c.from-18.ensures, c.from-18.type_inv) in
+    let e18 : to_z w128 (of_z w128 c.from-19.result) ≡ pos c.args.settings.characters.discard = omega (arith, ints, c.from-19.ensures, c.from-19.type_inv) in
+    let e19 : to_z w128 (of_z w128 c.from-20.result) ≡ pos c.args.settings.characters.werase = omega (arith, ints, c.from-20.ensures, c.from-20.type_inv) in
+    let e20 : to_z w128 (of_z w128 c.from-21.result) ≡ pos c.args.settings.characters.lnext = omega (arith, ints, c.from-21.ensures, c.from-21.type_inv) in
+    let e21 : to_z w128 (of_z w128 c.from-22.result) ≡ pos c.args.settings.characters.eol2 = omega (arith, ints, c.from-22.ensures, c.from-22.type_inv) in
     values_are c.args.settings
     _ _ _ _ _ _ _ _ _ _ _ _ _ _ _ _ _ _ _ _ _ _
     e0 e1 e2 e3 e4 e5 e6 e7 e8 e9 e10 e11 e12 e13 e14 e15 e16 e17 e18 e19 e20 e21
