@@ -26,7 +26,6 @@ all_of_it before after text gained = record {
   gained = gained;
 }
 
-
 sent_as : (memory left : List ℕ) (kernel : Kernel) (did : Did Writing ℕ) (came : Came ℕ) (files : Files)
     (out_before out_after err_before err_after : Option (List ℕ))
     → HasWritten did came files out_before out_after err_before err_after

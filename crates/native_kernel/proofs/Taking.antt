@@ -64,11 +64,11 @@ taken_into kernel memory new buffer count room did came files before after e int
     let old : List ℕ = take room (drop place memory) in
     taken_by (written memory buffer) memory new kernel did.state did.came came files before after old into.part
     (λ bytes h. into.whole
-        ∙ ap (λ (t : List ℕ). take place memory ++ (t ++ drop (place + room) memory)) h
-        ∙ part_written memory bytes buffer count room e (few_of bytes (drop (length bytes) old) into.part room h into.sized))
+    ∙ ap (λ (t : List ℕ). take place memory ++ (t ++ drop (place + room) memory)) h
+    ∙ part_written memory bytes buffer count room e (few_of bytes (drop (length bytes) old) into.part room h into.sized))
     (λ h. into.whole
-        ∙ ap (λ (t : List ℕ). take place memory ++ (t ++ drop (place + room) memory)) h
-        ∙ part_kept memory place room (part_inside memory buffer count room e))
+    ∙ ap (λ (t : List ℕ). take place memory ++ (t ++ drop (place + room) memory)) h
+    ∙ part_kept memory place room (part_inside memory buffer count room e))
     into.did
 
 -- read(2) as a call

@@ -1,7 +1,10 @@
 -- The settings of a terminal in a structure.
-use Rattle.std.proofs.Common.{◌≡◌, ℕ, ◌<◌, ◌^◌, Bool, true, false, ◌&&◌, List, [], ◌∷◌, slice_index_or, ℤ, pos, nat_lt, Option, Some, Ok, refl, ap, ◌∙◌, arith}
+use Rattle.std.proofs.Common.{◌≡◌, ℕ, ◌<◌, ◌^◌, Bool, true, false, ◌&&◌, List, [], ◌∷◌, slice_index_or, ℤ, pos, nat_lt, to_z, of_z, Option, Some, Ok, refl, ap, ◌∙◌, arith}
 use Rattle.std.specs.Prelude.{slice_index}
 use Rattle.std.proofs.lemmas.Bool.Decides.{nat_tests}
+use Rattle.std.proofs.lemmas.Int.{ints}
+use lib.Signed.{mag}
+use mir.Syntax.{w128}
 use Rattle.host_mem.specs.Memory.{bytes_at}
 use Rattle.kernel_model.specs.Came.{Given}
 use Rattle.kernel_model.specs.declared.terminal.TerminalCharacters.{TerminalCharacters}
@@ -10,6 +13,10 @@ use Rattle.layouts.specs.Native.{termios}
 use Rattle.layouts.specs.Shape.{are_in_range}
 use Rattle.native_calls.specs.HostBytes.{given, read_as}
 use Rattle.native_calls.specs.Terminal.{characters_of, settings_at, settings_in, settings_of, settings_values}
+
+-- a number as code keeps it among signed ones of 128 bits
+pub kept : (value : ℤ) (number : ℕ) → value ≡ pos number → mag value < 170141183460469231731687303715884105728 → to_z w128 (of_z w128 value) ≡ pos number
+kept value number e small = omega (arith, ints)
 
 pub characters_are : (fields : List ℕ) (v0 v1 v2 v3 v4 v5 v6 v7 v8 v9 v10 v11 v12 v13 v14 v15 v16 : ℕ)
     → v0 ≡ slice_index fields 5 → v1 ≡ slice_index fields 6 → v2 ≡ slice_index fields 7 → v3 ≡ slice_index fields 8 → v4 ≡ slice_index fields 9 → v5 ≡ slice_index fields 10 → v6 ≡ slice_index fields 11 → v7 ≡ slice_index fields 12 → v8 ≡ slice_index fields 13 → v9 ≡ slice_index fields 14 → v10 ≡ slice_index fields 15 → v11 ≡ slice_index fields 16 → v12 ≡ slice_index fields 17 → v13 ≡ slice_index fields 18 → v14 ≡ slice_index fields 19 → v15 ≡ slice_index fields 20 → v16 ≡ slice_index fields 21

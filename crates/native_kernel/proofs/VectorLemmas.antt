@@ -93,8 +93,9 @@ counted_part memory range later part =
 drop_least : (bytes : List ℕ) (count least : ℕ) → least ≡ min count (length bytes) → drop least bytes ≡ drop count bytes
 drop_least bytes count least e =
     elim (cases_lt count (length bytes)) [
-      inl below ↦ ap (λ (n : ℕ). drop n bytes) (omega (arith, e))
-    | inr above ↦ drop_of_length-le bytes (omega (arith, e)) ∙ sym (drop_of_length-le bytes above) ]
+      | inl below ↦ ap (λ (n : ℕ). drop n bytes) (omega (arith, e))
+      | inr above ↦ drop_of_length-le bytes (omega (arith, e)) ∙ sym (drop_of_length-le bytes above)
+    ]
 
 take_least : (bytes : List ℕ) (count least : ℕ) → least ≡ min count (length bytes) → take least bytes ≡ take count bytes
 take_least bytes count least e = ap (λ (n : ℕ). take n bytes) e ∙ take_min count bytes

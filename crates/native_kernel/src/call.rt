@@ -11,7 +11,7 @@ use crate::arguments::low_word;
 use crate::ids;
 use crate::kernel::NativeKernel;
 use crate::numbers::{
-    CLOSE, DUP, DUP3, FCNTL, FDATASYNC, FSTAT, FSYNC, GETDENTS64, GETPID, GETPPID, IOCTL, LSEEK, PIPE2,
+    CLOSE, DUP, DUP3, FCNTL, FDATASYNC, FSTAT, FSYNC, GETPID, GETPPID, IOCTL, LSEEK, PIPE2,
     PREAD64, PWRITE64, READ, READV, WRITE, WRITEV,
 };
 use crate::replies::failure;
@@ -25,8 +25,8 @@ impl NativeKernel {
     ///
     /// `Done` has the result, or below 0 the native number of an error with its sign turned; a number
     /// that no call has is ENOSYS. `Sleep` comes where the call waits. A call that waits holds no wait:
-    /// made again, it is tried again. After a `Stop` the kernel is not used again. The calls on names,
-    /// nodes, the system, clocks, signals and readiness are still to come, and none is made.
+    /// made again, it is tried again. After a `Stop` the kernel is not used again. getdents64 and the
+    /// calls on names, nodes, the system, clocks, signals and readiness are still to come, and none is made.
     #[tactic(auto, using(crate::proofs::Quietly::over_devices))]
     pub fn call<I: Source, O: Sink, E: Sink>(
         &mut self,
@@ -69,12 +69,7 @@ impl NativeKernel {
 
     /// A call that reaches no stream.
     #[tactic(auto, unfolding(native_calls::specs::Descriptors::close_row, native_calls::specs::Descriptors::dup_row, native_calls::specs::Descriptors::dup3_row, native_calls::specs::Descriptors::fcntl_row, native_calls::specs::Status::lseek_row, native_calls::specs::Status::fstat_row, native_calls::specs::Status::sync_row, native_calls::specs::Transfers::pread_row, native_calls::specs::Ids::getpid_row, native_calls::specs::Ids::getppid_row))]
-    fn quiet_call(
-        &mut self,
-        nr: u64,
-        args: [u64; 6],
-        mem: &mut HostMem,
-    ) -> Result<Reply, NoMemory>
+    fn quiet_call(&mut self, nr: u64, args: [u64; 6], mem: &mut HostMem) -> Result<Reply, NoMemory>
         requires quiet { (nr < 63) ⊎ (66 < nr) }
         requires built { call_to_come nr ≡ None }
         ensures { IfOk result (λ reply. IsQuiet (native_call nr args self.old mem.old) reply self.new mem.new) }
@@ -86,10 +81,21 @@ impl NativeKernel {
             IOCTL => Ok(self.ioctl(low_word(args[0]), low_word(args[1]), args[2], mem)),
             CLOSE => Ok(self.close(low_word(args[0]))),
             PIPE2 => self.pipe2(args[0], low_word(args[1]), mem),
-            GETDENTS64 => Err(NoMemory),
             LSEEK => Ok(self.lseek(low_word(args[0]), args[1].cast_signed(), low_word(args[2]))),
-            PREAD64 => Ok(self.pread(low_word(args[0]), args[1], args[2], args[3].cast_signed(), mem)),
-            PWRITE64 => self.pwrite(low_word(args[0]), args[1], args[2], args[3].cast_signed(), mem),
+            PREAD64 => Ok(self.pread(
+                low_word(args[0]),
+                args[1],
+                args[2],
+                args[3].cast_signed(),
+                mem,
+            )),
+            PWRITE64 => self.pwrite(
+                low_word(args[0]),
+                args[1],
+                args[2],
+                args[3].cast_signed(),
+                mem,
+            ),
             FSTAT => Ok(self.fstat(low_word(args[0]), args[1], mem)),
             FSYNC => Ok(self.sync(low_word(args[0]))),
             FDATASYNC => Ok(self.sync(low_word(args[0]))),

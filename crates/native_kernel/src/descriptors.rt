@@ -19,10 +19,15 @@ use number_tables::NativeNumber;
 
 /// The commands of fcntl(2).
 const F_DUPFD: u32 = 0;
+
 const F_GETFD: u32 = 1;
+
 const F_SETFD: u32 = 2;
+
 const F_GETFL: u32 = 3;
+
 const F_SETFL: u32 = 4;
+
 const F_DUPFD_CLOEXEC: u32 = 1030;
 
 /// The flag of F_GETFD and F_SETFD.
@@ -30,7 +35,9 @@ const FD_CLOEXEC: u64 = 1;
 
 /// Flags of open(2) that other calls take too, by their generic numbers.
 const O_APPEND: u64 = 0x400;
+
 pub(crate) const O_NONBLOCK: u64 = 0x800;
+
 pub(crate) const O_CLOEXEC: u64 = 0x80000;
 
 impl NativeKernel {

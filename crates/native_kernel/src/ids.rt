@@ -7,6 +7,7 @@ use kernel_core::Reply;
 
 /// The id of the process, and that of its parent. (Both are this project's own.)
 const OWN_ID: i64 = 100;
+
 const PARENT_ID: i64 = 1;
 
 /// getpid(2).

@@ -42,13 +42,13 @@ impl Model for NativeKernel {
     ghost coded = { Prim.hlevel (codes, nodes_code) };
 
     ghost view = { λ k. record {
-        files = k.files;
-        clock = k.clock;
-        epoch = k.epoch;
-        timer = k.timers;
-        signals = k.signals;
-        limits = k.limits;
-        chance = record { bytes = k.chance.items; at = k.next_chance };
+      files = k.files;
+      clock = k.clock;
+      epoch = k.epoch;
+      timer = k.timers;
+      signals = k.signals;
+      limits = k.limits;
+      chance = record { bytes = k.chance.items; at = k.next_chance };
     } };
 
     ghost invariant = { λ k. k.epoch < 2 ^ 72 };

@@ -18,7 +18,6 @@ pub(crate) fn failure(error: Errno) -> Reply
     Reply::Done(-(error.to_native() as i64))
 }
 
-
 /// What a call that tells nothing came to, as a reply.
 pub(crate) fn zero(came: Result<(), Errno>) -> Reply
     ensures { result ≡ reply_to value (came_as (λ _. 0) (came_of came)) }

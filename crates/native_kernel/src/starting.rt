@@ -40,6 +40,7 @@ const DESCRIPTOR_LIMIT: Limit = Limit {
 
 /// The places of the stack's limit and that of descriptors.
 const STACK: usize = 3;
+
 const DESCRIPTORS: usize = 5;
 
 impl NativeKernel {

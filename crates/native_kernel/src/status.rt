@@ -16,9 +16,11 @@ use layouts::NativeStructure;
 use native_files::Status;
 
 const STATUS_SIZE: usize = 128;
+
 const STATUS_FIELDS: usize = 16;
 
 const BLOCK_SIZE: i128 = 4096;
+
 const NANOSECONDS_PER_SECOND: i128 = 1_000_000_000;
 
 impl NativeKernel {

@@ -17,20 +17,17 @@ use layouts::NativeStructure;
 use number_tables::NativeNumber;
 
 const SETTINGS_SIZE: usize = 36;
+
 const SETTINGS_FIELDS: usize = 24;
+
 const WINDOW_SIZE: usize = 8;
+
 const INT_SIZE: u64 = 4;
 
 impl NativeKernel {
     /// ioctl(2), by its request.
     #[tactic(auto, unfolding(native_calls::specs::Terminal::ioctl_row, kernel_model::specs::DescriptorRows::unlisted_request))]
-    pub(crate) fn ioctl(
-        &mut self,
-        fd: u32,
-        request: u32,
-        address: u64,
-        mem: &mut HostMem,
-    ) -> Reply
+    pub(crate) fn ioctl(&mut self, fd: u32, request: u32, address: u64, mem: &mut HostMem) -> Reply
         ensures { IsQuiet (ioctl_row self.old mem.old fd request address) result self.new mem.new }
     {
         match Request::of_native(u64::from(request)) {
@@ -62,7 +59,10 @@ impl NativeKernel {
     fn set_settings(&mut self, fd: u32, address: u64, mem: &HostMem) -> Reply
         ensures { Gives (told_zero (on_files self.old (set_terminal_settings self.old.files fd (settings_at mem.now address)))) result self.new }
     {
-        zero(self.files.set_terminal_settings(fd, settings_at(mem, address)))
+        zero(
+            self.files
+                .set_terminal_settings(fd, settings_at(mem, address)),
+        )
     }
 
     /// TIOCGWINSZ.

@@ -24,6 +24,7 @@ use outside::{Sink, Source};
 
 /// Who sends SIGPIPE: the process itself, by kill(2) (SI_USER).
 const SENT_BY_KILL: i32 = 0;
+
 const OWN_ID: u32 = 100;
 
 impl NativeKernel {
@@ -43,7 +44,15 @@ impl NativeKernel {
     {
         let room = accessible(mem, buffer, count);
         let place = part_place(mem, buffer, room);
-        let came = read_part(&mut self.files, fd, count, mem.as_mut_slice(), place, room, input);
+        let came = read_part(
+            &mut self.files,
+            fd,
+            count,
+            mem.as_mut_slice(),
+            place,
+            room,
+            input,
+        );
         settled(came)
     }
 
@@ -98,7 +107,10 @@ impl NativeKernel {
         ensures { IfOk result (λ reply. IsQuiet (pwrite_row self.old mem.now fd buffer count at) reply self.new mem.now) }
     {
         let now = self.real_time();
-        match self.files.write_at(now, fd, at, Ok(count), loadable(mem, buffer, count)) {
+        match self
+            .files
+            .write_at(now, fd, at, Ok(count), loadable(mem, buffer, count))
+        {
             Ok(count) => Ok(Reply::Done(count as i64)),
             Err(CoreError::Refused(error)) => Ok(failure(error)),
             Err(CoreError::Stop(_)) => Err(NoMemory),

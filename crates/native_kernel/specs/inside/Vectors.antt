@@ -34,4 +34,3 @@ abbrev pub ReadsRanges : Kernel → List ℕ → ℕ → Given ℕ → List Rang
 ReadsRanges kernel memory fd asked ranges result after new before left_after =
     (left : List ℕ) → before ≡ Some left
     → Takes (after_read (all_written memory ranges) memory (kernel_read kernel left fd asked (all_accessible memory ranges))) result after new before left_after
-
