@@ -28,7 +28,7 @@ use Rattle.native_calls.proofs.Plain.{test_fine, FineGiven, fine_invalid}
 use Rattle.native_calls.proofs.PlainRows.{bytes_ready_plain, close_on_exec_plain, close_plain, duplicate_onto_with_plain, duplicate_plain, entries_plain, make_pipe_plain, read_at_plain, read_plain, seek_plain, set_close_on_exec_plain, set_nonblock_plain, set_status_flags_plain, set_terminal_settings_plain, status_flags_plain, status_plain, sync_plain, terminal_settings_plain, unlisted_command_plain, unlisted_request_plain, window_size_plain, write_at_plain, write_plain}
 use Rattle.native_calls.specs.Arguments.{argument, word}
 use Rattle.native_calls.specs.Descriptors.{Command, commanded, commands, pipe_flags, dup_row, dup3_row, close_row, pipe2_row, fcntl_row, descriptor_calls, kept_if, pair_bytes, pair_size}
-use Rattle.native_calls.specs.HostBytes.{Range, asked, if_countable, ranges_in, read_as, structure, sum_limit, total, vector, vector_limit, vector_structures}
+use Rattle.native_calls.specs.HostBytes.{asked, if_countable, ranges_in, read_as, structure, sum_limit, total, vector, vector_limit, vector_structures}
 use Rattle.native_calls.specs.Ids.{id_calls, getpid_row, getppid_row}
 use Rattle.native_calls.specs.Laws.{IsFailure, LeftByFailure, AsItWas, BrokenPipe, PairNotStored, MayWaitPartly}
 use Rattle.native_calls.specs.Step.{NativeStep, NativeCall, value, failure, reply_to, stored}
@@ -42,6 +42,7 @@ use Rattle.native_calls.specs.Status.{status_bytes, status_calls, lseek_row, fst
 use Rattle.native_calls.specs.Table.{call_of, step_of, native_call}
 use Rattle.native_calls.specs.Terminal.{int_bytes, settings_at, settings_bytes, set_cloexec_to, set_settings, switch_at, terminal_calls, ioctl_row, requested, window_bytes}
 use Rattle.native_calls.specs.Transfers.{transfer_calls, after_read, after_write, read_row, readv_row, pread_row, write_row, writev_row, pwrite_row}
+use Rattle.native_calls.specs.declared.range.Range.{Range}
 use Rattle.number_tables.specs.Numbered.{numbered}
 use Rattle.number_tables.specs.Requests.{request_of_native}
 

@@ -4,7 +4,8 @@ use Rattle.std.specs.Prelude.{if◌then◌else◌, nat_le}
 use Rattle.std.proofs.lemmas.Bool.{leb-true}
 use Rattle.std.proofs.lemmas.List.{length-take}
 use Rattle.host_mem.specs.Memory.{first_address, end_address, replaced, written}
-use Rattle.native_calls.specs.HostBytes.{Range, all_written}
+use Rattle.native_calls.specs.HostBytes.{all_written}
+use Rattle.native_calls.specs.declared.range.Range.{Range}
 
 -- a part of a list replaced
 replaced_length : (memory : List ℕ) (place : ℕ) (bytes : List ℕ) → place + length bytes ≤ length memory

@@ -6,6 +6,7 @@ use Rattle.kernel_core.specs.declared.error.Errno.TheVariants.{EFAULT, EINVAL}
 use Rattle.kernel_model.specs.Came.{Given}
 use Rattle.layouts.specs.Native.{iovec}
 use Rattle.layouts.specs.Shape.{record_values}
+use Rattle.native_calls.specs.declared.range.Range.{Range}
 
 -- Structures
 
@@ -38,11 +39,6 @@ abbrev pub loadable : List ℕ → ℕ → ℕ → List ℕ
 loadable memory address count = take (accessible memory address count) (drop (address - first_address) memory)
 
 -- Vectors
-
--- one buffer of a vector
-pub record Range : Type 0 where
-  pub address : ℕ
-  pub length : ℕ
 
 -- how many buffers a vector has at most (UIO_MAXIOV of Linux include/uapi/linux/uio.h)
 abbrev pub vector_limit : ℕ

@@ -8,8 +8,9 @@ use Rattle.kernel_model.specs.State.{Kernel}
 use Rattle.kernel_model.specs.Transfers.{read_at, write_at}
 use Rattle.kernel_model.specs.Whole.{KernelReading, KernelWriting, on_files, kernel_read, kernel_write}
 use Rattle.native_calls.specs.Arguments.{argument, word, offset}
-use Rattle.native_calls.specs.HostBytes.{Range, accessible, loadable, vector, asked, buffers, all_accessible, all_loadable, all_written}
+use Rattle.native_calls.specs.HostBytes.{accessible, loadable, vector, asked, buffers, all_accessible, all_loadable, all_written}
 use Rattle.native_calls.specs.Step.{NativeStep, NativeCall, value, reply_to, gives, fills}
+use Rattle.native_calls.specs.declared.range.Range.{Range}
 
 -- Reading
 

@@ -8,6 +8,7 @@ use Rattle.std.proofs.lemmas.Bool.{cases_eq}
 use Rattle.std.proofs.lemmas.Bool.Decides.{nat_tests}
 use Rattle.std.proofs.lemmas.List.{length-replicate}
 use Rattle.std.proofs.lemmas.List.Folds.{sum_by-replicate}
+use Rattle.kernel_core.specs.FileSystem.{IsFileSystem}
 use Rattle.kernel_core.specs.LoadedTree.{loaded, loaded_inode}
 use Rattle.kernel_core.specs.Nodes.{Inode, Nodes}
 use Rattle.kernel_core.specs.Queries.{holds_at, holds_in}
@@ -62,10 +63,13 @@ count-free node = sum_by-replicate {X = Option Description} (λ x. cond (has_ope
 
 pub AreKept-first : (system now : Keyed) (tree : Tree) (key : ℕ) → system.nodes ≡ loaded tree → get system.keys key ≡ Some root
     → now.keys ≡ system.keys → ChangesHeld system now (node_at system key) (λ holds. holds + 1)
-    → AreKept now (free_places 1024) (replicate 1024 0) key
-AreKept-first system now tree key is at same changes = record {
-  sized = length-replicate {A = ℕ} 1024 0;
-  leads = λ number node there. absurd (let bad : None ≡ Some node = sym (ap (λ o. node_in o) (slot-free 1024 number)) ∙ there in cc);
+    → IsFileSystem now.nodes → AreKept now (free_places 1024) (replicate 1024 0) key
+AreKept-first system now tree key is at same changes valid = record {
+  keyed = record {
+    sized = length-replicate {A = ℕ} 1024 0;
+    leads = λ number node there. absurd (let bad : None ≡ Some node = sym (ap (λ o. node_in o) (slot-free 1024 number)) ∙ there in cc);
+  };
+  valid = valid;
   home = ap (λ o. is_some o) (ap (λ keys. get keys key) same ∙ at);
   holds = λ node.
       let none : holds_at system.nodes node ≡ 0 = ap (λ (n : Nodes). holds_at n node) is ∙ holds-loaded tree node in

@@ -8,6 +8,7 @@ use Rattle.std.proofs.lemmas.Bool.Decides.{nat_tests}
 use Rattle.std.proofs.lemmas.List.{get_or_past, get_or-set_same, get_or-set_other, set_past, set-set, set-get_or, length-set}
 use Rattle.std.proofs.lemmas.List.Sums.{sum_by-set}
 use Rattle.std.proofs.lemmas.Option.{same_Some}
+use Rattle.kernel_core.specs.FileSystem.{IsFileSystem}
 use Rattle.kernel_core.specs.Nodes.{Inode, Nodes}
 use Rattle.kernel_core.specs.Queries.{holds_at, holds_in}
 use Rattle.kernel_model.specs.Always.{has_open, is_node, IsTable}
@@ -19,7 +20,7 @@ use Rattle.kernel_model.specs.declared.descriptor.Description.{Description}
 use Rattle.kernel_model.specs.declared.descriptor.Object.{Object}
 use Rattle.kernel_model.specs.declared.descriptor.Object.TheVariants as objects
 use Rattle.kernel_model.proofs.LeastFree.{least_free}
-use Rattle.native_vfs.specs.Held.{ChangesHeld}
+use Rattle.native_vfs.specs.Held.{ChangesHeld, KeepsHeld}
 use Rattle.native_vfs.specs.Keyed.{Keyed, number_at as node_at, inode_at, IsLiveKey}
 use Rattle.native_files.specs.inside.Kept.{AreKept, node_in, holders_in}
 
@@ -79,10 +80,10 @@ module _ (system : Keyed) (live : List (Option Description)) (keys : List ℕ) (
   -- a description comes, changes or goes, and no other node is open
   pub AreKept-set : (number : ℕ) (o : Option Description) → node_in o ≡ node_in (slot live number) → AreKept system (set live number o) keys directory
   AreKept-set number o same = record {
-    sized = are.sized;
-    leads = λ n node at. are.leads n node (sym (node_set live number o same n) ∙ at);
+    keyed = record { sized = are.keyed.sized; leads = λ n node at. are.keyed.leads n node (sym (node_set live number o same n) ∙ at) };
     home = are.home;
     holds = λ node. are.holds node ∙ ap (λ c. c + one (node_at system directory == node)) (sym (count node));
+    valid = are.valid;
   }
     where
       count : (node : ℕ) → count_by (has_open (is_node node)) (set live number o) ≡ count_by (has_open (is_node node)) live
@@ -97,7 +98,7 @@ module _ (system : Keyed) (live : List (Option Description)) (keys : List ℕ) (
   -- The last descriptor of a description goes that has a node open.
   module _ (number node : ℕ) (at : node_in (slot live number) ≡ Some node) where
     pub key-leads : get system.keys (get_or keys number 0) ≡ Some node
-    key-leads = are.leads number node at
+    key-leads = are.keyed.leads number node at
 
     pub key-live : IsLiveKey system (get_or keys number 0)
     key-live = ap (λ o. is_some o) key-leads
@@ -165,13 +166,16 @@ module _ (system : Keyed) (live : List (Option Description)) (keys : List ℕ) (
       stays n m there here =
           let bad : None ≡ Some m = sym (ap (λ o. node_in o) (ap (slot (set live number None)) here ∙ get_or-set_same live number None None inside)) ∙ there in cc
 
-      pub AreKept-released : AreKept now (set live number None) keys directory
-      AreKept-released = record {
-        sized = are.sized;
-        leads = λ n m there.
-            let before : node_in (slot live n) ≡ Some m = sym (ap (λ o. node_in o) (get_or-set_other live number n None None (stays n m there))) ∙ there in
-            let some = count_some (set live number None) n m there in
-            (changes.keys (get_or keys n 0) m (are.leads n m before) (omega (arith, are.holds m, count_left m, some)) (omega (arith, holds_left m, some))).0;
+      pub AreKept-released : IsFileSystem now.nodes → AreKept now (set live number None) keys directory
+      AreKept-released valid = record {
+        keyed = record {
+          sized = are.keyed.sized;
+          leads = λ n m there.
+              let before : node_in (slot live n) ≡ Some m = sym (ap (λ o. node_in o) (get_or-set_other live number n None None (stays n m there))) ∙ there in
+              let some = count_some (set live number None) n m there in
+              (changes.keys (get_or keys n 0) m (are.keyed.leads n m before) (omega (arith, are.holds m, count_left m, some)) (omega (arith, holds_left m, some))).0;
+        };
+        valid = valid;
         home = ap (λ o. is_some o) home_kept;
         holds = λ m. holds_left m ∙ ap (λ h. count_by (has_open (is_node m)) (set live number None) + one (h == m)) (sym home-now);
       }
@@ -290,3 +294,14 @@ live-shared {A} table fd onto cloexec = by (number_at table fd)
     by : (o : Option ℕ) → (shared_at table onto cloexec o).live ≡ table.live
     by None = refl
     by (Some number) = refl
+
+-- a call on a node's content keeps how often nodes are held
+pub AreKept-content : (system now : Keyed) (live : List (Option Description)) (keys : List ℕ) (directory : ℕ) → now.keys ≡ system.keys → KeepsHeld system now → IsFileSystem now.nodes
+    → AreKept system live keys directory → AreKept now live keys directory
+AreKept-content system now live keys directory same held valid are = record {
+  keyed = record { sized = are.keyed.sized; leads = λ n node at. ap (λ k. get k (get_or keys n 0)) same ∙ are.keyed.leads n node at };
+  home = ap (λ k. is_some (get k directory)) same ∙ are.home;
+  holds = λ node.
+      held.holds node ∙ are.holds node ∙ ap (λ k. count_by (has_open (is_node node)) live + one (unwrap_or (get k directory) 0 == node)) (sym same);
+  valid = valid;
+}

@@ -1,5 +1,13 @@
+pub mod Asked
 pub mod Closing
+pub mod ContentSteps
+pub mod EndSteps
+pub mod Filled
 pub mod FirstFiles
+pub mod Keeping
 pub mod KeptLemmas
+pub mod NodeFacts
 pub mod PipePlaces
 pub mod PlaceLemmas
+pub mod Places
+pub mod WriteSteps

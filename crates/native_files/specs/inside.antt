@@ -1,3 +1,7 @@
+pub mod Contents
 pub mod Ends
 pub mod Events
 pub mod Kept
+pub mod Lengths
+pub mod Places
+pub mod Steps

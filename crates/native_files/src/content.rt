@@ -12,7 +12,8 @@ impl Files {
     /// the descriptor is not open; EINVAL for streams and pipes.
     #[tactic(auto, unfolding(kernel_model::specs::ContentRows::sync))]
     pub fn sync(&self, fd: u32) -> Result<(), Errno>
-        ensures { came_of result ≡ (sync self.now fd).came }
+        ensures came { came_of result ≡ (sync self.now fd).came }
+        ensures state { (sync self.now fd).state ≡ self.now }
     {
         match self.opened(fd) {
             None => Err(Errno::EBADF),
@@ -29,7 +30,8 @@ impl Files {
     /// where it leads to no terminal.
     #[tactic(auto, unfolding(kernel_model::specs::ContentRows::terminal_settings))]
     pub fn terminal_settings(&self, fd: u32) -> Result<TerminalSettings, Errno>
-        ensures { came_of result ≡ (terminal_settings self.now fd).came }
+        ensures came { came_of result ≡ (terminal_settings self.now fd).came }
+        ensures state { (terminal_settings self.now fd).state ≡ self.now }
     {
         match self.opened(fd) {
             None => Err(Errno::EBADF),
@@ -74,7 +76,8 @@ impl Files {
     /// open; ENOTTY where it leads to no terminal.
     #[tactic(auto, unfolding(kernel_model::specs::ContentRows::window_size))]
     pub fn window_size(&self, fd: u32) -> Result<Winsize, Errno>
-        ensures { came_of result ≡ (window_size self.now fd).came }
+        ensures came { came_of result ≡ (window_size self.now fd).came }
+        ensures state { (window_size self.now fd).state ≡ self.now }
     {
         match self.opened(fd) {
             None => Err(Errno::EBADF),

@@ -106,7 +106,8 @@ impl Files {
     /// Whether a descriptor is closed on execve(2) (F_GETFD of fcntl(2)). EBADF where it is not open.
     #[tactic(auto, unfolding(kernel_model::specs::DescriptorRows::close_on_exec))]
     pub fn close_on_exec(&self, fd: u32) -> Result<bool, Errno>
-        ensures { came_of result ≡ (close_on_exec self.now fd).came }
+        ensures came { came_of result ≡ (close_on_exec self.now fd).came }
+        ensures state { (close_on_exec self.now fd).state ≡ self.now }
     {
         match self.opened(fd) {
             None => Err(Errno::EBADF),
@@ -132,7 +133,8 @@ impl Files {
     /// descriptor is not open.
     #[tactic(auto, unfolding(kernel_model::specs::DescriptorRows::status_flags))]
     pub fn status_flags(&self, fd: u32) -> Result<OpenFlags, Errno>
-        ensures { came_of result ≡ (status_flags self.now fd).came }
+        ensures came { came_of result ≡ (status_flags self.now fd).came }
+        ensures state { (status_flags self.now fd).state ≡ self.now }
     {
         match self.opened(fd) {
             None => Err(Errno::EBADF),

@@ -1,11 +1,13 @@
 //! The files of a process.
-ghost use Rattle.std.specs.Prelude.{◌≡◌, ◌<◌, Some, None, OnOk, option_map};
+ghost use Rattle.std.specs.Prelude.{◌≡◌, ◌<◌, Some, None, IfSome, OnOk, length, option_map};
 ghost use Rattle.kernel_model.specs.Always.{IsTable};
 ghost use Rattle.kernel_model.specs.DescriptorRows.{after_close, after_duplicate};
-ghost use Rattle.kernel_model.specs.Descriptions.{node_of, opened};
+ghost use Rattle.kernel_model.specs.Descriptions.{node_of, opened, readable, writable};
 ghost use Rattle.kernel_model.specs.Table.{descriptor_limit, inserted, number_at, slot, with_description};
+ghost use Rattle.kernel_model.specs.Transfers.{moved_to};
 
 use crate::flow::Flow;
+use crate::readiness::{reads, writes};
 use kernel_core::NoMemory;
 use kernel_model::{Description, Object, Terminal};
 use native_fd::Table;
@@ -54,6 +56,13 @@ impl Files {
         self.table.get(fd)
     }
 
+    /// There are 1,024 places of descriptors, whatever is open.
+    pub fn whole(&self)
+        ensures { length self.now.table.fds ≡ descriptor_limit }
+    {
+        let _number = self.table.number(0);
+    }
+
     /// Opens a descriptor that leads to a new description, which has no node open.
     pub(crate) fn insert(
         &mut self,
@@ -89,9 +98,58 @@ impl Files {
         self.table.set(fd, description);
     }
 
+    /// The description of a descriptor that is open for reading.
+    pub(crate) fn readable(&self, fd: u32) -> Option<Description>
+        ensures readable { result ≡ readable self.now fd }
+        ensures open { IfSome result (λ description. opened self.now fd ≡ Some description) }
+    {
+        match self.opened(fd) {
+            None => None,
+            Some(description) => {
+                if reads(description.flags.access()) {
+                    Some(description)
+                } else {
+                    None
+                }
+            }
+        }
+    }
+
+    /// The description of a descriptor that is open for writing.
+    pub(crate) fn writable(&self, fd: u32) -> Option<Description>
+        ensures writable { result ≡ writable self.now fd }
+        ensures open { IfSome result (λ description. opened self.now fd ≡ Some description) }
+    {
+        match self.opened(fd) {
+            None => None,
+            Some(description) => {
+                if writes(description.flags.access()) {
+                    Some(description)
+                } else {
+                    None
+                }
+            }
+        }
+    }
+
+    /// Moves a description to another position.
+    pub(crate) fn move_to(&mut self, fd: u32, description: Description, position: u64)
+        requires open { opened self.old fd ≡ Some description }
+        ensures { self.new ≡ moved_to self.old fd description position }
+    {
+        self.change(
+            fd,
+            Description {
+                object: description.object,
+                position,
+                flags: description.flags,
+            },
+        );
+    }
+
     /// Closes a descriptor: of the last one of a description the end of a pipe is closed, or the node is
-    /// released. One that is not open stays so.
-    pub(crate) fn close_open(&mut self, fd: u32)
+    /// released. One that is not open stays so. It takes no memory.
+    pub fn close_open(&mut self, fd: u32)
         ensures closed { self.new ≡ after_close self.old fd }
         ensures free { slot self.new.table.fds fd ≡ None }
     {

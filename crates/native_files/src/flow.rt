@@ -1,23 +1,31 @@
 //! What flows beside files: pipes, and how many bytes were moved at the streams.
-ghost use Rattle.std.specs.Prelude.{◌≡◌, ◌<◌, IfOk, IfSome, [], is_none, length, position};
+ghost use Rattle.std.specs.Prelude.{◌≡◌, ◌<◌, ◌≤◌, IfOk, IfSome, OnErr, [], is_none, length, option_map, position};
 ghost use Rattle.kernel_model.specs.Begin.{free_places, first_flow};
-ghost use Rattle.kernel_model.specs.Pipes.{pipe_at, with_pipe, new_pipe, without_readers, without_writers};
+ghost use Rattle.kernel_model.specs.Came.{came_as};
+ghost use Rattle.kernel_model.specs.ContentRows.{pipe_bytes};
+ghost use Rattle.kernel_model.specs.Pipes.{pipe_at, pipe_size, after_step, with_pipe, new_pipe, without_readers, without_writers, read_pipe, write_pipe, more_taken, more_sent};
 ghost use Rattle.kernel_model.specs.Readiness.{read_end_ready, write_end_ready};
 ghost use Rattle.kernel_model.specs.Table.{slot, new_place};
+ghost use Rattle.native_files.specs.Answers.{filled};
 ghost use Rattle.native_files.specs.inside.Ends.{closed_readers, closed_writers};
+ghost use Rattle.native_files.specs.inside.Steps.{reached, read_at_end, write_at_end, piped, stepped};
+ghost use Rattle.outside.specs.Count.{Rose};
+ghost use Rattle.outside.specs.Input.{MovesOut};
 
 use crate::events::{Events, poll_bits, ready_for};
-use kernel_core::{NoMemory, PollBits};
-use kernel_model::{Moved, PipeEnds};
+use crate::progress::Progress;
+use kernel_core::{Errno, NoMemory, PollBits, Wake};
+use kernel_model::{Moved, PipeEnds, Stream};
 use native_pipe::{PIPE_SIZE, Pipe};
+use outside::{Failed, Source};
 use std::alloc::{AllocError, Global};
 use std::marker::Model;
 
 /// How many pipes there are at most: each has a descriptor.
 const PIPES: usize = 1024;
 
-/// For how many bytes a pipe that is ready for writing has room: those that are written as a whole (PIPE_BUF
-/// of pipe(7)).
+/// The most bytes that are written to a pipe as a whole (PIPE_BUF of pipe(7)). A pipe that is ready for
+/// writing has room for so many.
 const WHOLE_WRITE: usize = 4096;
 
 /// The pipes by their numbers, and how many bytes were moved at the streams.
@@ -90,6 +98,71 @@ impl Flow {
         close_writers(self.pipes.as_mut_slice(), number as usize);
     }
 
+    /// Reads from a pipe, where it is there.
+    pub(crate) fn read_pipe(
+        &mut self,
+        number: u32,
+        nonblock: bool,
+        buffer: &mut [u8],
+    ) -> Result<Progress, Errno>
+        ensures flow { self.new ≡ after_step self.old number (read_at_end nonblock (length buffer.old) (pipe_at self.old number)).pipe }
+        ensures came { reached result ≡ came_as length (read_at_end nonblock (length buffer.old) (pipe_at self.old number)).came }
+        ensures stored { buffer.new ≡ filled buffer.old (read_at_end nonblock (length buffer.old) (pipe_at self.old number)).came }
+    {
+        read_from(self.pipes.as_mut_slice(), number as usize, nonblock, buffer)
+    }
+
+    /// Writes these bytes, of which there is one, to a pipe, where it is there.
+    pub(crate) fn write_pipe(
+        &mut self,
+        number: u32,
+        nonblock: bool,
+        bytes: &[u8],
+    ) -> Result<Progress, Errno>
+        ensures flow { self.new ≡ after_step self.old number (write_at_end nonblock bytes.now (pipe_at self.old number)).pipe }
+        ensures came { reached result ≡ (write_at_end nonblock bytes.now (pipe_at self.old number)).came }
+    {
+        write_to(self.pipes.as_mut_slice(), number as usize, nonblock, bytes)
+    }
+
+    /// How many bytes a pipe holds, where it is there.
+    pub(crate) fn pipe_bytes(&self, number: u32) -> Option<u64>
+        ensures count { result ≡ pipe_bytes (pipe_at self.now number) }
+        ensures small { IfSome result (λ count. count ≤ pipe_size) }
+    {
+        pipe_bytes(self.pipes.as_slice(), number as usize)
+    }
+
+    /// Takes bytes of the input into the beginning of a buffer, and counts them.
+    pub(crate) fn take_input<I: Source>(
+        &mut self,
+        input: &mut I,
+        buffer: &mut [u8],
+    ) -> Result<usize, Failed>
+        ensures within { IfOk result (λ count. count ≤ length buffer.new) }
+        ensures moved { IfOk result (MovesOut (I.left input.old) (I.left input.new) buffer.old buffer.new) }
+        ensures counted { IfOk result (λ count. self.new ≡ more_taken self.old count) }
+        ensures failed { OnErr result (self.new ≡ self.old) }
+        ensures unchanged { OnErr result (I.left input.new ≡ I.left input.old) }
+        ensures cause { OnErr result (Rose (I.faults input.old) (I.faults input.new)) }
+        ensures later { I.faults input.old ≤ I.faults input.new }
+    {
+        let count = input.take(buffer)?;
+        self.moved.taken = self.moved.taken.saturating_add(count as u128);
+        Ok(count)
+    }
+
+    /// Counts bytes that were sent to a stream.
+    pub(crate) fn count_sent(&mut self, stream: Stream, count: usize)
+        ensures { self.new ≡ more_sent self.old stream count }
+    {
+        match stream {
+            Stream::Input => {}
+            Stream::Out => self.moved.out = self.moved.out.saturating_add(count as u128),
+            Stream::Err => self.moved.err = self.moved.err.saturating_add(count as u128),
+        }
+    }
+
     /// What the read end of a pipe is ready for.
     pub(crate) fn read_end_ready(&self, number: u32) -> PollBits
         ensures { result ≡ read_end_ready (pipe_at self.now number) }
@@ -156,6 +229,118 @@ fn close_writers(pipes: &mut [Option<PipeEnds<Pipe>>], number: usize)
         pipes[number] = None;
     } else if let Some(ends) = &mut pipes[number] {
         ends.writers = false;
+    }
+}
+
+fn read_from(
+    pipes: &mut [Option<PipeEnds<Pipe>>],
+    number: usize,
+    nonblock: bool,
+    buffer: &mut [u8],
+) -> Result<Progress, Errno>
+    ensures pipes { pipes.new ≡ stepped pipes.old number (read_at_end nonblock (length buffer.old) (slot pipes.old number)).pipe }
+    ensures came { reached result ≡ came_as length (read_at_end nonblock (length buffer.old) (slot pipes.old number)).came }
+    ensures stored { buffer.new ≡ filled buffer.old (read_at_end nonblock (length buffer.old) (slot pipes.old number)).came }
+{
+    if number >= pipes.len() {
+        return Err(Errno::EBADF);
+    }
+    match &mut pipes[number] {
+        Some(ends) => read_ends(ends, nonblock, buffer),
+        None => Err(Errno::EBADF),
+    }
+}
+
+/// What is there first; the end without writers; else a wait, or EAGAIN for a description that does not
+/// wait (pipe(7)).
+#[tactic(auto, using(crate::proofs::Filled::taken))]
+fn read_ends(
+    ends: &mut PipeEnds<Pipe>,
+    nonblock: bool,
+    buffer: &mut [u8],
+) -> Result<Progress, Errno>
+    ensures pipe { ends.new ≡ piped ends.old (read_pipe ends.old nonblock (length buffer.old)).pipe }
+    ensures came { reached result ≡ came_as length (read_pipe ends.old nonblock (length buffer.old)).came }
+    ensures stored { buffer.new ≡ filled buffer.old (read_pipe ends.old nonblock (length buffer.old)).came }
+{
+    if !ends.bytes.is_empty() {
+        return Ok(Progress::Done(ends.bytes.take(buffer)));
+    }
+    if !ends.writers {
+        return Ok(Progress::Done(0));
+    }
+    if nonblock {
+        return Err(Errno::EAGAIN);
+    }
+    Ok(waits_after(0))
+}
+
+fn write_to(
+    pipes: &mut [Option<PipeEnds<Pipe>>],
+    number: usize,
+    nonblock: bool,
+    bytes: &[u8],
+) -> Result<Progress, Errno>
+    ensures pipes { pipes.new ≡ stepped pipes.old number (write_at_end nonblock bytes.now (slot pipes.old number)).pipe }
+    ensures came { reached result ≡ (write_at_end nonblock bytes.now (slot pipes.old number)).came }
+{
+    if number >= pipes.len() {
+        return Err(Errno::EBADF);
+    }
+    match &mut pipes[number] {
+        Some(ends) => write_ends(ends, nonblock, bytes),
+        None => Err(Errno::EBADF),
+    }
+}
+
+/// All bytes where there is room for them; of more than go whole as many as there is room for; the rest
+/// waits, or is left for a description that does not wait (pipe(7)).
+fn write_ends(ends: &mut PipeEnds<Pipe>, nonblock: bool, bytes: &[u8]) -> Result<Progress, Errno>
+    ensures pipe { ends.new ≡ piped ends.old (write_pipe ends.old nonblock bytes.now).pipe }
+    ensures came { reached result ≡ (write_pipe ends.old nonblock bytes.now).came }
+{
+    if !ends.readers {
+        return Err(Errno::EPIPE);
+    }
+    let room = PIPE_SIZE - ends.bytes.len();
+    if bytes.len() <= room {
+        return Ok(Progress::Done(ends.bytes.put(bytes)));
+    }
+    if room == 0 || bytes.len() <= WHOLE_WRITE {
+        return if nonblock {
+            Err(Errno::EAGAIN)
+        } else {
+            Ok(waits_after(0))
+        };
+    }
+    let count = ends.bytes.put(bytes);
+    Ok(if nonblock {
+        Progress::Done(count)
+    } else {
+        waits_after(count)
+    })
+}
+
+/// A wait without end, after so many bytes were put.
+fn waits_after(count: usize) -> Progress
+    ensures { result ≡ Progress.Waits (record { done = count; until = None }) }
+{
+    Progress::Waits(Wake {
+        done: count as u64,
+        until: None,
+    })
+}
+
+fn pipe_bytes(pipes: &[Option<PipeEnds<Pipe>>], number: usize) -> Option<u64>
+    ensures count { result ≡ pipe_bytes (slot pipes.now number) }
+    ensures small { IfSome result (λ count. count ≤ pipe_size) }
+{
+    if number >= pipes.len() {
+        return None;
+    }
+    match &pipes[number] {
+        None => None,
+        Some(ends) => Some(ends.bytes.len() as u64),
     }
 }
 

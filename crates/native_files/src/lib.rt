@@ -7,13 +7,20 @@ mod events;
 mod files;
 mod flags;
 mod flow;
+mod lengths;
+mod looking;
+mod nodes;
 mod pipes;
+mod progress;
 mod readiness;
+mod reading;
 mod starting;
+mod writing;
 
 pub use files::Files;
-pub use kernel_core::{CoreError, Errno, NoMemory};
+pub use kernel_core::{CoreError, Errno, NoMemory, Stop};
 pub use pipes::{Ends, PipeFlags};
+pub use progress::{Entry, Progress, Status};
 
 #[cfg(test)]
 mod tests;

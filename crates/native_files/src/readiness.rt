@@ -37,7 +37,7 @@ impl Files {
     }
 }
 
-fn reads(access: Access) -> bool
+pub(crate) fn reads(access: Access) -> bool
     ensures { result ≡ reads access }
 {
     match access {
@@ -47,7 +47,7 @@ fn reads(access: Access) -> bool
     }
 }
 
-fn writes(access: Access) -> bool
+pub(crate) fn writes(access: Access) -> bool
     ensures { result ≡ writes access }
 {
     match access {

@@ -13,4 +13,4 @@ pub invariant_of-result : goal.invariant_of-result
 invariant_of-result c =
     subst (λ live. AreKept c.hold.new.self live c.in_ok-no_keys.field-0.items c.root_key-directory.result) (sym (ap (λ (t : Descriptors Description). t.live) c.in_ok-new.ensures.empty))
     (subst (λ keys. AreKept c.hold.new.self (free_places 1024) keys c.root_key-directory.result) (sym c.in_ok-no_keys.ensures)
-    (AreKept-first c.in_ok-vfs.vfs c.hold.new.self c.args.tree c.root_key-directory.result c.in_ok-vfs.ensures.loaded c.root_key-directory.ensures.key c.hold.ensures.same c.hold.ensures.held))
+    (AreKept-first c.in_ok-vfs.vfs c.hold.new.self c.args.tree c.root_key-directory.result c.in_ok-vfs.ensures.loaded c.root_key-directory.ensures.key c.hold.ensures.same c.hold.ensures.held c.hold.ensures.valid))

@@ -56,7 +56,7 @@ index-requires c =
     let valid : IsTable c.self.inside.table = subst (λ t. IsTable t) (sym tie) c.requires.valid in
     let open_at : number_at c.self.inside.table c.args.fd ≡ Some c.args.number = ap (λ t. number_at t c.args.fd) tie ∙ c.requires.open in
     let small = number-small c.self.inside.table valid c.args.fd c.args.number open_at in
-    omega (arith, c.self.invariant.sized, small)
+    omega (arith, c.self.invariant.keyed.sized, small)
 
 pub release-requires-clause-live : goal.release-requires-clause-live
 release-requires-clause-live c =
@@ -66,7 +66,7 @@ release-requires-clause-live c =
     let takes = closed-takes c.self.inside.table c.args.fd c.args.number c.in-Some.description open_at (sym c.in-Some.ensures.last) in
     let at : node_in (slot c.self.inside.table.live c.args.number) ≡ Some c.in-Node.field-0 = ap (λ o. node_in o) takes.0 ∙ ap (λ o. node_of o) c.in-Node.is in
     let small = number-small c.self.inside.table valid c.args.fd c.args.number open_at in
-    let value = get_or_read c.self.inside.node_keys.items c.args.number c.index.result.now (omega (arith, c.self.invariant.sized, small)) c.index.ensures 0 in
+    let value = get_or_read c.self.inside.node_keys.items c.args.number c.index.result.now (omega (arith, c.self.invariant.keyed.sized, small)) c.index.ensures 0 in
     subst (λ k. IsLiveKey c.self.inside.vfs k) (sym value) (key-live c.self.inside.vfs c.self.inside.table.live c.self.inside.node_keys.items c.self.inside.directory c.self.invariant c.args.number c.in-Node.field-0 at)
 
 pub release-requires-clause-held : goal.release-requires-clause-held
@@ -77,7 +77,7 @@ release-requires-clause-held c =
     let takes = closed-takes c.self.inside.table c.args.fd c.args.number c.in-Some.description open_at (sym c.in-Some.ensures.last) in
     let at : node_in (slot c.self.inside.table.live c.args.number) ≡ Some c.in-Node.field-0 = ap (λ o. node_in o) takes.0 ∙ ap (λ o. node_of o) c.in-Node.is in
     let small = number-small c.self.inside.table valid c.args.fd c.args.number open_at in
-    let value = get_or_read c.self.inside.node_keys.items c.args.number c.index.result.now (omega (arith, c.self.invariant.sized, small)) c.index.ensures 0 in
+    let value = get_or_read c.self.inside.node_keys.items c.args.number c.index.result.now (omega (arith, c.self.invariant.keyed.sized, small)) c.index.ensures 0 in
     subst (λ k. IfSome (inode_at c.self.inside.vfs k) (λ (inode : Inode). 0 < inode.holds)) (sym value) (key-held c.self.inside.vfs c.self.inside.table.live c.self.inside.node_keys.items c.self.inside.directory c.self.invariant c.args.number c.in-Node.field-0 at)
 
 pub invariant_of-self-in-Node : goal.invariant_of-self-in-Node
@@ -88,10 +88,10 @@ invariant_of-self-in-Node c =
     let takes = closed-takes c.self.inside.table c.args.fd c.args.number c.in-Some.description open_at (sym c.in-Some.ensures.last) in
     let at : node_in (slot c.self.inside.table.live c.args.number) ≡ Some c.in-Node.field-0 = ap (λ o. node_in o) takes.0 ∙ ap (λ o. node_of o) c.in-Node.is in
     let small = number-small c.self.inside.table valid c.args.fd c.args.number open_at in
-    let value = get_or_read c.self.inside.node_keys.items c.args.number c.index.result.now (omega (arith, c.self.invariant.sized, small)) c.index.ensures 0 in
+    let value = get_or_read c.self.inside.node_keys.items c.args.number c.index.result.now (omega (arith, c.self.invariant.keyed.sized, small)) c.index.ensures 0 in
     let changes = subst (λ k. ChangesHeld c.self.inside.vfs c.release.new.self (node_at c.self.inside.vfs k) (λ holds. holds - 1)) value c.release.ensures.held in
     subst (λ live. AreKept c.release.new.self live c.self.inside.node_keys.items c.self.inside.directory) (sym (ap (λ t. t.live) c.in-Some.ensures.closed ∙ takes.1))
-    (AreKept-released c.self.inside.vfs c.self.inside.table.live c.self.inside.node_keys.items c.self.inside.directory c.self.invariant c.args.number c.in-Node.field-0 at c.release.new.self changes)
+    (AreKept-released c.self.inside.vfs c.self.inside.table.live c.self.inside.node_keys.items c.self.inside.directory c.self.invariant c.args.number c.in-Node.field-0 at c.release.new.self changes c.release.ensures.valid)
 
 pub returns-in-None-clause-closed : goal.returns-in-None-clause-closed
 returns-in-None-clause-closed c =
@@ -119,7 +119,7 @@ returns-in-Node-clause-closed c =
     let takes = closed-takes c.self.inside.table c.args.fd c.args.number c.in-Some.description open_at (sym c.in-Some.ensures.last) in
     let at : node_in (slot c.self.inside.table.live c.args.number) ≡ Some c.in-Node.field-0 = ap (λ o. node_in o) takes.0 ∙ ap (λ o. node_of o) c.in-Node.is in
     let small = number-small c.self.inside.table valid c.args.fd c.args.number open_at in
-    let value = get_or_read c.self.inside.node_keys.items c.args.number c.index.result.now (omega (arith, c.self.invariant.sized, small)) c.index.ensures 0 in
+    let value = get_or_read c.self.inside.node_keys.items c.args.number c.index.result.now (omega (arith, c.self.invariant.keyed.sized, small)) c.index.ensures 0 in
     let changes = subst (λ k. ChangesHeld c.self.inside.vfs c.release.new.self (node_at c.self.inside.vfs k) (λ holds. holds - 1)) value c.release.ensures.held in
     let nodes = c.release.ensures.nodes ∙ ap (λ k. released c.self.inside.vfs.nodes (node_at c.self.inside.vfs k)) value
     ∙ ap (λ n. released c.self.inside.vfs.nodes n) (key-node c.self.inside.vfs c.self.inside.table.live c.self.inside.node_keys.items c.self.inside.directory c.self.invariant c.args.number c.in-Node.field-0 at) in

@@ -1,0 +1,12 @@
+pub mod ErrorNumbers
+pub mod OpenNumbers
+pub mod OtherNumbers
+pub mod Pairs
+pub mod Parts
+pub mod Quietly
+pub mod Read
+pub mod Sending
+pub mod Storing
+pub mod Taking
+pub mod TerminalLemmas
+pub mod VectorLemmas

@@ -1,0 +1,55 @@
+//! The kernel's state.
+ghost use Rattle.std.specs.Prelude.{◌≡◌, IfOk};
+ghost use Rattle.kernel_core.specs.LoadedTree as tree;
+ghost use Rattle.kernel_core.specs.ValidTree.{IsValidTree};
+
+use kernel_model::Limit;
+use native_files::Files;
+use native_signal::Signals;
+use native_timer::Timers;
+use std::alloc::Global;
+use std::marker::Model;
+
+/// How many resources have a limit (getrlimit(2)).
+pub(crate) const RESOURCES: usize = 16;
+
+/// The native kernel of one process. Contracts see it as `Kernel` of `kernel_model`. (The type is this
+/// project's own.)
+#[derive(Drop)]
+pub struct NativeKernel {
+    pub(crate) files: Files,
+    /// The clock, in nanoseconds from 0.
+    pub(crate) clock: u64,
+    /// How many nanoseconds since the Unix epoch the clock began.
+    pub(crate) epoch: u128,
+    pub(crate) timers: Timers,
+    pub(crate) signals: Signals,
+    pub(crate) limits: [Limit; RESOURCES],
+    /// The bytes that stand for chance, used round and round, and the place of the next one.
+    pub(crate) chance: Vec<u8>,
+    pub(crate) next_chance: usize,
+    pub(crate) alloc: Global,
+}
+
+impl Model for NativeKernel {
+    ghost use Rattle.std.specs.Prelude.{◌<◌, ◌^◌};
+    ghost use Rattle.std.specs.Coded.{codes};
+    ghost use Rattle.kernel_core.specs.Nodes.{nodes_code};
+    ghost use Rattle.kernel_model.specs.State.{Kernel};
+
+    ghost Value = { Kernel };
+
+    ghost coded = { Prim.hlevel (codes, nodes_code) };
+
+    ghost view = { λ k. record {
+      files = k.files;
+      clock = k.clock;
+      epoch = k.epoch;
+      timer = k.timers;
+      signals = k.signals;
+      limits = k.limits;
+      chance = record { bytes = k.chance.items; at = k.next_chance };
+    } };
+
+    ghost invariant = { λ k. k.epoch < 2 ^ 72 };
+}

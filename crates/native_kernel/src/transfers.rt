@@ -1,0 +1,215 @@
+//! The calls that move bytes of one buffer: read(2), write(2), pread(2), pwrite(2).
+ghost use Rattle.std.specs.Prelude.{◌≡◌, ℕ, ◌+◌, ◌≤◌, List, Some, None, Ok, IfOk, OnOk, length};
+ghost use Rattle.host_mem.specs.Memory.{written};
+ghost use Rattle.kernel_core.specs.FileSystem.{IsTime};
+ghost use Rattle.kernel_core.specs.declared.signal.Sig.TheVariants.{Pipe};
+ghost use Rattle.kernel_model.specs.Came.{came_as};
+ghost use Rattle.kernel_model.specs.Clock as clock;
+ghost use Rattle.kernel_model.specs.SignalRows.{kill_info};
+ghost use Rattle.kernel_model.specs.Transfers.{read, read_at, transfer_limit};
+ghost use Rattle.kernel_model.specs.Whole.{kernel_write, on_files};
+ghost use Rattle.native_calls.specs.HostBytes.{accessible};
+ghost use Rattle.native_calls.specs.Transfers.{after_write, pwrite_row, read_row, write_row};
+ghost use Rattle.native_files.specs.Answers.{MovesWithin, ReadStops, came_of, moved};
+ghost use Rattle.native_kernel.specs.inside.Moving.{FillsPart, IsReading, IsWriting, ReadingStops, ReadsInto, WritingStops, after_came, settled};
+ghost use Rattle.native_kernel.specs.inside.Quiet.{Fills, IsQuiet};
+
+use crate::kernel::NativeKernel;
+use crate::replies::{counted, failure, settled};
+use crate::structures::{accessible, loadable, part_place};
+use host_mem::HostMem;
+use kernel_core::{CoreError, Errno, Info, NoMemory, Reply, Sig, Stop};
+use native_files::{Files, Progress};
+use outside::{Sink, Source};
+
+/// Who sends SIGPIPE: the process itself, by kill(2) (SI_USER).
+const SENT_BY_KILL: i32 = 0;
+
+const OWN_ID: u32 = 100;
+
+impl NativeKernel {
+    /// read(2): EBADF, EFAULT, and the refusals of what is open.
+    #[tactic(auto, unfolding(native_calls::specs::Transfers::read_row, kernel_model::specs::Whole::kernel_read))]
+    pub(crate) fn read<I: Source>(
+        &mut self,
+        fd: u32,
+        buffer: u64,
+        count: u64,
+        mem: &mut HostMem,
+        input: &mut I,
+    ) -> Result<Reply, Stop>
+        ensures row { IsReading (read_row self.old mem.old fd buffer count) result self.new mem.new (I.left input.old) (I.left input.new) }
+        ensures stops { ReadingStops result (I.faults input.old) (I.faults input.new) }
+        ensures later { I.faults input.old ≤ I.faults input.new }
+    {
+        let room = accessible(mem, buffer, count);
+        let place = part_place(mem, buffer, room);
+        let came = read_part(
+            &mut self.files,
+            fd,
+            count,
+            mem.as_mut_slice(),
+            place,
+            room,
+            input,
+        );
+        settled(came)
+    }
+
+    /// write(2): EBADF, EFAULT, and the refusals of what is open; EPIPE comes with SIGPIPE.
+    #[tactic(auto, unfolding(native_calls::specs::Transfers::write_row))]
+    pub(crate) fn write<O: Sink, E: Sink>(
+        &mut self,
+        fd: u32,
+        buffer: u64,
+        count: u64,
+        mem: &HostMem,
+        out: &mut O,
+        err: &mut E,
+    ) -> Result<Reply, Stop>
+        ensures row { IsWriting (write_row self.old mem.now fd buffer count) result self.new mem.now
+            (O.written out.old) (O.written out.new) (E.written err.old) (E.written err.new) }
+        ensures stops { WritingStops result (O.faults out.old) (O.faults out.new) (E.faults err.old) (E.faults err.new) }
+        ensures out_later { O.faults out.old ≤ O.faults out.new }
+        ensures err_later { E.faults err.old ≤ E.faults err.new }
+    {
+        self.send(fd, Ok(count), loadable(mem, buffer, count), out, err)
+    }
+
+    /// pread(2): EBADF, EINVAL below 0, ESPIPE, EFAULT, EISDIR.
+    pub(crate) fn pread(
+        &self,
+        fd: u32,
+        buffer: u64,
+        count: u64,
+        at: i64,
+        mem: &mut HostMem,
+    ) -> Reply
+        ensures { Fills (written mem.old buffer) (on_files self.now (read_at self.now.files fd at (Ok count) (accessible mem.old buffer count)))
+            result self.now mem.old mem.new }
+    {
+        let room = accessible(mem, buffer, count);
+        let place = part_place(mem, buffer, room);
+        let memory = mem.as_mut_slice();
+        counted(read_part_at(&self.files, fd, at, count, memory, place, room))
+    }
+
+    /// pwrite(2): EBADF, EINVAL below 0, ESPIPE, EFAULT, EFBIG, ENOSPC.
+    #[tactic(auto, unfolding(native_calls::specs::Transfers::pwrite_row))]
+    pub(crate) fn pwrite(
+        &mut self,
+        fd: u32,
+        buffer: u64,
+        count: u64,
+        at: i64,
+        mem: &HostMem,
+    ) -> Result<Reply, NoMemory>
+        ensures { IfOk result (λ reply. IsQuiet (pwrite_row self.old mem.now fd buffer count at) reply self.new mem.now) }
+    {
+        let now = self.real_time();
+        match self
+            .files
+            .write_at(now, fd, at, Ok(count), loadable(mem, buffer, count))
+        {
+            Ok(count) => Ok(Reply::Done(count as i64)),
+            Err(CoreError::Refused(error)) => Ok(failure(error)),
+            Err(CoreError::Stop(_)) => Err(NoMemory),
+        }
+    }
+
+    /// Writes bytes to what a descriptor has open, and posts SIGPIPE with EPIPE; `asked` is how many bytes
+    /// the program names, or what was wrong with its vector.
+    pub(crate) fn send<O: Sink, E: Sink>(
+        &mut self,
+        fd: u32,
+        asked: Result<u64, Errno>,
+        bytes: &[u8],
+        out: &mut O,
+        err: &mut E,
+    ) -> Result<Reply, Stop>
+        ensures row { (memory : List ℕ) → IsWriting (after_write memory (kernel_write self.old None fd asked bytes.now)) result self.new memory
+            (O.written out.old) (O.written out.new) (E.written err.old) (E.written err.new) }
+        ensures stops { WritingStops result (O.faults out.old) (O.faults out.new) (E.faults err.old) (E.faults err.new) }
+        ensures out_later { O.faults out.old ≤ O.faults out.new }
+        ensures err_later { E.faults err.old ≤ E.faults err.new }
+    {
+        let now = self.real_time();
+        let came = self.files.write(now, fd, asked, bytes, out, err);
+        match self.post_if_broken(&came) {
+            Ok(()) => settled(came),
+            Err(NoMemory) => Err(Stop::NoMemory),
+        }
+    }
+
+    /// Posts SIGPIPE where a write came to EPIPE.
+    fn post_if_broken(&mut self, came: &Result<Progress, CoreError>) -> Result<(), NoMemory>
+        ensures { OnOk result (self.new ≡ after_came self.old (moved came.now)) }
+    {
+        if let Err(CoreError::Refused(Errno::EPIPE)) = came {
+            self.signals.post(pipe_info(), false)?;
+        }
+        Ok(())
+    }
+
+    /// The time that nodes are marked with, in nanoseconds since the Unix epoch.
+    fn real_time(&self) -> i128
+        ensures time { result ≡ clock.now self.now }
+        ensures within { IsTime result }
+    {
+        (self.epoch + u128::from(self.clock)) as i128
+    }
+}
+
+/// Reads into a part of memory.
+fn read_part<I: Source>(
+    files: &mut Files,
+    fd: u32,
+    count: u64,
+    memory: &mut [u8],
+    place: usize,
+    room: usize,
+    input: &mut I,
+) -> Result<Progress, CoreError>
+    requires { place + room ≤ length memory.old }
+    ensures row { (left : List ℕ) → I.left input.old ≡ Some left → ReadsInto (read files.old left fd (Ok count) room) (moved result) files.new
+        (I.left input.old) (I.left input.new) memory.old place room memory.new }
+    ensures within { MovesWithin transfer_limit (moved result) }
+    ensures stops { ReadStops result (I.faults input.old) (I.faults input.new) }
+    ensures later { I.faults input.old ≤ I.faults input.new }
+{
+    files.read(fd, Ok(count), &mut memory[place..place + room], input)
+}
+
+/// Reads into a part of memory from a place of a file on.
+fn read_part_at(
+    files: &Files,
+    fd: u32,
+    at: i64,
+    count: u64,
+    memory: &mut [u8],
+    place: usize,
+    room: usize,
+) -> Result<usize, Errno>
+    requires { place + room ≤ length memory.old }
+    ensures came { came_of result ≡ came_as length (read_at files.now fd at (Ok count) room).came }
+    ensures state { (read_at files.now fd at (Ok count) room).state ≡ files.now }
+    ensures stored { FillsPart (read_at files.now fd at (Ok count) room).came memory.old place room memory.new }
+    ensures within { IfOk result (λ moved. moved ≤ transfer_limit) }
+{
+    files.read_at(fd, at, Ok(count), &mut memory[place..place + room])
+}
+
+/// SIGPIPE, sent by the process itself (pipe(7)).
+fn pipe_info() -> Info
+    ensures { result ≡ kill_info Pipe }
+{
+    Info {
+        sig: Sig::Pipe,
+        code: SENT_BY_KILL,
+        errno: 0,
+        pid: OWN_ID,
+        uid: 0,
+        value: 0,
+        addr: 0,
+    }
+}
