@@ -109,10 +109,11 @@ first_above cookie (f ∷ es) e rising found = by (first_above cookie es e risin
         let after = later (sym (ap (λ b. cond b (Some f) (behind_first cookie es)) is) ∙ found) in
         let low = ltb-false cookie f.cookie is in
         let high = after.0 in
-        let past : nat_lt e.cookie f.cookie ≡ false = grind (arith, nat_tests) in
-        (high,
-        ap (λ b. cond b (f ∷ behind cookie es) (behind cookie es)) is ∙ after.1
-        ∙ ap (λ r. e ∷ r) (sym (ap (λ b. cond b (f ∷ behind e.cookie es) (behind e.cookie es)) past)))
+        let past : nat_lt e.cookie f.cookie ≡ false = grind (arith, nat_tests) in (
+          high,
+          ap (λ b. cond b (f ∷ behind cookie es) (behind cookie es)) is ∙ after.1
+              ∙ ap (λ r. e ∷ r) (sym (ap (λ b. cond b (f ∷ behind e.cookie es) (behind e.cookie es)) past)),
+        )
 
 pub none-behind : (cookie : ℕ) (es : List Entry) → behind_first cookie es ≡ None → behind cookie es ≡ []
 none-behind cookie [] none = refl

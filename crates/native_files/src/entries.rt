@@ -74,6 +74,12 @@ impl Files {
         ensures { GivesAt self.now.nodes (number_in description.now.object) description.now.position size (listing_at self.now.nodes (number_in description.now.object)) result }
     {
         let key = key_at(&self.table, self.node_keys.as_slice(), fd);
-        directory_entries(&self.vfs, self.alloc, key, description.position, u64::from(size))
+        directory_entries(
+            &self.vfs,
+            self.alloc,
+            key,
+            description.position,
+            u64::from(size),
+        )
     }
 }

@@ -198,12 +198,7 @@ fn next_entry(
 }
 
 /// The entry of the least cookie above one that has a name in a directory.
-fn named_entry(
-    vfs: &Vfs,
-    alloc: Global,
-    key: usize,
-    cookie: u32,
-) -> Result<Option<Entry>, NoMemory>
+fn named_entry(vfs: &Vfs, alloc: Global, key: usize, cookie: u32) -> Result<Option<Entry>, NoMemory>
     requires live { IsLiveKey vfs.now key }
     requires valid { IsFileSystem vfs.now.nodes }
     requires directory { IsSome (listing_at vfs.now.nodes (number_at vfs.now key)) }

@@ -20,17 +20,20 @@ next_is system listed valid directory cookie found entry first is =
     cookie (entry_told entry) (sym first ∙ ap (option_map entry_told) is)
 
 pub returns-then-dirent64_length-left : goal.returns-then-dirent64_length-left
-returns-then-dirent64_length-left c =
-    (entry_told c.in-Some.entry, behind c.in-Some.entry.cookie (all_listed c.args.vfs.now c.args.listed),
-    next_is c.args.vfs.now c.args.listed c.requires.valid c.requires.directory c.args.cookie c.in_ok-next_entry.field-0 c.in-Some.entry c.in_ok-next_entry.ensures.entry c.in-Some.is,
-    subst (λ n. c.args.left < n) (c.dirent64_length.ensures ∙ ap dirent64_length c.len.ensures) c.if-dirent64_length-left.true)
+returns-then-dirent64_length-left c = (
+  entry_told c.in-Some.entry,
+  behind c.in-Some.entry.cookie (all_listed c.args.vfs.now c.args.listed),
+  next_is c.args.vfs.now c.args.listed c.requires.valid c.requires.directory c.args.cookie c.in_ok-next_entry.field-0 c.in-Some.entry c.in_ok-next_entry.ensures.entry c.in-Some.is,
+  subst (λ n. c.args.left < n) (c.dirent64_length.ensures ∙ ap dirent64_length c.len.ensures) c.if-dirent64_length-left.true,
+)
 
 pub returns-in-None : goal.returns-in-None
 returns-in-None c =
     none-behind c.args.cookie (all_listed c.args.vfs.now c.args.listed) (sym c.in_ok-next_entry.ensures.entry ∙ ap (option_map entry_told) c.in-None.is)
 
 pub returns-else-dirent64_length-left : goal.returns-else-dirent64_length-left
-returns-else-dirent64_length-left c =
-    (next_is c.args.vfs.now c.args.listed c.requires.valid c.requires.directory c.args.cookie c.in_ok-next_entry.field-0 c.in-Some.entry c.in_ok-next_entry.ensures.entry c.in-Some.is,
-    subst (λ n. n ≤ c.args.left) (c.dirent64_length.ensures ∙ ap dirent64_length c.len.ensures) c.if-dirent64_length-left.false,
-    subst (λ o. IfSome o (λ entry. length entry.name ≤ 255)) c.in-Some.is c.in_ok-next_entry.ensures.short)
+returns-else-dirent64_length-left c = (
+  next_is c.args.vfs.now c.args.listed c.requires.valid c.requires.directory c.args.cookie c.in_ok-next_entry.field-0 c.in-Some.entry c.in_ok-next_entry.ensures.entry c.in-Some.is,
+  subst (λ n. n ≤ c.args.left) (c.dirent64_length.ensures ∙ ap dirent64_length c.len.ensures) c.if-dirent64_length-left.false,
+  subst (λ o. IfSome o (λ entry. length entry.name ≤ 255)) c.in-Some.is c.in_ok-next_entry.ensures.short,
+)
