@@ -1,7 +1,8 @@
 //! Reading, writing, seeking and status with ample memory, at the streams and at pipes.
 use super::{PLAIN, new_files, pipe};
 use crate::{CoreError, Errno, Files, PipeFlags, Progress};
-use outside::{MemSink, MemSource, SureSink, SureSource};
+use outside::{MemSink, MemSource};
+use std::alloc::{AllocError, Global};
 use std::test::Fail;
 
 /// A call: a read into a buffer of 70,000 bytes, or a write of the first of 70,000 bytes, of at most so many.
@@ -33,9 +34,18 @@ const BUFFER_SIZE: usize = 70_000;
 
 #[derive(Drop)]
 struct Streams {
-    input: SureSource,
-    out: SureSink,
-    err: SureSink,
+    input: MemSource,
+    out: MemSink,
+    err: MemSink,
+}
+
+/// Streams with five bytes to read, of which the calls of these numbers fail, from 1 on.
+fn new_streams(alloc: Global, fail: u64) -> Result<Streams, AllocError> {
+    Ok(Streams {
+        input: MemSource::new(vec![in alloc; 7u8; 5]?, vec![in alloc; fail; 1]?),
+        out: MemSink::new(alloc, vec![in alloc; fail; 1]?),
+        err: MemSink::new(alloc, Vec::new(alloc)),
+    })
 }
 
 fn transfer_told(answer: Result<Progress, CoreError>) -> Told {
@@ -112,11 +122,7 @@ fn first_wrong(
 fn streams_and_a_pipe_that_waits(rt: HostRuntime) -> Result<(), Fail> {
     let alloc = rt.alloc();
     let mut files = new_files(alloc, None)?;
-    let mut streams = Streams {
-        input: SureSource::new(vec![in alloc; 7u8; 5]?),
-        out: SureSink::new(alloc),
-        err: SureSink::new(alloc),
-    };
+    let mut streams = new_streams(alloc, 0)?;
     let mut buffer = vec![in alloc; 1u8; BUFFER_SIZE]?;
     assert!(rt; pipe(&mut files, Some(PLAIN)) == Ok(3 * 1024 + 4));
     let calls = [
@@ -171,11 +177,7 @@ fn streams_and_a_pipe_that_waits(rt: HostRuntime) -> Result<(), Fail> {
 fn a_pipe_that_does_not_wait(rt: HostRuntime) -> Result<(), Fail> {
     let alloc = rt.alloc();
     let mut files = new_files(alloc, None)?;
-    let mut streams = Streams {
-        input: SureSource::new(Vec::new(alloc)),
-        out: SureSink::new(alloc),
-        err: SureSink::new(alloc),
-    };
+    let mut streams = new_streams(alloc, 0)?;
     let mut buffer = vec![in alloc; 1u8; BUFFER_SIZE]?;
     let flags = PipeFlags {
         cloexec: false,
@@ -201,20 +203,27 @@ fn a_pipe_that_does_not_wait(rt: HostRuntime) -> Result<(), Fail> {
 fn devices_that_fail(rt: HostRuntime) -> Result<(), Fail> {
     let alloc = rt.alloc();
     let mut files = new_files(alloc, None)?;
-    let mut input = MemSource::new(vec![in alloc; 7u8; 5]?, vec![in alloc; 1u64; 1]?);
-    let mut out = MemSink::new(alloc, vec![in alloc; 1u64; 1]?);
-    let mut err = SureSink::new(alloc);
+    let mut streams = new_streams(alloc, 1)?;
     let mut buffer = [0u8; 4];
-    assert!(rt; transfer_told(files.read(0, Ok(4), &mut buffer, &mut input)) == Told::Stopped);
-    assert!(rt; transfer_told(files.read(0, Ok(4), &mut buffer, &mut input)) == Told::Number(4));
-    assert!(rt; input.rest() == [7].as_slice());
-    let empty = &mut buffer[..0];
-    assert!(rt;
-        transfer_told(files.read(0, Ok(4), empty, &mut input)) == Told::Error(Errno::EFAULT)
+    let calls = [
+        (Call::Read(0, Ok(4)), Told::Stopped),
+        (Call::Read(0, Ok(9)), Told::Number(4)),
+        (Call::Write(1, Ok(1)), Told::Stopped),
+        (Call::Write(1, Ok(9)), Told::Number(4)),
+        (Call::Write(2, Ok(1)), Told::Number(1)),
+    ];
+    assert_eq!(rt;
+        first_wrong(&mut files, &mut streams, &calls, &mut buffer),
+        None
     );
-    assert!(rt; transfer_told(files.write(0, 1, Ok(1), b"a", &mut out, &mut err)) == Told::Stopped);
-    assert!(rt;
-        transfer_told(files.write(0, 1, Ok(9), b"ab", &mut out, &mut err)) == Told::Number(2)
+    assert_eq!(rt;
+        first_wrong(
+            &mut files,
+            &mut streams,
+            &[(Call::Read(0, Ok(4)), Told::Error(Errno::EFAULT))],
+            &mut buffer[..0]
+        ),
+        None
     );
     Ok(())
 }
