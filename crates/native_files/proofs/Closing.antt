@@ -11,7 +11,6 @@ use Rattle.kernel_model.specs.declared.descriptor.Descriptor.{Descriptor}
 use Rattle.kernel_model.specs.declared.descriptor.Description.{Description}
 use Rattle.kernel_model.specs.declared.descriptor.Object.TheVariants as objects
 use Rattle.kernel_model.specs.declared.stream.Stream.{Stream}
-use Rattle.kernel_model.specs.declared.terminal.Terminal.{Terminal}
 
 pub not_open-free : {A : Type 0} (table : Descriptors A) (fd : ℕ) → None ≡ number_at table fd → slot table.fds fd ≡ None
 not_open-free table fd none = by (slot table.fds fd) none

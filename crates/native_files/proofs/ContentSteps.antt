@@ -1,6 +1,6 @@
 -- Reads of a node's content, as rows.
-use Rattle.std.proofs.Common.{◌≡◌, ℕ, ◌+◌, List, length, Option, None, Some, Result, Ok, Err, refl, sym, ap, ◌∙◌}
-use Rattle.kernel_core.specs.FileContent.{Blocks, bytes_at, readable}
+use Rattle.std.proofs.Common.{◌≡◌, ℕ, List, length, Option, None, Some, Result, Ok, Err, refl, sym, ap, ◌∙◌}
+use Rattle.kernel_core.specs.FileContent.{readable}
 use Rattle.kernel_core.specs.Nodes.{NodeContent, File, Directory, Link}
 use Rattle.kernel_core.specs.declared.error.Errno.{Errno}
 use Rattle.kernel_model.specs.Came.{Came, Done, Refused, Waits, came_as}

@@ -1,11 +1,11 @@
 -- A buffer after a read into it.
-use Rattle.std.proofs.Common.{◌≡◌, ℕ, ◌+◌, ◌-◌, ◌≤◌, List, ◌++◌, length, take, drop, min, Option, None, Some, Result, Ok, Err, refl, sym, ap, subst, ◌∙◌, arith, IfOk, append_assoc, length-append, length-drop}
+use Rattle.std.proofs.Common.{◌≡◌, ℕ, ◌≤◌, List, ◌++◌, length, take, drop, min, Option, None, Some, Result, Ok, Err, sym, ap, subst, ◌∙◌, arith, IfOk, append_assoc, length-append, length-drop}
 use Rattle.std.proofs.lemmas.List.{drop-append-le, length-take, length-take-le, take-append-drop, take_min, drop_min}
 use Rattle.kernel_core.specs.declared.error.Errno.{Errno}
 use Rattle.kernel_model.specs.Came.{Came, Done, Refused, Waits, Did, came_as}
 use Rattle.kernel_model.specs.State.{Files}
 use Rattle.kernel_model.specs.Transfers.{Reading}
-use Rattle.native_files.specs.Answers.{HasRead, MovesWithin, ReadsSo, came_of, filled}
+use Rattle.native_files.specs.Answers.{HasRead, ReadsSo, came_of, filled}
 
 -- the first of some bytes, as many as are there
 

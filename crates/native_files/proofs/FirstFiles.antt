@@ -1,5 +1,5 @@
 -- What a process begins with.
-use Rattle.std.proofs.Common.{◌≡◌, ◌≢◌, ℕ, zero, suc, ◌+◌, ◌<◌, ◌^◌, Bool, true, false, cond, ◌==◌, List, [], ◌∷◌, map, length, set, get_or, replicate, Option, Some, None, IfSome, refl, sym, ap, subst, ◌∙◌, inl, inr, arith}
+use Rattle.std.proofs.Common.{◌≡◌, ◌≢◌, ℕ, zero, suc, ◌+◌, ◌<◌, ◌^◌, Bool, true, false, cond, ◌==◌, List, [], ◌∷◌, map, length, set, replicate, Option, Some, None, IfSome, refl, sym, ap, ◌∙◌, inl, inr, arith}
 use Rattle.std.specs.Prelude.{is_some, count_by, unwrap_or, ◌⊎◌}
 use Rattle.std.specs.Cmp.{nat_cmp_total}
 use Rattle.std.specs.FinMap.{from_entries, get, get-empty, get-insert}
@@ -19,9 +19,8 @@ use Rattle.kernel_model.specs.Begin.{free_places, first_table, stream_descriptio
 use Rattle.kernel_core.specs.declared.open_flags.Access.TheVariants as accesses
 use Rattle.kernel_model.specs.declared.stream.Stream.TheVariants as streams
 use Rattle.kernel_model.specs.State.{Descriptors}
-use Rattle.kernel_model.specs.Table.{slot, new_place, lowest_free, inserted}
+use Rattle.kernel_model.specs.Table.{slot, new_place, inserted}
 use Rattle.kernel_model.specs.declared.descriptor.Description.{Description}
-use Rattle.kernel_model.specs.declared.descriptor.Descriptor.{Descriptor}
 use Rattle.native_fd.specs.Table.{no_descriptors}
 use Rattle.native_fd.proofs.LinkLemmas.{length-free, slot-free}
 use Rattle.native_fd.proofs.LowestLemmas.{lowest_free-is}

@@ -1,14 +1,13 @@
 -- Rows that leave the files as they are.
-use Rattle.std.proofs.Common.{◌≡◌, ℕ, ℤ, pos, Bool, true, false, cond, ◌==◌, List, [], Option, None, Some, Result, Ok, Err, refl}
+use Rattle.std.proofs.Common.{◌≡◌, ℕ, ℤ, pos, Bool, true, false, cond, ◌==◌, List, [], Option, None, Some, Ok, Err, refl}
 use Rattle.std.specs.Prelude.{int_lt, min, nat_abs}
 use Rattle.kernel_core.specs.declared.error.Errno.{Errno}
 use Rattle.kernel_core.specs.declared.error.Errno.TheVariants.{EBADF, EFAULT, EINVAL, ESPIPE}
 use Rattle.kernel_core.specs.Nodes.{NodeContent, File, Directory, Link}
-use Rattle.kernel_model.specs.Came.{Did, Given, done, refused, refused_if, with_some, with_given}
+use Rattle.kernel_model.specs.Came.{Did, Given, done, refused_if, with_some}
 use Rattle.kernel_model.specs.Descriptions.{content_at, node_of, readable}
 use Rattle.kernel_model.specs.State.{Files}
-use Rattle.kernel_model.specs.Transfers.{at_place, read_at, read_content, transferring}
-use Rattle.kernel_model.specs.declared.descriptor.Description.{Description}
+use Rattle.kernel_model.specs.Transfers.{read_at, read_content, transferring}
 
 -- what is kept by each part of a row
 

@@ -1,5 +1,5 @@
 -- The holds of nodes and the keys of descriptions, as descriptions come, change and go.
-use Rattle.std.proofs.Common.{◌≡◌, ◌≢◌, ℕ, zero, suc, ◌+◌, ◌-◌, ◌<◌, ◌≤◌, Bool, true, false, cond, ◌==◌, List, [], ◌∷◌, length, set, get_or, Option, Some, None, refl, sym, ap, subst, ◌∙◌, inl, inr, arith, IfSome, IsSome}
+use Rattle.std.proofs.Common.{◌≡◌, ◌≢◌, ℕ, ◌+◌, ◌-◌, ◌<◌, ◌≤◌, Bool, true, false, cond, ◌==◌, List, length, set, get_or, Option, Some, None, refl, sym, ap, subst, ◌∙◌, inl, inr, arith, IfSome, IsSome}
 use Rattle.std.specs.Prelude.{is_some, option_map, option_and_then, count_by, unwrap_or}
 use Rattle.std.specs.FinMap.{get}
 use Rattle.std.specs.List.{list_any}
@@ -9,7 +9,7 @@ use Rattle.std.proofs.lemmas.List.{get_or_past, get_or-set_same, get_or-set_othe
 use Rattle.std.proofs.lemmas.List.Sums.{sum_by-set}
 use Rattle.std.proofs.lemmas.Option.{same_Some}
 use Rattle.kernel_core.specs.FileSystem.{IsFileSystem}
-use Rattle.kernel_core.specs.Nodes.{Inode, Nodes}
+use Rattle.kernel_core.specs.Nodes.{Inode}
 use Rattle.kernel_core.specs.Queries.{holds_at, holds_in}
 use Rattle.kernel_model.specs.Always.{has_open, is_node, IsTable}
 use Rattle.kernel_model.specs.Descriptions.{node_of}
@@ -22,7 +22,7 @@ use Rattle.kernel_model.specs.declared.descriptor.Object.TheVariants as objects
 use Rattle.kernel_model.proofs.LeastFree.{least_free}
 use Rattle.native_vfs.specs.Held.{ChangesHeld, KeepsHeld}
 use Rattle.native_vfs.specs.Keyed.{Keyed, number_at as node_at, inode_at, IsLiveKey}
-use Rattle.native_files.specs.inside.Kept.{AreKept, node_in, holders_in}
+use Rattle.native_files.specs.inside.Kept.{AreKept, node_in}
 
 abbrev pub one : Bool → ℕ
 one b = cond b 1 0

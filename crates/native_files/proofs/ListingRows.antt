@@ -1,5 +1,5 @@
 -- The entries that are given, as a row.
-use Rattle.std.proofs.Common.{◌≡◌, ℕ, ◌+◌, ◌<◌, ◌≤◌, Bool, true, false, cond, List, map, length, Option, None, Some, Result, Ok, Err, refl, sym, ap, subst, ◌∙◌, arith, All}
+use Rattle.std.proofs.Common.{◌≡◌, ℕ, ◌+◌, ◌<◌, ◌≤◌, false, List, map, length, Option, None, Some, Result, Ok, Err, refl, sym, ap, subst, ◌∙◌, arith, All}
 use Rattle.std.specs.Prelude.{nat_lt, sum_by, ⊤}
 use Rattle.std.proofs.lemmas.Bool.{lt-ltb}
 use Rattle.std.proofs.lemmas.Bool.Decides.{nat_tests}
@@ -8,8 +8,8 @@ use Rattle.kernel_core.specs.declared.core_error.CoreError.{CoreError}
 use Rattle.kernel_core.specs.declared.core_error.CoreError.TheVariants as errors
 use Rattle.kernel_core.specs.declared.core_error.Stop.TheVariants as stops
 use Rattle.kernel_core.specs.declared.error.Errno.TheVariants.{EFAULT, ENOENT, ENOTDIR}
-use Rattle.kernel_model.specs.Came.{Did, Done, Refused, done, refused, refused_by, refused_if, with_some}
-use Rattle.kernel_model.specs.ContentRows.{Entry, all_entries, entries_refusal, fitting, give_entries, position_after, record_length}
+use Rattle.kernel_model.specs.Came.{Did, done, refused, refused_by, refused_if, with_some}
+use Rattle.kernel_model.specs.ContentRows.{Entry, all_entries, fitting, give_entries, position_after, record_length}
 use Rattle.kernel_model.specs.State.{Files}
 use Rattle.kernel_model.specs.Transfers.{moved_to}
 use Rattle.kernel_model.specs.declared.descriptor.Description.{Description}

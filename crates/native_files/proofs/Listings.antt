@@ -1,6 +1,6 @@
 -- The entries of a directory, from a cookie on.
-use Rattle.std.proofs.Common.{◌≡◌, ◌≢◌, ℕ, zero, suc, ◌+◌, ◌-◌, ◌<◌, ◌≤◌, Bool, true, false, cond, List, [], ◌∷◌, ◌++◌, length, map, Option, None, Some, refl, sym, ap, subst, ◌∙◌, arith, IfSome, IsSome, append_assoc, append-nil, add-zero, All, ◌*◌, ◌/◌}
-use Rattle.std.specs.Prelude.{codes, filter, find, is_some, nat_lt, option_map, sum_by, ◌||◌}
+use Rattle.std.proofs.Common.{◌≡◌, ◌≢◌, ℕ, ◌+◌, ◌-◌, ◌<◌, ◌≤◌, Bool, true, false, cond, List, [], ◌∷◌, ◌++◌, length, map, Option, None, Some, refl, sym, ap, subst, ◌∙◌, arith, IfSome, IsSome, append_assoc, append-nil, add-zero, All, ◌*◌, ◌/◌}
+use Rattle.std.specs.Prelude.{codes, find, nat_lt, option_map, sum_by, ◌||◌}
 use Rattle.std.specs.Cmp.{nat_cmp_is, ranked}
 use Rattle.std.specs.FinMap.{get}
 use Rattle.std.specs.List.{AllByRecursion}

@@ -1,5 +1,5 @@
 -- The least free number, by the first free place.
-use Rattle.std.proofs.Common.{◌≡◌, ℕ, ◌+◌, List, length, Option, Some, None, refl, sym, ap, ◌∙◌, arith}
+use Rattle.std.proofs.Common.{◌≡◌, ℕ, ◌+◌, List, length, Option, Some, None, ap, ◌∙◌, arith}
 use Rattle.std.specs.Prelude.{is_none, option_map, position, unwrap_or}
 use Rattle.kernel_model.specs.Table.{new_place}
 

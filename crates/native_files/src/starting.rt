@@ -1,6 +1,7 @@
-//! The files of a process that begins.
-ghost use Rattle.std.specs.Prelude.{◌≡◌, IfOk, option_map, replicate};
-ghost use Rattle.kernel_core.specs.ValidTree.{IsValidTree};
+//! The files of a process that begins, and the file tree that it leaves.
+ghost use Rattle.std.specs.Prelude.{◌≡◌, ◌↔◌, ℕ, Contains, IfOk, option_map, replicate};
+ghost use Rattle.kernel_core.specs.LoadedTree.{saved};
+ghost use Rattle.kernel_core.specs.ValidTree.{IsReached, IsValidTree, numbers};
 ghost use Rattle.kernel_model.specs.Begin as begin;
 ghost use Rattle.native_fd.specs.Table.{no_descriptors};
 
@@ -32,6 +33,16 @@ impl Files {
         files.insert(1, stream_description(Stream::Out, Access::Write), false)?;
         files.insert(2, stream_description(Stream::Err, Access::Write), false)?;
         Ok(files)
+    }
+
+    /// The nodes as a file tree: those that names lead to from the root, by rising number, each with the time
+    /// of its last modification in whole seconds. It copies every byte once. (The form is this project's own.)
+    pub fn tree(&self) -> Result<Tree, NoMemory>
+        ensures saved { IfOk result (λ tree. tree ≡ saved self.now.nodes) }
+        ensures valid { IfOk result IsValidTree }
+        ensures reached { IfOk result (λ tree. (number : ℕ) → Contains (numbers tree.nodes) number ↔ IsReached tree.nodes number) }
+    {
+        self.vfs.tree()
     }
 }
 

@@ -1,5 +1,5 @@
 -- The entries of a directory behind a cookie, and those of them that are given.
-use Rattle.std.specs.Prelude.{◌≡◌, ℕ, ◌+◌, ◌-◌, ◌≤◌, ◌<◌, Bool, true, false, All, List, [], ◌∷◌, ◌++◌, filter, find, length, map, nat_lt, sum_by, ⊤, Option, Some, None, Result, Ok, Err}
+use Rattle.std.specs.Prelude.{◌≡◌, ℕ, ◌+◌, ◌≤◌, ◌<◌, Bool, true, false, All, List, [], ◌∷◌, ◌++◌, filter, find, length, map, nat_lt, sum_by, ⊤, Option, Some, None, Result, Ok, Err}
 use Rattle.kernel_core.specs.Nodes.{Listing, Nodes, entries_in, listing_at}
 use Rattle.kernel_core.specs.declared.core_error.CoreError.{CoreError}
 use Rattle.kernel_core.specs.declared.core_error.CoreError.TheVariants as errors

@@ -1,4 +1,4 @@
-use Rattle.std.proofs.Common.{◌≡◌, ◌≤◌, ◌<◌, Option, Ok, Err, Result, IfOk, sym, ◌∙◌, arith}
+use Rattle.std.proofs.Common.{◌≡◌, Option, Ok, Err, Result, IfOk, sym, ◌∙◌, arith}
 use Rattle.std.specs.Prelude.{option_map}
 use Rattle.kernel_core.specs.Nodes.{entries_in, listing_at}
 use Rattle.kernel_core.specs.declared.core_error.NoMemory.{NoMemory}

@@ -1,4 +1,4 @@
-use Rattle.std.proofs.Common.{◌≡◌, ℕ, ◌≤◌, ◌<◌, ◌∷◌, Option, None, Some, IfSome, IsSome, length, sym, ap, subst, ◌∙◌}
+use Rattle.std.proofs.Common.{◌≡◌, ℕ, ◌≤◌, ◌<◌, ◌∷◌, Option, Some, IfSome, IsSome, length, sym, ap, subst, ◌∙◌}
 use Rattle.std.specs.Prelude.{option_map}
 use Rattle.kernel_core.specs.FileSystem.{IsFileSystem}
 use Rattle.kernel_core.specs.Nodes.{entries_in, listing_at}

@@ -1,4 +1,4 @@
-use Rattle.std.proofs.Common.{◌≡◌, sym, ap, subst, ◌∙◌, replicate}
+use Rattle.std.proofs.Common.{sym, ap, subst}
 use Rattle.kernel_model.specs.Begin.{free_places}
 use Rattle.kernel_model.specs.State.{Descriptors}
 use Rattle.kernel_model.specs.declared.descriptor.Description.{Description}

@@ -1,9 +1,7 @@
-use Rattle.std.proofs.Common.{◌≡◌, ℕ, ◌≤◌, List, [], length, take, min, sym, ap, ◌∙◌, arith, rules, IfOk, drop, ◌++◌, length-append, length-drop}
+use Rattle.std.proofs.Common.{ℕ, ◌≤◌, [], length, take, min, sym, ap, ◌∙◌, arith, IfOk, drop, ◌++◌, length-append, length-drop}
 use Rattle.std.specs.Prelude.{Result, Ok, Err}
 use Rattle.std.proofs.lemmas.List.{length-take-le}
-use Rattle.kernel_core.specs.Nodes.{NodeContent}
 use Rattle.kernel_core.specs.declared.error.Errno.{Errno}
-use Rattle.kernel_model.specs.Came.{Came}
 use Rattle.kernel_model.specs.Descriptions.{content_at}
 use Rattle.kernel_model.specs.Transfers.{read_content}
 use Rattle.native_files.specs.Answers.{filled}

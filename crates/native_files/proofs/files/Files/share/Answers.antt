@@ -1,7 +1,7 @@
-use Rattle.std.proofs.Common.{◌≡◌, None, false, sym, ap, subst, ◌∙◌}
+use Rattle.std.proofs.Common.{◌≡◌, false, sym, ap, subst, ◌∙◌}
 use Rattle.kernel_model.specs.DescriptorRows.{after_duplicate}
 use Rattle.kernel_model.specs.State.{Files}
-use Rattle.kernel_model.specs.Table.{closed, shared, slot, with_cloexec}
+use Rattle.kernel_model.specs.Table.{shared, slot, with_cloexec}
 use Rattle.native_vfs.specs.Keyed.{number_at as node_at}
 use Rattle.native_files.specs.inside.Kept.{AreKept}
 use Rattle.native_files.proofs.KeptLemmas.{closed-not_open, live-shared, shared-cloexec}

@@ -1,12 +1,9 @@
-use Rattle.std.proofs.Common.{◌≡◌, ℕ, List, None, Some, Option, length, take, sym, ap, subst, ◌∙◌}
-use Rattle.std.proofs.Math.Facts.{to_z-of_z}
-use Rattle.std.specs.Int.{w128}
+use Rattle.std.proofs.Common.{ℕ, None, length, take, sym, ap, ◌∙◌}
 use Rattle.kernel_core.specs.declared.error.Errno.TheVariants.{EBADF}
 use Rattle.kernel_model.specs.Came.{Did, Done, Refused, with_some}
 use Rattle.kernel_model.specs.Transfers.{Writing, transferring, write, write_object, writing}
 use Rattle.kernel_model.specs.declared.descriptor.Description.{Description}
-use Rattle.native_files.specs.Answers.{WritesSo, moved}
-use Rattle.native_files.proofs.Asked.{transferring-none, transferring-refused, transferring-some}
+use Rattle.native_files.proofs.Asked.{transferring-none, transferring-refused}
 use Rattle.native_files.proofs.WriteSteps.{untouched}
 use Rattle.native_files.proofs.files.Files.write.Goals as goal
 

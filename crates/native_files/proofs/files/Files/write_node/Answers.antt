@@ -1,4 +1,4 @@
-use Rattle.std.proofs.Common.{◌≡◌, ℕ, ℤ, Ok, Err, None, length, subst, sym, ap, ◌∙◌}
+use Rattle.std.proofs.Common.{ℕ, Ok, Err, None, length, subst, sym, ap, ◌∙◌}
 use Rattle.std.proofs.Math.Facts.{to_z-of_z}
 use Rattle.std.specs.Int.{w128}
 use Rattle.kernel_core.specs.Nodes.{file_at}

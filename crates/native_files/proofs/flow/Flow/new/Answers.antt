@@ -1,4 +1,4 @@
-use Rattle.std.proofs.Common.{ℕ, List, length, ap, ◌∙◌}
+use Rattle.std.proofs.Common.{length, ap, ◌∙◌}
 use Rattle.kernel_model.specs.State.{Pipe}
 use Rattle.native_fd.proofs.LinkLemmas.{length-free}
 use Rattle.native_files.proofs.flow.Flow.new.Goals as goal
