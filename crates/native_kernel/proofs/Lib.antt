@@ -1,4 +1,5 @@
 pub mod ErrorNumbers
+pub mod Expiry
 pub mod OpenNumbers
 pub mod OtherNumbers
 pub mod Pairs
