@@ -6,6 +6,8 @@ pub mod Filled
 pub mod FirstFiles
 pub mod Keeping
 pub mod KeptLemmas
+pub mod ListingRows
+pub mod Listings
 pub mod NodeFacts
 pub mod PipePlaces
 pub mod PlaceLemmas

@@ -3,5 +3,6 @@ pub mod Ends
 pub mod Events
 pub mod Kept
 pub mod Lengths
+pub mod Listings
 pub mod Places
 pub mod Steps

@@ -3,11 +3,13 @@
 
 mod content;
 mod descriptors;
+mod entries;
 mod events;
 mod files;
 mod flags;
 mod flow;
 mod lengths;
+mod listing;
 mod looking;
 mod nodes;
 mod pipes;
