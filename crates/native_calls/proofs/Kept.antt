@@ -25,7 +25,7 @@ use Rattle.native_calls.specs.Arguments.{argument, word, signed_word}
 use Rattle.native_calls.specs.Descriptors.{descriptor_calls, close_row, dup_row, dup3_row, pipe2_row, fcntl_row}
 use Rattle.native_calls.specs.HostBytes.{vector, asked, buffers}
 use Rattle.native_calls.specs.Ids.{id_calls, getpid_row, getppid_row}
-use Rattle.native_calls.specs.Laws.{IsFailure, MayStoreTimeLeft, MovesNothing, KeepsStreams}
+use Rattle.native_calls.specs.Laws.{IsFailure, StoresTimeLeft, MovesNothing, KeepsStreams}
 use Rattle.native_calls.specs.Clocks.{clock_calls, nanosleep_row, getitimer_row, setitimer_row, clock_gettime_row, clock_getres_row, clock_nanosleep_row}
 use Rattle.native_calls.specs.Signals.{signal_calls, accepts, kill_row, tkill_row, tgkill_row, sigaltstack_row, rt_sigsuspend_row, rt_sigaction_row, rt_sigprocmask_row, rt_sigpending_row, rt_sigtimedwait_row, rt_sigqueueinfo_row}
 use Rattle.native_calls.specs.SignalBytes.{info_bytes}
@@ -44,7 +44,7 @@ use Rattle.native_calls.specs.Transfers.{transfer_calls, after_read, after_write
 
 -- what a step keeps of host memory and of what is left of the input
 pub record Keeps (number : ℕ) (memory left : List ℕ) (step : NativeStep) : Type 0 where
-  pub quiet : IsFailure step.reply → MovesNothing memory left step ⊎ MayStoreTimeLeft number
+  pub quiet : IsFailure step.reply → MovesNothing memory left step ⊎ StoresTimeLeft number memory step
   pub still : IsFailure step.reply → KeepsStreams left step
   pub long : length step.memory ≡ length memory
 
@@ -177,16 +177,42 @@ time_left_length : (kernel : Kernel) (time : ℕ) (wait : Given (Option ℕ)) (m
 time_left_length kernel time (Err error) memory = refl
 time_left_length kernel time (Ok length) memory = with_left_length memory time (left_of_wait kernel kernel.clock length)
 
-module _ {V : Type 0} (store : V → List ℕ) (count : V → ℕ) (after : List ℕ → List ℕ) (memory : List ℕ)
-    (stored : (found : V) → length (store found) ≡ length memory) (longer : (bytes : List ℕ) → length (after bytes) ≡ length bytes) where
+-- where a call fails, memory has the time left at some place, or nothing more, as where it goes to none
+record StoresSome (memory after : List ℕ) : Type 0 where
+  pub time : ℕ
+  pub remaining : ℕ
+  pub stored : after ≡ written memory time (time_bytes remaining)
+
+some_left : (memory : List ℕ) (time : ℕ) (found : Option ℕ) → StoresSome memory (with_left memory time found)
+some_left memory time None = record { time = 0; remaining = 0; stored = refl }
+some_left memory time (Some left) = record { time = time; remaining = left; stored = refl }
+
+some_time_left : (kernel : Kernel) (time : ℕ) (wait : Given (Option ℕ)) (memory : List ℕ) → StoresSome memory (with_time_left kernel time wait memory)
+some_time_left kernel time (Err error) memory = record { time = 0; remaining = 0; stored = refl }
+some_time_left kernel time (Ok length) memory = some_left memory time (left_of_wait kernel kernel.clock length)
+
+module _ {V : Type 0} (store : V → List ℕ) (count : V → ℕ) (kernel : Kernel) (time : ℕ) (wait : Given (Option ℕ)) (memory : List ℕ)
+    (stored : (found : V) → length (store found) ≡ length memory) where
+  abbrev after : List ℕ → List ℕ
+  after bytes = with_time_left kernel time wait bytes
+
   end_length : (came : Came V) → length (at_end after (memory_after store memory came) came) ≡ length memory
-  end_length (Done found) = longer (store found) ∙ stored found
-  end_length (Refused error) = longer memory
+  end_length (Done found) = time_left_length kernel time wait (store found) ∙ stored found
+  end_length (Refused error) = time_left_length kernel time wait memory
   end_length (Waits wake) = refl
 
-  waits_for_keeps : (number : ℕ) → MayStoreTimeLeft number → (did : Did Kernel V) (left : List ℕ) → Keeps number memory left (waits_for store count after memory did left)
-  waits_for_keeps number may did left = record {
-    quiet = λ failed. inr may;
+  end_stores : (came : Came V) → IsFailure (reply_to (λ found. value (count found)) came)
+      → StoresSome memory (at_end after (memory_after store memory came) came)
+  end_stores (Done found) failed = absurd failed
+  end_stores (Refused error) failed = some_time_left kernel time wait memory
+  end_stores (Waits wake) failed = absurd failed
+
+  waits_for_keeps : (number : ℕ) → (number ≡ 72) ⊎ (number ≡ 73) → (did : Did Kernel V) (left : List ℕ)
+      → Keeps number memory left (waits_for store count after memory did left)
+  waits_for_keeps number own did left = record {
+    quiet = λ failed.
+        let some = end_stores did.came failed in
+        inr (record { own = own; time = some.time; remaining = some.remaining; stored = some.stored });
     still = λ failed. record { rest = refl; sent = refl };
     long = end_length did.came;
   }
@@ -493,16 +519,16 @@ pselect_keeps : (kernel : Kernel) (memory : List ℕ) (count : ℤ) (places : Se
 unfolding pselect_row
 pselect_keeps kernel memory count places time argument left =
     let wait = after_argument (mask_argument_at memory argument) (wait_at memory time) in
-    waits_for_keeps (selected (counted_fds count) places memory) set_count (with_time_left kernel time wait) memory
-    (selected_length (counted_fds count) places memory) (time_left_length kernel time wait) 72 (inl refl) _ left
+    waits_for_keeps (selected (counted_fds count) places memory) set_count kernel time wait memory
+    (selected_length (counted_fds count) places memory) 72 (inl refl) _ left
 
 ppoll_keeps : (kernel : Kernel) (memory : List ℕ) (address count time mask size : ℕ) (left : List ℕ)
     → Keeps 73 memory left (ppoll_row kernel memory address count time mask size left)
 unfolding ppoll_row
 ppoll_keeps kernel memory address count time mask size left =
     let wait = wait_at memory time in
-    waits_for_keeps (polled address memory) (count_by is_any) (with_time_left kernel time wait) memory
-    (polled_length address memory) (time_left_length kernel time wait) 73 (inr refl) _ left
+    waits_for_keeps (polled address memory) (count_by is_any) kernel time wait memory
+    (polled_length address memory) 73 (inr refl) _ left
 
 polls_keep : CallsKeep poll_calls
 polls_keep = (

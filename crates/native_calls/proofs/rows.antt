@@ -1,5 +1,6 @@
 pub mod Clocks
 pub mod Descriptors
+pub mod History
 pub mod Names
 pub mod Nodes
 pub mod Polls

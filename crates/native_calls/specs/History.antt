@@ -27,7 +27,10 @@ opening kernel left = moment kernel left nothing
 abbrev pub more_sent : Sent → Sent → Sent
 more_sent before more = record { out = before.out ++ more.out; err = before.err ++ more.err }
 
--- The clock was set, which never goes back; a timer that is due by then goes off. `kept` says whether a wait names the timer's signal.
+-- Entries that post a signal have a `kept`: whether a wait names it. No moment says who waits, so here either answer is legal. By it differs
+-- only whether a signal pends that is ignored and not blocked; which answer is right is with whoever runs the process and knows its waits.
+
+-- The clock was set, which never goes back; a timer that is due by then goes off. `kept` is about the timer's signal.
 pub record FollowsClock (from : Moment) (time : ℕ) (to : Moment) : Type 0 where
   pub kept : Bool
   pub later : from.kernel.clock ≤ time
@@ -35,7 +38,7 @@ pub record FollowsClock (from : Moment) (time : ℕ) (to : Moment) : Type 0 wher
   pub rest : to.left ≡ from.left
   pub silent : to.sent ≡ from.sent
 
--- A signal came from outside. `kept` says whether a wait names it.
+-- A signal came from outside. `kept` is about that signal.
 pub record FollowsPost (from : Moment) (signal : Sig) (code : ℤ) (value : ℕ) (to : Moment) : Type 0 where
   pub kept : Bool
   pub given : Option ℕ

@@ -12,7 +12,7 @@ use Rattle.native_calls.specs.Paths.{path_at, base_of}
 use Rattle.native_calls.specs.Step.{NativeStep, NativeCall, gives, counts}
 use Rattle.number_tables.specs.OpenNumbers.{open_of_native}
 
--- Opening. O_LARGEFILE is kept, and no size needs it.
+-- Opening. Flags that are not listed are EINVAL (own). O_LARGEFILE is kept, and no size needs it.
 unfoldable pub openat_row : Kernel → List ℕ → ℕ → ℕ → ℕ → ℕ → List ℕ → NativeStep
 openat_row kernel memory directory path flags mode left =
     gives memory

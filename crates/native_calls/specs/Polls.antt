@@ -31,7 +31,7 @@ wait_at memory time = checked_or_none length_of (unless_null time (time_at memor
 
 abbrev pub with_left : List ℕ → ℕ → Option ℕ → List ℕ
 with_left memory time None = memory
-with_left memory time (Some left) = written memory time (time_bytes left)
+with_left memory time (Some remaining) = written memory time (time_bytes remaining)
 
 abbrev pub with_time_left : Kernel → ℕ → Given (Option ℕ) → List ℕ → List ℕ
 with_time_left kernel time (Err error) memory = memory
@@ -142,16 +142,25 @@ selected count places memory sets =
     let second = written first places.write (fds_bytes count sets.write) in
     written second places.except (fds_bytes count sets.except)
 
--- what the last argument of pselect(2) points to: the address of a mask and the size of a set
+-- what the last argument of pselect(2) points to: the address of a mask and the size of a set, two numbers of 8 bytes
 pub record MaskArgument : Type 0 where
   pub mask : ℕ
   pub size : ℕ
 
+abbrev pub number_size : ℕ
+number_size = 8
+
+abbrev pub mask_argument_size : ℕ
+mask_argument_size = 2 * number_size
+
 abbrev pub mask_argument_in : List ℕ → MaskArgument
-mask_argument_in bytes = record { mask = unsigned false 8 bytes; size = unsigned false 8 (drop 8 bytes) }
+mask_argument_in bytes = record {
+  mask = unsigned false number_size bytes;
+  size = unsigned false number_size (drop number_size bytes);
+}
 
 abbrev pub mask_argument_at : List ℕ → ℕ → Option (Given MaskArgument)
-mask_argument_at memory address = unless_null address (read_as mask_argument_in (structure memory address 16))
+mask_argument_at memory address = unless_null address (read_as mask_argument_in (structure memory address mask_argument_size))
 
 -- It is read first, and then the time; the mask is looked at last.
 

@@ -1,7 +1,7 @@
 //! Laws over the definitions, each the contract of a function that does nothing. (The rules are this
 //! project's own.)
 
-ghost use Rattle.native_calls.specs.Laws.{IsFailure, LeftByFailure, MayLackMemory, MayStoreTimeLeft, MayWaitPartly, MovesNothing, KeepsStreams, TellsOld};
+ghost use Rattle.native_calls.specs.Laws.{IsFailure, LeftByFailure, MayLackMemory, MayWaitPartly, MovesNothing, KeepsStreams, StoresTimeLeft, TellsOld};
 ghost use Rattle.native_calls.specs.Step.{failure};
 ghost use Rattle.native_calls.specs.Table.{native_call};
 ghost use Rattle.kernel_core.specs.declared.error.Errno.TheVariants.{ENOMEM};
@@ -11,12 +11,12 @@ ghost use Rattle.kernel_model.specs.State.{Kernel};
 ghost use Rattle.std.specs.Prelude.{◌≡◌, ◌⊎◌, ℕ, List, length, slice_set};
 
 /// A call that fails moves nothing: no byte of memory is written, none of the input is taken, and none
-/// is sent; but pselect(2) and ppoll(2) store the time left.
+/// is sent; but pselect(2) and ppoll(2) store the time left, and nothing else.
 pub fn a_call_that_fails_moves_nothing()
     ensures moved { (number : ℕ) (args : List ℕ) (kernel : Kernel) (memory left : List ℕ)
         → IsFailure (native_call number args kernel memory left).reply
         → MovesNothing memory left (native_call number args kernel memory left)
-        ⊎ MayStoreTimeLeft number }
+        ⊎ StoresTimeLeft number memory (native_call number args kernel memory left) }
     ensures streams { (number : ℕ) (args : List ℕ) (kernel : Kernel) (memory left : List ℕ)
         → IsFailure (native_call number args kernel memory left).reply
         → KeepsStreams left (native_call number args kernel memory left) }

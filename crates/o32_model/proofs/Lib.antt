@@ -1,4 +1,6 @@
 pub mod FileQuiet
+pub mod KernelKept
+pub mod Looks
 pub mod MapLaws
 pub mod MapQuiet
 pub mod PartsSend

@@ -1,52 +1,54 @@
--- mprotect writes no byte.
-use Rattle.std.proofs.Common.{◌≡◌, ◌+◌, ◌/◌, ◌%◌, zero, suc, ℕ, Bool, true, false, not, cond, List, Option, Some, None, refl, sym, ap, subst, ◌∙◌, inl, inr}
+-- mprotect changes protections alone.
+use Rattle.std.proofs.Common.{◌≡◌, ◌+◌, zero, suc, ℕ, Bool, true, false, not, cond, List, Option, Some, None, refl, sym, ap, subst, ◌∙◌, inl, inr}
 use Rattle.std.proofs.lemmas.Bool.Decides.{eqb_tells}
 use Rattle.std.specs.Cmp.{nat_cmp_total}
+use Rattle.std.specs.Prelude.{option_map}
 use Rattle.std.specs.FinMap.{get, get-insert}
 use Rattle.guest_space.proofs.Ranges.{eqb-eq_by_cmp}
-use Rattle.guest_space.specs.Bytes.{page_byte, byte_at}
 use Rattle.guest_space.specs.Mapping.{with_protection, pages_with_protection}
 use Rattle.guest_space.specs.Memory.{MappedPage, Memory, Pages}
 use Rattle.kernel_core.specs.declared.error.Errno.TheVariants.{EINVAL}
 use Rattle.kernel_model.specs.Came.{Did, refused_if}
 use Rattle.kernel_model.specs.State.{Kernel}
-use Rattle.o32_model.specs.Laws.{ChangesProtections, mprotect_number}
+use Rattle.o32_model.specs.Laws.{ChangesProtections, mprotect_number, unprotected}
 use Rattle.o32_model.specs.Mappings.{maps, mprotect, protected, three_bits}
 use Rattle.o32_model.specs.Ranges.{is_aligned, page_of, page_count}
 use Rattle.o32_model.specs.Step.{Guest}
 use Rattle.o32_model.specs.Table.{call_of, step_of, o32_call}
 use Rattle.o32_model.specs.Words.{argument}
 
--- a page that has another protection has the same bytes
-one_changed : (pages : Pages) (at protection number place : ℕ) (found : Option MappedPage) → get pages at ≡ found
-    → page_byte (get (pages_with_protection pages at found protection) number) place ≡ page_byte (get pages number) place
-one_changed pages at protection number place None there = refl
-one_changed pages at protection number place (Some page) there =
-    ap (λ o. page_byte o place) (get-insert nat_cmp_total pages at (record page { protection = protection }) number)
-    ∙ ap (λ b. page_byte (cond b (Some (record page { protection = protection })) (get pages number)) place) (sym (eqb-eq_by_cmp number at))
+-- a page that has another protection is the same but for it
+one_changed : (pages : Pages) (at protection number : ℕ) (found : Option MappedPage) → get pages at ≡ found
+    → option_map unprotected (get (pages_with_protection pages at found protection) number) ≡ option_map unprotected (get pages number)
+one_changed pages at protection number None there = refl
+one_changed pages at protection number (Some page) there =
+    ap (option_map unprotected) (get-insert nat_cmp_total pages at (record page { protection = protection }) number)
+    ∙ ap (λ b. option_map unprotected (cond b (Some (record page { protection = protection })) (get pages number))) (sym (eqb-eq_by_cmp number at))
     ∙ elim (eqb_tells number at) [
       | inl same ↦
-          ap (λ b. page_byte (cond b (Some (record page { protection = protection })) (get pages number)) place) same.0
-          ∙ ap (λ o. page_byte o place) (sym there)
-          ∙ ap (λ n. page_byte (get pages n) place) (sym same.1)
-      | inr apart ↦ ap (λ b. page_byte (cond b (Some (record page { protection = protection })) (get pages number)) place) apart.0
+          ap (λ b. option_map unprotected (cond b (Some (record page { protection = protection })) (get pages number))) same.0
+          ∙ ap (option_map unprotected) (sym there)
+          ∙ ap (λ n. option_map unprotected (get pages n)) (sym same.1)
+      | inr apart ↦ ap (λ b. option_map unprotected (cond b (Some (record page { protection = protection })) (get pages number))) apart.0
     ]
 
-same_bytes : (pages : Pages) (first count protection address : ℕ) → byte_at (with_protection pages first count protection) address ≡ byte_at pages address
-unfolding with_protection byte_at
-same_bytes pages first zero protection address = refl
-same_bytes pages first (suc count) protection address =
-    one_changed (with_protection pages first count protection) (first + count) protection (address / 4096) (address % 4096) _ refl
-    ∙ same_bytes pages first count protection address
+same_pages : (pages : Pages) (first count protection number : ℕ)
+    → option_map unprotected (get (with_protection pages first count protection) number) ≡ option_map unprotected (get pages number)
+unfolding with_protection
+same_pages pages first zero protection number = refl
+same_pages pages first (suc count) protection number =
+    one_changed (with_protection pages first count protection) (first + count) protection number _ refl
+    ∙ same_pages pages first count protection number
 
 -- what is said of a step, by what becomes of memory
 abbrev Protects : Memory → Did Memory ℕ → Type 0
 Protects memory did =
-    ((address : ℕ) → byte_at did.state.pages address ≡ byte_at memory.pages address) × (did.state.program_break ≡ memory.program_break)
+    ((number : ℕ) → option_map unprotected (get did.state.pages number) ≡ option_map unprotected (get memory.pages number))
+    × (did.state.program_break ≡ memory.program_break) × (did.state.break_start ≡ memory.break_start)
 
 checked : (wrong : Bool) (memory : Memory) (first count protection : ℕ) → Protects memory (refused_if wrong EINVAL memory (protected memory first count protection))
-checked true memory first count protection = (λ address. refl, refl)
-checked false memory first count protection = (λ address. same_bytes memory.pages first _ protection address, refl)
+checked true memory first count protection = (λ number. refl, refl, refl)
+checked false memory first count protection = (λ number. same_pages memory.pages first _ protection number, refl, refl)
 
 row_protects : (memory : Memory) (address length protection : ℕ) → Protects memory (mprotect memory address length protection)
 unfolding mprotect
@@ -55,7 +57,7 @@ row_protects memory address length protection =
 
 step_protects : (kernel : Kernel) (guest : Guest) (left : List ℕ) (did : Did Memory ℕ) → Protects guest.memory did
     → ChangesProtections kernel guest left (maps kernel guest did left)
-step_protects kernel guest left did so = record { became = refl; bytes = so.0; break = so.1; set = refl; rest = refl; sent = refl }
+step_protects kernel guest left did so = record { became = refl; pages = so.0; break = so.1; start = so.2; set = refl; rest = refl; sent = refl }
 
 pub mprotect_protects : (kernel : Kernel) (guest : Guest) (left : List ℕ) → guest.words.nr ≡ mprotect_number
     → ChangesProtections kernel guest left (o32_call kernel guest left)

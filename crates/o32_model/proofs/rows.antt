@@ -8,6 +8,7 @@ pub mod NodeCalls
 pub mod Opening
 pub mod Paths
 pub mod Readiness
+pub mod Renaming
 pub mod Signals
 pub mod Sleeps
 pub mod Small
@@ -16,5 +17,6 @@ pub mod SmallTree
 pub mod Status
 pub mod Terminal
 pub mod Transfers
+pub mod Turns
 pub mod WaitEnds
 pub mod Words

@@ -1,9 +1,9 @@
 -- What calls do to the machine as a list of effects, and what it is to carry them out. (The journal is this project's own.)
-use Rattle.std.specs.Prelude.{◌≡◌, ◌⊎◌, ℕ, ◌+◌, ◌^◌, ◌==◌, ◌<◌, ◌≤◌, All, List, [], ◌∷◌, ◌++◌, length, Option, Some, None, is_none, nat_le, nat_lt, if◌then◌else◌}
-use Rattle.std.specs.FinMap.{len}
+pub use Rattle.o32_model.specs.Ranges.{user_pages}
+use Rattle.std.specs.Prelude.{◌≡◌, ◌⊎◌, ℕ, ◌+◌, ◌^◌, ◌==◌, ◌<◌, ◌≤◌, All, List, [], ◌∷◌, ◌++◌, length, Option, Some, None, is_none, nat_lt, if◌then◌else◌}
 use Rattle.guest_space.specs.Access.{first_denied}
 use Rattle.guest_space.specs.Bytes.{with_bytes}
-use Rattle.guest_space.specs.Mapping.{with_zeros, absent_count, page_limit, mapped_run, with_protection}
+use Rattle.guest_space.specs.Mapping.{mapped_run, with_protection}
 use Rattle.guest_space.specs.Memory.{Pages}
 use Rattle.guest_space.specs.Remapping.{without}
 use Rattle.guest_space.specs.declared.access.Access.TheVariants.{Store}
@@ -12,6 +12,7 @@ use Rattle.kernel_core.specs.declared.record.Effect.TheVariants.{Register, Write
 use Rattle.kernel_model.specs.Pipes.{Sent}
 use Rattle.mips_exec.specs.Processor.{Processor, with_register}
 use Rattle.o32_model.specs.Logs.{with_more}
+use Rattle.o32_model.specs.Ranges.{with_new_pages}
 
 -- What effects act on: the registers, the pages, and what was sent to the outputs
 pub record Target : Type 0 where
@@ -38,8 +39,7 @@ after_write pages address bytes =
 
 -- pages of zeros, whatever stood there; no more pages than the limit may be mapped then
 abbrev pub after_map : Pages → ℕ → ℕ → ℕ → Option Pages
-after_map pages first count protection =
-    if nat_le (len pages + absent_count pages first count) page_limit then Some (with_zeros pages first count protection) else None
+after_map pages first count protection = with_new_pages pages first count protection
 
 -- each page has to be there
 abbrev pub after_protect : Pages → ℕ → ℕ → ℕ → Option Pages
@@ -87,11 +87,8 @@ abbrev pub carried_all : Target → List Effect → Option Target
 carried_all target effects = carried_on effects (Some target)
 
 -- What an effect of a call is like: its numbers fit the fields that they are kept in, its pages are some of the program's, a protection has
--- three bits, and an output is one of the two. A call sets no register in this way: its outcome says what it returns.
-
--- how many pages the program's half of memory has (TASK_SIZE32 of Linux arch/mips)
-abbrev pub user_pages : ℕ
-user_pages = 524280
+-- three bits, and an output is one of the two. What is kept while a call is made sets no register: the machine alone sets registers, and
+-- adds those effects itself.
 
 pub record ArePages (first count : ℕ) : Type 0 where
   pub begins : first < user_pages

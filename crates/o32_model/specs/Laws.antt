@@ -1,10 +1,13 @@
 -- Words of the laws. (The laws are this project's own.)
-use Rattle.std.specs.Prelude.{◌≡◌, ℕ, ◌==◌, Bool, List, [], ◌∷◌, ⊤}
+use Rattle.std.specs.Prelude.{Bool, List, None, [], is_some, option_map, ℕ, ⊤, ◌==◌, ◌∷◌, ◌≡◌}
+use Rattle.guest_space.specs.Memory.{MappedPage}
+use Rattle.std.specs.FinMap.{get}
 use Rattle.std.specs.List.{list_any}
-use Rattle.guest_space.specs.Bytes.{byte_at}
 use Rattle.kernel_model.specs.Pipes.{nothing}
 use Rattle.kernel_model.specs.State.{Kernel}
+use Rattle.o32_model.specs.Small.{small_calls}
 use Rattle.o32_model.specs.Step.{Guest, O32Step}
+use Rattle.o32_model.specs.Table.{call_in, io_call_or, file_call_or}
 use Rattle.o32_model.specs.declared.outcome.Outcome.{Outcome}
 use Rattle.o32_model.specs.declared.outcome.Outcome.TheVariants.{Value, Pair, Error, Sleep, Frame, Exit}
 
@@ -28,11 +31,16 @@ pub record MovesNothing (guest : Guest) (left : List ℕ) (step : O32Step) : Typ
 abbrev pub mprotect_number : ℕ
 mprotect_number = 4125
 
--- after it all is as before but protections
+-- a page but for its protection
+abbrev pub unprotected : MappedPage → MappedPage
+unprotected page = record page { protection = 0 }
+
+-- after it all is as before but protections: each page is there or not as before, with its bytes, and is ready or not as before
 pub record ChangesProtections (kernel : Kernel) (guest : Guest) (left : List ℕ) (step : O32Step) : Type 0 where
   pub became : step.kernel ≡ kernel
-  pub bytes : (address : ℕ) → byte_at step.memory.pages address ≡ byte_at guest.memory.pages address
+  pub pages : (number : ℕ) → option_map unprotected (get step.memory.pages number) ≡ option_map unprotected (get guest.memory.pages number)
   pub break : step.memory.program_break ≡ guest.memory.program_break
+  pub start : step.memory.break_start ≡ guest.memory.break_start
   pub set : step.processor ≡ guest.processor
   pub rest : step.left ≡ left
   pub sent : step.sent ≡ nothing
@@ -50,3 +58,16 @@ pub record SendsNothing (guest : Guest) (left : List ℕ) (step : O32Step) : Typ
   pub set : step.processor ≡ guest.processor
   pub rest : step.left ≡ left
   pub sent : step.sent ≡ nothing
+
+-- whether a number is that of a call on descriptors and what they have open, of a small call, or of a call on files
+abbrev pub is_listed_call : ℕ → Bool
+is_listed_call number = is_some (io_call_or (call_in small_calls (file_call_or None number) number) number)
+
+-- Of those calls, the ones that may fail with the kernel changed: write(2) and writev(2) post SIGPIPE; lseek(2) and _llseek(2) move, and then
+-- the place is too wide or can't be stored; pipe2(2) closes both ends again where they can't be stored; and prlimit(2) has set the new limit
+-- where the old one can't be stored.
+abbrev pub part_done_numbers : List ℕ
+part_done_numbers = 4004 ∷ 4019 ∷ 4140 ∷ 4146 ∷ 4328 ∷ 4338 ∷ []
+
+abbrev pub is_part_done : ℕ → Bool
+is_part_done number = list_any (λ part. number == part) part_done_numbers

@@ -21,8 +21,7 @@ use Rattle.kernel_model.specs.State.{Kernel, Files}
 use Rattle.kernel_model.specs.Transfers.{file_bytes}
 use Rattle.kernel_model.specs.declared.descriptor.Description.{Description}
 use Rattle.number_tables.specs.MapNumbers.{map_flags_in}
-use Rattle.o32_model.specs.Effects.{after_map}
-use Rattle.o32_model.specs.Ranges.{page_size, is_aligned, page_of, page_count, is_beyond, is_mapped, takes_hint, greatest_place, resized}
+use Rattle.o32_model.specs.Ranges.{page_size, is_aligned, page_of, page_count, is_beyond, is_mapped, with_new_pages, takes_hint, greatest_place, resized}
 use Rattle.o32_model.specs.Step.{Guest, O32Step, O32Call, value, outcome_of}
 use Rattle.o32_model.specs.Words.{argument, stack_word}
 
@@ -45,7 +44,7 @@ brk memory wish = done (with_break memory wish) (with_break memory wish).program
 
 -- What a mapping shows of a file
 
--- a private mapping of a regular file; one that is shared has no device to be kept on
+-- a private mapping of a regular file; one that is shared has no device to be kept on (this project's own)
 abbrev pub mappable : MapKind → Option FileContent → Given FileContent
 mappable kind None = Err ENODEV
 mappable Shared (Some content) = Err ENODEV
@@ -71,7 +70,8 @@ first_bytes files flags fd offset count =
 
 -- Where a mapping goes
 
--- a fixed place lies in user space, and not at its first page
+-- a fixed place lies in user space, and not at its first page (that the two are ENOMEM and EPERM, also for a superuser, is this project's
+-- own)
 abbrev pub fixed_place : ℕ → ℕ → Given ℕ
 fixed_place address count =
     if is_beyond (page_of address) count then Err ENOMEM
@@ -106,7 +106,7 @@ three_bits protection = protection % 8
 -- new pages at a place, which begin with these bytes; the limit comes last
 abbrev pub mapped : Memory → ℕ → ℕ → ℕ → List ℕ → Did Memory ℕ
 mapped memory first count protection bytes =
-    with_some memory ENOMEM (after_map memory.pages first count protection) (λ pages.
+    with_some memory ENOMEM (with_new_pages memory.pages first count protection) (λ pages.
     done (copied_out (record memory { pages = pages }) (first * page_size) bytes) (first * page_size))
 
 abbrev pub is_unmappable : MapFlags → Wish → Bool
@@ -123,8 +123,8 @@ mapped_as files memory wish flags =
 unfoldable pub mmap : Files → Memory → Wish → ℕ → Did Memory ℕ
 mmap files memory wish flags = with_some memory EINVAL (map_flags_in flags) (mapped_as files memory wish)
 
--- The descriptor and the offset stand on the stack. Where one of them can't be read, that is EFAULT before all else. `unit` is how many
--- bytes one of the offset stands for.
+-- The descriptor and the offset, a number without a sign, stand on the stack. Where one of them can't be read, that is EFAULT before all
+-- else (this project's own). `unit` is how many bytes one of the offset stands for.
 abbrev pub mmap_in : ℕ → Kernel → Guest → Did Memory ℕ
 mmap_in unit kernel guest =
     with_some guest.memory EFAULT (stack_word guest.words 0) (λ fd.
@@ -169,7 +169,7 @@ msync memory address length flags =
     done memory 0))
 
 -- madvise(2): MADV_NORMAL 0, MADV_RANDOM 1, MADV_SEQUENTIAL 2, MADV_WILLNEED 3 (Linux include/uapi/asm-generic/mman-common.h) are taken and
--- change nothing
+-- change nothing; any other advice is EINVAL (this project's own)
 
 abbrev pub most_advice : ℕ
 most_advice = 3
@@ -177,7 +177,7 @@ most_advice = 3
 unfoldable pub madvise : Memory → ℕ → ℕ → Did Memory ℕ
 madvise memory address advice = refused_if (not (is_aligned address) || nat_lt most_advice advice) EINVAL memory (done memory 0)
 
--- mremap(2): MREMAP_MAYMOVE 1 is the one flag
+-- mremap(2): MREMAP_MAYMOVE 1 is the one flag. (An old size of 0 is EINVAL: this project's own, which has no shared mapping of a file.)
 
 abbrev pub at_page : Memory → Did Pages ℕ → Did Memory ℕ
 at_page memory did = told_as (λ first. first * page_size) (widened (λ pages. record memory { pages = pages }) did)

@@ -21,8 +21,8 @@ mkdir_row kernel guest from address mode left =
 
 -- Removing: `directory` says whether a directory is removed, and is none where there are other flags
 
-unfoldable pub unlink_row : Kernel → Guest → Base → ℕ → Option Bool → List ℕ → O32Step
-unlink_row kernel guest from address directory left =
+unfoldable pub remove_row : Kernel → Guest → Base → ℕ → Option Bool → List ℕ → O32Step
+remove_row kernel guest from address directory left =
     gives guest (told_zero (marked kernel (λ files now. remove_name files now from (path_at guest.memory address) directory))) left
 
 -- AT_REMOVEDIR of Linux include/uapi/linux/fcntl.h
@@ -45,7 +45,7 @@ link_row kernel guest old new left = gives guest (linked kernel guest Working ol
 abbrev pub follow_flag : ℕ
 follow_flag = 0x400
 
--- the flags are on the stack, and where they can't be read, that is EFAULT before all else
+-- the flags are on the stack, and where they can't be read, that is EFAULT before all else (this project's own)
 unfoldable pub linkat_row : Kernel → Guest → Base → ℕ → Base → ℕ → Option ℕ → List ℕ → O32Step
 linkat_row kernel guest old_from old new_from new flags left =
     gives guest
@@ -75,14 +75,14 @@ rename_row kernel guest old_from old new_from new left =
 abbrev pub name_calls : List O32Call
 name_calls =
     record { number = 4009; step = λ kernel guest. link_row kernel guest (argument guest.words 0) (argument guest.words 1) }
-    ∷ record { number = 4010; step = λ kernel guest. unlink_row kernel guest Working (argument guest.words 0) (Some false) }
+    ∷ record { number = 4010; step = λ kernel guest. remove_row kernel guest Working (argument guest.words 0) (Some false) }
     ∷ record { number = 4038; step = λ kernel guest. rename_row kernel guest Working (argument guest.words 0) Working (argument guest.words 1) }
     ∷ record { number = 4039; step = λ kernel guest. mkdir_row kernel guest Working (argument guest.words 0) (argument guest.words 1) }
-    ∷ record { number = 4040; step = λ kernel guest. unlink_row kernel guest Working (argument guest.words 0) (Some true) }
+    ∷ record { number = 4040; step = λ kernel guest. remove_row kernel guest Working (argument guest.words 0) (Some true) }
     ∷ record { number = 4083; step = λ kernel guest. symlink_row kernel guest (argument guest.words 0) Working (argument guest.words 1) }
     ∷ record { number = 4085; step = λ kernel guest. readlink_row kernel guest Working (argument guest.words 0) (argument guest.words 1) (signed_argument guest.words 2) }
     ∷ record { number = 4289; step = λ kernel guest. mkdir_row kernel guest (base (argument guest.words 0)) (argument guest.words 1) (argument guest.words 2) }
-    ∷ record { number = 4294; step = λ kernel guest. unlink_row kernel guest (base (argument guest.words 0)) (argument guest.words 1) (one_flag remove_directory_flag (argument guest.words 2)) }
+    ∷ record { number = 4294; step = λ kernel guest. remove_row kernel guest (base (argument guest.words 0)) (argument guest.words 1) (one_flag remove_directory_flag (argument guest.words 2)) }
     ∷ record { number = 4295; step = λ kernel guest. rename_row kernel guest (base (argument guest.words 0)) (argument guest.words 1) (base (argument guest.words 2)) (argument guest.words 3) }
     ∷ record { number = 4296; step = λ kernel guest. linkat_row kernel guest (base (argument guest.words 0)) (argument guest.words 1) (base (argument guest.words 2)) (argument guest.words 3) (stack_word guest.words 0) }
     ∷ record { number = 4297; step = λ kernel guest. symlink_row kernel guest (argument guest.words 0) (base (argument guest.words 1)) (argument guest.words 2) }

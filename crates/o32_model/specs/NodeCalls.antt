@@ -1,6 +1,6 @@
 -- The calls on the node that a path or a descriptor names: access(2), chmod(2), utimensat(2), truncate(2), fsync(2); on the working directory
 -- and the umask: chdir(2), getcwd(2), umask(2).
-use Rattle.std.specs.Prelude.{ℕ, ℤ, Bool, not, List, [], ◌∷◌, ◌++◌, drop, Option, option_map}
+use Rattle.std.specs.Prelude.{ℕ, ◌*◌, ℤ, Bool, not, List, [], ◌∷◌, ◌++◌, drop, Option, option_map}
 use Rattle.std.specs.Int.{w64, cast_signed}
 use Rattle.guest_space.specs.Memory.{Memory}
 use Rattle.kernel_model.specs.Came.{Given, told_as, told_zero}
@@ -11,7 +11,7 @@ use Rattle.kernel_model.specs.State.{Kernel}
 use Rattle.kernel_model.specs.Whole.{on_files, marked}
 use Rattle.layouts.specs.O32.{time}
 use Rattle.o32_model.specs.GuestBytes.{structure, read_as, unless_null}
-use Rattle.o32_model.specs.PathArguments.{base, one_flag}
+use Rattle.o32_model.specs.PathArguments.{base, nofollow_flag, one_flag}
 use Rattle.o32_model.specs.Paths.{path_at}
 use Rattle.o32_model.specs.Step.{Guest, O32Step, O32Call, gives}
 use Rattle.o32_model.specs.Results.{stores_text}
@@ -39,14 +39,10 @@ abbrev pub times_in : List ℕ → Times
 times_in bytes = record { access = spec_in bytes; modified = spec_in (drop time.size bytes) }
 
 abbrev pub times_size : ℕ
-times_size = 16
+times_size = 2 * time.size
 
 abbrev pub times_at : Memory → ℕ → Option (Given Times)
 times_at memory address = unless_null address (read_as times_in (structure memory address times_size))
-
--- AT_SYMLINK_NOFOLLOW of Linux include/uapi/linux/fcntl.h
-abbrev pub nofollow_flag : ℕ
-nofollow_flag = 0x100
 
 -- whether a last link is followed; none where there are other flags
 abbrev pub follows_by : ℕ → Option Bool

@@ -22,8 +22,8 @@ use Rattle.o32_model.specs.Words.{argument, signed_argument, stack_word, pair}
 
 -- Opening
 
--- `flags` is none where they have no access mode or a flag that is not listed. A file above `small_file_limit` is opened with O_LARGEFILE
--- alone.
+-- `flags` is none where they have no access mode or a flag that is not listed, which is EINVAL (this project's own: open(2) of Linux takes
+-- no notice of such flags). A file above `small_file_limit` is opened with O_LARGEFILE alone.
 unfoldable pub open_row : Kernel → Guest → Base → ℕ → Option OpenSet → ℕ → List ℕ → O32Step
 open_row kernel guest from address flags mode left =
     gives guest
@@ -48,7 +48,7 @@ abbrev pub place_bytes : ℕ → List ℕ
 place_bytes place = bytes_of true 8 place
 
 -- _llseek(2): an offset of 64 bits as two words, the high one first, and the place is stored. The origin is on the stack, and where it can't
--- be read, that is EFAULT before all else.
+-- be read, that is EFAULT before all else (this project's own).
 unfoldable pub llseek_row : Kernel → Guest → ℕ → ℕ → ℕ → Option ℕ → List ℕ → O32Step
 llseek_row kernel guest fd offset address origin left =
     stores guest address

@@ -1,5 +1,5 @@
--- The paths that calls are given: a path is read up to its NUL (path_resolution(7); ENAMETOOLONG of open(2)). (That a byte of user space may
--- lack before the NUL, and which error comes then, is EFAULT of open(2), and the order of the two is this project's own.)
+-- The paths that calls are given: a path is read up to its NUL (path_resolution(7); EFAULT and ENAMETOOLONG of open(2)). (That a path of
+-- which fewer than 4096 bytes can be read, without a NUL among them, is EFAULT, is this project's own.)
 use Rattle.std.specs.Prelude.{ℕ, ◌==◌, Bool, List, take, length, position, Option, Some, None, Ok, Err, if◌then◌else◌}
 use Rattle.guest_space.specs.Memory.{Memory}
 use Rattle.kernel_core.specs.declared.error.Errno.TheVariants.{EFAULT, ENAMETOOLONG}

@@ -9,7 +9,6 @@ use Rattle.guest_space.specs.Places.{places_begin, places_end}
 use Rattle.guest_space.specs.Remapping.{without, protection_of, growth_end}
 use Rattle.kernel_core.specs.declared.error.Errno.TheVariants.{ENOMEM}
 use Rattle.kernel_model.specs.Came.{Did, done, refused_if, with_some}
-use Rattle.o32_model.specs.Effects.{user_pages}
 
 -- Addresses and lengths
 
@@ -27,6 +26,10 @@ page_of address = address / page_size
 abbrev pub page_count : ℕ → ℕ
 page_count length = pages_up_to length
 
+-- how many pages the program's half of memory has (TASK_SIZE32 of Linux arch/mips)
+abbrev pub user_pages : ℕ
+user_pages = 524280
+
 -- whether a page of the range lies past user space
 abbrev pub is_beyond : ℕ → ℕ → Bool
 is_beyond first count = nat_lt user_pages (first + count)
@@ -36,6 +39,11 @@ is_free pages first count = absent_count pages first count == count
 
 abbrev pub is_mapped : Pages → ℕ → ℕ → Bool
 is_mapped pages first count = mapped_run pages first count == count
+
+-- pages of zeros at a range, whatever stood there; none where more pages than the limit would be mapped then
+abbrev pub with_new_pages : Pages → ℕ → ℕ → ℕ → Option Pages
+with_new_pages pages first count protection =
+    if nat_le (len pages + absent_count pages first count) page_limit then Some (with_zeros pages first count protection) else None
 
 -- Places
 
@@ -61,7 +69,7 @@ greatest_place pages count = greatest_among pages count (places_end + 1 - (place
 
 -- Another size
 
--- whether the pages that follow a range of `old` pages are free, and lie where a range may grow
+-- whether the pages that follow a range of `old` pages are free, and lie below 0x7F7F0000, where a range may grow (this project's own)
 abbrev pub may_grow : Pages → ℕ → ℕ → ℕ → Bool
 may_grow pages first old new = nat_le (first + new) growth_end && is_free pages (first + old) (new - old)
 
@@ -87,7 +95,7 @@ abbrev pub last_protection : Pages → ℕ → ℕ → ℕ
 last_protection pages first old = protection_of (get pages (first + old - 1))
 
 -- A range of `old` pages that gets the size of `new` pages, and its first page then. The limit is looked at first, then whether it may grow
--- where it stands, and a place while the old pages stand.
+-- where it stands, and a place while the old pages stand (an order of this project's own).
 
 abbrev pub passes_limit : Pages → ℕ → ℕ → Bool
 passes_limit pages old new = nat_lt page_limit (len pages + (new - old))

@@ -36,7 +36,9 @@ unless_over quantum reached None = unless_blocked quantum reached (is_blocked re
 -- what stands after k turns of a machine with this input
 unfoldable pub reached : ℕ → Machine → List ℕ → ℕ → Reached
 reached quantum machine left zero = record { machine = machine; left = left; sent = nothing; over = None }
-reached quantum machine left (suc k) = unless_over quantum (reached quantum machine left k) (reached quantum machine left k).over
+reached quantum machine left (suc k) =
+    let before = reached quantum machine left k in
+    unless_over quantum before before.over
 
 -- the process runs after k turns: it has neither ended nor is it blocked
 pub record IsRunningAt (quantum : ℕ) (machine : Machine) (left : List ℕ) (k : ℕ) : Type 0 where

@@ -1,5 +1,5 @@
 -- The calls on status: stat(2), lstat(2), fstat(2), fstatat(2), in the old structure and in that of 64 bits.
-use Rattle.std.specs.Prelude.{ℕ, ◌-◌, ◌^◌, ℤ, pos, Bool, true, false, not, ◌||◌, List, [], ◌∷◌, Option, Some, None, nat_lt, if◌then◌else◌}
+use Rattle.std.specs.Prelude.{ℕ, ◌+◌, ◌-◌, ◌^◌, ℤ, pos, Bool, true, false, not, ◌||◌, List, [], ◌∷◌, Option, Some, None, nat_lt, if◌then◌else◌}
 use Rattle.std.specs.Int.{int_rem_euclid}
 use Rattle.kernel_core.specs.Bits.{has}
 use Rattle.kernel_core.specs.LoadedTree.{whole_seconds}
@@ -13,7 +13,7 @@ use Rattle.kernel_model.specs.Whole.{on_files}
 use Rattle.layouts.specs.O32.{stat, stat64}
 use Rattle.layouts.specs.Shape.{record_bytes}
 use Rattle.o32_model.specs.Narrow.{narrowed, low_word}
-use Rattle.o32_model.specs.PathArguments.{base, has_only}
+use Rattle.o32_model.specs.PathArguments.{base, nofollow_flag, no_automount_flag, empty_path_flag, has_only}
 use Rattle.o32_model.specs.Paths.{path_at}
 use Rattle.o32_model.specs.Step.{Guest, O32Step, O32Call, stores}
 use Rattle.o32_model.specs.Transfers.{small_file_limit}
@@ -83,10 +83,12 @@ stat64_row kernel guest follow address buffer left =
 unfoldable pub fstat64_row : Kernel → Guest → ℕ → ℕ → List ℕ → O32Step
 fstat64_row kernel guest fd buffer left = stores_status64 guest buffer (on_files kernel (status kernel.files fd)) left
 
--- AT_SYMLINK_NOFOLLOW, AT_NO_AUTOMOUNT, which says nothing here, and AT_EMPTY_PATH of Linux include/uapi/linux/fcntl.h; none where there are
--- others
+-- what the flags say, of which AT_NO_AUTOMOUNT says nothing here; none where there are others than the three
 abbrev pub status_flags : ℕ → Option StatusFlags
-status_flags flags = if has_only flags 0x1900 then Some (record { follow = not (has flags 0x100); empty = has flags 0x1000 }) else None
+status_flags flags =
+    if has_only flags (nofollow_flag + no_automount_flag + empty_path_flag)
+    then Some (record { follow = not (has flags nofollow_flag); empty = has flags empty_path_flag })
+    else None
 
 unfoldable pub fstatat64_row : Kernel → Guest → Base → ℕ → ℕ → ℕ → List ℕ → O32Step
 fstatat64_row kernel guest from address buffer flags left =

@@ -1,6 +1,7 @@
 -- The machine of an o32 program over the kernel, and one turn of it (MIPS32 Architecture for Programmers, Volume II, Release 2, for a step of
 -- the processor; signal(7) for the signal of a fault). What a turn is, that a fault's signal kills in the turn after its own, and how long a
--- turn takes, is this project's own.
+-- turn takes, is this project's own. So far no signal but a fault's is delivered: what a write to a pipe without readers posts (SIGPIPE of
+-- pipe(7)) stays pending.
 use Rattle.std.specs.Prelude.{ℕ, ◌+◌, Bool, List, Option, Some, None, is_some}
 use Rattle.guest_space.specs.Memory.{Memory}
 use Rattle.kernel_core.specs.declared.finish.Finish.{Finish}
@@ -91,15 +92,15 @@ instructed quantum machine left =
 
 -- Turns
 
--- The fault of the turn before kills the process.
+-- The fault of the turn before kills the process, and is used up by that.
 abbrev pub after_fault : ℕ → Machine → List ℕ → Option Sig → Turn
-after_fault quantum machine left (Some signal) = ends machine left nothing (Killed (o32_signal signal))
+after_fault quantum machine left (Some signal) = ends (record machine { fault = None }) left nothing (Killed (o32_signal signal))
 after_fault quantum machine left None = instructed quantum machine left
 
 -- one turn of a machine that does not wait
 unfoldable pub turn_of : ℕ → Machine → List ℕ → Turn
 turn_of quantum machine left = after_fault quantum machine left machine.fault
 
--- A call waits, and nothing can come that would end its wait: no turn follows.
+-- A call waits, and nothing can come that would end its wait: no turn follows. So far nothing ends a wait, neither time nor a signal.
 abbrev pub is_blocked : Machine → Bool
 is_blocked machine = is_some machine.wait

@@ -6,7 +6,7 @@ ghost use Rattle.guest_space.specs.Memory.{Pages};
 ghost use Rattle.guest_space.specs.Places.{IsGreatestPlace};
 ghost use Rattle.guest_space.specs.Remapping.{AreMoved};
 ghost use Rattle.kernel_model.specs.State.{Kernel};
-ghost use Rattle.o32_model.specs.Laws.{ChangesProtections, IsFailure, MovesNothing, SendsNothing, mprotect_number, stores_in_parts};
+ghost use Rattle.o32_model.specs.Laws.{ChangesProtections, IsFailure, MovesNothing, SendsNothing, is_listed_call, is_part_done, mprotect_number, stores_in_parts};
 ghost use Rattle.o32_model.specs.Ranges.{greatest_place, moved};
 ghost use Rattle.o32_model.specs.Step.{Guest};
 ghost use Rattle.o32_model.specs.Table.{call_of, machine_call, o32_call};
@@ -47,7 +47,18 @@ pub fn a_seeing_call_that_fails_moves_nothing()
         → MovesNothing guest left (machine_call seen kernel guest left) }
 {}
 
-/// mprotect(2) changes protections alone, whether it fails or not: it writes no byte.
+/// A call on descriptors or files, or a small one, that fails leaves the kernel as it was. Only write(2),
+/// writev(2), lseek(2), _llseek(2), pipe2(2) and prlimit(2) may have changed it.
+pub fn a_call_that_fails_leaves_the_kernel()
+    ensures { (kernel : Kernel) (guest : Guest) (left : List ℕ)
+        → is_listed_call guest.words.nr ≡ true
+        → is_part_done guest.words.nr ≡ false
+        → IsFailure (o32_call kernel guest left).outcome
+        → (o32_call kernel guest left).kernel ≡ kernel }
+{}
+
+/// mprotect(2) changes protections alone, whether it fails or not: the pages that are there, their bytes,
+/// the break and all else stay.
 pub fn mprotect_changes_protections()
     ensures { (kernel : Kernel) (guest : Guest) (left : List ℕ)
         → guest.words.nr ≡ mprotect_number

@@ -1,5 +1,5 @@
 -- Worked rows on time, at the time 1000 of the clock, which began 5 s past the Epoch.
-use Rattle.std.specs.Prelude.{◌≡◌, ℕ, ◌-◌, ◌*◌, ◌^◌, List, [], ◌∷◌, ◌++◌, replicate, Some, refl}
+use Rattle.std.specs.Prelude.{◌≡◌, ℕ, ◌+◌, ◌-◌, ◌*◌, ◌^◌, List, [], ◌∷◌, ◌++◌, map, replicate, Some, refl}
 use Rattle.kernel_core.specs.declared.reply.Reply.{Reply}
 use Rattle.kernel_core.specs.declared.reply.Reply.TheVariants as replies
 use Rattle.kernel_model.specs.Clock.{arm_timer, read_clock, read_timer, resolution, second, sleep, unarmed}
@@ -43,6 +43,17 @@ module _ (whole : Kernel) where
   unfolding clock_gettime_row read_clock
   process = refl
 
+  -- the clocks 3 to 7, of which 5 shows the time of 0 and the others that of 1
+  other_clocks : map (λ id. call 113 (six id 65536 0 0) (replicate 16 7)) (3 ∷ 4 ∷ 5 ∷ 6 ∷ 7 ∷ [])
+      ≡ map (λ seconds. comes (time seconds 1000) (number 0)) (0 ∷ 0 ∷ 5 ∷ 0 ∷ 0 ∷ [])
+  unfolding clock_gettime_row read_clock
+  other_clocks = refl
+
+  -- of a clock's number the low 32 bits count
+  real_by_low_word : call 113 (six (2 ^ 32) 65536 0 0) (replicate 16 7) ≡ comes (time 5 1000) (number 0)
+  unfolding clock_gettime_row read_clock
+  real_by_low_word = refl
+
   no_such_clock : call 113 (six 8 0 0 0) [] ≡ comes [] (error 22)
   unfolding clock_gettime_row read_clock
   no_such_clock = refl
@@ -68,6 +79,10 @@ module _ (whole : Kernel) where
   resolution_at_null : call 114 (six 7 0 0 0) [] ≡ comes [] (number 0)
   unfolding clock_getres_row resolution
   resolution_at_null = refl
+
+  resolution_by_low_word : call 114 (six (2 ^ 32 + 7) 0 0 0) [] ≡ comes [] (number 0)
+  unfolding clock_getres_row resolution
+  resolution_by_low_word = refl
 
   resolution_outside : call 114 (six 7 1 0 0) [] ≡ comes [] (error 14)
   unfolding clock_getres_row resolution
@@ -118,6 +133,16 @@ module _ (whole : Kernel) where
   unfolding clock_nanosleep_row sleep
   until_the_past = refl
 
+  -- a time before the clock began
+  until_before_the_start : call 115 (six 0 1 65536 0) (time 4 0) ≡ comes (time 4 0) (number 0)
+  unfolding clock_nanosleep_row sleep
+  until_before_the_start = refl
+
+  -- of the clock's number and the flags the low 32 bits count
+  until_by_low_words : call 115 (six (2 ^ 32 + 1) (2 ^ 32 + 1) 65536 0) (time 0 2000) ≡ comes (time 0 2000) (sleep_until 2000)
+  unfolding clock_nanosleep_row sleep
+  until_by_low_words = refl
+
   no_sleep_by_it : call 115 (six 2 2 0 0) [] ≡ comes [] (error 22)
   unfolding clock_nanosleep_row sleep
   no_sleep_by_it = refl
@@ -129,6 +154,14 @@ module _ (whole : Kernel) where
   clock_sleep_unreadable : call 115 (six 1 1 0 0) [] ≡ comes [] (error 14)
   unfolding clock_nanosleep_row sleep
   clock_sleep_unreadable = refl
+
+  clock_sleep_too_many_nanoseconds : call 115 (six 1 0 65536 0) (time 0 1_000_000_000) ≡ comes (time 0 1_000_000_000) (error 22)
+  unfolding clock_nanosleep_row sleep
+  clock_sleep_too_many_nanoseconds = refl
+
+  clock_sleep_below_zero : call 115 (six 1 1 65536 0) (time (2 ^ 64 - 1) 0) ≡ comes (time (2 ^ 64 - 1) 0) (error 22)
+  unfolding clock_nanosleep_row sleep
+  clock_sleep_below_zero = refl
 
   -- setitimer: the period and then the value, which is 1 s and 500,000 microseconds; 32 bytes behind it what was there goes
 
@@ -154,6 +187,16 @@ module _ (whole : Kernel) where
   unfolding setitimer_row arm_timer
   disarms = refl
 
+  -- a value of 0 disarms it, whatever the period
+  disarmed_by_zero : native_call 103 (six 0 65536 0 0) with_timer (time 1 0 ++ time 0 0) [] ≡ comes_armed unarmed (time 1 0 ++ time 0 0) (number 0)
+  unfolding setitimer_row arm_timer
+  disarmed_by_zero = refl
+
+  -- of the timer's number the low 32 bits count
+  disarms_by_low_word : native_call 103 (six (2 ^ 32) 0 0 0) with_timer [] [] ≡ comes_armed unarmed [] (number 0)
+  unfolding setitimer_row arm_timer
+  disarms_by_low_word = refl
+
   -- it is armed also where what was there can't be stored
   armed_all_the_same : native_call 103 (six 0 65536 65537 0) with_timer setting [] ≡ comes_armed timer_armed setting (error 14)
   unfolding setitimer_row arm_timer
@@ -171,11 +214,28 @@ module _ (whole : Kernel) where
   unfolding setitimer_row arm_timer
   too_many_microseconds = refl
 
+  seconds_of_value_below_zero : call 103 (six 0 65536 0 0) (time 0 0 ++ time (2 ^ 64 - 1) 0) ≡ comes (time 0 0 ++ time (2 ^ 64 - 1) 0) (error 22)
+  unfolding setitimer_row arm_timer
+  seconds_of_value_below_zero = refl
+
+  microseconds_below_zero : call 103 (six 0 65536 0 0) (time 0 0 ++ time 1 (2 ^ 64 - 1)) ≡ comes (time 0 0 ++ time 1 (2 ^ 64 - 1)) (error 22)
+  unfolding setitimer_row arm_timer
+  microseconds_below_zero = refl
+
+  -- the value alone is right
+  seconds_of_period_below_zero : call 103 (six 0 65536 0 0) (time (2 ^ 64 - 1) 0 ++ time 1 0) ≡ comes (time (2 ^ 64 - 1) 0 ++ time 1 0) (error 22)
+  unfolding setitimer_row arm_timer
+  seconds_of_period_below_zero = refl
+
   -- getitimer
 
   shows : native_call 102 (six 0 65536 0 0) with_timer (replicate 32 7) [] ≡ comes_armed with_timer.timer (time 3 1 ++ time 0 1) (number 0)
   unfolding getitimer_row read_timer
   shows = refl
+
+  shows_by_low_word : native_call 102 (six (2 ^ 32) 65536 0 0) with_timer (replicate 32 7) [] ≡ comes_armed with_timer.timer (time 3 1 ++ time 0 1) (number 0)
+  unfolding getitimer_row read_timer
+  shows_by_low_word = refl
 
   shows_another : call 102 (six 2 0 0 0) [] ≡ comes [] (error 22)
   unfolding getitimer_row read_timer

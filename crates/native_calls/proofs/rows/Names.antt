@@ -1,6 +1,6 @@
 -- Worked rows on names: a root with the file `f`, the empty directory `d`, the link `l` to `f`, and the directory `e`, in which a file has the
 -- name `g`.
-use Rattle.std.specs.Prelude.{◌≡◌, ℕ, ◌-◌, ◌^◌, true, List, [], ◌∷◌, ◌++◌, codes, length, Some, None, Ok, Err, pos, refl}
+use Rattle.std.specs.Prelude.{◌≡◌, ℕ, ◌+◌, ◌-◌, ◌^◌, true, List, [], ◌∷◌, ◌++◌, codes, length, replicate, Some, None, Ok, Err, pos, refl}
 use Rattle.std.specs.FinMap.{get, len}
 use Rattle.kernel_core.specs.FileContent.{no_content}
 use Rattle.kernel_core.specs.NameCalls.{after_create, after_link, after_mkdir, after_rename, after_rmdir, after_symlink, after_unlink, is_below}
@@ -34,11 +34,11 @@ unfoldable pub entry : ℕ → List ℕ → ℕ → DirEntry
 entry cookie name node = record { cookie = cookie; name = name; node = node }
 
 unfoldable pub root : Inode
-root = inode 493 4 (Directory (record {
+root = record (inode 493 4 (Directory (record {
   parent = Some 1;
   greatest = 6;
   entries = entry 3 (codes "f") 2 ∷ entry 4 (codes "d") 3 ∷ entry 5 (codes "l") 4 ∷ entry 6 (codes "e") 6 ∷ [];
-}))
+}))) { holds = 1 }
 
 unfoldable pub file : Inode
 file = inode 420 1 (File no_content)
@@ -52,6 +52,10 @@ link_to_f = inode 511 1 (Link (codes "f"))
 unfoldable pub filled : Inode
 filled = inode 493 2 (Directory (record { parent = Some 1; greatest = 3; entries = entry 3 (codes "g") 7 ∷ [] }))
 
+-- a link to `f/g`, for the rows on its text
+unfoldable pub long_link : Inode
+long_link = inode 511 1 (Link (codes "f/g"))
+
 -- Arguments
 
 -- a text and its NUL
@@ -61,6 +65,10 @@ text name = name ++ 0 ∷ []
 -- -100 as an int whose sign is carried on to 64 bits
 abbrev pub at_working : ℕ
 at_working = 2 ^ 64 - 100
+
+-- the same, whose high 32 bits are 0 and don't count
+abbrev pub at_low_working : ℕ
+at_low_working = 2 ^ 32 - 100
 
 abbrev pub five : ℕ → ℕ → ℕ → ℕ → ℕ → List ℕ
 five first second third fourth fifth = first ∷ second ∷ third ∷ fourth ∷ fifth ∷ 0 ∷ []
@@ -85,6 +93,20 @@ no_nul_before_the_end bytes short = simp short refl
 path_of_two : path_at (7 ∷ 47 ∷ 100 ∷ 0 ∷ 101 ∷ 0 ∷ []) 65537 ≡ Ok (47 ∷ 100 ∷ [])
 unfolding path_at
 path_of_two = refl
+
+-- of 4096 bytes the last may be the NUL, and one behind them is not looked at; memory may end before it
+
+path_of_4095 : path_at (replicate 4095 120 ++ 0 ∷ []) 65536 ≡ Ok (replicate 4095 120)
+unfolding path_at
+path_of_4095 = refl
+
+path_of_4096 : path_at (replicate 4096 120 ++ 0 ∷ []) 65536 ≡ Err ENAMETOOLONG
+unfolding path_at
+path_of_4096 = refl
+
+path_of_4095_at_the_end : path_at (replicate 4095 120) 65536 ≡ Err EFAULT
+unfolding path_at
+path_of_4095_at_the_end = refl
 
 module _ (whole : Kernel) (nodes : Nodes) (at_1 : get nodes 1 ≡ Some root) (at_2 : get nodes 2 ≡ Some file) (at_3 : get nodes 3 ≡ Some empty)
     (at_4 : get nodes 4 ≡ Some link_to_f) (at_6 : get nodes 6 ≡ Some filled) where
@@ -158,6 +180,11 @@ module _ (whole : Kernel) (nodes : Nodes) (at_1 : get nodes 1 ≡ Some root) (at
   unfolding openat_row open_file path_at walk walked walked_from walked_through components_after ends_with_slash root file inode entry
   open_as_directory = simp (at_1, at_2) refl
 
+  -- of the directory and the flags the low 32 bits count
+  open_by_low_words : call 56 (six at_low_working 65536 (2 ^ 32 + 0x10000) 0) (text (codes "f")) ≡ refuses (text (codes "f")) 20
+  unfolding openat_row open_file path_at walk walked walked_from walked_through components_after ends_with_slash root file inode entry
+  open_by_low_words = simp (at_1, at_2) refl
+
   open_link_itself : call 56 (six at_working 65536 0x20000 0) (text (codes "l")) ≡ refuses (text (codes "l")) 40
   unfolding openat_row open_file path_at walk walked walked_from walked_through components_after ends_with_slash root link_to_f inode entry
   open_link_itself = simp (at_1, at_4) refl
@@ -174,16 +201,17 @@ module _ (whole : Kernel) (nodes : Nodes) (at_1 : get nodes 1 ≡ Some root) (at
   unfolding openat_row open_file path_at walk
   open_from_stream = refl
 
+  -- a component of 256 bytes
+  open_long_component : call 56 (six at_working 65536 0 0) (text (replicate 256 97)) ≡ refuses (text (replicate 256 97)) 36
+  unfolding openat_row open_file path_at walk walked walked_from walked_through components_after ends_with_slash
+  open_long_component = refl
+
   -- 0666 less 022 is 0644
   open_new : len nodes ≡ 6 → live_entries nodes ≡ 5 → call 56 (six at_working 65536 0x41 438) (text (codes "x"))
       ≡ does (after_open (with_nodes (at_first nodes) (after_create nodes (missing 1 (codes "x")) (new_number nodes) 420 (now whole)))
       (record (no_flags Write) { creat = true }) 3 (new_number nodes)) (text (codes "x")) 3
   unfolding openat_row open_file path_at walk walked walked_from walked_through components_after ends_with_slash root inode entry
   open_new some few = simp (at_1, some, few) refl
-
-  open_full : len nodes ≡ 65536 → call 56 (six at_working 65536 0x41 438) (text (codes "x")) ≡ refuses (text (codes "x")) 28
-  unfolding openat_row open_file path_at walk walked walked_from walked_through components_after ends_with_slash root inode entry
-  open_full full = simp (at_1, full) refl
 
   -- mkdirat: of 07777 ten bits count, and 01777 less 022 is 01755
   mkdir_new : len nodes ≡ 6 → live_entries nodes ≡ 5 → call 34 (six at_working 65536 0xFFF 0) (text (codes "x/"))
@@ -194,6 +222,10 @@ module _ (whole : Kernel) (nodes : Nodes) (at_1 : get nodes 1 ≡ Some root) (at
   mkdir_there : call 34 (six at_working 65536 0 0) (text (codes "d")) ≡ refuses (text (codes "d")) 17
   unfolding mkdirat_row make_directory path_at walk walked walked_from walked_through components_after ends_with_slash root empty inode entry
   mkdir_there = simp (at_1, at_3) refl
+
+  mkdir_by_low_word : call 34 (six at_low_working 65536 0 0) (text (codes "d")) ≡ refuses (text (codes "d")) 17
+  unfolding mkdirat_row make_directory path_at walk walked walked_from walked_through components_after ends_with_slash root empty inode entry
+  mkdir_by_low_word = simp (at_1, at_3) refl
 
   mkdir_unreadable : call 34 (six 99 65535 0 0) (text (codes "x")) ≡ refuses (text (codes "x")) 14
   unfolding mkdirat_row make_directory path_at
@@ -218,6 +250,10 @@ module _ (whole : Kernel) (nodes : Nodes) (at_1 : get nodes 1 ≡ Some root) (at
   unfolding unlinkat_row remove_name path_at walk walked walked_from walked_through components_after ends_with_slash root file inode entry
   remove_file = simp (at_1, at_2) refl
 
+  remove_by_low_words : call 35 (six at_low_working 65536 (2 ^ 32 + 0x200) 0) (text (codes "f")) ≡ refuses (text (codes "f")) 20
+  unfolding unlinkat_row remove_name path_at walk walked walked_from walked_through components_after ends_with_slash root file inode entry
+  remove_by_low_words = simp (at_1, at_2) refl
+
   remove_filled : call 35 (six at_working 65536 0x200 0) (text (codes "e")) ≡ refuses (text (codes "e")) 39
   unfolding unlinkat_row remove_name path_at walk walked walked_from walked_through components_after ends_with_slash root filled inode entry
   remove_filled = simp (at_1, at_6) refl
@@ -225,6 +261,10 @@ module _ (whole : Kernel) (nodes : Nodes) (at_1 : get nodes 1 ≡ Some root) (at
   remove_root : call 35 (six at_working 65536 0x200 0) (text (codes "/")) ≡ refuses (text (codes "/")) 16
   unfolding unlinkat_row remove_name path_at walk walked walked_from walked_through components_after ends_with_slash
   remove_root = refl
+
+  remove_dot : call 35 (six at_working 65536 0x200 0) (text (codes "d/.")) ≡ refuses (text (codes "d/.")) 22
+  unfolding unlinkat_row remove_name path_at walk walked walked_from walked_through components_after ends_with_slash root empty inode entry
+  remove_dot = simp (at_1, at_3) refl
 
   -- other flags are refused once the path is read
   unlink_with_other_flags : call 35 (six 99 65536 0x100 0) (text (codes "f")) ≡ refuses (text (codes "f")) 22
@@ -245,9 +285,21 @@ module _ (whole : Kernel) (nodes : Nodes) (at_1 : get nodes 1 ≡ Some root) (at
   unfolding symlinkat_row make_link path_at
   symlink_to_nothing = refl
 
+  symlink_there : call 36 (six 65536 at_working 65538 0) (text (codes "f") ++ text (codes "d")) ≡ refuses (text (codes "f") ++ text (codes "d")) 17
+  unfolding symlinkat_row make_link path_at walk walked walked_from walked_through components_after ends_with_slash root empty inode entry
+  symlink_there = simp (at_1, at_3) refl
+
   symlink_unreadable : call 36 (six 65537 99 0 0) (text (codes "f")) ≡ refuses (text (codes "f")) 14
   unfolding symlinkat_row make_link path_at
   symlink_unreadable = refl
+
+  symlink_target_unreadable : call 36 (six 0 99 65536 0) (text (codes "x")) ≡ refuses (text (codes "x")) 14
+  unfolding symlinkat_row make_link path_at
+  symlink_target_unreadable = refl
+
+  symlink_by_low_word : call 36 (six 65536 at_low_working 65538 0) (text (codes "f") ++ text (codes "f")) ≡ refuses (text (codes "f") ++ text (codes "f")) 17
+  unfolding symlinkat_row make_link path_at walk walked walked_from walked_through components_after ends_with_slash root file inode entry
+  symlink_by_low_word = simp (at_1, at_2) refl
 
   -- linkat: the old name stands at 65536, the new one at 65538
   link_f : live_entries nodes ≡ 5 → call 37 (five at_working 65536 at_working 65538 0) (text (codes "f") ++ text (codes "x"))
@@ -266,6 +318,11 @@ module _ (whole : Kernel) (nodes : Nodes) (at_1 : get nodes 1 ≡ Some root) (at
   unfolding linkat_row link path_at walk walked walked_from walked_through components_after ends_with_slash root link_to_f inode entry
   link_not_followed few = simp (at_1, at_4, few) refl
 
+  link_by_low_words : live_entries nodes ≡ 5 → call 37 (five at_low_working 65536 at_low_working 65538 (2 ^ 32 + 0x400)) (text (codes "l") ++ text (codes "x"))
+      ≡ does (with_nodes (at_first nodes) (after_link nodes 2 (missing 1 (codes "x")) (now whole))) (text (codes "l") ++ text (codes "x")) 0
+  unfolding linkat_row link path_at walk walked walked_from walked_through components_after ends_with_slash root file link_to_f inode entry
+  link_by_low_words few = simp (at_1, at_2, at_4, few) refl
+
   link_with_other_flags : call 37 (five 99 65536 99 65538 0x1000) (text (codes "f") ++ text (codes "x")) ≡ refuses (text (codes "f") ++ text (codes "x")) 22
   unfolding linkat_row link path_at
   link_with_other_flags = refl
@@ -275,9 +332,21 @@ module _ (whole : Kernel) (nodes : Nodes) (at_1 : get nodes 1 ≡ Some root) (at
   unfolding linkat_row link path_at
   link_unreadable = refl
 
+  link_old_unreadable : call 37 (five 99 0 99 65536 0x1000) (text (codes "x")) ≡ refuses (text (codes "x")) 14
+  unfolding linkat_row link path_at
+  link_old_unreadable = refl
+
   link_to_directory : call 37 (five at_working 65536 at_working 65538 0) (text (codes "d") ++ text (codes "x")) ≡ refuses (text (codes "d") ++ text (codes "x")) 1
   unfolding linkat_row link path_at walk walked walked_from walked_through components_after ends_with_slash root empty inode entry
   link_to_directory = simp (at_1, at_3) refl
+
+  link_there : call 37 (five at_working 65536 at_working 65538 0) (text (codes "f") ++ text (codes "l")) ≡ refuses (text (codes "f") ++ text (codes "l")) 17
+  unfolding linkat_row link path_at walk walked walked_from walked_through components_after ends_with_slash root file link_to_f inode entry
+  link_there = simp (at_1, at_2, at_4) refl
+
+  link_before_slash : call 37 (five at_working 65536 at_working 65538 0) (text (codes "f") ++ text (codes "x/")) ≡ refuses (text (codes "f") ++ text (codes "x/")) 2
+  unfolding linkat_row link path_at walk walked walked_from walked_through components_after ends_with_slash root file inode entry
+  link_before_slash = simp (at_1, at_2) refl
 
   -- renameat
   rename_f : call 38 (six at_working 65536 at_working 65538) (text (codes "f") ++ text (codes "d/x"))
@@ -285,13 +354,42 @@ module _ (whole : Kernel) (nodes : Nodes) (at_1 : get nodes 1 ≡ Some root) (at
   unfolding renameat_row rename path_at walk walked walked_from walked_through components_after ends_with_slash root file empty inode entry
   rename_f = simp (at_1, at_2, at_3) refl
 
+  rename_by_low_words : call 38 (six at_low_working 65536 at_low_working 65538) (text (codes "f") ++ text (codes "d/x"))
+      ≡ does (with_nodes (at_first nodes) (after_rename nodes (there 1 (codes "f") 2) (missing 3 (codes "x")) 2 (now whole))) (text (codes "f") ++ text (codes "d/x")) 0
+  unfolding renameat_row rename path_at walk walked walked_from walked_through components_after ends_with_slash root file empty inode entry
+  rename_by_low_words = simp (at_1, at_2, at_3) refl
+
   rename_into_itself : len nodes ≡ 6 → call 38 (six at_working 65536 at_working 65538) (text (codes "d") ++ text (codes "d/x")) ≡ refuses (text (codes "d") ++ text (codes "d/x")) 22
   unfolding renameat_row rename path_at walk walked walked_from walked_through components_after ends_with_slash is_below root empty inode entry
   rename_into_itself some = simp (at_1, at_3, some) refl
 
+  rename_missing : call 38 (six at_working 65536 at_working 65538) (text (codes "x") ++ text (codes "y")) ≡ refuses (text (codes "x") ++ text (codes "y")) 2
+  unfolding renameat_row rename path_at walk walked walked_from walked_through components_after ends_with_slash root inode entry
+  rename_missing = simp at_1 refl
+
+  rename_dot : call 38 (six at_working 65536 at_working 65538) (text (codes ".") ++ text (codes "x")) ≡ refuses (text (codes ".") ++ text (codes "x")) 16
+  unfolding renameat_row rename path_at walk walked walked_from walked_through components_after ends_with_slash root inode entry
+  rename_dot = simp at_1 refl
+
+  rename_file_onto_directory : call 38 (six at_working 65536 at_working 65538) (text (codes "f") ++ text (codes "d")) ≡ refuses (text (codes "f") ++ text (codes "d")) 21
+  unfolding renameat_row rename path_at walk walked walked_from walked_through components_after ends_with_slash root file empty inode entry
+  rename_file_onto_directory = simp (at_1, at_2, at_3) refl
+
+  rename_directory_onto_file : len nodes ≡ 6 → call 38 (six at_working 65536 at_working 65538) (text (codes "d") ++ text (codes "f")) ≡ refuses (text (codes "d") ++ text (codes "f")) 20
+  unfolding renameat_row rename path_at walk walked walked_from walked_through components_after ends_with_slash is_below root file empty inode entry
+  rename_directory_onto_file some = simp (at_1, at_2, at_3, some) refl
+
+  rename_onto_filled : len nodes ≡ 6 → call 38 (six at_working 65536 at_working 65538) (text (codes "d") ++ text (codes "e")) ≡ refuses (text (codes "d") ++ text (codes "e")) 39
+  unfolding renameat_row rename path_at walk walked walked_from walked_through components_after ends_with_slash is_below root empty filled inode entry
+  rename_onto_filled some = simp (at_1, at_3, at_6, some) refl
+
   rename_unreadable : call 38 (six 99 65536 99 65540) (text (codes "f")) ≡ refuses (text (codes "f")) 14
   unfolding renameat_row rename path_at
   rename_unreadable = refl
+
+  rename_old_unreadable : call 38 (six 99 0 99 65536) (text (codes "x")) ≡ refuses (text (codes "x")) 14
+  unfolding renameat_row rename path_at
+  rename_old_unreadable = refl
 
   -- readlinkat: `l` stands at 65538, and its text is one byte
   read_target : call 78 (six at_working 65538 65536 9) (7 ∷ 7 ∷ text (codes "l")) ≡ does (at_first nodes) (102 ∷ 7 ∷ text (codes "l")) 1
@@ -299,7 +397,12 @@ module _ (whole : Kernel) (nodes : Nodes) (at_1 : get nodes 1 ≡ Some root) (at
   read_target = simp (at_1, at_4) refl
 
   -- of a size the low 32 bits count, with a sign
-  read_target_into_none : call 78 (six 99 65536 65536 (2 ^ 64 - 1)) (text (codes "l")) ≡ refuses (text (codes "l")) 22
+
+  read_target_by_low_words : call 78 (six at_low_working 65538 65536 (2 ^ 32 + 9)) (7 ∷ 7 ∷ text (codes "l")) ≡ does (at_first nodes) (102 ∷ 7 ∷ text (codes "l")) 1
+  unfolding readlinkat_row read_link path_at walk walked walked_from walked_through components_after ends_with_slash root link_to_f inode entry
+  read_target_by_low_words = simp (at_1, at_4) refl
+
+  read_target_into_none : call 78 (six 99 65536 65536 (2 ^ 32 - 1)) (text (codes "l")) ≡ refuses (text (codes "l")) 22
   unfolding readlinkat_row read_link path_at
   read_target_into_none = refl
 
@@ -310,3 +413,21 @@ module _ (whole : Kernel) (nodes : Nodes) (at_1 : get nodes 1 ≡ Some root) (at
   read_target_outside : call 78 (six at_working 65536 65538 9) (text (codes "l")) ≡ refuses (text (codes "l")) 14
   unfolding readlinkat_row read_link path_at walk walked walked_from walked_through components_after ends_with_slash root link_to_f inode entry
   read_target_outside = simp (at_1, at_4) refl
+
+  read_target_unreadable : call 78 (six 99 0 65536 9) [] ≡ refuses [] 14
+  unfolding readlinkat_row read_link path_at
+  read_target_unreadable = refl
+
+-- a size shorter than the text gives its first part
+read_target_part : (whole : Kernel) (nodes : Nodes) → get nodes 1 ≡ Some root → get nodes 4 ≡ Some long_link
+    → native_call 78 (six at_working 65538 65536 2) (with_files whole (at_first nodes)) (7 ∷ 7 ∷ text (codes "l")) []
+    ≡ leaves whole (at_first nodes) (codes "f/" ++ text (codes "l")) [] (number 2)
+unfolding readlinkat_row read_link path_at walk walked walked_from walked_through components_after ends_with_slash root long_link inode entry
+read_target_part whole nodes at_1 at_4 = simp (at_1, at_4) refl
+
+-- no node is free
+open_full : (whole : Kernel) (nodes : Nodes) → get nodes 1 ≡ Some root → len nodes ≡ 65536
+    → native_call 56 (six at_working 65536 0x41 438) (with_files whole (at_first nodes)) (text (codes "x")) []
+    ≡ leaves whole (at_first nodes) (text (codes "x")) [] (error 28)
+unfolding openat_row open_file path_at walk walked walked_from walked_through components_after ends_with_slash root inode entry
+open_full whole nodes at_1 full = simp (at_1, full) refl

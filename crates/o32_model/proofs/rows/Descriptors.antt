@@ -153,7 +153,7 @@ module _ (whole : Kernel) (nodes : Nodes) (processor : Processor) (memory : Memo
 
   -- pipe2
 
-  new_pipe_with_flags : get memory.pages 16 ≡ Some (page_of []) → at_start (words 4328 65536 0x80080 0 0) ≡ leaves whole (record (with_pipe_of nodes []) {
+  new_pipe_with_flags : (held : List ℕ) → get memory.pages 16 ≡ Some (page_of held) → at_start (words 4328 65536 0x80080 0 0) ≡ leaves whole (record (with_pipe_of nodes []) {
     table = record {
       fds = to 0 ∷ to 1 ∷ to 2 ∷ to_on_exec 3 ∷ to_on_exec 4 ∷ None ∷ None ∷ None ∷ [];
       live =
@@ -164,7 +164,7 @@ module _ (whole : Kernel) (nodes : Nodes) (processor : Processor) (memory : Memo
     };
   }) processor (copied_out memory 65536 (0 ∷ 0 ∷ 0 ∷ 3 ∷ 0 ∷ 0 ∷ 0 ∷ 4 ∷ [])) [] (Value 0)
   unfolding pipe2_row make_pipe first_denied refusal
-  new_pipe_with_flags kept = simp kept refl
+  new_pipe_with_flags held kept = simp kept refl
 
   pipe_with_append : at_start (words 4328 65536 8 0 0) ≡ refuses EINVAL
   unfolding pipe2_row make_pipe
@@ -259,10 +259,10 @@ module _ (whole : Kernel) (nodes : Nodes) (processor : Processor) (memory : Memo
   flags_that_were_set = refl
 
   -- a read of an empty pipe that does not wait
-  read_nonblock : get memory.pages 16 ≡ Some (page_of [])
+  read_nonblock : (held : List ℕ) → get memory.pages 16 ≡ Some (page_of held)
       → (called (with_pipe (words 4055 3 4 0x80 0)).kernel (words 4003 3 65536 1 0)).outcome ≡ Error EAGAIN
   unfolding fcntl_row set_status_flags read_row kernel_read read writable_prefix first_denied refusal
-  read_nonblock kept = simp kept refl
+  read_nonblock held kept = simp kept refl
 
   -- each command of a descriptor that isn't open
 

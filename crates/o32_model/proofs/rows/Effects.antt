@@ -17,9 +17,9 @@ module _ (processor : Processor) (pages : Pages) where
   target = record { processor = processor; pages = pages; sent = nothing }
 
   -- a write needs each byte
-  written : get pages 16 ≡ Some (page_of []) → carried target (Write 65536 (1 ∷ 2 ∷ [])) ≡ Some (record target { pages = with_bytes pages 65536 (1 ∷ 2 ∷ []) })
+  written : (held : List ℕ) → get pages 16 ≡ Some (page_of held) → carried target (Write 65536 (1 ∷ 2 ∷ [])) ≡ Some (record target { pages = with_bytes pages 65536 (1 ∷ 2 ∷ []) })
   unfolding first_denied refusal
-  written kept = simp kept refl
+  written held kept = simp kept refl
 
   written_onto_absent : (held : List ℕ) → get pages 16 ≡ Some (page_of held) → get pages 17 ≡ None → carried target (Write 69631 (1 ∷ 2 ∷ [])) ≡ None
   unfolding first_denied refusal
@@ -42,21 +42,21 @@ module _ (processor : Processor) (pages : Pages) where
   unfolding absent_count
   mapped_past_the_limit absent count = simp (absent, count) refl
 
-  mapped_anew : get pages 16 ≡ Some (page_of []) → len pages ≡ 131_072 → carried target (Map 16 1 3) ≡ Some (record target { pages = with_zeros pages 16 1 3 })
+  mapped_anew : (held : List ℕ) → get pages 16 ≡ Some (page_of held) → len pages ≡ 131_072 → carried target (Map 16 1 3) ≡ Some (record target { pages = with_zeros pages 16 1 3 })
   unfolding absent_count
-  mapped_anew kept count = simp (kept, count) refl
+  mapped_anew held kept count = simp (kept, count) refl
 
   unmapped : carried target (Unmap 16 2) ≡ Some (record target { pages = without pages 16 2 })
   unmapped = refl
 
   -- a protect needs each page, and with no page none
-  protected : get pages 16 ≡ Some (page_of []) → carried target (Protect 16 1 5) ≡ Some (record target { pages = with_protection pages 16 1 5 })
+  protected : (held : List ℕ) → get pages 16 ≡ Some (page_of held) → carried target (Protect 16 1 5) ≡ Some (record target { pages = with_protection pages 16 1 5 })
   unfolding mapped_run
-  protected kept = simp kept refl
+  protected held kept = simp kept refl
 
-  protected_past_absent : get pages 16 ≡ Some (page_of []) → get pages 17 ≡ None → carried target (Protect 16 2 5) ≡ None
+  protected_past_absent : (held : List ℕ) → get pages 16 ≡ Some (page_of held) → get pages 17 ≡ None → carried target (Protect 16 2 5) ≡ None
   unfolding mapped_run
-  protected_past_absent kept absent = simp (kept, absent) refl
+  protected_past_absent held kept absent = simp (kept, absent) refl
 
   nothing_protected : carried target (Protect 17 0 5) ≡ Some target
   unfolding mapped_run with_protection

@@ -101,13 +101,19 @@ module _ (whole : Kernel) (nodes : Nodes) (processor : Processor) (memory : Memo
     unfolding getdents_row entries listed mode_and_links file_inode link_inode
     too_small is room = simp is refl
 
-    -- the records take 32 bytes, of which 31 can be stored: none is, and the position stays
-    not_stored : get nodes 5 ≡ Some listed → writable_prefix memory.pages 65536 39 ≡ 31 → with_node 0 (words 4141 3 65536 39 0) ≡ node_stays 0 (Error EFAULT)
+    -- 20 bytes hold `.` alone
+    one_fits : get nodes 5 ≡ Some listed → writable_prefix memory.pages 65536 20 ≡ 20 → with_node 0 (words 4141 3 65536 20 0) ≡ fills 1 (old 5 1 16 (codes ".") 4 4)
+    unfolding getdents_row entries listed mode_and_links file_inode link_inode
+    one_fits is room = simp (is, room) refl
+
+    -- the records take 32 bytes, of which 31 lie before the end of a page that none follows: none is stored, and the position stays
+    not_stored : get nodes 5 ≡ Some listed → writable_prefix memory.pages 69601 39 ≡ 31 → with_node 0 (words 4141 3 69601 39 0) ≡ node_stays 0 (Error EFAULT)
     unfolding getdents_row entries listed mode_and_links file_inode link_inode
     not_stored is room = simp (is, room) refl
 
     -- 32 are enough
-    all_stored : get nodes 5 ≡ Some listed → writable_prefix memory.pages 65536 39 ≡ 32 → with_node 0 (words 4141 3 65536 39 0) ≡ fills 2 (old 5 1 16 (codes ".") 4 4 ++ old 1 2 16 (codes "..") 3 4)
+    all_stored : get nodes 5 ≡ Some listed → writable_prefix memory.pages 69600 39 ≡ 32
+        → with_node 0 (words 4141 3 69600 39 0) ≡ leaves whole (with_node_at nodes 2) processor (copied_out memory 69600 (old 5 1 16 (codes ".") 4 4 ++ old 1 2 16 (codes "..") 3 4)) [] (Value 32)
     unfolding getdents_row entries listed mode_and_links file_inode link_inode
     all_stored is room = simp (is, room) refl
 

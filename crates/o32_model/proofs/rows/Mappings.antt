@@ -60,6 +60,24 @@ module _ (whole : Kernel) (nodes : Nodes) (processor : Processor) (memory : Memo
   unfolding brk with_break
   break_asked at start = simp (at, start) refl
 
+  break_below_its_start : memory.program_break ≡ 0x410000 → memory.break_start ≡ 0x410000 → at_start (words 4045 0x40FFFF 0 0 0) ≡ gives 0x410000
+  unfolding brk with_break
+  break_below_its_start at start = simp (at, start) refl
+
+  -- pages that the break no longer reaches are taken away
+  break_shrinks : memory.program_break ≡ 0x412000 → memory.break_start ≡ 0x410000 → at_start (words 4045 0x410001 0 0 0) ≡ changes (record memory { pages = without memory.pages 0x411 1; program_break = 0x410001 }) (Value 0x410001)
+  unfolding brk with_break with_zeros
+  break_shrinks at start = simp (at, start) refl
+
+  -- within its last page it moves also where the limit is reached
+  break_in_its_page : memory.program_break ≡ 0x410123 → memory.break_start ≡ 0x410000 → len memory.pages ≡ 131_072 → at_start (words 4045 0x410FFF 0 0 0) ≡ changes (record memory { pages = without memory.pages 0x411 0; program_break = 0x410FFF }) (Value 0x410FFF)
+  unfolding brk with_break with_zeros
+  break_in_its_page at start count = simp (at, start, count) refl
+
+  break_at_its_end : memory.program_break ≡ 0x6FFF_F000 → memory.break_start ≡ 0x6FFF_F000 → get memory.pages 0x6FFFF ≡ None → len memory.pages ≡ 5 → at_start (words 4045 0x7000_0000 0 0 0) ≡ changes (record memory { pages = with_zeros (without memory.pages 0x70000 0) 0x6FFFF 1 3; program_break = 0x7000_0000 }) (Value 0x7000_0000)
+  unfolding brk with_break absent_count
+  break_at_its_end at start free count = simp (at, start, free, count) refl
+
   break_above_its_end : memory.program_break ≡ 0x410000 → memory.break_start ≡ 0x410000 → at_start (words 4045 0x7000_0001 0 0 0) ≡ gives 0x410000
   unfolding brk with_break
   break_above_its_end at start = simp (at, start) refl
@@ -117,6 +135,15 @@ module _ (whole : Kernel) (nodes : Nodes) (processor : Processor) (memory : Memo
   unfolding mmap absent_count copied_out with_bytes
   hint_at_the_end place free count = simp (place, free, count) refl
 
+  -- its end is 0x7F7F0000, and a page more
+  hint_up_to_the_end : get memory.pages 0x7F7EF ≡ None → len memory.pages ≡ 5 → at_start (words_of_map 4210 0x7F7E_F000 4096 3 0x802 0 0) ≡ changes (record memory { pages = with_zeros memory.pages 0x7F7EF 1 3 }) (Value 0x7F7E_F000)
+  unfolding mmap absent_count copied_out with_bytes
+  hint_up_to_the_end free count = simp (free, count) refl
+
+  hint_past_the_end : greatest_place memory.pages 2 ≡ Some 0x6fffe → get memory.pages 0x6ffff ≡ None → get memory.pages 0x6fffe ≡ None → len memory.pages ≡ 5 → at_start (words_of_map 4210 0x7F7E_F000 8192 3 0x802 0 0) ≡ changes (record memory { pages = with_zeros memory.pages 0x6fffe 2 3 }) (Value 0x6fffe000)
+  unfolding mmap absent_count copied_out with_bytes
+  hint_past_the_end place free below count = simp (place, free, below, count) refl
+
   -- a fixed place takes what stood there
   at_fixed : (page : MappedPage) → get memory.pages 0x20 ≡ Some page → len memory.pages ≡ 131_072
       → at_start (words_of_map 4210 0x20000 4096 3 0x812 0 0)
@@ -144,6 +171,9 @@ module _ (whole : Kernel) (nodes : Nodes) (processor : Processor) (memory : Memo
   no_stack : at_start (words 4210 0 0 3 0x802) ≡ refuses EFAULT
   no_stack = refl
 
+  no_offset : at_start (record { nr = 4090; reg = 0 ∷ 4096 ∷ 3 ∷ 0x802 ∷ []; stack = Some 0 ∷ None ∷ None ∷ None ∷ [] }) ≡ refuses EFAULT
+  no_offset = refl
+
   fixed_beyond : at_start (words_of_map 4210 0x7FFF_7000 4097 3 0x812 0 0) ≡ refuses ENOMEM
   unfolding mmap
   fixed_beyond = refl
@@ -156,6 +186,11 @@ module _ (whole : Kernel) (nodes : Nodes) (processor : Processor) (memory : Memo
   no_place : at_start (words_of_map 4210 0 0x6000_0001 3 0x802 0 0) ≡ refuses ENOMEM
   unfolding mmap greatest_place greatest_among
   no_place = refl
+
+  -- as long as no free run, though the limit is not passed
+  no_free_run : greatest_place memory.pages 80_000 ≡ None → at_start (words_of_map 4210 0 327_680_000 3 0x802 0 0) ≡ refuses ENOMEM
+  unfolding mmap
+  no_free_run place = simp place refl
 
   past_the_limit : greatest_place memory.pages 1 ≡ Some 0x6ffff → get memory.pages 0x6ffff ≡ None → len memory.pages ≡ 131_072 → at_start (words_of_map 4210 0 4096 3 0x802 0 0) ≡ refuses ENOMEM
   unfolding mmap absent_count
@@ -172,6 +207,16 @@ module _ (whole : Kernel) (nodes : Nodes) (processor : Processor) (memory : Memo
         [] (Value 0x6ffff000)
     unfolding mmap absent_count large_file
     of_file place free count = simp (kept, place, free, count) refl
+
+    -- mmap counts its offset in bytes
+    of_file_in_bytes : get memory.pages 0x20 ≡ None → len memory.pages ≡ 5 → with_node (words_of_map 4090 0x20000 1 1 2 3 4096) ≡ leaves whole (with_node_at nodes 7) processor (copied_out (record memory { pages = with_zeros memory.pages 0x20 1 1 }) 0x20000 (content_bytes_at no_content.blocks 4096 4096)) [] (Value 0x20000)
+    unfolding mmap absent_count large_file
+    of_file_in_bytes free count = simp (kept, free, count) refl
+
+    -- onto a page that is mapped
+    of_file_at_fixed : (page : MappedPage) → get memory.pages 0x20 ≡ Some page → len memory.pages ≡ 131_072 → with_node (words_of_map 4210 0x20000 1 1 0x12 3 0x100000) ≡ leaves whole (with_node_at nodes 7) processor (copied_out (record memory { pages = with_zeros memory.pages 0x20 1 1 }) 0x20000 (content_bytes_at no_content.blocks 0x1_0000_0000 258)) [] (Value 0x20000)
+    unfolding mmap absent_count large_file
+    of_file_at_fixed page taken count = simp (kept, taken, count) refl
 
     -- past the file's end all is zeros
     past_the_end : get memory.pages 0x20 ≡ None → len memory.pages ≡ 5
@@ -201,6 +246,11 @@ module _ (whole : Kernel) (nodes : Nodes) (processor : Processor) (memory : Memo
   unfolding mmap
   not_for_reading = refl
 
+  -- before ENODEV of a shared one
+  shared_not_for_reading : at_start (words_of_map 4210 0 4096 3 1 1 0) ≡ refuses EACCES
+  unfolding mmap
+  shared_not_for_reading = refl
+
   of_closed : at_start (words_of_map 4210 0 4096 3 2 3 0) ≡ refuses EBADF
   unfolding mmap
   of_closed = refl
@@ -210,6 +260,10 @@ module _ (whole : Kernel) (nodes : Nodes) (processor : Processor) (memory : Memo
   unmapped : at_start (words 4091 0x20000 4097 0 0) ≡ changes (record memory { pages = without memory.pages 0x20 2 }) (Value 0)
   unfolding munmap
   unmapped = refl
+
+  unmapped_to_the_end : at_start (words 4091 0x7FFF_7000 4096 0 0) ≡ changes (record memory { pages = without memory.pages 0x7FFF7 1 }) (Value 0)
+  unfolding munmap
+  unmapped_to_the_end = refl
 
   unmap_off_a_page : at_start (words 4091 0x20001 4096 0 0) ≡ refuses EINVAL
   unfolding munmap
@@ -248,6 +302,10 @@ module _ (whole : Kernel) (nodes : Nodes) (processor : Processor) (memory : Memo
 
     -- mremap
 
+    same_size : at_start (words 4167 0x20000 4096 1 0) ≡ changes (record memory { pages = without memory.pages 0x21 0 }) (Value 0x20000)
+    unfolding mremap resized mapped_run
+    same_size = simp first refl
+
     cut : get memory.pages 0x21 ≡ Some page → at_start (words 4167 0x20000 8192 4096 0)
         ≡ changes (record memory { pages = without memory.pages 0x21 1 }) (Value 0x20000)
     unfolding mremap resized mapped_run
@@ -270,14 +328,37 @@ module _ (whole : Kernel) (nodes : Nodes) (processor : Processor) (memory : Memo
     unfolding mremap resized mapped_run absent_count
     may_not_move next count = simp (first, next, count) refl
 
-    nowhere : get memory.pages 0x21 ≡ Some page → len memory.pages ≡ 5 → greatest_place memory.pages 2 ≡ None
-        → at_start (words 4167 0x20000 4096 4097 1) ≡ refuses ENOMEM
-    unfolding mremap resized mapped_run absent_count
-    nowhere next count place = simp (first, next, count, place) refl
-
     grown_past_the_limit : len memory.pages ≡ 131_072 → at_start (words 4167 0x20000 4096 4097 1) ≡ refuses ENOMEM
     unfolding mremap resized mapped_run
     grown_past_the_limit count = simp (first, count) refl
+
+  -- 80,000 pages, for which four pages between 0x10000 and 0x70000 can leave no run; behind the last page where a range may grow
+  nowhere : (page : MappedPage) → get memory.pages 0x7F7EF ≡ Some page → len memory.pages ≡ 5 → greatest_place memory.pages 80_000 ≡ None
+      → at_start (words 4167 0x7F7E_F000 4096 327_680_000 1) ≡ refuses ENOMEM
+  unfolding mremap resized mapped_run
+  nowhere page last count place = simp (last, count, place) refl
+
+  -- up to 0x7F7F0000 a range may grow, and no further
+  grown_to_the_end : (page : MappedPage) → get memory.pages 0x7F7EE ≡ Some page → get memory.pages 0x7F7EF ≡ None → len memory.pages ≡ 5 → at_start (words 4167 0x7F7E_E000 4096 8192 0) ≡ changes (record memory { pages = with_zeros memory.pages 0x7F7EF 1 page.protection }) (Value 0x7F7E_E000)
+  unfolding mremap resized mapped_run absent_count
+  grown_to_the_end page first free count = simp (first, free, count) refl
+
+  not_past_the_end : (page : MappedPage) → get memory.pages 0x7F7EF ≡ Some page → len memory.pages ≡ 5 → at_start (words 4167 0x7F7E_F000 4096 8192 0) ≡ refuses ENOMEM
+  unfolding mremap resized mapped_run
+  not_past_the_end page first count = simp (first, count) refl
+
+  -- mprotect of no page, of an absent one, and past user space, where no page is
+  protected_of_none : at_start (words 4125 0x20000 0 3 0) ≡ gives 0
+  unfolding mprotect mapped_run with_protection
+  protected_of_none = refl
+
+  protected_absent : get memory.pages 0x20 ≡ None → at_start (words 4125 0x20000 4096 3 0) ≡ refuses ENOMEM
+  unfolding mprotect mapped_run with_protection
+  protected_absent absent = simp absent refl
+
+  protected_beyond : get memory.pages 0x7FFF8 ≡ None → at_start (words 4125 0x7FFF_8000 4096 3 0) ≡ refuses ENOMEM
+  unfolding mprotect mapped_run with_protection
+  protected_beyond absent = simp absent refl
 
   protect_off_a_page : at_start (words 4125 0x20001 4096 3 0) ≡ refuses EINVAL
   unfolding mprotect
@@ -326,3 +407,8 @@ module _ (whole : Kernel) (nodes : Nodes) (processor : Processor) (memory : Memo
   remap_of_absent : get memory.pages 0x20 ≡ None → at_start (words 4167 0x20000 4096 4096 0) ≡ refuses EFAULT
   unfolding mremap mapped_run
   remap_of_absent absent = simp absent refl
+
+  -- before the limit
+  remap_of_absent_past_the_limit : get memory.pages 0x20 ≡ None → len memory.pages ≡ 131_072 → at_start (words 4167 0x20000 4096 8192 1) ≡ refuses EFAULT
+  unfolding mremap mapped_run
+  remap_of_absent_past_the_limit absent count = simp absent refl

@@ -10,16 +10,19 @@ use Rattle.kernel_core.specs.PathWalk.{components_after, ends_with_slash}
 use Rattle.kernel_core.specs.Queries.{walked, walked_from, walked_through}
 use Rattle.kernel_core.specs.declared.error.Errno.{Errno}
 use Rattle.kernel_core.specs.declared.error.Errno.TheVariants.{EACCES, EBADF, EFAULT, EFBIG, EINVAL, EISDIR, ENAMETOOLONG, ENOENT, ENOTDIR, ERANGE}
+use Rattle.kernel_core.specs.declared.open_flags.Access.TheVariants.{Read}
 use Rattle.kernel_model.specs.Clock.{now}
 use Rattle.kernel_model.specs.ContentRows.{sync}
+use Rattle.kernel_model.specs.Descriptions.{description_of, no_flags}
 use Rattle.kernel_model.specs.NodeRows.{Leave, SetTo, access, change_mode, change_open_mode, set_times, truncate, truncate_open, change_directory, change_to_open, working_directory, set_umask, names_to, after_mode, after_times, after_truncate, after_change}
 use Rattle.kernel_model.specs.Paths.{walk}
 use Rattle.kernel_model.specs.State.{Kernel, Files}
 use Rattle.kernel_model.specs.Whole.{with_files}
+use Rattle.kernel_model.specs.declared.descriptor.Object.TheVariants.{Node}
 use Rattle.layouts.specs.Number.{bytes_of}
 use Rattle.mips_exec.specs.Processor.{Processor}
-use Rattle.o32_model.proofs.rows.Small.{at_first, with_node_at, page_of, words, guest, leaves}
-use Rattle.o32_model.proofs.rows.SmallTree.{mode_and_links, root_inode, file_inode, directory_inode, link_inode, removed_inode}
+use Rattle.o32_model.proofs.rows.Small.{at_first, with_node_at, page_of, words, guest, leaves, to, input, output, error_output}
+use Rattle.o32_model.proofs.rows.SmallTree.{mode_and_links, root_inode, file_inode, directory_inode, link_inode, removed_inode, executable_inode}
 use Rattle.o32_model.specs.NodeCalls.{access_row, chmod_row, fchmod_row, utimensat_row, truncate_row, ftruncate_row, sync_row, chdir_row, fchdir_row, getcwd_row, umask_row}
 use Rattle.o32_model.specs.Paths.{path_at}
 use Rattle.o32_model.specs.Step.{O32Step}
@@ -86,9 +89,17 @@ module _ (whole : Kernel) (nodes : Nodes) (processor : Processor) (memory : Memo
   unfolding chdir_row change_directory
   chdir_unread unread = simp unread refl
 
+  chdir_too_long : path_at memory 65536 ≡ Err ENAMETOOLONG → at_start (words 4012 65536 0 0 0) ≡ refuses ENAMETOOLONG
+  unfolding chdir_row change_directory
+  chdir_too_long long = simp long refl
+
   utimensat_unread : path_at memory 65536 ≡ Err EFAULT → at_start (words 4316 9 65536 69632 0x200) ≡ refuses EFAULT
   unfolding utimensat_row set_times
   utimensat_unread unread = simp unread refl
+
+  utimensat_too_long : path_at memory 65536 ≡ Err ENAMETOOLONG → at_start (words 4316 9 65536 69632 0x200) ≡ refuses ENAMETOOLONG
+  unfolding utimensat_row set_times
+  utimensat_too_long long = simp long refl
 
   -- numbers are looked at before the walk
 
@@ -117,6 +128,26 @@ module _ (whole : Kernel) (nodes : Nodes) (processor : Processor) (memory : Memo
     unfolding access_row access walk walked walked_from walked_through components_after ends_with_slash root_inode mode_and_links
     access_missing path = simp (path, at_1) refl
 
+    chmod_missing : path_at memory 65536 ≡ Ok (codes "n") → at_start (words 4015 65536 420 0 0) ≡ refuses ENOENT
+    unfolding chmod_row change_mode walk walked walked_from walked_through components_after ends_with_slash root_inode mode_and_links
+    chmod_missing path = simp (path, at_1) refl
+
+    truncate_missing : path_at memory 65536 ≡ Ok (codes "n") → at_start (words 4092 65536 0 0 0) ≡ refuses ENOENT
+    unfolding truncate_row truncate walk walked walked_from walked_through components_after ends_with_slash root_inode mode_and_links
+    truncate_missing path = simp (path, at_1) refl
+
+    utimensat_missing : path_at memory 65536 ≡ Ok (codes "n") → at_start (words 4316 0xFFFF_FF9C 65536 0 0) ≡ refuses ENOENT
+    unfolding utimensat_row set_times walk walked walked_from walked_through components_after ends_with_slash root_inode mode_and_links
+    utimensat_missing path = simp (path, at_1) refl
+
+    access_executable : get nodes 2 ≡ Some executable_inode → path_at memory 65536 ≡ Ok (codes "f") → at_start (words 4033 65536 1 0 0) ≡ becomes (at_first nodes)
+    unfolding access_row access walk walked walked_from walked_through components_after ends_with_slash root_inode mode_and_links executable_inode
+    access_executable at_2 path = simp (at_2, path, at_1) refl
+
+    access_directory : get nodes 3 ≡ Some directory_inode → path_at memory 65536 ≡ Ok (codes "d") → at_start (words 4033 65536 1 0 0) ≡ becomes (at_first nodes)
+    unfolding access_row access walk walked walked_from walked_through components_after ends_with_slash root_inode mode_and_links directory_inode
+    access_directory at_3 path = simp (at_3, path, at_1) refl
+
     chdir_missing : path_at memory 65536 ≡ Ok (codes "n") → at_start (words 4012 65536 0 0 0) ≡ refuses ENOENT
     unfolding chdir_row change_directory walk walked walked_from walked_through components_after ends_with_slash root_inode mode_and_links
     chdir_missing path = simp (path, at_1) refl
@@ -126,6 +157,10 @@ module _ (whole : Kernel) (nodes : Nodes) (processor : Processor) (memory : Memo
       access_file : path_at memory 65536 ≡ Ok (codes "f") → at_start (words 4033 65536 6 0 0) ≡ becomes (at_first nodes)
       unfolding access_row access walk walked walked_from walked_through components_after ends_with_slash root_inode mode_and_links file_inode
       access_file path = simp (path, at_1, at_2) refl
+
+      faccessat_file : path_at memory 65536 ≡ Ok (codes "f") → at_start (words 4300 0xFFFF_FF9C 65536 4 0) ≡ becomes (at_first nodes)
+      unfolding access_row access walk walked walked_from walked_through components_after ends_with_slash root_inode mode_and_links file_inode
+      faccessat_file path = simp (path, at_1, at_2) refl
 
       faccessat_not_executable : path_at memory 65536 ≡ Ok (codes "/f") → at_start (words 4300 9 65536 1 0) ≡ refuses EACCES
       unfolding access_row access walk walked walked_from walked_through components_after ends_with_slash root_inode mode_and_links file_inode
@@ -184,6 +219,16 @@ module _ (whole : Kernel) (nodes : Nodes) (processor : Processor) (memory : Memo
       times_left_and_now : path_at memory 65536 ≡ Ok (codes "f") → first_denied Load memory.pages 65792 16 ≡ None → bytes_at memory.pages 65792 16 ≡ u32 7 ++ u32 0x3FFF_FFFE ++ u32 7 ++ u32 0x3FFF_FFFF → at_start (words 4316 0xFFFF_FF9C 65536 65792 0) ≡ becomes (after_times (at_first nodes) (now whole) (record { access = Leave; modified = SetTo (now whole) }) 2)
       unfolding utimensat_row set_times walk walked walked_from walked_through components_after ends_with_slash root_inode mode_and_links file_inode link_inode
       times_left_and_now path loaded times = simp (path, loaded, times, at_1, at_2) refl
+
+      -- with both times left as they are the time of change is set
+      times_left : path_at memory 65536 ≡ Ok (codes "f") → first_denied Load memory.pages 65792 16 ≡ None → bytes_at memory.pages 65792 16 ≡ u32 0 ++ u32 0x3FFF_FFFE ++ u32 0 ++ u32 0x3FFF_FFFE → at_start (words 4316 0xFFFF_FF9C 65536 65792 0) ≡ becomes (after_times (at_first nodes) (now whole) (record { access = Leave; modified = Leave }) 2)
+      unfolding utimensat_row set_times walk walked walked_from walked_through components_after ends_with_slash root_inode mode_and_links file_inode link_inode
+      times_left path loaded times = simp (path, loaded, times, at_1, at_2) refl
+
+      -- -1 nanoseconds
+      times_below_zero : path_at memory 65536 ≡ Ok (codes "f") → first_denied Load memory.pages 65792 16 ≡ None → bytes_at memory.pages 65792 16 ≡ u32 0 ++ u32 0 ++ u32 0 ++ u32 0xFFFF_FFFF → at_start (words 4316 0xFFFF_FF9C 65536 65792 0) ≡ refuses EINVAL
+      unfolding utimensat_row set_times walk walked walked_from walked_through components_after ends_with_slash root_inode mode_and_links file_inode link_inode
+      times_below_zero path loaded times = simp (path, loaded, times) refl
 
       -- before the descriptor and the flags
       times_wrong : path_at memory 65536 ≡ Ok (codes "f") → first_denied Load memory.pages 65792 16 ≡ None → bytes_at memory.pages 65792 16 ≡ u32 0 ++ u32 0 ++ u32 0 ++ u32 1_000_000_000 → at_start (words 4316 9 65536 65792 0x200) ≡ refuses EINVAL
@@ -266,6 +311,23 @@ module _ (whole : Kernel) (nodes : Nodes) (processor : Processor) (memory : Memo
   unfolding ftruncate_row truncate_open
   ftruncate_input = refl
 
+  ftruncate_output : at_start (words 4093 1 0 0 0) ≡ refuses EINVAL
+  unfolding ftruncate_row truncate_open
+  ftruncate_output = refl
+
+  -- a directory is open for reading alone
+  abbrev directory_open : Files
+  directory_open = record (at_first nodes) {
+    table = record {
+      fds = to 0 ∷ to 1 ∷ to 2 ∷ to 3 ∷ None ∷ None ∷ None ∷ None ∷ [];
+      live = Some input ∷ Some output ∷ Some error_output ∷ Some (description_of (Node 5) (no_flags Read)) ∷ None ∷ None ∷ None ∷ None ∷ [];
+    };
+  }
+
+  ftruncate_directory : called (with_files whole directory_open) (words 4093 3 0 0 0) ≡ stays directory_open (Error EINVAL)
+  unfolding ftruncate_row truncate_open
+  ftruncate_directory = refl
+
   ftruncate_closed : at_start (words 4212 9 0 0xFFFF_FFFF 0) ≡ refuses EBADF
   unfolding ftruncate_row truncate_open
   ftruncate_closed = refl
@@ -285,9 +347,9 @@ module _ (whole : Kernel) (nodes : Nodes) (processor : Processor) (memory : Memo
   fchdir_closed = refl
 
   -- a slash and a NUL
-  cwd_root : len nodes ≡ 6 → get memory.pages 16 ≡ Some (page_of []) → at_start (words 4203 65536 2 0 0) ≡ leaves whole (at_first nodes) processor (copied_out memory 65536 (47 ∷ 0 ∷ [])) [] (Value 2)
+  cwd_root : len nodes ≡ 6 → (held : List ℕ) → get memory.pages 16 ≡ Some (page_of held) → at_start (words 4203 65536 2 0 0) ≡ leaves whole (at_first nodes) processor (copied_out memory 65536 (47 ∷ 0 ∷ [])) [] (Value 2)
   unfolding getcwd_row working_directory names_to first_denied refusal
-  cwd_root six kept = simp (six, kept) refl
+  cwd_root six held kept = simp (six, kept) refl
 
   cwd_short : len nodes ≡ 6 → at_start (words 4203 65536 1 0 0) ≡ refuses ERANGE
   unfolding getcwd_row working_directory names_to
@@ -300,9 +362,9 @@ module _ (whole : Kernel) (nodes : Nodes) (processor : Processor) (memory : Memo
   abbrev in_directory : Files
   in_directory = record (at_first nodes) { directory = 3 }
 
-  cwd_directory : len nodes ≡ 6 → get nodes 1 ≡ Some root_inode → get nodes 3 ≡ Some directory_inode → get memory.pages 16 ≡ Some (page_of []) → called (with_files whole in_directory) (words 4203 65536 9 0 0) ≡ leaves whole in_directory processor (copied_out memory 65536 (codes "/d" ++ 0 ∷ [])) [] (Value 3)
+  cwd_directory : len nodes ≡ 6 → get nodes 1 ≡ Some root_inode → get nodes 3 ≡ Some directory_inode → (held : List ℕ) → get memory.pages 16 ≡ Some (page_of held) → called (with_files whole in_directory) (words 4203 65536 9 0 0) ≡ leaves whole in_directory processor (copied_out memory 65536 (codes "/d" ++ 0 ∷ [])) [] (Value 3)
   unfolding getcwd_row working_directory names_to first_denied refusal root_inode directory_inode mode_and_links
-  cwd_directory six at_1 at_3 kept = simp (six, at_1, at_3, kept) refl
+  cwd_directory six at_1 at_3 held kept = simp (six, at_1, at_3, kept) refl
 
   cwd_removed : len nodes ≡ 6 → get nodes 3 ≡ Some removed_inode → called (with_files whole in_directory) (words 4203 65536 0 0 0) ≡ stays in_directory (Error ENOENT)
   unfolding getcwd_row working_directory names_to removed_inode mode_and_links

@@ -1,5 +1,5 @@
 -- Worked rows on opening and seeking.
-use Rattle.std.specs.Prelude.{◌≡◌, ℕ, true, [], ◌∷◌, codes, Some, None, Ok, Err, refl}
+use Rattle.std.specs.Prelude.{◌≡◌, ℕ, List, true, [], ◌∷◌, codes, Some, None, Ok, Err, refl, replicate}
 use Rattle.std.specs.FinMap.{get, len}
 use Rattle.guest_space.specs.Access.{first_denied, refusal}
 use Rattle.guest_space.specs.Bytes.{copied_out}
@@ -22,7 +22,7 @@ use Rattle.kernel_model.specs.State.{Kernel, Files}
 use Rattle.kernel_model.specs.Whole.{with_files}
 use Rattle.mips_exec.specs.Processor.{Processor}
 use Rattle.o32_model.proofs.rows.Small.{to, at_first, streams_alone, with_pipe_of, with_node_at, page_of, words, guest, leaves}
-use Rattle.o32_model.proofs.rows.SmallTree.{mode_and_links, root_inode, file_inode, directory_inode, link_inode, large_inode, missing, words_of_five}
+use Rattle.o32_model.proofs.rows.SmallTree.{mode_and_links, root_inode, file_inode, directory_inode, link_inode, large_inode, missing, words_of_five, removed_inode, circle_inode, long_inode}
 use Rattle.o32_model.specs.Opening.{open_row, creat_flags, lseek_row, llseek_row}
 use Rattle.o32_model.specs.Paths.{path_at}
 use Rattle.o32_model.specs.Step.{O32Step}
@@ -97,6 +97,11 @@ module _ (whole : Kernel) (nodes : Nodes) (processor : Processor) (memory : Memo
   unfolding open_row open_file
   open_none_free path = simp path refl
 
+  -- also where the name is not there and would be made
+  open_new_none_free : path_at memory 65536 ≡ Ok (codes "n") → called (with_files whole none_free) (words 4005 65536 0x101 420 0) ≡ stays none_free (Error EMFILE)
+  unfolding open_row open_file
+  open_new_none_free path = simp path refl
+
   openat_closed : path_at memory 65536 ≡ Ok (codes "f") → at_start (words 4288 9 65536 0 0) ≡ refuses EBADF
   unfolding open_row open_file walk
   openat_closed path = simp path refl
@@ -137,6 +142,19 @@ module _ (whole : Kernel) (nodes : Nodes) (processor : Processor) (memory : Memo
     unfolding open_row open_file walk walked walked_from walked_through components_after ends_with_slash root_inode mode_and_links
     open_no_room path full = simp (path, full, at_1) refl
 
+    -- twelve bits of the mode count
+    open_new_mode : path_at memory 65536 ≡ Ok (codes "n") → len nodes ≡ 6 → live_entries nodes ≡ 5 → at_start (words 4005 65536 0x101 0xFFFF 0) ≡ stays (after_open (made 0xFFF) makes 3 (new_number nodes)) (Value 3)
+    unfolding open_row open_file walk walked walked_from walked_through components_after ends_with_slash root_inode mode_and_links
+    open_new_mode path few entries = simp (path, few, entries, at_1) refl
+
+    open_new_before_slash : path_at memory 65536 ≡ Ok (codes "n/") → at_start (words 4005 65536 0x101 420 0) ≡ refuses ENOENT
+    unfolding open_row open_file walk walked walked_from walked_through components_after ends_with_slash root_inode mode_and_links
+    open_new_before_slash path = simp (path, at_1) refl
+
+    open_long_name : path_at memory 65536 ≡ Ok (replicate 256 97) → at_start (words 4005 65536 0 0 0) ≡ refuses ENAMETOOLONG
+    unfolding open_row open_file walk walked walked_from walked_through components_after ends_with_slash root_inode mode_and_links
+    open_long_name path = simp (path, at_1) refl
+
     -- the file `f`
     module _ (at_2 : get nodes 2 ≡ Some file_inode) where
       open_file_to_read : path_at memory 65536 ≡ Ok (codes "f") → at_start (words 4005 65536 0 0 0) ≡ stays (after_open (at_first nodes) (no_flags Read) 3 2) (Value 3)
@@ -164,6 +182,19 @@ module _ (whole : Kernel) (nodes : Nodes) (processor : Processor) (memory : Memo
       unfolding open_row open_file walk walked walked_from walked_through components_after ends_with_slash root_inode mode_and_links file_inode
       open_file_as_directory path = simp (path, at_1, at_2) refl
 
+      open_file_before_slash : path_at memory 65536 ≡ Ok (codes "f/") → at_start (words 4005 65536 0 0 0) ≡ refuses ENOTDIR
+      unfolding open_row open_file walk walked walked_from walked_through components_after ends_with_slash root_inode mode_and_links file_inode
+      open_file_before_slash path = simp (path, at_1, at_2) refl
+
+      open_synced : path_at memory 65536 ≡ Ok (codes "f") → at_start (words 4005 65536 0x4010 0 0) ≡ stays (after_open (at_first nodes) (record (no_flags Read) { dsync = true; sync = true }) 3 2) (Value 3)
+      unfolding open_row open_file walk walked walked_from walked_through components_after ends_with_slash root_inode mode_and_links file_inode
+      open_synced path = simp (path, at_1, at_2) refl
+
+    -- a file of 2^31 - 1 bytes needs no LARGEFILE
+    open_longest : get nodes 2 ≡ Some long_inode → path_at memory 65536 ≡ Ok (codes "f") → at_start (words 4005 65536 0 0 0) ≡ stays (after_open (at_first nodes) (no_flags Read) 3 2) (Value 3)
+    unfolding open_row open_file walk walked walked_from walked_through components_after ends_with_slash root_inode mode_and_links long_inode
+    open_longest at_2 path = simp (at_2, path, at_1) refl
+
     -- the directory `d`, and the link `l`
 
     open_directory_to_write : get nodes 3 ≡ Some directory_inode → path_at memory 65536 ≡ Ok (codes "d") → at_start (words 4005 65536 1 0 0) ≡ refuses EISDIR
@@ -177,6 +208,35 @@ module _ (whole : Kernel) (nodes : Nodes) (processor : Processor) (memory : Memo
     open_link_itself : get nodes 4 ≡ Some link_inode → path_at memory 65536 ≡ Ok (codes "l") → at_start (words 4005 65536 0x20000 0 0) ≡ refuses ELOOP
     unfolding open_row open_file walk walked walked_from walked_through components_after ends_with_slash root_inode mode_and_links link_inode
     open_link_itself at_4 path = simp (at_4, path, at_1) refl
+
+    open_directory : get nodes 3 ≡ Some directory_inode → path_at memory 65536 ≡ Ok (codes "d") → at_start (words 4005 65536 0x12000 0 0) ≡ stays (after_open (at_first nodes) (record (no_flags Read) { largefile = true; directory = true }) 3 3) (Value 3)
+    unfolding open_row open_file walk walked walked_from walked_through components_after ends_with_slash root_inode mode_and_links directory_inode
+    open_directory at_3 path = simp (at_3, path, at_1) refl
+
+    open_directory_to_truncate : get nodes 3 ≡ Some directory_inode → path_at memory 65536 ≡ Ok (codes "d") → at_start (words 4005 65536 0x200 0 0) ≡ refuses EISDIR
+    unfolding open_row open_file walk walked walked_from walked_through components_after ends_with_slash root_inode mode_and_links directory_inode
+    open_directory_to_truncate at_3 path = simp (at_3, path, at_1) refl
+
+    open_directory_to_make : get nodes 3 ≡ Some directory_inode → path_at memory 65536 ≡ Ok (codes "d") → at_start (words 4005 65536 0x100 420 0) ≡ refuses EISDIR
+    unfolding open_row open_file walk walked walked_from walked_through components_after ends_with_slash root_inode mode_and_links directory_inode
+    open_directory_to_make at_3 path = simp (at_3, path, at_1) refl
+
+    open_link_as_directory : get nodes 4 ≡ Some link_inode → path_at memory 65536 ≡ Ok (codes "l") → at_start (words 4005 65536 0x30000 0 0) ≡ refuses ENOTDIR
+    unfolding open_row open_file walk walked walked_from walked_through components_after ends_with_slash root_inode mode_and_links link_inode
+    open_link_as_directory at_4 path = simp (at_4, path, at_1) refl
+
+    open_link_as_new : get nodes 4 ≡ Some link_inode → path_at memory 65536 ≡ Ok (codes "l") → at_start (words 4005 65536 0x501 420 0) ≡ refuses EEXIST
+    unfolding open_row open_file walk walked walked_from walked_through components_after ends_with_slash root_inode mode_and_links link_inode
+    open_link_as_new at_4 path = simp (at_4, path, at_1) refl
+
+    open_followed : get nodes 4 ≡ Some link_inode → get nodes 2 ≡ Some file_inode → path_at memory 65536 ≡ Ok (codes "l") → at_start (words 4005 65536 0 0 0) ≡ stays (after_open (at_first nodes) (no_flags Read) 3 2) (Value 3)
+    unfolding open_row open_file walk walked walked_from walked_through components_after ends_with_slash root_inode mode_and_links link_inode file_inode
+    open_followed at_4 at_2 path = simp (at_4, at_2, path, at_1) refl
+
+    -- the forty-first link
+    open_circle : get nodes 4 ≡ Some circle_inode → path_at memory 65536 ≡ Ok (codes "l") → at_start (words 4005 65536 0 0 0) ≡ refuses ELOOP
+    unfolding open_row open_file walk walked walked_from walked_through components_after ends_with_slash root_inode mode_and_links circle_inode
+    open_circle at_4 path = simp (at_4, path, at_1) refl
 
     -- the file `g` of 2^31 bytes: without LARGEFILE it is left as it was, and with it TRUNC makes it empty
     module _ (at_5 : get nodes 5 ≡ Some large_inode) where
@@ -195,6 +255,14 @@ module _ (whole : Kernel) (nodes : Nodes) (processor : Processor) (memory : Memo
       open_large_by_flag : path_at memory 65536 ≡ Ok (codes "g") → at_start (words 4005 65536 0x2202 0 0) ≡ stays (after_open (record (at_first nodes) { nodes = after_resize nodes 5 0 (now whole) }) (record (no_flags ReadWrite) { trunc = true; largefile = true }) 3 5) (Value 3)
       unfolding open_row open_file walk walked walked_from walked_through components_after ends_with_slash root_inode mode_and_links large_inode
       open_large_by_flag path = simp (path, at_1, at_5) refl
+
+  -- no name is made in a directory that was removed
+  abbrev in_removed : Files
+  in_removed = record (at_first nodes) { directory = 3 }
+
+  open_in_removed : get nodes 3 ≡ Some removed_inode → path_at memory 65536 ≡ Ok (codes "n") → called (with_files whole in_removed) (words 4005 65536 0x101 420 0) ≡ stays in_removed (Error ENOENT)
+  unfolding open_row open_file walk walked walked_from walked_through components_after ends_with_slash removed_inode mode_and_links
+  open_in_removed at_3 path = simp (path, at_3) refl
 
   -- Seeking
 
@@ -242,23 +310,32 @@ module _ (whole : Kernel) (nodes : Nodes) (processor : Processor) (memory : Memo
 
   -- with an offset of 64 bits
 
-  place_of_64_bits : get memory.pages 16 ≡ Some (page_of []) → with_node 0x8000_0000 (words_of_five 4140 3 0 0 65536 1) ≡ leaves whole (with_node_at nodes 0x8000_0000) processor (copied_out memory 65536 (0 ∷ 0 ∷ 0 ∷ 0 ∷ 0x80 ∷ 0 ∷ 0 ∷ 0 ∷ [])) [] (Value 0)
+  place_of_64_bits : (held : List ℕ) → get memory.pages 16 ≡ Some (page_of held) → with_node 0x8000_0000 (words_of_five 4140 3 0 0 65536 1) ≡ leaves whole (with_node_at nodes 0x8000_0000) processor (copied_out memory 65536 (0 ∷ 0 ∷ 0 ∷ 0 ∷ 0x80 ∷ 0 ∷ 0 ∷ 0 ∷ [])) [] (Value 0)
   unfolding llseek_row seek first_denied refusal
-  place_of_64_bits kept = simp kept refl
+  place_of_64_bits held kept = simp kept refl
 
-  high_word_first : get memory.pages 16 ≡ Some (page_of []) → with_node 7 (words_of_five 4140 3 1 2 65536 0) ≡ leaves whole (with_node_at nodes 0x1_0000_0002) processor (copied_out memory 65536 (0 ∷ 0 ∷ 0 ∷ 1 ∷ 0 ∷ 0 ∷ 0 ∷ 2 ∷ [])) [] (Value 0)
+  high_word_first : (held : List ℕ) → get memory.pages 16 ≡ Some (page_of held) → with_node 7 (words_of_five 4140 3 1 2 65536 0) ≡ leaves whole (with_node_at nodes 0x1_0000_0002) processor (copied_out memory 65536 (0 ∷ 0 ∷ 0 ∷ 1 ∷ 0 ∷ 0 ∷ 0 ∷ 2 ∷ [])) [] (Value 0)
   unfolding llseek_row seek first_denied refusal
-  high_word_first kept = simp kept refl
+  high_word_first held kept = simp kept refl
 
   -- by -1
-  back_from_end : get memory.pages 16 ≡ Some (page_of []) → get nodes 5 ≡ Some large_inode → with_node 7 (words_of_five 4140 3 0xFFFF_FFFF 0xFFFF_FFFF 65536 2) ≡ leaves whole (with_node_at nodes 0x7FFF_FFFF) processor (copied_out memory 65536 (0 ∷ 0 ∷ 0 ∷ 0 ∷ 0x7F ∷ 0xFF ∷ 0xFF ∷ 0xFF ∷ [])) [] (Value 0)
+  back_from_end : (held : List ℕ) → get memory.pages 16 ≡ Some (page_of held) → get nodes 5 ≡ Some large_inode → with_node 7 (words_of_five 4140 3 0xFFFF_FFFF 0xFFFF_FFFF 65536 2) ≡ leaves whole (with_node_at nodes 0x7FFF_FFFF) processor (copied_out memory 65536 (0 ∷ 0 ∷ 0 ∷ 0 ∷ 0x7F ∷ 0xFF ∷ 0xFF ∷ 0xFF ∷ [])) [] (Value 0)
   unfolding llseek_row seek first_denied refusal large_inode mode_and_links
-  back_from_end kept at_5 = simp (kept, at_5) refl
+  back_from_end held kept at_5 = simp (kept, at_5) refl
+
+  -- 2^44
+  greatest_of_all : (held : List ℕ) → get memory.pages 16 ≡ Some (page_of held) → with_node 7 (words_of_five 4140 3 0x1000 0 65536 0) ≡ leaves whole (with_node_at nodes 0x1000_0000_0000) processor (copied_out memory 65536 (0 ∷ 0 ∷ 0x10 ∷ 0 ∷ 0 ∷ 0 ∷ 0 ∷ 0 ∷ [])) [] (Value 0)
+  unfolding llseek_row seek first_denied refusal
+  greatest_of_all held kept = simp kept refl
 
   -- 2^44 + 1
   past_greatest : with_node 7 (words_of_five 4140 3 0x1000 1 65536 0) ≡ node_stays 7 (Error EINVAL)
   unfolding llseek_row seek
   past_greatest = refl
+
+  origin_unlisted : with_node 7 (words_of_five 4140 3 0 0 65536 3) ≡ node_stays 7 (Error EINVAL)
+  unfolding llseek_row seek
+  origin_unlisted = refl
 
   place_of_pipe : called (with_files whole (with_pipe_of nodes [])) (words_of_five 4140 4 0 0 65536 9) ≡ stays (with_pipe_of nodes []) (Error ESPIPE)
   unfolding llseek_row seek

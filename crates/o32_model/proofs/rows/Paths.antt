@@ -10,13 +10,13 @@ use Rattle.o32_model.specs.PathArguments.{base, one_flag, has_only}
 use Rattle.o32_model.specs.Paths.{is_nul, path_at}
 
 module _ (memory : Memory) where
-  -- "ab"; what stands behind the NUL plays no part
-  up_to_nul : readable_prefix memory.pages 65536 4096 ≡ 4 → bytes_at memory.pages 65536 4 ≡ 97 ∷ 98 ∷ 0 ∷ 99 ∷ []
-      → path_at memory 65536 ≡ Ok (97 ∷ 98 ∷ [])
+  -- the last four bytes of a page, behind which none can be loaded: "ab"; what stands behind the NUL plays no part
+  up_to_nul : readable_prefix memory.pages 69628 4096 ≡ 4 → bytes_at memory.pages 69628 4 ≡ 97 ∷ 98 ∷ 0 ∷ 99 ∷ []
+      → path_at memory 69628 ≡ Ok (97 ∷ 98 ∷ [])
   unfolding path_at
   up_to_nul four bytes = simp (four, bytes) refl
 
-  no_byte : readable_prefix memory.pages 65536 4096 ≡ 2 → bytes_at memory.pages 65536 2 ≡ 0 ∷ 97 ∷ [] → path_at memory 65536 ≡ Ok []
+  no_byte : readable_prefix memory.pages 69630 4096 ≡ 2 → bytes_at memory.pages 69630 2 ≡ 0 ∷ 97 ∷ [] → path_at memory 69630 ≡ Ok []
   unfolding path_at
   no_byte two bytes = simp (two, bytes) refl
 

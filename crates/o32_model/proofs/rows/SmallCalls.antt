@@ -140,16 +140,16 @@ module _ (kernel : Kernel) (processor : Processor) (memory : Memory) (left : Lis
   first = record kernel { limits = first_limits }
 
   -- 1024 and 1024 for descriptors
-  descriptors_shown : get memory.pages 16 ≡ Some (page_of [])
+  descriptors_shown : (held : List ℕ) → get memory.pages 16 ≡ Some (page_of held)
       → in_kernel first (words 4076 5 65536 0 0) ≡ leaves first (copied_out memory 65536 (0 ∷ 0 ∷ 4 ∷ 0 ∷ 0 ∷ 0 ∷ 4 ∷ 0 ∷ [])) (Value 0)
   unfolding getrlimit_row set_limit first_denied refusal
-  descriptors_shown kept = simp kept refl
+  descriptors_shown held kept = simp kept refl
 
   -- 8 MiB, and no hard limit, for the stack
-  stack_shown : get memory.pages 16 ≡ Some (page_of [])
+  stack_shown : (held : List ℕ) → get memory.pages 16 ≡ Some (page_of held)
       → in_kernel first (words 4076 3 65536 0 0) ≡ leaves first (copied_out memory 65536 (0 ∷ 0x80 ∷ 0 ∷ 0 ∷ 0x7F ∷ 0xFF ∷ 0xFF ∷ 0xFF ∷ [])) (Value 0)
   unfolding getrlimit_row set_limit first_denied refusal
-  stack_shown kept = simp kept refl
+  stack_shown held kept = simp kept refl
 
   shown_at_null : get memory.pages 0 ≡ None → in_kernel first (words 4076 5 0 0 0) ≡ leaves first memory (Error EFAULT)
   unfolding getrlimit_row set_limit first_denied refusal
@@ -160,11 +160,11 @@ module _ (kernel : Kernel) (processor : Processor) (memory : Memory) (left : Lis
   no_such_limit = refl
 
   -- the old limit in 16 bytes, by its own id
-  descriptors_in_16_bytes : get memory.pages 16 ≡ Some (page_of [])
+  descriptors_in_16_bytes : (held : List ℕ) → get memory.pages 16 ≡ Some (page_of held)
       → in_kernel first (words 4338 100 5 0 65536) ≡ leaves first
       (copied_out memory 65536 (0 ∷ 0 ∷ 0 ∷ 0 ∷ 0 ∷ 0 ∷ 4 ∷ 0 ∷ 0 ∷ 0 ∷ 0 ∷ 0 ∷ 0 ∷ 0 ∷ 4 ∷ 0 ∷ [])) (Value 0)
   unfolding prlimit_row set_limit first_denied refusal
-  descriptors_in_16_bytes kept = simp kept refl
+  descriptors_in_16_bytes held kept = simp kept refl
 
   -- both pointers are null
   no_limit_wanted : called (words 4338 0 5 0 0) ≡ gives 0
@@ -214,12 +214,12 @@ module _ (kernel : Kernel) (processor : Processor) (memory : Memory) (left : Lis
   abbrev by_chance : Kernel
   by_chance = record kernel { chance = record { bytes = 10 ∷ 20 ∷ 30 ∷ []; at = 2 } }
 
-  four_by_chance : get memory.pages 16 ≡ Some (page_of [])
+  four_by_chance : (held : List ℕ) → get memory.pages 16 ≡ Some (page_of held)
       → in_kernel by_chance (words 4353 65536 4 0 0)
       ≡ leaves (record by_chance { chance = record { bytes = 10 ∷ 20 ∷ 30 ∷ []; at = 0 } })
       (copied_out memory 65536 (30 ∷ 10 ∷ 20 ∷ 30 ∷ [])) (Value 4)
   unfolding getrandom_row random_bytes round writable_prefix first_denied refusal
-  four_by_chance kept = simp kept refl
+  four_by_chance held kept = simp kept refl
 
   -- as many as can be stored
   one_by_chance : (held : List ℕ) → get memory.pages 16 ≡ Some (page_of held) → get memory.pages 17 ≡ None

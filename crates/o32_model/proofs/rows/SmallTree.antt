@@ -63,3 +63,36 @@ words_of_five nr first second third fourth fifth =
 abbrev pub words_with_six : ℕ → ℕ → ℕ → ℕ → ℕ → ℕ → ℕ → CallWords
 words_with_six nr first second third fourth fifth sixth =
     record { nr = nr; reg = first ∷ second ∷ third ∷ fourth ∷ []; stack = Some fifth ∷ Some sixth ∷ None ∷ None ∷ [] }
+
+-- Nodes for another tree: the root with the directories `d` and `e`, the file `f` and the file `m` with the number 2^32 - 1
+
+unfoldable pub other_root : Inode
+unfolding mode_and_links
+other_root = mode_and_links 493 4 (Directory (record {
+  parent = Some 1;
+  greatest = 6;
+  entries = named 3 (codes "f") 2 ∷ named 4 (codes "d") 3 ∷ named 5 (codes "e") 6 ∷ named 6 (codes "m") 0xFFFF_FFFF ∷ [];
+}))
+
+-- a directory in the root with the file `a`, and one that has given out its last cookie
+unfoldable pub full_inode : Inode
+unfolding mode_and_links
+full_inode = mode_and_links 493 2 (Directory (record { parent = Some 1; greatest = 3; entries = named 3 (codes "a") 8 ∷ [] }))
+
+unfoldable pub used_up_inode : Inode
+unfolding mode_and_links
+used_up_inode = mode_and_links 493 2 (Directory (record { parent = Some 1; greatest = 0x7FFF_FFFF; entries = [] }))
+
+-- a link `l` to itself
+unfoldable pub circle_inode : Inode
+unfolding mode_and_links
+circle_inode = mode_and_links 511 1 (Link (codes "l"))
+
+-- a file of 2^31 - 1 bytes, and one that may be executed
+unfoldable pub long_inode : Inode
+unfolding mode_and_links
+long_inode = mode_and_links 420 1 (File (record no_content { size = 0x7FFF_FFFF }))
+
+unfoldable pub executable_inode : Inode
+unfolding mode_and_links
+executable_inode = mode_and_links 493 1 (File no_content)

@@ -1,16 +1,17 @@
 -- Worked rows on status.
 use Rattle.std.specs.Prelude.{◌≡◌, ℕ, true, List, [], ◌++◌, length, replicate, codes, Some, None, Ok, Err, refl}
-use Rattle.std.specs.FinMap.{get, len-empty}
+use Rattle.std.specs.FinMap.{get, len, len-empty}
 use Rattle.std.specs.Ordering.{nat_cmp}
 use Rattle.guest_space.specs.Access.{first_denied, refusal}
 use Rattle.guest_space.specs.Bytes.{copied_out}
 use Rattle.guest_space.specs.Memory.{Memory}
 use Rattle.guest_space.specs.declared.access.Access.TheVariants.{Store}
-use Rattle.kernel_core.specs.Nodes.{Nodes}
+use Rattle.kernel_core.specs.FileContent.{Blocks}
+use Rattle.kernel_core.specs.Nodes.{Nodes, File}
 use Rattle.kernel_core.specs.PathWalk.{components_after, ends_with_slash}
 use Rattle.kernel_core.specs.Queries.{walked, walked_from, walked_through}
 use Rattle.kernel_core.specs.declared.error.Errno.{Errno}
-use Rattle.kernel_core.specs.declared.error.Errno.TheVariants.{EBADF, EFAULT, EINVAL, ENAMETOOLONG, ENOENT, EOVERFLOW}
+use Rattle.kernel_core.specs.declared.error.Errno.TheVariants.{EBADF, EFAULT, EINVAL, ENAMETOOLONG, ENOENT, EOVERFLOW, ENOTDIR}
 use Rattle.kernel_model.specs.Begin.{first_terminal}
 use Rattle.kernel_model.specs.ContentRows.{status}
 use Rattle.kernel_model.specs.NodeRows.{status_at_path}
@@ -20,7 +21,7 @@ use Rattle.kernel_model.specs.Whole.{with_files}
 use Rattle.layouts.specs.Number.{bytes_of}
 use Rattle.mips_exec.specs.Processor.{Processor}
 use Rattle.o32_model.proofs.rows.Small.{at_first, with_pipe_of, with_node_at, page_of, words, guest, leaves}
-use Rattle.o32_model.proofs.rows.SmallTree.{mode_and_links, root_inode, file_inode, link_inode, large_inode, aged_inode}
+use Rattle.o32_model.proofs.rows.SmallTree.{mode_and_links, root_inode, file_inode, link_inode, large_inode, aged_inode, other_root, directory_inode, long_inode}
 use Rattle.o32_model.specs.Paths.{path_at}
 use Rattle.o32_model.specs.Status.{stat_row, fstat_row, stat64_row, fstat64_row, fstatat64_row}
 use Rattle.o32_model.specs.Step.{O32Step}
@@ -132,6 +133,15 @@ module _ (whole : Kernel) (nodes : Nodes) (processor : Processor) (memory : Memo
   unfolding fstat_row status large_inode mode_and_links
   fstat_wide at_5 = simp at_5 refl
 
+  -- and one of 2^31 - 1, and one of two blocks, of which each counts eight units of 512 bytes
+  fstat_longest : first_denied Store memory.pages 65792 144 ≡ None → get nodes 5 ≡ Some long_inode → with_node 0 (words 4108 3 65792 0 0) ≡ stores (with_node_at nodes 0) (old 1 5 33188 1 0 0x7FFF_FFFF no_times 0)
+  unfolding fstat_row status long_inode mode_and_links
+  fstat_longest room at_5 = simp (room, at_5, len-empty nat_cmp (List ℕ)) refl
+
+  fstat_two_blocks : (blocks : Blocks) → first_denied Store memory.pages 65792 144 ≡ None → len blocks ≡ 2 → get nodes 5 ≡ Some (mode_and_links 420 1 (File (record { size = 8192; blocks = blocks }))) → with_node 0 (words 4108 3 65792 0 0) ≡ stores (with_node_at nodes 0) (old 1 5 33188 1 0 8192 no_times 16)
+  unfolding fstat_row status mode_and_links
+  fstat_two_blocks blocks room two at_5 = simp (room, at_5, two) refl
+
   fstat64_large : first_denied Store memory.pages 65792 104 ≡ None → get nodes 5 ≡ Some large_inode → with_node 0 (words 4215 3 65792 0 0) ≡ stores (with_node_at nodes 0) (new 1 5 33188 1 0 0x8000_0000 no_times 0)
   unfolding fstat64_row status large_inode mode_and_links
   fstat64_large room at_5 = simp (room, at_5, len-empty nat_cmp (List ℕ)) refl
@@ -162,6 +172,10 @@ module _ (whole : Kernel) (nodes : Nodes) (processor : Processor) (memory : Memo
   unfolding fstatat64_row status_at_path walk
   fstatat64_closed path = simp path refl
 
+  fstatat64_stream : path_at memory 65536 ≡ Ok (codes "f") → at_start (words 4293 0 65536 0x8000_0000 0) ≡ refuses ENOTDIR
+  unfolding fstatat64_row status_at_path walk
+  fstatat64_stream path = simp path refl
+
   -- a flag that is not listed comes before the path
   fstatat64_unlisted : at_start (words 4293 9 0x8000_0000 0x8000_0000 0x200) ≡ refuses EINVAL
   unfolding fstatat64_row status_at_path
@@ -185,6 +199,10 @@ module _ (whole : Kernel) (nodes : Nodes) (processor : Processor) (memory : Memo
     stat_missing : path_at memory 65536 ≡ Ok (codes "n") → at_start (words 4106 65536 0x8000_0000 0 0) ≡ refuses ENOENT
     unfolding stat_row status_at_path walk walked walked_from walked_through components_after ends_with_slash root_inode mode_and_links
     stat_missing path = simp (path, at_1) refl
+
+    stat_directory : first_denied Store memory.pages 65792 144 ≡ None → get nodes 3 ≡ Some directory_inode → path_at memory 65536 ≡ Ok (codes "d") → at_start (words 4106 65536 65792 0 0) ≡ stores (at_first nodes) (old 1 3 16877 2 0 4096 no_times 8)
+    unfolding stat_row status_at_path walk walked walked_from walked_through components_after ends_with_slash root_inode mode_and_links directory_inode
+    stat_directory room at_3 path = simp (room, path, at_1, at_3) refl
 
     -- the file `f`, by its name and by the link `l`, and the link itself
     module _ (at_2 : get nodes 2 ≡ Some file_inode) (at_4 : get nodes 4 ≡ Some link_inode) where
@@ -236,3 +254,8 @@ module _ (whole : Kernel) (nodes : Nodes) (processor : Processor) (memory : Memo
           (new 1 0x1_0000_0001 33188 1 0 0 (zeros 8 ++ u32 0xFFFF_FFFF ++ u32 500_000_000 ++ u32 3 ++ u32 5) 0)
       unfolding stat64_row status_at_path walk walked walked_from walked_through components_after ends_with_slash root_inode mode_and_links aged_inode
       stat64_wide room path = simp (room, path, at_1, at_w, len-empty nat_cmp (List ℕ)) refl
+
+  -- the number 2^32 - 1 is not too wide
+  stat_greatest_number : get nodes 1 ≡ Some other_root → get nodes 0xFFFF_FFFF ≡ Some file_inode → first_denied Store memory.pages 65792 144 ≡ None → path_at memory 65536 ≡ Ok (codes "m") → at_start (words 4106 65536 65792 0 0) ≡ stores (at_first nodes) (old 1 0xFFFF_FFFF 33188 1 0 0 no_times 0)
+  unfolding stat_row status_at_path walk walked walked_from walked_through components_after ends_with_slash other_root file_inode mode_and_links
+  stat_greatest_number at_1 at_m room path = simp (room, path, at_1, at_m, len-empty nat_cmp (List ℕ)) refl

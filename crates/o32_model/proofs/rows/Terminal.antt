@@ -51,9 +51,9 @@ module _ (whole : Kernel) (nodes : Nodes) (processor : Processor) (memory : Memo
   stores files bytes = leaves whole files processor (copied_out memory 65536 bytes) [] (Value 0)
 
   -- TIOCGWINSZ
-  window : get memory.pages 16 ≡ Some (page_of []) → on_terminal 1 0x40087468 65536 ≡ stores at_terminal (0 ∷ 25 ∷ 0 ∷ 80 ∷ 0 ∷ 0 ∷ 0 ∷ 0 ∷ [])
+  window : (held : List ℕ) → get memory.pages 16 ≡ Some (page_of held) → on_terminal 1 0x40087468 65536 ≡ stores at_terminal (0 ∷ 25 ∷ 0 ∷ 80 ∷ 0 ∷ 0 ∷ 0 ∷ 0 ∷ [])
   unfolding ioctl_row window_size first_denied refusal
-  window kept = simp kept refl
+  window held kept = simp kept refl
 
   window_absent : (held : List ℕ) → get memory.pages 16 ≡ Some (page_of held) → get memory.pages 17 ≡ None
       → on_terminal 1 0x40087468 69625 ≡ stays at_terminal (Error EFAULT)
@@ -158,11 +158,11 @@ module _ (whole : Kernel) (nodes : Nodes) (processor : Processor) (memory : Memo
 
   -- FIONREAD
 
-  ready_in_pipe : get memory.pages 16 ≡ Some (page_of [])
+  ready_in_pipe : (held : List ℕ) → get memory.pages 16 ≡ Some (page_of held)
       → with_pipe (7 ∷ 8 ∷ 9 ∷ []) 3 0x467F 65536
       ≡ leaves whole (with_pipe_of nodes (7 ∷ 8 ∷ 9 ∷ [])) processor (copied_out memory 65536 (0 ∷ 0 ∷ 0 ∷ 3 ∷ [])) [] (Value 0)
   unfolding ioctl_row bytes_ready first_denied refusal
-  ready_in_pipe kept = simp kept refl
+  ready_in_pipe held kept = simp kept refl
 
   ready_absent : get memory.pages 17 ≡ None → with_pipe [] 4 0x467F 69632 ≡ stays (with_pipe_of nodes []) (Error EFAULT)
   unfolding ioctl_row bytes_ready first_denied refusal
@@ -173,11 +173,11 @@ module _ (whole : Kernel) (nodes : Nodes) (processor : Processor) (memory : Memo
   ready_of_stream = refl
 
   -- a file of 2^32 + 258 bytes: the low 32 bits
-  ready_in_file : get memory.pages 16 ≡ Some (page_of []) → get nodes 5 ≡ Some large_file
+  ready_in_file : (held : List ℕ) → get memory.pages 16 ≡ Some (page_of held) → get nodes 5 ≡ Some large_file
       → called (with_files whole (with_node_at nodes 0)) 3 0x467F 65536
       ≡ leaves whole (with_node_at nodes 0) processor (copied_out memory 65536 (0 ∷ 0 ∷ 1 ∷ 2 ∷ [])) [] (Value 0)
   unfolding ioctl_row bytes_ready large_file first_denied refusal
-  ready_in_file paged kept = simp (paged, kept) refl
+  ready_in_file held paged kept = simp (paged, kept) refl
 
   -- FIONBIO
 

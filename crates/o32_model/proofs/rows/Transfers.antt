@@ -161,35 +161,35 @@ module _ (whole : Kernel) (nodes : Nodes) (processor : Processor) (memory : Memo
   -- read
 
   -- what was written is read, and another read waits
-  of_pipe : get memory.pages 16 ≡ Some (page_of [])
+  of_pipe : (held : List ℕ) → get memory.pages 16 ≡ Some (page_of held)
       → with_pipe (97 ∷ 98 ∷ []) (words 4003 3 65536 8 0)
       ≡ leaves whole (with_pipe_of nodes []) processor (copied_out memory 65536 (97 ∷ 98 ∷ [])) [] (Value 2)
   unfolding read_row kernel_read read writable_prefix first_denied refusal
-  of_pipe kept = simp kept refl
+  of_pipe held kept = simp kept refl
 
-  of_empty_pipe : get memory.pages 16 ≡ Some (page_of [])
+  of_empty_pipe : (held : List ℕ) → get memory.pages 16 ≡ Some (page_of held)
       → with_pipe [] (words 4003 3 65536 8 0) ≡ stays (with_pipe_of nodes []) [] (sleep_after (words 4003 3 65536 8 0) 0)
   unfolding read_row kernel_read read writable_prefix first_denied refusal
-  of_empty_pipe kept = simp kept refl
+  of_empty_pipe held kept = simp kept refl
 
   -- what is kept of a call that waits: its number and its first six words
-  what_waits : get memory.pages 16 ≡ Some (page_of [])
+  what_waits : (held : List ℕ) → get memory.pages 16 ≡ Some (page_of held)
       → (with_pipe [] (words_with 4003 3 65536 8 5 6)).outcome
       ≡ Sleep (record { nr = 4003; words = 3 ∷ 65536 ∷ 8 ∷ 0 ∷ 5 ∷ 6 ∷ []; deadline = None; done = 0; mask = None })
   unfolding read_row kernel_read read writable_prefix first_denied refusal
-  what_waits kept = simp kept refl
+  what_waits held kept = simp kept refl
 
   -- "xy", and then the end
-  whole_input : get memory.pages 16 ≡ Some (page_of []) → at_start (words 4003 0 65536 8 0) (120 ∷ 121 ∷ [])
+  whole_input : (held : List ℕ) → get memory.pages 16 ≡ Some (page_of held) → at_start (words 4003 0 65536 8 0) (120 ∷ 121 ∷ [])
       ≡ leaves whole (after_moving (at_first nodes) 2 0 0) processor (copied_out memory 65536 (120 ∷ 121 ∷ [])) [] (Value 2)
   unfolding read_row kernel_read read writable_prefix first_denied refusal
-  whole_input kept = simp kept refl
+  whole_input held kept = simp kept refl
 
-  end_of_input : get memory.pages 16 ≡ Some (page_of [])
+  end_of_input : (held : List ℕ) → get memory.pages 16 ≡ Some (page_of held)
       → o32_call (with_files whole (after_moving (at_first nodes) 2 0 0)) (guest (words 4003 0 65536 8 0) processor memory) []
       ≡ stays (after_moving (at_first nodes) 2 0 0) [] (Value 0)
   unfolding read_row kernel_read read writable_prefix first_denied refusal copied_out with_bytes
-  end_of_input kept = simp kept refl
+  end_of_input held kept = simp kept refl
 
   -- as much as there is room for
   input_before_absent : (held : List ℕ) → get memory.pages 16 ≡ Some (page_of held) → get memory.pages 17 ≡ None
@@ -356,14 +356,14 @@ module _ (whole : Kernel) (nodes : Nodes) (processor : Processor) (memory : Memo
     after_writing position place bytes =
         stays (record (with_node_at nodes position) { nodes = after_write nodes 5 place bytes (now whole) }) [] (Value (length bytes))
 
-    end_of_file : get memory.pages 16 ≡ Some (page_of []) → with_node 7 (words 4003 3 65536 2 0) ≡ stays (with_node_at nodes 7) [] (Value 0)
+    end_of_file : (held : List ℕ) → get memory.pages 16 ≡ Some (page_of held) → with_node 7 (words 4003 3 65536 2 0) ≡ stays (with_node_at nodes 7) [] (Value 0)
     unfolding read_row kernel_read read empty_file content_bytes_at writable_prefix first_denied refusal copied_out with_bytes
-    end_of_file paged = simp (kept, paged) refl
+    end_of_file held paged = simp (kept, paged) refl
 
-    end_of_file_at : get memory.pages 16 ≡ Some (page_of [])
+    end_of_file_at : (held : List ℕ) → get memory.pages 16 ≡ Some (page_of held)
         → with_node 7 (words_with 4200 3 65536 2 1 0) ≡ stays (with_node_at nodes 7) [] (Value 0)
     unfolding pread_row read_at empty_file content_bytes_at writable_prefix first_denied refusal copied_out with_bytes
-    end_of_file_at paged = simp (kept, paged) refl
+    end_of_file_at held paged = simp (kept, paged) refl
 
     -- the position moves, but not by a write at a place
     write_file : get memory.pages 16 ≡ Some (page_of (1 ∷ 2 ∷ [])) → live_blocks nodes ≡ 0
@@ -420,31 +420,31 @@ module _ (whole : Kernel) (nodes : Nodes) (processor : Processor) (memory : Memo
     abbrev with_large : ℕ → CallWords → O32Step
     with_large position call = o32_call (with_files whole (with_node_at nodes position)) (guest call processor memory) []
 
-    last_byte : get memory.pages 16 ≡ Some (page_of [])
+    last_byte : (held : List ℕ) → get memory.pages 16 ≡ Some (page_of held)
         → with_large 0x1_0000_0101 (words 4003 3 65536 2 0)
         ≡ leaves whole (with_node_at nodes 0x1_0000_0102) processor (copied_out memory 65536 (0 ∷ [])) [] (Value 1)
     unfolding read_row kernel_read read large_file content_bytes_at content_byte_at writable_prefix first_denied refusal
-    last_byte paged = simp (kept, paged, get-empty {X = List ℕ} nat_cmp) refl
+    last_byte held paged = simp (kept, paged, get-empty {X = List ℕ} nat_cmp) refl
 
     -- the position stays
-    last_byte_at : get memory.pages 16 ≡ Some (page_of [])
+    last_byte_at : (held : List ℕ) → get memory.pages 16 ≡ Some (page_of held)
         → with_large 7 (words_with 4200 3 65536 2 1 0x101)
         ≡ leaves whole (with_node_at nodes 7) processor (copied_out memory 65536 (0 ∷ [])) [] (Value 1)
     unfolding pread_row read_at large_file content_bytes_at content_byte_at writable_prefix first_denied refusal
-    last_byte_at paged = simp (kept, paged, get-empty {X = List ℕ} nat_cmp) refl
+    last_byte_at held paged = simp (kept, paged, get-empty {X = List ℕ} nat_cmp) refl
 
   module _ (kept : get nodes 5 ≡ Some some_directory) where
     abbrev with_directory : CallWords → O32Step
     with_directory call = o32_call (with_files whole (with_node_at nodes 0)) (guest call processor memory) []
 
-    read_directory : get memory.pages 16 ≡ Some (page_of []) → with_directory (words 4003 3 65536 1 0) ≡ stays (with_node_at nodes 0) [] (Error EISDIR)
+    read_directory : (held : List ℕ) → get memory.pages 16 ≡ Some (page_of held) → with_directory (words 4003 3 65536 1 0) ≡ stays (with_node_at nodes 0) [] (Error EISDIR)
     unfolding read_row kernel_read read some_directory writable_prefix first_denied refusal
-    read_directory paged = simp (kept, paged) refl
+    read_directory held paged = simp (kept, paged) refl
 
-    read_directory_at : get memory.pages 16 ≡ Some (page_of [])
+    read_directory_at : (held : List ℕ) → get memory.pages 16 ≡ Some (page_of held)
         → with_directory (words_with 4200 3 65536 1 0 0) ≡ stays (with_node_at nodes 0) [] (Error EISDIR)
     unfolding pread_row read_at some_directory writable_prefix first_denied refusal
-    read_directory_at paged = simp (kept, paged) refl
+    read_directory_at held paged = simp (kept, paged) refl
 
     -- a bad buffer comes before the kind
     read_directory_absent : get memory.pages 17 ≡ None → with_directory (words 4003 3 69632 1 0) ≡ stays (with_node_at nodes 0) [] (Error EFAULT)
