@@ -1,5 +1,5 @@
+pub mod EntryLemmas
 pub mod ErrorNumbers
-pub mod Expiry
 pub mod OpenNumbers
 pub mod OtherNumbers
 pub mod Pairs

@@ -4,7 +4,6 @@
 
 mod arguments;
 mod call;
-mod clock;
 mod descriptors;
 mod ids;
 mod kernel;
@@ -20,6 +19,3 @@ mod vectors;
 
 pub use kernel::NativeKernel;
 pub use kernel_core::{NoMemory, Reply, Stop, Wake};
-
-#[cfg(test)]
-mod tests;
