@@ -1,3 +1,4 @@
+pub mod EntryLemmas
 pub mod ErrorNumbers
 pub mod OpenNumbers
 pub mod OtherNumbers

@@ -1,28 +1,24 @@
--- Which calls of the table there are. (That they come in steps is this project's own.)
-use Rattle.std.specs.Prelude.{ℕ, List, [], ◌∷◌, Option, None}
-use Rattle.native_calls.specs.Arguments.{argument, word}
-use Rattle.native_calls.specs.Clocks.{clock_calls}
-use Rattle.native_calls.specs.Names.{name_calls}
-use Rattle.native_calls.specs.Nodes.{node_calls}
-use Rattle.native_calls.specs.Polls.{poll_calls}
-use Rattle.native_calls.specs.Signals.{signal_calls}
-use Rattle.native_calls.specs.Status.{getdents_row}
-use Rattle.native_calls.specs.Step.{NativeCall}
-use Rattle.native_calls.specs.System.{system_calls}
-use Rattle.native_calls.specs.Table.{call_in}
+-- The calls of the table that there are so far. (That they come in steps is this project's own.)
+use Rattle.std.specs.Prelude.{ℕ, List, Option, None}
+use Rattle.kernel_model.specs.State.{Kernel}
+use Rattle.native_calls.specs.Descriptors.{descriptor_calls}
+use Rattle.native_calls.specs.Ids.{id_calls}
+use Rattle.native_calls.specs.Status.{status_calls}
+use Rattle.native_calls.specs.Step.{NativeStep, NativeCall}
+use Rattle.native_calls.specs.Table.{call_in, step_of}
+use Rattle.native_calls.specs.Terminal.{terminal_calls}
+use Rattle.native_calls.specs.Transfers.{transfer_calls}
 
--- getdents64(2)
-abbrev pub entry_calls : List NativeCall
-entry_calls = record { number = 61; step = λ args kernel memory. getdents_row kernel memory (word args 0) (argument args 1) (word args 2) } ∷ []
+-- the call of a number in the groups on descriptors, the terminal, transfers, status and ids
+abbrev pub built_of : ℕ → Option NativeCall
+built_of number =
+    call_in descriptor_calls
+    (call_in terminal_calls
+    (call_in transfer_calls
+    (call_in status_calls
+    (call_in id_calls None
+    number) number) number) number) number
 
--- the call of a number among those that are still to come: on entries, names, nodes, the system, clocks, signals and readiness
-abbrev pub call_to_come : ℕ → Option NativeCall
-call_to_come number =
-    call_in entry_calls
-    (call_in name_calls
-    (call_in node_calls
-    (call_in system_calls
-    (call_in clock_calls
-    (call_in signal_calls
-    (call_in poll_calls None
-    number) number) number) number) number) number) number
+-- What a call does. Where there is one of its number it is that of the whole table, and any other number is ENOSYS for now.
+abbrev pub built_call : ℕ → List ℕ → Kernel → List ℕ → List ℕ → NativeStep
+built_call number args kernel memory left = step_of (built_of number) args kernel memory left

@@ -1,9 +1,8 @@
 //! A call by its number.
-ghost use Rattle.std.specs.Prelude.{◌≡◌, ◌<◌, ◌⊎◌, IfOk, None};
+ghost use Rattle.std.specs.Prelude.{◌≡◌, ◌<◌, ◌⊎◌, IfOk};
 ghost use Rattle.kernel_model.specs.Stops.{StopsOnlyIfRose};
 ghost use Rattle.native_calls.specs.Answered.{IsCall};
-ghost use Rattle.native_calls.specs.Table.{native_call};
-ghost use Rattle.native_kernel.specs.Built.{call_to_come};
+ghost use Rattle.native_kernel.specs.Built.{built_call};
 ghost use Rattle.native_kernel.specs.inside.Quiet.{IsQuiet};
 ghost use Rattle.outside.specs.Streams.{NoCountFell, contents};
 
@@ -11,8 +10,8 @@ use crate::arguments::low_word;
 use crate::ids;
 use crate::kernel::NativeKernel;
 use crate::numbers::{
-    CLOSE, DUP, DUP3, FCNTL, FDATASYNC, FSTAT, FSYNC, GETPID, GETPPID, IOCTL, LSEEK, PIPE2,
-    PREAD64, PWRITE64, READ, READV, WRITE, WRITEV,
+    CLOSE, DUP, DUP3, FCNTL, FDATASYNC, FSTAT, FSYNC, GETDENTS64, GETPID, GETPPID, IOCTL, LSEEK,
+    PIPE2, PREAD64, PWRITE64, READ, READV, WRITE, WRITEV,
 };
 use crate::replies::failure;
 use host_mem::HostMem;
@@ -25,8 +24,8 @@ impl NativeKernel {
     ///
     /// `Done` has the result, or below 0 the native number of an error with its sign turned; a number
     /// that no call has is ENOSYS. `Sleep` comes where the call waits. A call that waits holds no wait:
-    /// made again, it is tried again. After a `Stop` the kernel is not used again. getdents64 and the
-    /// calls on names, nodes, the system, clocks, signals and readiness are still to come, and none is made.
+    /// made again, it is tried again. After a `Stop` the kernel is not used again. The calls on
+    /// names, nodes, the system, clocks, signals and readiness are still to come, and are ENOSYS for now.
     #[tactic(auto, using(crate::proofs::Quietly::over_devices))]
     pub fn call<I: Source, O: Sink, E: Sink>(
         &mut self,
@@ -35,8 +34,7 @@ impl NativeKernel {
         mem: &mut HostMem,
         dev: &mut Devices<I, O, E>,
     ) -> Result<Reply, Stop>
-        requires built { call_to_come nr ≡ None }
-        ensures row { IsCall (native_call nr args self.old mem.old) result self.new mem.new
+        ensures row { IsCall (built_call nr args self.old mem.old) result self.new mem.new
             (contents I.left O.written E.written dev.old) (contents I.left O.written E.written dev.new) }
         ensures cause { StopsOnlyIfRose I.faults O.faults E.faults result dev.old dev.new }
         ensures counts { NoCountFell I.faults O.faults E.faults dev.old dev.new }
@@ -68,11 +66,10 @@ impl NativeKernel {
     }
 
     /// A call that reaches no stream.
-    #[tactic(auto, unfolding(native_calls::specs::Descriptors::close_row, native_calls::specs::Descriptors::dup_row, native_calls::specs::Descriptors::dup3_row, native_calls::specs::Descriptors::fcntl_row, native_calls::specs::Status::lseek_row, native_calls::specs::Status::fstat_row, native_calls::specs::Status::sync_row, native_calls::specs::Transfers::pread_row, native_calls::specs::Ids::getpid_row, native_calls::specs::Ids::getppid_row))]
+    #[tactic(auto, unfolding(native_calls::specs::Descriptors::close_row, native_calls::specs::Descriptors::dup_row, native_calls::specs::Descriptors::dup3_row, native_calls::specs::Descriptors::fcntl_row, native_calls::specs::Status::getdents_row, native_calls::specs::Status::lseek_row, native_calls::specs::Status::fstat_row, native_calls::specs::Status::sync_row, native_calls::specs::Transfers::pread_row, native_calls::specs::Ids::getpid_row, native_calls::specs::Ids::getppid_row))]
     fn quiet_call(&mut self, nr: u64, args: [u64; 6], mem: &mut HostMem) -> Result<Reply, NoMemory>
-        requires quiet { (nr < 63) ⊎ (66 < nr) }
-        requires built { call_to_come nr ≡ None }
-        ensures { IfOk result (λ reply. IsQuiet (native_call nr args self.old mem.old) reply self.new mem.new) }
+        requires { (nr < 63) ⊎ (66 < nr) }
+        ensures { IfOk result (λ reply. IsQuiet (built_call nr args self.old mem.old) reply self.new mem.new) }
     {
         match nr {
             DUP => Ok(self.dup(low_word(args[0]))),
@@ -81,6 +78,7 @@ impl NativeKernel {
             IOCTL => Ok(self.ioctl(low_word(args[0]), low_word(args[1]), args[2], mem)),
             CLOSE => Ok(self.close(low_word(args[0]))),
             PIPE2 => self.pipe2(args[0], low_word(args[1]), mem),
+            GETDENTS64 => self.getdents(low_word(args[0]), args[1], low_word(args[2]), mem),
             LSEEK => Ok(self.lseek(low_word(args[0]), args[1].cast_signed(), low_word(args[2]))),
             PREAD64 => Ok(self.pread(
                 low_word(args[0]),

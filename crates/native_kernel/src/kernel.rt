@@ -1,7 +1,7 @@
 //! The kernel's state.
-ghost use Rattle.std.specs.Prelude.{◌≡◌, IfOk};
-ghost use Rattle.kernel_core.specs.LoadedTree as tree;
-ghost use Rattle.kernel_core.specs.ValidTree.{IsValidTree};
+ghost use Rattle.std.specs.Prelude.{◌≡◌, length};
+ghost use Rattle.kernel_model.specs.Descriptions.{output_of};
+ghost use Rattle.kernel_model.specs.Table.{descriptor_limit};
 
 use kernel_model::Limit;
 use native_files::Files;
@@ -52,4 +52,21 @@ impl Model for NativeKernel {
     } };
 
     ghost invariant = { λ k. k.epoch < 2 ^ 72 };
+}
+
+impl NativeKernel {
+    /// Which output a descriptor leads to: 1 for standard output and 2 for standard error, by whichever
+    /// number it is open; None for anything else, and where it is not open. It takes no memory.
+    pub fn output(&self, fd: u32) -> Option<u8>
+        ensures { result ≡ output_of self.now.files fd }
+    {
+        self.files.output(fd)
+    }
+
+    /// There are 1,024 places of descriptors, whatever is open: it does nothing, and tells its caller this.
+    pub fn whole(&self)
+        ensures { length self.now.files.table.fds ≡ descriptor_limit }
+    {
+        self.files.whole();
+    }
 }

@@ -12,6 +12,8 @@ pub(crate) const CLOSE: u64 = 57;
 
 pub(crate) const PIPE2: u64 = 59;
 
+pub(crate) const GETDENTS64: u64 = 61;
+
 pub(crate) const LSEEK: u64 = 62;
 
 pub(crate) const READ: u64 = 63;

@@ -1,23 +1,34 @@
-//! The calls on what is open: lseek(2), fstat(2), fsync(2), fdatasync(2).
-ghost use Rattle.std.specs.Prelude.{◌≡◌};
+//! The calls on what is open: lseek(2), fstat(2), getdents64(2), fsync(2), fdatasync(2).
+ghost use Rattle.std.specs.Prelude.{◌≡◌, ◌≤◌, ◌++◌, All, IfOk, OnOk, length, map};
+ghost use Rattle.std.specs.List.{flat_map};
+ghost use Rattle.host_mem.specs.Memory.{written};
 ghost use Rattle.kernel_model.specs.Came.{told_as, told_zero};
-ghost use Rattle.kernel_model.specs.ContentRows.{seek, status, sync};
+ghost use Rattle.kernel_model.specs.ContentRows.{entries, seek, status, sync};
 ghost use Rattle.kernel_model.specs.Whole.{on_files};
-ghost use Rattle.native_calls.specs.Status.{status_bytes, status_values};
-ghost use Rattle.native_files.specs.Answers.{IsStatus, status_told};
-ghost use Rattle.native_kernel.specs.inside.Quiet.{Gives, Stores};
+ghost use Rattle.layouts.specs.Dirents.{dirent64_length};
+ghost use Rattle.native_calls.specs.HostBytes.{accessible};
+ghost use Rattle.native_calls.specs.Status.{entry_bytes, entry_records, entry_type, status_bytes, status_values};
+ghost use Rattle.native_files.specs.Answers.{IsStatus, entry_told, status_told};
+ghost use Rattle.native_files.specs.declared.progress.Entry.{Entry as Listed};
+ghost use Rattle.native_vfs.specs.Seen.{kind_told};
+ghost use Rattle.native_kernel.specs.inside.Quiet.{Fills, Gives, Stores};
 
 use crate::kernel::NativeKernel;
 use crate::replies::{failure, zero};
-use crate::structures::{put, store};
+use crate::structures::{accessible, put, store};
 use host_mem::HostMem;
-use kernel_core::Reply;
-use layouts::NativeStructure;
-use native_files::Status;
+use kernel_core::{CoreError, NoMemory, Reply};
+use layouts::{EntryType, NativeStructure, dirent64_length, put_dirent64};
+use native_files::{Entry, Status};
+use native_vfs::NodeKind;
+use std::alloc::Global;
 
 const STATUS_SIZE: usize = 128;
 
 const STATUS_FIELDS: usize = 16;
+
+/// The longest entry: that of a name of 255 bytes.
+const LONGEST_ENTRY: usize = 280;
 
 const BLOCK_SIZE: i128 = 4096;
 
@@ -31,6 +42,29 @@ impl NativeKernel {
         match self.files.seek(fd, offset, origin) {
             Err(error) => failure(error),
             Ok(place) => Reply::Done(place as i64),
+        }
+    }
+
+    /// getdents64(2): EBADF, ENOTDIR, ENOENT, EINVAL, EFAULT.
+    pub(crate) fn getdents(
+        &mut self,
+        fd: u32,
+        buffer: u64,
+        size: u32,
+        mem: &mut HostMem,
+    ) -> Result<Reply, NoMemory>
+        ensures { IfOk result (λ reply. Fills (written mem.old buffer) (told_as (flat_map entry_bytes)
+            (on_files self.old (entries self.old.files fd entry_records size (accessible mem.old buffer size)))) reply self.new mem.old mem.new) }
+    {
+        let room = accessible(mem, buffer, u64::from(size));
+        match self.files.entries(fd, size, room) {
+            Ok(entries) => {
+                let bytes = entries_bytes(self.alloc, entries.as_slice())?;
+                mem.write(buffer, bytes.as_slice());
+                Ok(Reply::Done(bytes.len() as i64))
+            }
+            Err(CoreError::Refused(error)) => Ok(failure(error)),
+            Err(CoreError::Stop(_)) => Err(NoMemory),
         }
     }
 
@@ -86,4 +120,59 @@ fn status_values(status: Status) -> [i128; STATUS_FIELDS]
         BLOCK_SIZE,
         i128::from(status.sectors),
     ]
+}
+
+/// The entries as getdents64(2) gives them, one behind the other.
+fn entries_bytes(alloc: Global, entries: &[Entry]) -> Result<Vec<u8>, NoMemory>
+    requires { All (λ (entry : Listed). length entry.name ≤ 255) entries.now }
+    ensures { IfOk result (λ bytes. bytes.items ≡ flat_map entry_bytes (map entry_told entries.now)) }
+{
+    let mut bytes = Vec::new(alloc);
+    let mut room = [0; LONGEST_ENTRY];
+    for entry in entries {
+        push_entry(&mut bytes, entry, &mut room)?;
+    }
+    Ok(bytes)
+}
+
+/// Adds an entry, which is made in `room`.
+fn push_entry(bytes: &mut Vec<u8>, entry: &Entry, room: &mut [u8]) -> Result<(), NoMemory>
+    requires short { length entry.now.name ≤ 255 }
+    requires room { length room.old ≡ 280 }
+    ensures { OnOk result (bytes.new.items ≡ bytes.old.items ++ entry_bytes (entry_told entry.now)) }
+{
+    let name = entry.name.as_slice();
+    let record = &mut room[..dirent64_length(name.len())];
+    write_entry(entry, name, record);
+    bytes.extend_from_slice(record)?;
+    Ok(())
+}
+
+/// Writes an entry, which has this name.
+fn write_entry(entry: &Entry, name: &[u8], record: &mut [u8])
+    requires name { name.now ≡ entry.now.name }
+    requires short { length name.now ≤ 255 }
+    requires whole { length record.old ≡ dirent64_length (length name.now) }
+    ensures { record.new ≡ entry_bytes (entry_told entry.now) }
+{
+    let kind = entry_type(entry.kind).number();
+    put_dirent64(
+        false,
+        record,
+        entry.node,
+        u64::from(entry.cookie),
+        kind,
+        name,
+    );
+}
+
+/// What an entry says of its node's kind.
+fn entry_type(kind: NodeKind) -> EntryType
+    ensures { result ≡ entry_type (kind_told kind) }
+{
+    match kind {
+        NodeKind::File => EntryType::File,
+        NodeKind::Directory => EntryType::Directory,
+        NodeKind::Link => EntryType::Link,
+    }
 }

@@ -5,7 +5,8 @@ use Rattle.native_kernel.proofs.kernel.NativeKernel.quiet_call.Goals as goal
 
 pub returns-in_default : goal.returns-in_default
 returns-in_default c = λ left.
-    other_call c.args.nr c.args.args c.args.self.now c.args.mem.now left c.failure.result c.requires.built
+    other_call c.args.nr c.args.args c.args.self.now c.args.mem.now left c.failure.result
+    (λ e. grind (arith, nat_tests))
     (λ e. grind (arith, nat_tests))
     (λ e. grind (arith, nat_tests))
     (λ e. grind (arith, nat_tests))
