@@ -2,8 +2,6 @@
 ghost use Rattle.std.specs.Prelude.{IfOk};
 ghost use Rattle.kernel_core.specs.ValidTree.{IsValidTree};
 
-mod transfers;
-
 use super::{CoreError, Errno, Files, PipeFlags};
 use kernel_core::{Items, Kind, Node, Tree};
 use kernel_model::{TerminalSettings, Winsize};
