@@ -142,23 +142,23 @@ fn push_entry(bytes: &mut Vec<u8>, entry: &Entry, room: &mut [u8]) -> Result<(),
     ensures { OnOk result (bytes.new.items ≡ bytes.old.items ++ entry_bytes (entry_told entry.now)) }
 {
     let name = entry.name.as_slice();
-    let record = &mut room[..dirent64_length(name.len())];
-    write_entry(entry, name, record);
-    bytes.extend_from_slice(record)?;
+    let space = &mut room[..dirent64_length(name.len())];
+    write_entry(entry, name, space);
+    bytes.extend_from_slice(space)?;
     Ok(())
 }
 
 /// Writes an entry, which has this name.
-fn write_entry(entry: &Entry, name: &[u8], record: &mut [u8])
+fn write_entry(entry: &Entry, name: &[u8], space: &mut [u8])
     requires name { name.now ≡ entry.now.name }
     requires short { length name.now ≤ 255 }
-    requires whole { length record.old ≡ dirent64_length (length name.now) }
-    ensures { record.new ≡ entry_bytes (entry_told entry.now) }
+    requires whole { length space.old ≡ dirent64_length (length name.now) }
+    ensures { space.new ≡ entry_bytes (entry_told entry.now) }
 {
     let kind = entry_type(entry.kind).number();
     put_dirent64(
         false,
-        record,
+        space,
         entry.node,
         u64::from(entry.cookie),
         kind,
