@@ -1,6 +1,7 @@
 //! The guest's memory as the calls of the machine see it.
 ghost use Rattle.std.specs.Prelude.{◌≡◌, ◌+◌, ◌*◌, ◌%◌, ◌<◌, ◌≤◌, ◌^◌, ◌↔◌, IsTrue, None, ℕ, length, IfOk, OnOk, OnErr, IfErr, IsErrOf};
 ghost use Rattle.std.specs.FinMap as map;
+ghost use Rattle.std.specs.Option.{option_copied};
 ghost use Rattle.guest_space.specs.Access.{first_denied, bytes_before, readable_prefix, writable_prefix, unless_denied, user_end};
 ghost use Rattle.guest_space.specs.Answers.{IsStoreAnswer, LeavesPrefix, LeavesMapped};
 ghost use Rattle.guest_space.specs.Bytes.{bytes_at, read, written, copied_out, are_ready};
@@ -18,7 +19,7 @@ use crate::resize::{new_break, resize};
 use crate::walk::{first_denied, load_in_page, number, read_bytes, store_bytes, write_bytes};
 use kernel_core::NoMemory;
 use kernel_core::address_space::{PAGE_LIMIT, PAGE_SIZE};
-use raw_pages::PageStore;
+use raw_pages::{Page, PageStore};
 use std::alloc::Global;
 use std::marker::Model;
 
@@ -65,6 +66,27 @@ impl Space {
     {
         self.program_break = at;
         self.break_start = at;
+    }
+
+    /// Does nothing, and tells a caller's proof what holds of every memory.
+    pub fn whole(&self)
+        ensures { IsValid self.now.pages }
+    {
+        let _pages = &self.pages;
+    }
+
+    /// The program break (brk(2)).
+    pub fn program_break(&self) -> u32
+        ensures { result ≡ self.now.program_break }
+    {
+        self.program_break
+    }
+
+    /// The page of this number, where it is mapped. It takes no memory.
+    pub fn page(&self, number: u32) -> Option<&Page>
+        ensures { option_copied result ≡ map.get self.now.pages number }
+    {
+        self.pages.page(number)
     }
 
     /// The big-endian number of the `n` bytes from `address` on, `n` from 1 to 4, or the first of them

@@ -77,7 +77,7 @@ module _ (pages : Pages) (count : ℕ) where
 
 module _ (base old : Pages) (first to : ℕ) where
   -- what is found where so many pages were put
-  PutSo : ℕ → Type 0
+  abbrev pub PutSo : ℕ → Type 0
   PutSo count = (number : ℕ) → get (with_pages_of base old first to count) number
       ≡ cond (is_in to count number) (get old (first + (number - to))) (get base number)
 
@@ -86,8 +86,8 @@ module _ (base old : Pages) (first to : ℕ) where
   get-with_page pages at None number there = let f : false ≡ true = there in absurd (cc)
   get-with_page pages at (Some page) number there = get-insert nat_cmp_total pages at page number
 
-  put_so : (count : ℕ) → ((k : ℕ) → k < count → IsSome (get old (first + k))) → PutSo count
-  unfolding with_pages_of PutSo
+  pub put_so : (count : ℕ) → ((k : ℕ) → k < count → IsSome (get old (first + k))) → PutSo count
+  unfolding with_pages_of
   put_so zero there number = ap (λ b. cond b (get old (first + (number - to))) (get base number)) (sym (is_in-none to number))
   put_so (suc count) there number =
       let before = put_so count (λ k below. there k (omega arith)) in
@@ -109,7 +109,6 @@ module _ (base old : Pages) (first to : ℕ) where
       ]
 
 pub moved_is : (pages : Pages) (first to count : ℕ) → mapped_run pages first count ≡ count → AreMoved pages (moved pages first to count) first to count
-unfolding PutSo
 moved_is pages first to count whole number =
     put_so (without pages first count) pages first to count (λ k below. run-mapped pages count first k whole below) number
     ∙ ap (cond (is_in to count number) (get pages (first + (number - to)))) (get-without pages first count number)
