@@ -23,6 +23,3 @@ pub use files::Files;
 pub use kernel_core::{CoreError, Errno, NoMemory, Stop};
 pub use pipes::{Ends, PipeFlags};
 pub use progress::{Entry, Progress, Status};
-
-#[cfg(test)]
-mod tests;

@@ -1,10 +1,10 @@
-//! Each call with ample memory: descriptors, their duplicates and flags, pipes, and the terminal.
+//! The calls of `Files` with ample memory: descriptors, their duplicates and flags, pipes, and the terminal.
 ghost use Rattle.std.specs.Prelude.{IfOk};
 ghost use Rattle.kernel_core.specs.ValidTree.{IsValidTree};
 
-use super::{CoreError, Errno, Files, PipeFlags};
 use kernel_core::{Items, Kind, Node, Tree};
 use kernel_model::{TerminalSettings, Winsize};
+use native_files::{CoreError, Errno, Files, PipeFlags};
 use std::alloc::{AllocError, Global};
 use std::test::Fail;
 
