@@ -1,16 +1,15 @@
 -- The calls that make pipes, as native calls.
-use Rattle.std.proofs.Common.{◌≡◌, ℕ, ◌+◌, ◌-◌, ◌*◌, ◌<◌, ◌≤◌, ◌/◌, ◌%◌, ◌^◌, List, [], ◌∷◌, ◌++◌, length, replicate, Some, refl, sym, ap, ◌∙◌, subst, arith}
+use Rattle.std.proofs.Common.{◌≡◌, ℕ, ◌+◌, ◌*◌, ◌<◌, ◌/◌, ◌%◌, ◌^◌, List, [], ◌∷◌, length, replicate, Some, refl, sym, ap, ◌∙◌, subst, arith}
 use Rattle.std.proofs.lemmas.Bool.Decides.{nat_tests}
-use Rattle.std.specs.Prelude.{⊤, true, false, Bool, Option, None, ◌==◌, is_none, if◌then◌else◌}
+use Rattle.std.specs.Prelude.{true, false, Bool, Option, None, ◌==◌, is_none, if◌then◌else◌}
 use Rattle.guest_space.specs.Access.{first_denied, writable_prefix, bytes_before}
-use Rattle.guest_space.specs.Bytes.{copied_out}
-use Rattle.guest_space.specs.Memory.{Memory, Pages}
+use Rattle.guest_space.specs.Memory.{Pages}
 use Rattle.guest_space.specs.declared.access.Access.TheVariants.{Store}
 use Rattle.guest_space.specs.declared.access.Denied.{Denied}
 use Rattle.guest_space.proofs.Prefixes.{denied-stands}
 use Rattle.kernel_core.specs.declared.error.Errno.{Errno}
 use Rattle.kernel_core.specs.declared.error.Errno.TheVariants.{EPERM, EINVAL, EMFILE, EFAULT}
-use Rattle.kernel_model.specs.Came.{Came, Done, Refused, Waits, Did, told_as, with_some, done}
+use Rattle.kernel_model.specs.Came.{Came, Done, Refused, Waits, told_as}
 use Rattle.kernel_model.specs.DescriptorRows.{PipeFlags, Ends, make_pipe}
 use Rattle.kernel_model.specs.State.{Kernel, Files}
 use Rattle.kernel_model.specs.Table.{lowest_free}
@@ -20,7 +19,7 @@ use Rattle.native_calls.specs.Step as native_step
 use Rattle.native_calls.specs.Step.{NativeStep}
 use Rattle.native_calls.specs.Table.{native_call}
 use Rattle.o32_model.specs.Descriptors as o32
-use Rattle.o32_model.specs.GuestBytes.{is_storable, with_stored}
+use Rattle.o32_model.specs.GuestBytes.{is_storable}
 use Rattle.o32_model.specs.Step as o32_step
 use Rattle.o32_model.specs.Step.{Guest}
 use Rattle.o32_model.specs.declared.call_words.CallWords.{CallWords}
@@ -81,7 +80,7 @@ pair_of_failure words memory _ = refl
 
 pair_alike : (guest : Guest) (kernel : Kernel) (left : List ℕ) (came : Came Ends) → Bounded Words came
     → Mirrors guest (told_pair guest.words) (native_step.stores (replicate 8 0) 65536 (told_as native.pair_bytes (native.given_pair true (record { state = kernel; came = came }))) left)
-        (o32_step.comes_to o32.both_ends guest (record { state = kernel; came = came }) left)
+    (o32_step.comes_to o32.both_ends guest (record { state = kernel; came = came }) left)
 pair_alike guest kernel left (Done ends) bounded = record {
   kernel = refl;
   left = refl;
@@ -141,8 +140,8 @@ flags_word (Some flags) = by_bits flags.cloexec flags.nonblock
 
 place_alike : (guest : Guest) (kernel : Kernel) (address : ℕ) (left : List ℕ) (came : Came Ends) (storable : Bool) → is_storable guest.memory address 8 ≡ storable → Bounded Words came
     → Stores guest address Pair
-        (native_step.stores (replicate 8 0) (if storable then 65536 else 0) (told_as native.pair_bytes (native.given_pair storable (record { state = kernel; came = came }))) left)
-        (o32_step.stores guest address (told_as o32.pair_bytes (o32.given_pair storable (record { state = kernel; came = came }))) left)
+    (native_step.stores (replicate 8 0) (if storable then 65536 else 0) (told_as native.pair_bytes (native.given_pair storable (record { state = kernel; came = came }))) left)
+    (o32_step.stores guest address (told_as o32.pair_bytes (o32.given_pair storable (record { state = kernel; came = came }))) left)
 place_alike guest kernel address left (Done ends) true is bounded = record {
   kernel = refl;
   left = refl;
@@ -192,11 +191,11 @@ pipe2_stores guest kernel left first second address flags whole first_is second_
     let storable = is_storable guest.memory address 8 in
     let made = make_pipe kernel.files (o32.pipe_flags flags) in
     let wanted : native.pipe_flags (second % 2 ^ 32) ≡ o32.pipe_flags flags =
-        ap (λ (n : ℕ). native.pipe_flags (n % 2 ^ 32)) second_is ∙ ap native.pipe_flags (flags_word (o32.pipe_flags flags)) ∙ flags_again (o32.pipe_flags flags) in
+    ap (λ (n : ℕ). native.pipe_flags (n % 2 ^ 32)) second_is ∙ ap native.pipe_flags (flags_word (o32.pipe_flags flags)) ∙ flags_again (o32.pipe_flags flags) in
     let same : native_call 59 (first ∷ second ∷ 0 ∷ 0 ∷ 0 ∷ 0 ∷ []) kernel room left
-        ≡ native_step.stores room (if storable then 65536 else 0) (told_as native.pair_bytes (native.given_pair storable (on_files kernel made))) left =
-        ap (λ (n : ℕ). native_step.stores room n (told_as native.pair_bytes (native.given_pair (is_inside room n 8) (on_files kernel (make_pipe kernel.files (native.pipe_flags (second % 2 ^ 32)))))) left) first_is
-        ∙ ap (λ (b : Bool). native_step.stores room (if storable then 65536 else 0) (told_as native.pair_bytes (native.given_pair b (on_files kernel (make_pipe kernel.files (native.pipe_flags (second % 2 ^ 32)))))) left) (inside_is storable)
-        ∙ ap (λ (f : Option PipeFlags). native_step.stores room (if storable then 65536 else 0) (told_as native.pair_bytes (native.given_pair storable (on_files kernel (make_pipe kernel.files f)))) left) wanted in
+    ≡ native_step.stores room (if storable then 65536 else 0) (told_as native.pair_bytes (native.given_pair storable (on_files kernel made))) left =
+    ap (λ (n : ℕ). native_step.stores room n (told_as native.pair_bytes (native.given_pair (is_inside room n 8) (on_files kernel (make_pipe kernel.files (native.pipe_flags (second % 2 ^ 32)))))) left) first_is
+    ∙ ap (λ (b : Bool). native_step.stores room (if storable then 65536 else 0) (told_as native.pair_bytes (native.given_pair b (on_files kernel (make_pipe kernel.files (native.pipe_flags (second % 2 ^ 32)))))) left) (inside_is storable)
+    ∙ ap (λ (f : Option PipeFlags). native_step.stores room (if storable then 65536 else 0) (told_as native.pair_bytes (native.given_pair storable (on_files kernel (make_pipe kernel.files f)))) left) wanted in
     subst (λ (n : NativeStep). Stores guest address Pair n (o32.pipe2_row kernel guest address flags left)) (sym same)
     (place_alike guest (on_files kernel made).state address left made.came storable refl (pipe_bounded kernel.files (o32.pipe_flags flags) whole))

@@ -1,5 +1,5 @@
 -- readv(2) as a native call.
-use Rattle.std.proofs.Common.{◌≡◌, ℕ, ◌+◌, ◌*◌, ◌<◌, ◌≤◌, ◌%◌, ◌^◌, ◌⊎◌, inl, inr, Bool, true, false, nat_eq, nat_lt, if◌then◌else◌, List, [], ◌∷◌, length, take, drop, replicate, Option, Some, None, Ok, Err, Result, IsErr, refl, sym, ap, subst, ◌∙◌, arith}
+use Rattle.std.proofs.Common.{◌≡◌, ℕ, ◌+◌, ◌*◌, ◌<◌, ◌≤◌, ◌%◌, ◌^◌, ◌⊎◌, inl, inr, Bool, true, false, nat_eq, nat_lt, if◌then◌else◌, List, [], ◌∷◌, length, replicate, Option, Some, None, Ok, Err, Result, IsErr, refl, sym, ap, subst, ◌∙◌, arith}
 use Rattle.std.proofs.Math.Seq.{take-nil, drop-nil}
 use Rattle.std.proofs.lemmas.List.{length-replicate}
 use Rattle.std.proofs.lemmas.List.Sums.{sum_by-cons}
@@ -12,7 +12,6 @@ use Rattle.guest_space.proofs.Uses.{writable_prefix-le}
 use Rattle.host_mem.specs.Memory.{first_address, written}
 use Rattle.kernel_core.specs.declared.error.Errno.{Errno}
 use Rattle.kernel_core.specs.declared.error.Errno.TheVariants.{EFAULT, EINVAL}
-use Rattle.kernel_core.specs.declared.record.Effect.{Effect}
 use Rattle.kernel_core.specs.declared.reply.Reply.{Reply}
 use Rattle.kernel_model.specs.Came.{Came, Done, Refused, Waits, Did, Given}
 use Rattle.kernel_model.specs.Pipes.{Sent, nothing}
@@ -29,7 +28,7 @@ use Rattle.native_calls.specs.Transfers as native
 use Rattle.native_calls.specs.declared.range.Range as native_range
 use Rattle.o32_model.specs.Answered as o32_answers
 use Rattle.o32_model.specs.Effects.{Effected}
-use Rattle.o32_model.specs.GuestBytes.{given, vector, structure, read_as, if_countable, ranges_in, sum_limit, vector_limit, total, all_accessible, all_copied_out}
+use Rattle.o32_model.specs.GuestBytes.{given, vector, read_as, if_countable, ranges_in, sum_limit, vector_limit, total, all_accessible, all_copied_out}
 use Rattle.o32_model.specs.Logs.{Kept}
 use Rattle.o32_model.specs.Step as o32_step
 use Rattle.o32_model.specs.Step.{Guest, O32Step}
@@ -77,9 +76,10 @@ is_wrong memory address count error same =
 found_wrong : (memory : List ℕ) (error : Errno) → Wrong error → host.vector memory 0 (wrong_count error) ≡ Err error
 unfolding Wrong
 found_wrong memory error wrong =
-    elim wrong
-    [ inl is ↦ subst (λ (e : Errno). host.vector memory 0 (wrong_count e) ≡ Err e) (sym is) refl
-    | inr is ↦ subst (λ (e : Errno). host.vector memory 0 (wrong_count e) ≡ Err e) (sym is) refl ]
+    elim wrong [
+      | inl is ↦ subst (λ (e : Errno). host.vector memory 0 (wrong_count e) ≡ Err e) (sym is) refl
+      | inr is ↦ subst (λ (e : Errno). host.vector memory 0 (wrong_count e) ≡ Err e) (sym is) refl
+    ]
 
 -- no byte is read then
 none_read : (guest : Guest) (memory left : List ℕ) (did : Did KernelReading (List ℕ)) → Bounded (λ bytes. length bytes ≤ 0) did.came
@@ -106,9 +106,9 @@ readv_wrong guest kernel memory left first third fd address count error wrong fi
     let e1 : first % 2 ^ 32 ≡ fd = omega arith in
     let found : host.vector memory 0 third ≡ Err error = ap (λ (n : ℕ). host.vector memory 0 n) third_is ∙ found_wrong memory error (is_wrong guest.memory address count error wrong) in
     let native_same : native.read_into kernel memory (first % 2 ^ 32) (host.vector memory 0 third) left ≡ native.read_into kernel memory fd (Err error) left =
-        ap (λ (n : ℕ). native.read_into kernel memory n (host.vector memory 0 third) left) e1 ∙ ap (λ (r : Given (List native_range.Range)). native.read_into kernel memory fd r left) found in
+    ap (λ (n : ℕ). native.read_into kernel memory n (host.vector memory 0 third) left) e1 ∙ ap (λ (r : Given (List native_range.Range)). native.read_into kernel memory fd r left) found in
     let o32_same : o32.read_into kernel guest fd (vector guest.memory address count) left ≡ o32.read_into kernel guest fd (Err error) left =
-        ap (λ (r : Given (List Range)). o32.read_into kernel guest fd r left) wrong in
+    ap (λ (r : Given (List Range)). o32.read_into kernel guest fd r left) wrong in
     subst (λ (n : NativeStep). Mirrors guest (by_reply guest.words) n (o32.read_into kernel guest fd (vector guest.memory address count) left)) (sym native_same)
     (subst (λ (s : O32Step). Mirrors guest (by_reply guest.words) (native.read_into kernel memory fd (Err error) left) s) (sym o32_same)
     (none_read guest memory left (kernel_read kernel left fd (Err error) 0) (kernel_read_within kernel left fd (Err error) 0)))
@@ -173,13 +173,13 @@ readv_scatters guest kernel left first third fd address count ranges memory room
     let odid = kernel_read kernel left fd (Ok (total ranges)) size in
     let e1 : first % 2 ^ 32 ≡ fd = omega arith in
     let e3 : host.accessible room 65536 third ≡ size =
-        ap (λ (m : List ℕ). host.accessible m 65536 third) sized ∙ room_is size third (omega (arith, third_is, accessible_within guest.memory ranges)) in
+    ap (λ (m : List ℕ). host.accessible m 65536 third) sized ∙ room_is size third (omega (arith, third_is, accessible_within guest.memory ranges)) in
     let native_same : kernel_read kernel left (first % 2 ^ 32) (Ok third) (host.accessible room 65536 third) ≡ odid =
-        ap (λ (n : ℕ). kernel_read kernel left n (Ok third) (host.accessible room 65536 third)) e1
-        ∙ ap (λ (n : ℕ). kernel_read kernel left fd (Ok third) n) e3
-        ∙ ap (λ (n : ℕ). kernel_read kernel left fd (Ok n) size) third_is in
+    ap (λ (n : ℕ). kernel_read kernel left n (Ok third) (host.accessible room 65536 third)) e1
+    ∙ ap (λ (n : ℕ). kernel_read kernel left fd (Ok third) n) e3
+    ∙ ap (λ (n : ℕ). kernel_read kernel left fd (Ok n) size) third_is in
     let o32_same : o32.read_into kernel guest fd (vector guest.memory address count) left ≡ o32.read_into kernel guest fd (Ok ranges) left =
-        ap (λ (r : Given (List Range)). o32.read_into kernel guest fd r left) right in
+    ap (λ (r : Given (List Range)). o32.read_into kernel guest fd r left) right in
     let within : Bounded (λ bytes. length bytes ≤ length room) odid.came = subst (λ (n : ℕ). Bounded (λ bytes. length bytes ≤ n) odid.came) (sym long) (kernel_read_within kernel left fd (Ok (total ranges)) size) in
     subst (λ (s : O32Step). Scatters guest ranges room (native.after_read (written room first_address) room (kernel_read kernel left (first % 2 ^ 32) (Ok third) (host.accessible room 65536 third))) s) (sym o32_same)
     (subst (λ (d : Did KernelReading (List ℕ)). Scatters guest ranges room (native.after_read (written room first_address) room d) (o32.after_read (all_copied_out guest.memory ranges) guest odid)) (sym native_same)
@@ -200,7 +200,7 @@ scatters_memory : {guest : Guest} {ranges : List Range} {room : List ℕ} {nstep
     → (length (bytes_back after reply) ≤ all_accessible old ranges → new ≡ all_copied_out old ranges (bytes_back after reply)) → new ≡ ostep.memory
 scatters_memory {guest} {ranges} {room} {nstep} {ostep} {reply} {kernel} {after} old new same long f called stored =
     let back : bytes_back after reply ≡ filling.given f.came =
-        ap (λ (m : List ℕ). bytes_back m reply) (called.stored ∙ f.room_after) ∙ ap (bytes_back (native_step.memory_after (written room first_address) room f.came)) (called.answered ∙ f.replied) ∙ filling.back_is room f.came f.bounded in
+    ap (λ (m : List ℕ). bytes_back m reply) (called.stored ∙ f.room_after) ∙ ap (bytes_back (native_step.memory_after (written room first_address) room f.came)) (called.answered ∙ f.replied) ∙ filling.back_is room f.came f.bounded in
     let fits : length (bytes_back after reply) ≤ all_accessible old ranges = omega (arith, ap length back, given_within (length room) f.came f.bounded, long) in
     stored fits ∙ ap (λ (b : List ℕ). all_copied_out old ranges b) back ∙ given_out old ranges f.came
     ∙ ap (λ (m : Memory). o32_step.memory_after (all_copied_out m ranges) m f.came) (sym same) ∙ sym f.stored

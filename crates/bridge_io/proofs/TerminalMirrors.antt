@@ -1,8 +1,8 @@
 -- The requests of ioctl(2), as native calls.
-use Rattle.std.proofs.Common.{◌≡◌, ℕ, ◌+◌, ◌*◌, ◌<◌, ◌%◌, ◌^◌, List, [], ◌∷◌, length, map, replicate, Some, refl, sym, ap, ◌∙◌, subst, arith, Ok, Err}
-use Rattle.std.specs.Prelude.{⊤, ℤ, pos, slice_index, true, false, not, Bool, Option, None, ◌==◌, nat_abs, if◌then◌else◌}
+use Rattle.std.proofs.Common.{◌≡◌, ℕ, ◌+◌, ◌*◌, ◌<◌, ◌%◌, ◌^◌, List, [], ◌∷◌, length, map, replicate, Some, refl, sym, ap, ◌∙◌, subst, arith, Ok}
+use Rattle.std.specs.Prelude.{⊤, slice_index, true, false, not, Bool, Option, None, ◌==◌, if◌then◌else◌}
 use Rattle.guest_space.specs.Access.{first_denied}
-use Rattle.guest_space.specs.Bytes.{bytes_at, copied_out}
+use Rattle.guest_space.specs.Bytes.{bytes_at}
 use Rattle.guest_space.specs.Memory.{Memory}
 use Rattle.guest_space.specs.declared.access.Access.TheVariants.{Load}
 use Rattle.guest_space.specs.declared.access.Denied.{Denied}
@@ -10,14 +10,13 @@ use Rattle.host_mem.specs.Memory.{is_inside, written}
 use Rattle.kernel_core.specs.declared.error.Errno.TheVariants.{EBADF, ENOTTY, EFAULT}
 use Rattle.kernel_core.specs.declared.request.Request.{Request}
 use Rattle.kernel_core.specs.declared.request.Request.TheVariants as requests
-use Rattle.kernel_model.specs.Came.{Came, Done, Refused, Waits, Did, Given, told_as, told_zero}
+use Rattle.kernel_model.specs.Came.{Came, Done, Refused, Waits, Given, told_as, told_zero}
 use Rattle.kernel_model.specs.ContentRows.{bytes_ready, terminal_settings, set_terminal_settings, window_size, ready_bytes, if_stream}
 use Rattle.kernel_model.specs.Descriptions.{opened}
 use Rattle.kernel_model.specs.DescriptorRows.{set_close_on_exec, set_nonblock, unlisted_request}
 use Rattle.kernel_model.specs.State.{Kernel, Files}
 use Rattle.kernel_model.specs.Whole.{on_files}
 use Rattle.kernel_model.specs.declared.terminal.TerminalSettings.{TerminalSettings}
-use Rattle.kernel_model.specs.declared.terminal.Winsize.{Winsize}
 use Rattle.layouts.specs.Number.{unsigned}
 use Rattle.native_calls.specs.HostBytes as host
 use Rattle.native_calls.specs.Step as native_step
@@ -25,7 +24,7 @@ use Rattle.native_calls.specs.Step.{NativeStep}
 use Rattle.native_calls.specs.Table.{native_call}
 use Rattle.native_calls.specs.Terminal as native
 use Rattle.number_tables.specs.Requests.{native_request, request_of_native, request_of_o32}
-use Rattle.o32_model.specs.GuestBytes.{is_storable, with_stored, structure, read_as, given}
+use Rattle.o32_model.specs.GuestBytes.{is_storable, with_stored, read_as, given}
 use Rattle.o32_model.specs.Step as o32_step
 use Rattle.o32_model.specs.Step.{Guest, O32Step}
 use Rattle.o32_model.specs.Terminal as o32
@@ -38,7 +37,6 @@ use Rattle.bridge_io.proofs.DescriptorMirrors.{same_gives}
 use Rattle.bridge_io.proofs.Fitting.{bounded_some, bounded_given, fits_zero}
 use Rattle.bridge_io.proofs.Storing.{stored_of_failure, storable_word}
 use Rattle.bridge_io.specs.declared.structures.Structure.{Structure}
-use Rattle.bridge_io.specs.declared.terminal.Purpose.{Purpose}
 use Rattle.bridge_io.specs.declared.terminal.Purpose.TheVariants as purposes
 use Rattle.bridge_io.specs.declared.structures.Structure.TheVariants.{Int, Window, Settings}
 use Rattle.bridge_io.specs.inside.Outcomes.{host_place}
@@ -57,8 +55,8 @@ record Shown {V : Type 0} (kind : Structure) (nbytes obytes : V → List ℕ) : 
 shown_alike : {V : Type 0} (guest : Guest) (kernel : Kernel) (address : ℕ) (kind : Structure) (nbytes obytes : V → List ℕ) (left : List ℕ) (came : Came V) (storable : Bool)
     → Shown kind nbytes obytes → is_storable guest.memory address (length (places kind)) ≡ storable → Bounded (λ _. ⊤) came
     → Stores guest address kind
-        (native_step.stores (replicate (size kind) 0) (if storable then 65536 else 0) (told_as nbytes (record { state = kernel; came = came })) left)
-        (o32_step.stores guest address (told_as obytes (record { state = kernel; came = came })) left)
+    (native_step.stores (replicate (size kind) 0) (if storable then 65536 else 0) (told_as nbytes (record { state = kernel; came = came })) left)
+    (o32_step.stores guest address (told_as obytes (record { state = kernel; came = came })) left)
 shown_alike guest kernel address kind nbytes obytes left (Done v) true shown is bounded =
     let storable : is_storable guest.memory address (length (obytes v)) ≡ true = ap (λ (n : ℕ). is_storable guest.memory address n) (shown.short v) ∙ is in
     record {
@@ -352,7 +350,7 @@ pub stores_along : (guest : Guest) (kernel : Kernel) (left : List ℕ) (address 
     → Stores guest address kind (native_call 29 (first ∷ number ∷ place ∷ 0 ∷ 0 ∷ 0 ∷ []) kernel (replicate (size kind) 0) left) step
 stores_along guest kernel left address kind step first fd number count place memory same first_is count_is place_is stores =
     let there : place ≡ host_place guest.memory address (length (places kind)) =
-        place_is ∙ ap (λ (n : ℕ). host_place memory address n) count_is ∙ ap (λ (m : Memory). host_place m address (length (places kind))) (sym same) in
+    place_is ∙ ap (λ (n : ℕ). host_place memory address n) count_is ∙ ap (λ (m : Memory). host_place m address (length (places kind))) (sym same) in
     subst (λ (n : ℕ). Stores guest address kind (native_call 29 (n ∷ number ∷ place ∷ 0 ∷ 0 ∷ 0 ∷ []) kernel (replicate (size kind) 0) left) step) (sym first_is)
     (subst (λ (n : ℕ). Stores guest address kind (native_call 29 (fd ∷ number ∷ n ∷ 0 ∷ 0 ∷ 0 ∷ []) kernel (replicate (size kind) 0) left) step) (sym there) stores)
 

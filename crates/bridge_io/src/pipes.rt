@@ -36,7 +36,7 @@ pub(crate) fn pipe<I: Source, O: Sink, E: Sink>(
 ) -> Result<Outcome, Stop>
     ensures row { (guest : Guest) → guest.words ≡ words.now
         → IsCall (pipe_row k.old guest) result k.new guest.memory guest.processor
-            (contents I.left O.written E.written dev.old) (contents I.left O.written E.written dev.new) }
+        (contents I.left O.written E.written dev.old) (contents I.left O.written E.written dev.new) }
     ensures kept { (guest : Guest) → guest.words ≡ words.now
         → KeepsCall (pipe_row k.old guest) result k.old guest (I.left dev.old.input) log.old log.new }
     ensures cause { StopsOnlyIfRose I.faults O.faults E.faults result dev.old dev.new }
@@ -61,7 +61,7 @@ fn pair_call<I: Source, O: Sink, E: Sink>(
     ensures row { (guest : Guest) (step : List ℕ → O32Step) → guest.words ≡ words.now
         → ((left : List ℕ) → Mirrors guest (told_pair guest.words) (native_call nr args k.old (replicate 8 0) left) (step left))
         → IsCall step result k.new guest.memory guest.processor
-            (contents I.left O.written E.written dev.old) (contents I.left O.written E.written dev.new) }
+        (contents I.left O.written E.written dev.old) (contents I.left O.written E.written dev.new) }
     ensures kept { (guest : Guest) (step : List ℕ → O32Step) → guest.words ≡ words.now
         → ((left : List ℕ) → Mirrors guest (told_pair guest.words) (native_call nr args k.old (replicate 8 0) left) (step left))
         → KeepsCall step result k.old guest (I.left dev.old.input) log.old log.new }
@@ -109,7 +109,7 @@ pub(crate) fn pipe2<I: Source, O: Sink, E: Sink>(
 ) -> Result<Outcome, Stop>
     ensures row { (guest : Guest) → guest.words ≡ words.now → guest.memory ≡ space.old
         → IsCall (pipe2_row k.old guest address flags) result k.new space.new guest.processor
-            (contents I.left O.written E.written dev.old) (contents I.left O.written E.written dev.new) }
+        (contents I.left O.written E.written dev.old) (contents I.left O.written E.written dev.new) }
     ensures kept { (guest : Guest) → guest.words ≡ words.now → guest.memory ≡ space.old
         → KeepsCall (pipe2_row k.old guest address flags) result k.old guest (I.left dev.old.input) log.old log.new }
     ensures cause { StopsOnlyIfRose I.faults O.faults E.faults result dev.old dev.new }
@@ -118,7 +118,18 @@ pub(crate) fn pipe2<I: Source, O: Sink, E: Sink>(
     k.whole();
     let place = host_place(space, address, PAIR_SIZE);
     let args = [place, native_pipe_flags(flags), 0, 0, 0, 0];
-    store_call(words, address, Structure::Pair, space, k, PIPE2, args, mem, dev, log)
+    store_call(
+        words,
+        address,
+        Structure::Pair,
+        space,
+        k,
+        PIPE2,
+        args,
+        mem,
+        dev,
+        log,
+    )
 }
 
 /// Where a structure stands in host memory: nowhere if the program's can't be stored, so that the native

@@ -100,12 +100,7 @@ static PAIR: [Option<usize>; 8] = [
 ];
 
 /// One such number.
-static INT: [Option<usize>; 4] = [
-    Some(3),
-    Some(2),
-    Some(1),
-    Some(0),
-];
+static INT: [Option<usize>; 4] = [Some(3), Some(2), Some(1), Some(0)];
 
 /// Four numbers of two bytes.
 static WINDOW: [Option<usize>; 8] = [
@@ -222,7 +217,7 @@ pub(crate) fn store_call<I: Source, O: Sink, E: Sink>(
     ensures row { (guest : Guest) (step : List ℕ → O32Step) → guest.words ≡ words.now → guest.memory ≡ space.old
         → ((left : List ℕ) → Stores guest address structure (native_call nr args k.old (replicate (size structure) 0) left) (step left))
         → IsCall step result k.new space.new guest.processor
-            (contents I.left O.written E.written dev.old) (contents I.left O.written E.written dev.new) }
+        (contents I.left O.written E.written dev.old) (contents I.left O.written E.written dev.new) }
     ensures kept { (guest : Guest) (step : List ℕ → O32Step) → guest.words ≡ words.now → guest.memory ≡ space.old
         → ((left : List ℕ) → Stores guest address structure (native_call nr args k.old (replicate (size structure) 0) left) (step left))
         → KeepsCall step result k.old guest (I.left dev.old.input) log.old log.new }

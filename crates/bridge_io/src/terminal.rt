@@ -54,7 +54,7 @@ pub(crate) fn ioctl<I: Source, O: Sink, E: Sink>(
 ) -> Result<Outcome, Stop>
     ensures row { (guest : Guest) → guest.words ≡ words.now → guest.memory ≡ space.old
         → IsCall (ioctl_row k.old guest fd request address) result k.new space.new guest.processor
-            (contents I.left O.written E.written dev.old) (contents I.left O.written E.written dev.new) }
+        (contents I.left O.written E.written dev.old) (contents I.left O.written E.written dev.new) }
     ensures kept { (guest : Guest) → guest.words ≡ words.now → guest.memory ≡ space.old
         → KeepsCall (ioctl_row k.old guest fd request address) result k.old guest (I.left dev.old.input) log.old log.new }
     ensures cause { StopsOnlyIfRose I.faults O.faults E.faults result dev.old dev.new }
@@ -80,7 +80,7 @@ fn listed<I: Source, O: Sink, E: Sink>(
 ) -> Result<Outcome, Stop>
     ensures row { (guest : Guest) (asked : ℕ) → guest.words ≡ words.now → guest.memory ≡ space.old → request_of_o32 asked ≡ Some request
         → IsCall (ioctl_row k.old guest fd asked address) result k.new space.new guest.processor
-            (contents I.left O.written E.written dev.old) (contents I.left O.written E.written dev.new) }
+        (contents I.left O.written E.written dev.old) (contents I.left O.written E.written dev.new) }
     ensures kept { (guest : Guest) (asked : ℕ) → guest.words ≡ words.now → guest.memory ≡ space.old → request_of_o32 asked ≡ Some request
         → KeepsCall (ioctl_row k.old guest fd asked address) result k.old guest (I.left dev.old.input) log.old log.new }
     ensures cause { StopsOnlyIfRose I.faults O.faults E.faults result dev.old dev.new }
@@ -89,10 +89,14 @@ fn listed<I: Source, O: Sink, E: Sink>(
     let number = request.to_native();
     match purpose_of(request) {
         Purpose::Stores(structure) => {
-            show(words, fd, number, address, structure, space, k, mem, dev, log)
+            show(
+                words, fd, number, address, structure, space, k, mem, dev, log,
+            )
         }
         Purpose::Loads(structure) => {
-            take(words, fd, number, address, structure, space, k, mem, dev, log)
+            take(
+                words, fd, number, address, structure, space, k, mem, dev, log,
+            )
         }
         Purpose::Unused => plain(words, fd, number, k, mem, dev, log),
     }
@@ -128,14 +132,22 @@ fn plain<I: Source, O: Sink, E: Sink>(
     ensures row { (guest : Guest) (step : List ℕ → O32Step) → guest.words ≡ words.now
         → ((left : List ℕ) → Mirrors guest (by_reply guest.words) (native_call 29 (fd ∷ number ∷ 0 ∷ 0 ∷ 0 ∷ 0 ∷ []) k.old mem.old left) (step left))
         → IsCall step result k.new guest.memory guest.processor
-            (contents I.left O.written E.written dev.old) (contents I.left O.written E.written dev.new) }
+        (contents I.left O.written E.written dev.old) (contents I.left O.written E.written dev.new) }
     ensures kept { (guest : Guest) (step : List ℕ → O32Step) → guest.words ≡ words.now
         → ((left : List ℕ) → Mirrors guest (by_reply guest.words) (native_call 29 (fd ∷ number ∷ 0 ∷ 0 ∷ 0 ∷ 0 ∷ []) k.old mem.old left) (step left))
         → KeepsCall step result k.old guest (I.left dev.old.input) log.old log.new }
     ensures cause { StopsOnlyIfRose I.faults O.faults E.faults result dev.old dev.new }
     ensures counts { NoCountFell I.faults O.faults E.faults dev.old dev.new }
 {
-    number_call(words, k, IOCTL, [u64::from(fd), number, 0, 0, 0, 0], mem, dev, log)
+    number_call(
+        words,
+        k,
+        IOCTL,
+        [u64::from(fd), number, 0, 0, 0, 0],
+        mem,
+        dev,
+        log,
+    )
 }
 
 /// Makes a native request that gives a structure.
@@ -153,19 +165,21 @@ fn show<I: Source, O: Sink, E: Sink>(
 ) -> Result<Outcome, Stop>
     ensures row { (guest : Guest) (step : List ℕ → O32Step) → guest.words ≡ words.now → guest.memory ≡ space.old
         → ((left : List ℕ) → Stores guest address structure
-            (native_call 29 (fd ∷ number ∷ host_place guest.memory address (length (places structure)) ∷ 0 ∷ 0 ∷ 0 ∷ []) k.old (replicate (size structure) 0) left) (step left))
+        (native_call 29 (fd ∷ number ∷ host_place guest.memory address (length (places structure)) ∷ 0 ∷ 0 ∷ 0 ∷ []) k.old (replicate (size structure) 0) left) (step left))
         → IsCall step result k.new space.new guest.processor
-            (contents I.left O.written E.written dev.old) (contents I.left O.written E.written dev.new) }
+        (contents I.left O.written E.written dev.old) (contents I.left O.written E.written dev.new) }
     ensures kept { (guest : Guest) (step : List ℕ → O32Step) → guest.words ≡ words.now → guest.memory ≡ space.old
         → ((left : List ℕ) → Stores guest address structure
-            (native_call 29 (fd ∷ number ∷ host_place guest.memory address (length (places structure)) ∷ 0 ∷ 0 ∷ 0 ∷ []) k.old (replicate (size structure) 0) left) (step left))
+        (native_call 29 (fd ∷ number ∷ host_place guest.memory address (length (places structure)) ∷ 0 ∷ 0 ∷ 0 ∷ []) k.old (replicate (size structure) 0) left) (step left))
         → KeepsCall step result k.old guest (I.left dev.old.input) log.old log.new }
     ensures cause { StopsOnlyIfRose I.faults O.faults E.faults result dev.old dev.new }
     ensures counts { NoCountFell I.faults O.faults E.faults dev.old dev.new }
 {
     let place = host_place(space, address, structure.size_for_program());
     let args = [u64::from(fd), number, place, 0, 0, 0];
-    store_call(words, address, structure, space, k, IOCTL, args, mem, dev, log)
+    store_call(
+        words, address, structure, space, k, IOCTL, args, mem, dev, log,
+    )
 }
 
 /// Makes a native request that is given a structure.
@@ -183,12 +197,12 @@ fn take<I: Source, O: Sink, E: Sink>(
 ) -> Result<Outcome, Stop>
     ensures row { (guest : Guest) (step : List ℕ → O32Step) → guest.words ≡ words.now → guest.memory ≡ space.now
         → ((left room : List ℕ) (place : ℕ) → IsTaken guest.memory address structure room place
-            → Mirrors guest (by_reply guest.words) (native_call 29 (fd ∷ number ∷ place ∷ 0 ∷ 0 ∷ 0 ∷ []) k.old room left) (step left))
+        → Mirrors guest (by_reply guest.words) (native_call 29 (fd ∷ number ∷ place ∷ 0 ∷ 0 ∷ 0 ∷ []) k.old room left) (step left))
         → IsCall step result k.new space.now guest.processor
-            (contents I.left O.written E.written dev.old) (contents I.left O.written E.written dev.new) }
+        (contents I.left O.written E.written dev.old) (contents I.left O.written E.written dev.new) }
     ensures kept { (guest : Guest) (step : List ℕ → O32Step) → guest.words ≡ words.now → guest.memory ≡ space.now
         → ((left room : List ℕ) (place : ℕ) → IsTaken guest.memory address structure room place
-            → Mirrors guest (by_reply guest.words) (native_call 29 (fd ∷ number ∷ place ∷ 0 ∷ 0 ∷ 0 ∷ []) k.old room left) (step left))
+        → Mirrors guest (by_reply guest.words) (native_call 29 (fd ∷ number ∷ place ∷ 0 ∷ 0 ∷ 0 ∷ []) k.old room left) (step left))
         → KeepsCall step result k.old guest (I.left dev.old.input) log.old log.new }
     ensures cause { StopsOnlyIfRose I.faults O.faults E.faults result dev.old dev.new }
     ensures counts { NoCountFell I.faults O.faults E.faults dev.old dev.new }
@@ -217,11 +231,7 @@ fn take_structure(
     push_structure(bytes, structure, mem)
 }
 
-fn push_structure(
-    bytes: &[u8],
-    structure: Structure,
-    mem: &mut HostMem,
-) -> Result<u64, NoMemory>
+fn push_structure(bytes: &[u8], structure: Structure, mem: &mut HostMem) -> Result<u64, NoMemory>
     requires { mem.old ≡ [] }
     ensures memory { OnOk result (mem.new ≡ map (byte_from bytes.now) (places_back structure)) }
     ensures place { IfOk result (λ place. place ≡ 65536) }

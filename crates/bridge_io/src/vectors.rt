@@ -39,7 +39,7 @@ pub(crate) fn readv<I: Source, O: Sink, E: Sink>(
 ) -> Result<Outcome, Stop>
     ensures row { (guest : Guest) → guest.words ≡ words.now → guest.memory ≡ space.old
         → IsCall (readv_row k.old guest fd address count) result k.new space.new guest.processor
-            (contents I.left O.written E.written dev.old) (contents I.left O.written E.written dev.new) }
+        (contents I.left O.written E.written dev.old) (contents I.left O.written E.written dev.new) }
     ensures kept { (guest : Guest) → guest.words ≡ words.now → guest.memory ≡ space.old
         → KeepsCall (readv_row k.old guest fd address count) result k.old guest (I.left dev.old.input) log.old log.new }
     ensures cause { StopsOnlyIfRose I.faults O.faults E.faults result dev.old dev.new }
@@ -78,7 +78,7 @@ fn fill_buffers<I: Source, O: Sink, E: Sink>(
 ) -> Result<Outcome, Stop>
     ensures row { (guest : Guest) (address count : ℕ) → guest.words ≡ words.now → guest.memory ≡ space.old → vector guest.memory address count ≡ Ok buffers.now
         → IsCall (readv_row k.old guest fd address count) result k.new space.new guest.processor
-            (contents I.left O.written E.written dev.old) (contents I.left O.written E.written dev.new) }
+        (contents I.left O.written E.written dev.old) (contents I.left O.written E.written dev.new) }
     ensures kept { (guest : Guest) (address count : ℕ) → guest.words ≡ words.now → guest.memory ≡ space.old → vector guest.memory address count ≡ Ok buffers.now
         → KeepsCall (readv_row k.old guest fd address count) result k.old guest (I.left dev.old.input) log.old log.new }
     ensures cause { StopsOnlyIfRose I.faults O.faults E.faults result dev.old dev.new }
@@ -130,12 +130,7 @@ fn first_bytes(mem: &HostMem, count: u64) -> &[u8]
 }
 
 /// Writes the bytes to the buffers, one after the other, and keeps what was written to each.
-fn scatter(
-    space: &mut Space,
-    ranges: &[Range],
-    bytes: &[u8],
-    log: &mut Log,
-) -> Result<(), NoMemory>
+fn scatter(space: &mut Space, ranges: &[Range], bytes: &[u8], log: &mut Log) -> Result<(), NoMemory>
     ensures stored { OnOk result (length bytes.now ≤ all_accessible space.old ranges.now
         → space.new ≡ all_copied_out space.old ranges.now bytes.now) }
     ensures effects { OnOk result ((processor : Processor) (sent : Sent)
@@ -152,12 +147,7 @@ fn scatter(
 }
 
 /// Writes the bytes from an address on, where each may be stored to. Of no byte nothing is kept.
-fn put_piece(
-    space: &mut Space,
-    address: u32,
-    bytes: &[u8],
-    log: &mut Log,
-) -> Result<(), NoMemory>
+fn put_piece(space: &mut Space, address: u32, bytes: &[u8], log: &mut Log) -> Result<(), NoMemory>
     ensures stored { OnOk result (space.new ≡ with_stored space.old address bytes.now) }
     ensures effects { OnOk result ((processor : Processor) (sent : Sent)
         → Effected log.old.effects log.new.effects (reached processor space.old.pages sent) (reached processor space.new.pages sent)) }

@@ -1,5 +1,5 @@
 -- What the native call put into host memory are the two results.
-use Rattle.std.proofs.Common.{◌≡◌, ℕ, List, replicate, sym, subst, ap, ◌∙◌}
+use Rattle.std.proofs.Common.{ℕ, List, sym, subst, ap, ◌∙◌}
 use Rattle.kernel_model.specs.Pipes.{nothing}
 use Rattle.native_calls.specs.Table.{native_call}
 use Rattle.o32_model.specs.declared.call_words.CallWords.{CallWords}

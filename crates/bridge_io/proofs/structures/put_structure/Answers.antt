@@ -1,5 +1,5 @@
 -- A reply that gives no structure changes nothing.
-use Rattle.std.proofs.Common.{pos, ◌<ℤ◌, arith}
+use Rattle.std.proofs.Common.{arith}
 use Rattle.std.proofs.lemmas.Int.{ints}
 use Rattle.bridge_io.proofs.Storing.{unstored_error, unstored_sleep}
 use Rattle.bridge_io.proofs.structures.put_structure.Goals as goal

@@ -1,5 +1,5 @@
 -- The descriptor is the native call's first argument.
-use Rattle.std.proofs.Common.{ℕ, List, [], ◌∷◌, subst, sym}
+use Rattle.std.proofs.Common.{ℕ, [], ◌∷◌, subst, sym}
 use Rattle.native_calls.specs.Table.{native_call}
 use Rattle.bridge_log.specs.Mirrors.{Mirrors}
 use Rattle.bridge_log.specs.Outcomes.{by_reply}

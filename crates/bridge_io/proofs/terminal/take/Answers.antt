@@ -1,5 +1,5 @@
 -- The native call mirrors the row, over the structure that was taken.
-use Rattle.std.proofs.Common.{ℕ, List, [], ◌∷◌, subst, sym}
+use Rattle.std.proofs.Common.{ℕ, [], ◌∷◌, subst, sym}
 use Rattle.guest_space.specs.Memory.{Memory}
 use Rattle.native_calls.specs.Table.{native_call}
 use Rattle.o32_model.specs.Answered.{Answers}

@@ -15,7 +15,7 @@ use Rattle.bridge_log.proofs.Ends.{fails_before, stopped_alike, stopped_after}
 use Rattle.bridge_log.specs.Keeping.{Logged, reached}
 use Rattle.bridge_log.specs.Outcomes.{outcome_of}
 use Rattle.o32_model.specs.Transfers.{readv_row}
-use Rattle.bridge_io.proofs.ReadvMirrors.{Scatters, readv_scatters, scatters_called, scatters_keeps, accessible_within, fails_stopped}
+use Rattle.bridge_io.proofs.ReadvMirrors.{readv_scatters, scatters_called, scatters_keeps, accessible_within, fails_stopped}
 use Rattle.bridge_io.proofs.vectors.fill_buffers.Goals as goal
 
 pub returns-in_err-fresh_room-clause-row : goal.returns-in_err-fresh_room-clause-row
