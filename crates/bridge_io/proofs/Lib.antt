@@ -3,3 +3,7 @@ pub mod CommandMirrors
 pub mod DescriptorMirrors
 pub mod Fitting
 pub mod ReadFills
+pub mod PipeMirrors
+pub mod ReadvMirrors
+pub mod Storing
+pub mod TerminalMirrors

@@ -121,7 +121,7 @@ fn access_number(number: u64) -> u32
 }
 
 /// 1 where the number has this bit, a power of two, and else 0.
-fn bit(number: u64, place: u64) -> u32
+pub(crate) fn bit(number: u64, place: u64) -> u32
     requires { 0 < place }
     ensures value { result ≡ bits.one_if (bits.has number place) }
     ensures at_most { result ≤ 1 }

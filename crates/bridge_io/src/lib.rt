@@ -5,6 +5,10 @@ mod call;
 mod commands;
 mod descriptors;
 mod numbers;
+mod pipes;
 mod reading;
+mod structures;
+mod terminal;
+mod vectors;
 
 pub use call::io_call;

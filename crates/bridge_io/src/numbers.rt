@@ -7,9 +7,15 @@ pub(crate) const DUP3: u64 = 24;
 
 pub(crate) const FCNTL: u64 = 25;
 
+pub(crate) const IOCTL: u64 = 29;
+
 pub(crate) const CLOSE: u64 = 57;
 
+pub(crate) const PIPE2: u64 = 59;
+
 pub(crate) const READ: u64 = 63;
+
+pub(crate) const READV: u64 = 65;
 
 pub(crate) const PREAD64: u64 = 67;
 

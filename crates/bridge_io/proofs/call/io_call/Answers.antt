@@ -29,12 +29,36 @@ returns-in-4063-clause-row g c = λ left told.
     by_number 4063 c.args.k.now guest left c.dup2.result c.dup2.new.k c.args.space.now c.args.cpu.now (contents g.I.Source.left g.O.Sink.written g.E.Sink.written c.args.dev.now) (contents g.I.Source.left g.O.Sink.written g.E.Sink.written c.dup2.new.dev) c.in-4063.is
     (c.dup2.ensures.row guest refl left told)
 
+pub returns-in-4042-clause-row : goal.returns-in-4042-clause-row
+returns-in-4042-clause-row g c = λ left told.
+    let guest = found c.args.args.now c.args.cpu.now c.args.space.now in
+    by_number 4042 c.args.k.now guest left c.pipe.result c.pipe.new.k c.args.space.now c.args.cpu.now (contents g.I.Source.left g.O.Sink.written g.E.Sink.written c.args.dev.now) (contents g.I.Source.left g.O.Sink.written g.E.Sink.written c.pipe.new.dev) c.in-4042.is
+    (c.pipe.ensures.row guest refl left told)
+
+pub returns-in-4054-clause-row : goal.returns-in-4054-clause-row
+returns-in-4054-clause-row g c = λ left told.
+    let guest = found c.args.args.now c.args.cpu.now c.args.space.now in
+    by_number 4054 c.args.k.now guest left c.ioctl.result c.ioctl.new.k c.ioctl.new.space c.args.cpu.now (contents g.I.Source.left g.O.Sink.written g.E.Sink.written c.args.dev.now) (contents g.I.Source.left g.O.Sink.written g.E.Sink.written c.ioctl.new.dev) c.in-4054.is
+    (c.ioctl.ensures.row guest refl refl left told)
+
+pub returns-in-4145-clause-row : goal.returns-in-4145-clause-row
+returns-in-4145-clause-row g c = λ left told.
+    let guest = found c.args.args.now c.args.cpu.now c.args.space.now in
+    by_number 4145 c.args.k.now guest left c.readv.result c.readv.new.k c.readv.new.space c.args.cpu.now (contents g.I.Source.left g.O.Sink.written g.E.Sink.written c.args.dev.now) (contents g.I.Source.left g.O.Sink.written g.E.Sink.written c.readv.new.dev) c.in-4145.is
+    (c.readv.ensures.row guest refl refl left told)
+
+pub returns-in-4327-clause-row : goal.returns-in-4327-clause-row
+returns-in-4327-clause-row g c = λ left told.
+    let guest = found c.args.args.now c.args.cpu.now c.args.space.now in
+    by_number 4327 c.args.k.now guest left c.dup3.result c.dup3.new.k c.args.space.now c.args.cpu.now (contents g.I.Source.left g.O.Sink.written g.E.Sink.written c.args.dev.now) (contents g.I.Source.left g.O.Sink.written g.E.Sink.written c.dup3.new.dev) c.in-4327.is
+    (c.dup3.ensures.row guest refl left told)
+
 pub returns-in_default-clause-row : goal.returns-in_default-clause-row
 returns-in_default-clause-row g c = λ left told.
     let guest = found c.args.args.now c.args.cpu.now c.args.space.now in
-    let is : c.args.args.now.nr ≡ 4327 = search rules in
-    by_number 4327 c.args.k.now guest left c.dup3.result c.dup3.new.k c.args.space.now c.args.cpu.now (contents g.I.Source.left g.O.Sink.written g.E.Sink.written c.args.dev.now) (contents g.I.Source.left g.O.Sink.written g.E.Sink.written c.dup3.new.dev) is
-    (c.dup3.ensures.row guest refl left told)
+    let is : c.args.args.now.nr ≡ 4328 = search rules in
+    by_number 4328 c.args.k.now guest left c.pipe2.result c.pipe2.new.k c.pipe2.new.space c.args.cpu.now (contents g.I.Source.left g.O.Sink.written g.E.Sink.written c.args.dev.now) (contents g.I.Source.left g.O.Sink.written g.E.Sink.written c.pipe2.new.dev) is
+    (c.pipe2.ensures.row guest refl refl left told)
 
 pub returns-in-4055-clause-row : goal.returns-in-4055-clause-row
 returns-in-4055-clause-row g c = λ left told.
