@@ -1,8 +1,14 @@
 pub mod Breaks
+pub mod Calling
+pub mod FileBytes
 pub mod Journal
+pub mod Looking
 pub mod Moving
-pub mod NoFile
 pub mod Pages
+pub mod Pieces
+pub mod Placing
+pub mod Protecting
+pub mod Quietly
 pub mod Ranges
 pub mod Resizing
 pub mod Runs

@@ -1,14 +1,14 @@
 -- What is said of a row that changes memory alone. (The journal is this project's own.)
-use Rattle.std.specs.Prelude.{◌≡◌, ℕ, zero, suc, ◌+◌, ◌-◌, ◌*◌, ◌==◌, ◌&&◌, ◌||◌, not, ⊤, min, Bool, true, false, List, [], ◌∷◌, ◌++◌, Option, Some, None, nat_lt, if◌then◌else◌}
+use Rattle.std.specs.Prelude.{◌≡◌, ℕ, zero, suc, ◌+◌, ◌-◌, ◌*◌, ◌^◌, ◌<◌, ◌≤◌, ◌==◌, ◌&&◌, ◌||◌, not, ⊤, min, Bool, true, false, List, [], ◌∷◌, ◌++◌, Option, Some, None, nat_lt, if◌then◌else◌}
 use Rattle.std.specs.FinMap.{get}
 use Rattle.guest_space.specs.Mapping.{zero_bytes}
 use Rattle.guest_space.specs.Memory.{MappedPage, Memory, Pages}
 use Rattle.kernel_core.specs.declared.error.Errno.TheVariants.{ENOMEM}
 use Rattle.kernel_core.specs.declared.map_flags.MapFlags.{MapFlags}
 use Rattle.kernel_core.specs.Bits.{has}
-use Rattle.kernel_model.specs.State.{Kernel}
+use Rattle.kernel_model.specs.State.{Files, Kernel}
 use Rattle.kernel_model.specs.Came.{Came, Done, Refused, Did, with_given}
-use Rattle.o32_model.specs.Mappings.{mapped, place_for}
+use Rattle.o32_model.specs.Mappings.{first_bytes, mapped, place_for}
 use Rattle.o32_model.specs.Ranges.{page_size}
 use Rattle.o32_model.specs.Step.{Guest, O32Step}
 use Rattle.o32_model.specs.Table.{is_map_call, o32_call}
@@ -20,6 +20,7 @@ use Rattle.kernel_core.specs.declared.record.Effect.TheVariants.{Map, Protect, U
 use Rattle.kernel_model.specs.Pipes.{nothing}
 use Rattle.mips_exec.specs.Processor.{Processor}
 use Rattle.o32_model.specs.Effects.{Target, Effected, after_map, user_pages}
+use Rattle.bridge_map.specs.declared.asked.Asked.{Asked}
 
 -- pages as effects act on them, with nothing sent
 abbrev pub on_pages : Processor → Pages → Target
@@ -45,6 +46,20 @@ break_effects from to =
 abbrev pub placed : Memory → MapFlags → ℕ → ℕ → ℕ → List ℕ → Did Memory ℕ
 placed memory flags address count protection bytes =
     with_given memory (place_for memory.pages flags address count) (λ first. mapped memory first count protection bytes)
+
+-- A mapping as its words ask for it
+
+pub record IsAsked (asked : Asked) : Type 0 where
+  pub some : 0 < asked.count
+  pub few : asked.count ≤ 1048576
+  pub three_bits : asked.protection ≤ 7
+  pub low : asked.offset < 2 ^ 45
+
+-- the bytes of its file, and then its place and the limit
+abbrev pub asked_for : Files → Memory → Asked → Did Memory ℕ
+asked_for files memory asked =
+    with_given memory (first_bytes files asked.flags asked.fd asked.offset asked.count) (λ bytes.
+    placed memory asked.flags asked.address asked.count asked.protection bytes)
 
 -- What a change of size leads over, by the pages after it. Of a range that moves each page is mapped and written anew: one that was never
 -- written is zeros, and one that was is written before it gets its protection.

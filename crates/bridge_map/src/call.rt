@@ -1,15 +1,63 @@
 //! A call on mappings by its number.
-ghost use Rattle.std.specs.Prelude.{◌≡◌, true, IfOk, OnOk};
-ghost use Rattle.bridge_map.specs.Rows.{IsCallOfMemory, Leads, is_call_of_memory};
+ghost use Rattle.std.specs.Prelude.{◌≡◌, true, false, IfOk, IsTrue, OnOk};
+ghost use Rattle.bridge_log.specs.Keeping.{KeepsCall};
+ghost use Rattle.bridge_map.specs.Rows.{IsCallOfMemory, Leads, guest_of, is_call_of_memory, maps_no_file};
+ghost use Rattle.kernel_model.specs.Stops.{StopsOnlyIfRose};
+ghost use Rattle.o32_model.specs.Answered.{IsCall};
+ghost use Rattle.o32_model.specs.Table.{is_map_call, o32_call};
+ghost use Rattle.outside.specs.Streams.{NoCountFell, contents};
 
 use crate::mmap::mmap;
+use crate::mmap_file::mmap_file;
 use crate::program_break::brk;
 use crate::ranges_mapped::{madvise, mprotect, msync, munmap};
 use crate::remap::mremap;
 use guest_space::Space;
-use kernel_core::NoMemory;
+use host_mem::HostMem;
 use kernel_core::address_space::PAGE_SIZE;
-use o32_model::{CallWords, Log, Outcome};
+use kernel_core::{NoMemory, Stop};
+use mips_exec::Cpu;
+use native_kernel::NativeKernel;
+use o32_model::{CallWords, Log, Outcome, Seen};
+use outside::{Devices, Sink, Source};
+
+/// Makes a call on mappings, by its words: brk(2), mmap(2), mmap2(2), munmap(2), mprotect(2), msync(2),
+/// mremap(2), madvise(2). A file is asked for its bytes when it is mapped. It stops early for want of memory, or
+/// by a device.
+pub fn map_call<I: Source, O: Sink, E: Sink>(
+    args: &CallWords,
+    cpu: &mut Cpu,
+    space: &mut Space,
+    k: &mut NativeKernel,
+    mem: &mut HostMem,
+    dev: &mut Devices<I, O, E>,
+    log: &mut Log,
+    seen: &Seen,
+) -> Result<Outcome, Stop>
+    requires { IsTrue (is_map_call args.now.nr) }
+    ensures row { IsCall (o32_call k.old (guest_of args.now cpu.old space.old)) result k.new space.new cpu.new
+        (contents I.left O.written E.written dev.old) (contents I.left O.written E.written dev.new) }
+    ensures kept { KeepsCall (o32_call k.old (guest_of args.now cpu.old space.old)) result k.old
+        (guest_of args.now cpu.old space.old) (I.left dev.old.input) log.old log.new }
+    ensures cause { StopsOnlyIfRose I.faults O.faults E.faults result dev.old dev.new }
+    ensures counts { NoCountFell I.faults O.faults E.faults dev.old dev.new }
+{
+    if maps_no_file(args) {
+        return Ok(memory_call(args, space, log)?);
+    }
+    match args.nr {
+        4090 => mmap_file(args, 1, space, k, mem, dev, log),
+        4210 => mmap_file(args, PAGE_SIZE, space, k, mem, dev, log),
+        _ => Ok(memory_call(args, space, log)?),
+    }
+}
+
+/// Whether MAP_ANONYMOUS is set in what are the flags of mmap(2).
+fn maps_no_file(args: &CallWords) -> bool
+    ensures { result ≡ maps_no_file args.now }
+{
+    args.reg[3] / 0x800 % 2 == 1
+}
 
 /// Carries out a call on mappings that asks the kernel for nothing: brk(2), munmap(2), mprotect(2), msync(2),
 /// mremap(2), madvise(2), and mmap(2) and mmap2(2) with MAP_ANONYMOUS. It gives what the call comes to, and

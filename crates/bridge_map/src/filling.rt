@@ -1,0 +1,106 @@
+//! Bytes of a file that go to the program's memory.
+ghost use Rattle.std.specs.Prelude.{◌≡◌, ◌≤◌, ◌<◌, ◌+◌, ◌^◌, ⊤, ℕ, length, List, Some};
+ghost use Rattle.bridge_map.specs.Shown.{AreStorable, Fills, Shows, count_of};
+ghost use Rattle.kernel_core.specs.FileContent.{FileContent};
+ghost use Rattle.kernel_model.specs.Stops.{StopsOnlyIfRose};
+ghost use Rattle.kernel_model.specs.Transfers.{file_bytes};
+ghost use Rattle.outside.specs.Streams.{NoCountFell, contents};
+
+use crate::numbers::PREAD64;
+use bridge_log::fill_call;
+use guest_space::Space;
+use host_mem::{FIRST_ADDRESS, HostMem};
+use kernel_core::Stop;
+use native_kernel::NativeKernel;
+use o32_model::{CallWords, Log, Outcome};
+use outside::{Devices, Sink, Source};
+
+/// How many bytes one native call reads at most, so that what a mapping costs goes by the file and not by its
+/// own length.
+const PIECE: u32 = 0x1_0000;
+
+/// Reads a file from `offset` on to memory from `address` on, as far as it goes, at most `count` bytes, by
+/// native calls of a piece each.
+pub(crate) fn fill<I: Source, O: Sink, E: Sink>(
+    args: &CallWords,
+    fd: u32,
+    offset: u64,
+    address: u32,
+    count: u32,
+    space: &mut Space,
+    k: &mut NativeKernel,
+    mem: &mut HostMem,
+    dev: &mut Devices<I, O, E>,
+    log: &mut Log,
+) -> Result<(), Stop>
+    requires offset { offset < 2 ^ 62 }
+    requires range { address + count < 2 ^ 32 }
+    ensures filled { (left : List ℕ) → I.left dev.old.input ≡ Some left
+        → (content : FileContent) → Shows k.old.files fd content → AreStorable space.old.pages address count
+        → Fills (λ _. ⊤) result k.old k.new left
+        (contents I.left O.written E.written dev.old) (contents I.left O.written E.written dev.new)
+        space.old space.new log.old log.new address (file_bytes content offset count) }
+    ensures cause { StopsOnlyIfRose I.faults O.faults E.faults result dev.old dev.new }
+    ensures counts { NoCountFell I.faults O.faults E.faults dev.old dev.new }
+{
+    for piece in 0..count.div_ceil(PIECE) {
+        let done = piece * PIECE;
+        let want = (count - done).min(PIECE);
+        let from = offset + u64::from(done);
+        let got = fill_piece(
+            args,
+            fd,
+            from,
+            address + done,
+            want,
+            space,
+            k,
+            mem,
+            dev,
+            log,
+        )?;
+        if got < want {
+            return Ok(());
+        }
+    }
+    Ok(())
+}
+
+/// Reads a piece of a file to memory, and answers how many bytes of it there were.
+fn fill_piece<I: Source, O: Sink, E: Sink>(
+    args: &CallWords,
+    fd: u32,
+    offset: u64,
+    address: u32,
+    count: u32,
+    space: &mut Space,
+    k: &mut NativeKernel,
+    mem: &mut HostMem,
+    dev: &mut Devices<I, O, E>,
+    log: &mut Log,
+) -> Result<u32, Stop>
+    requires offset { offset < 2 ^ 63 }
+    requires some { 0 < count }
+    requires few { count ≤ 65536 }
+    ensures filled { (left : List ℕ) → I.left dev.old.input ≡ Some left
+        → (content : FileContent) → Shows k.old.files fd content → AreStorable space.old.pages address count
+        → Fills (λ got. got ≡ length (file_bytes content offset count)) result k.old k.new left
+        (contents I.left O.written E.written dev.old) (contents I.left O.written E.written dev.new)
+        space.old space.new log.old log.new address (file_bytes content offset count) }
+    ensures cause { StopsOnlyIfRose I.faults O.faults E.faults result dev.old dev.new }
+    ensures counts { NoCountFell I.faults O.faults E.faults dev.old dev.new }
+{
+    let call = [u64::from(fd), FIRST_ADDRESS, u64::from(count), offset, 0, 0];
+    let outcome = fill_call(args, address, count, space, k, PREAD64, call, mem, dev, log)?;
+    Ok(count_of(outcome))
+}
+
+/// The result of a call, or 0 where it has none.
+fn count_of(outcome: Outcome) -> u32
+    ensures { result ≡ count_of outcome }
+{
+    match outcome {
+        Outcome::Value(count) => count,
+        _ => 0,
+    }
+}
