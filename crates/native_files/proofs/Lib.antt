@@ -12,4 +12,5 @@ pub mod NodeFacts
 pub mod PipePlaces
 pub mod PlaceLemmas
 pub mod Places
+pub mod Walked
 pub mod WriteSteps

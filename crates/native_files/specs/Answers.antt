@@ -1,5 +1,7 @@
 -- What an answer of code says of a row of `kernel_model`.
-use Rattle.std.specs.Prelude.{◌≡◌, ℕ, ◌≤◌, ⊤, ◌⊎◌, List, [], ◌++◌, length, drop, map, Option, Some, None, Result, Ok, Err}
+use Rattle.std.specs.Borrow.{Bor}
+use Rattle.std.specs.List.{list_any}
+use Rattle.std.specs.Prelude.{◌≡◌, ℕ, ◌≤◌, ◌==◌, false, ⊤, ◌⊎◌, List, [], ◌++◌, length, drop, map, Option, Some, None, Result, Ok, Err}
 use Rattle.kernel_core.specs.FileContent.{greatest_size}
 use Rattle.kernel_core.specs.FileSystem.{IsTime}
 use Rattle.kernel_core.specs.ValidTree.{greatest_number}
@@ -7,9 +9,10 @@ use Rattle.kernel_core.specs.declared.core_error.CoreError.{CoreError}
 use Rattle.kernel_core.specs.declared.core_error.CoreError.TheVariants as errors
 use Rattle.kernel_core.specs.declared.core_error.Stop.TheVariants as stops
 use Rattle.kernel_core.specs.declared.error.Errno.{Errno}
-use Rattle.kernel_model.specs.Came.{Came, Done, Refused, Waits, Did, came_as}
+use Rattle.kernel_model.specs.Came.{Came, Done, Refused, Waits, Did, Given, came_as}
 use Rattle.kernel_model.specs.ContentRows as contents
 use Rattle.kernel_model.specs.DescriptorRows as rows
+use Rattle.kernel_model.specs.Paths as paths
 use Rattle.kernel_model.specs.State.{Files}
 use Rattle.kernel_model.specs.Transfers.{Reading, Writing}
 use Rattle.layouts.specs.Dirents.{dirent64_length}
@@ -19,6 +22,8 @@ use Rattle.native_files.specs.declared.progress.Entry.{Entry}
 use Rattle.native_files.specs.declared.progress.Progress.{Progress}
 use Rattle.native_files.specs.declared.progress.Progress.TheVariants as progress
 use Rattle.native_files.specs.declared.progress.Status.{Status}
+use Rattle.native_files.specs.declared.walking.Base.{Base}
+use Rattle.native_files.specs.declared.walking.Base.TheVariants as bases
 use Rattle.native_vfs.specs.Seen.{kind_told}
 use Rattle.outside.specs.Count.{Rose}
 use Rattle.outside.specs.Output.{GainsText, GainsBetween}
@@ -35,6 +40,32 @@ Answers step (Err (errors.Refused error)) state = (step.came ≡ Refused error) 
 Answers step (Err (errors.Stop stops.NoMemory)) state = ⊤
 Answers step (Err (errors.Stop stops.ReadFault)) state = ⊥
 Answers step (Err (errors.Stop stops.WriteFault)) state = ⊥
+
+-- Paths
+
+-- a path or a target as it was read up to its NUL: no byte of it is NUL
+abbrev pub IsPlain : List ℕ → Type 0
+IsPlain text = list_any (λ byte. byte == 0) text ≡ false
+
+-- a target that a symbolic link may have: 4095 bytes at most (symlink(2))
+pub record IsShortPlain (text : List ℕ) : Type 0 where
+  pub plain : IsPlain text
+  pub short : length text ≤ 4095
+
+-- what was read, or why it could not be
+abbrev pub text_of : Result (Bor (List ℕ)) Errno → Given (List ℕ)
+text_of (Ok text) = Ok text.now
+text_of (Err error) = Err error
+
+-- of what was read
+abbrev pub WhereRead : (List ℕ → Type 0) → Given (List ℕ) → Type 0
+WhereRead P (Ok text) = P text
+WhereRead P (Err error) = ⊤
+
+-- where a path begins, in the row's terms
+abbrev pub base_of : Base → paths.Base
+base_of bases.Working = paths.Working
+base_of (bases.Descriptor fd) = paths.Descriptor fd
 
 -- Transfers
 

@@ -1,3 +1,4 @@
+pub mod Changes
 pub mod Contents
 pub mod Ends
 pub mod Events
@@ -6,3 +7,4 @@ pub mod Lengths
 pub mod Listings
 pub mod Places
 pub mod Steps
+pub mod Walks

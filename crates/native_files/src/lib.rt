@@ -1,6 +1,7 @@
 //! The files of a process: descriptors, pipes, streams and nodes, one method for each call.
 #![tactic(auto)]
 
+mod changes;
 mod content;
 mod descriptors;
 mod entries;
@@ -11,15 +12,18 @@ mod flow;
 mod lengths;
 mod listing;
 mod looking;
+mod naming;
 mod nodes;
 mod pipes;
 mod progress;
 mod readiness;
 mod reading;
 mod starting;
+mod walking;
 mod writing;
 
 pub use files::Files;
 pub use kernel_core::{CoreError, Errno, NoMemory, Stop};
 pub use pipes::{Ends, PipeFlags};
 pub use progress::{Entry, Progress, Status};
+pub use walking::Base;
