@@ -8,6 +8,8 @@ pub mod Keeping
 pub mod KeptLemmas
 pub mod ListingRows
 pub mod Listings
+pub mod Made
+pub mod NameSteps
 pub mod NodeFacts
 pub mod PipePlaces
 pub mod PlaceLemmas

@@ -61,12 +61,7 @@ pub(crate) fn make_link_at(
 }
 
 /// Gives a node one name more.
-pub(crate) fn link_at(
-    vfs: &mut Vfs,
-    node: usize,
-    at: &Place,
-    now: i128,
-) -> Result<(), CoreError>
+pub(crate) fn link_at(vfs: &mut Vfs, node: usize, at: &Place, now: i128) -> Result<(), CoreError>
     requires live { IsLiveKey vfs.old node }
     requires agrees { AgreesAt vfs.old at.now }
     requires time { IsTime now }
@@ -100,12 +95,7 @@ pub(crate) fn remove_directory_at(vfs: &mut Vfs, at: &Place, now: i128) -> Resul
 }
 
 /// Moves a name.
-pub(crate) fn rename_at(
-    vfs: &mut Vfs,
-    from: &Place,
-    to: &Place,
-    now: i128,
-) -> Result<(), CoreError>
+pub(crate) fn rename_at(vfs: &mut Vfs, from: &Place, to: &Place, now: i128) -> Result<(), CoreError>
     requires from { AgreesAt vfs.old from.now }
     requires to { AgreesAt vfs.old to.now }
     requires time { IsTime now }

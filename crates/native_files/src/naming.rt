@@ -47,7 +47,15 @@ impl Files {
         ensures row { Answers (rows.make_directory self.old now (base_of base) (Ok path.now) mode) result self.new }
     {
         let keys = self.node_keys.as_slice();
-        match walk(&self.vfs, &self.table, keys, self.directory, base, path, false) {
+        match walk(
+            &self.vfs,
+            &self.table,
+            keys,
+            self.directory,
+            base,
+            path,
+            false,
+        ) {
             Err(error) => Err(error),
             Ok(at) => {
                 let mode = permitted(self.umask, (mode % 0x400) as u16);
