@@ -10,6 +10,7 @@ pub mod ListingRows
 pub mod Listings
 pub mod Made
 pub mod NameSteps
+pub mod NamedRows
 pub mod NodeFacts
 pub mod PipePlaces
 pub mod PlaceLemmas
