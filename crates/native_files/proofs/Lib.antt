@@ -12,6 +12,8 @@ pub mod Made
 pub mod NameSteps
 pub mod NamedRows
 pub mod NodeFacts
+pub mod OpenRows
+pub mod OpenedKept
 pub mod PipePlaces
 pub mod PlaceLemmas
 pub mod Places

@@ -5,6 +5,7 @@ pub mod Events
 pub mod Kept
 pub mod Lengths
 pub mod Listings
+pub mod Openings
 pub mod Places
 pub mod Steps
 pub mod Walks

@@ -14,6 +14,7 @@ mod listing;
 mod looking;
 mod naming;
 mod nodes;
+mod opening;
 mod pipes;
 mod progress;
 mod readiness;
