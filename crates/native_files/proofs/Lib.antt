@@ -17,5 +17,6 @@ pub mod OpenedKept
 pub mod PipePlaces
 pub mod PlaceLemmas
 pub mod Places
+pub mod TargetRows
 pub mod Walked
 pub mod WriteSteps

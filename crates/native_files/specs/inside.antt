@@ -8,4 +8,5 @@ pub mod Listings
 pub mod Openings
 pub mod Places
 pub mod Steps
+pub mod Targets
 pub mod Walks

@@ -19,6 +19,7 @@ mod pipes;
 mod progress;
 mod readiness;
 mod reading;
+mod reading_links;
 mod starting;
 mod walking;
 mod writing;
