@@ -10,7 +10,7 @@ use Rattle.std.proofs.lemmas.List.Sums.{sum_by-set}
 use Rattle.std.proofs.lemmas.Option.{same_Some}
 use Rattle.kernel_core.specs.FileSystem.{IsFileSystem}
 use Rattle.kernel_core.specs.Nodes.{Inode}
-use Rattle.kernel_core.specs.Queries.{DirectoryKind, holds_at, holds_in, kind_at}
+use Rattle.kernel_core.specs.Queries.{holds_at, holds_in, kind_at}
 use Rattle.kernel_model.specs.Always.{has_open, is_node, IsTable}
 use Rattle.kernel_model.specs.Descriptions.{node_of}
 use Rattle.kernel_model.specs.State.{Descriptors}

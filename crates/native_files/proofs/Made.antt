@@ -1,8 +1,7 @@
 -- A call that makes a node gives it the number that rows give.
-use Rattle.std.proofs.Common.{◌≡◌, ℕ, Option, Some, None, ap, sym, subst, ◌∙◌}
+use Rattle.std.proofs.Common.{◌≡◌, ℕ, Option, Some, ap, sym, ◌∙◌}
 use Rattle.std.specs.FinMap.{get}
 use Rattle.std.specs.Prelude.{Result, Ok, Err, IfOk, OnOk, OnErr, is_some, unwrap_or}
-use Rattle.kernel_core.specs.NameCalls.{IsNewNumber}
 use Rattle.kernel_core.specs.Nodes.{Nodes}
 use Rattle.kernel_core.specs.Queries.{new_number}
 use Rattle.kernel_core.specs.declared.core_error.CoreError.{CoreError}
@@ -14,7 +13,7 @@ use Rattle.file_system_laws.proofs.NewNumbers.{new_number_is_new, one_new_number
 use Rattle.native_vfs.specs.Answers.{IsAnswer, Makes, with_node}
 use Rattle.native_vfs.specs.Keyed.{Keyed, number_at}
 use Rattle.native_files.specs.inside.Changes.{Changes}
-use Rattle.native_files.specs.inside.Openings.{Opened, Opens, unless_refused}
+use Rattle.native_files.specs.inside.Openings.{Opens, unless_refused}
 
 pub made-as_new : (old new : Keyed) (key : ℕ) (after : ℕ → Nodes) (made : Makes old new key after) → made.number ≡ new_number old.nodes
 made-as_new old new key after made = one_new_number old.nodes made.number (new_number old.nodes) made.least (new_number_is_new old.nodes)

@@ -1,5 +1,5 @@
 -- Rows on names, from what the walk of their paths and the call on the nodes gave.
-use Rattle.std.proofs.Common.{◌≡◌, ℕ, ◌%◌, ℤ, Bool, true, false, cond, List, Option, Some, None, refl, sym, ap, subst, ◌∙◌}
+use Rattle.std.proofs.Common.{◌≡◌, ℕ, ◌%◌, ℤ, false, List, Option, refl, sym, subst, ◌∙◌}
 use Rattle.std.specs.Prelude.{Result, Ok, Err}
 use Rattle.kernel_core.specs.NameCalls.{after_mkdir, make_refusal}
 use Rattle.kernel_core.specs.Nodes.{Nodes}
@@ -9,7 +9,7 @@ use Rattle.kernel_core.specs.declared.core_error.CoreError.{CoreError}
 use Rattle.kernel_core.specs.declared.core_error.CoreError.TheVariants as errors
 use Rattle.kernel_core.specs.declared.core_error.Stop.TheVariants as stops
 use Rattle.kernel_core.specs.declared.error.Errno.{Errno}
-use Rattle.kernel_model.specs.Came.{Did, Given, done, refused_by, with_given}
+use Rattle.kernel_model.specs.Came.{Did, done, refused_by, with_given}
 use Rattle.kernel_model.specs.Modes.{permitted}
 use Rattle.kernel_model.specs.NameRows.{make_directory, with_nodes}
 use Rattle.kernel_model.specs.Paths.{Base, walk}

@@ -2,8 +2,7 @@
 use Rattle.std.proofs.Common.{◌≡◌, ℕ, ◌%◌, ℤ, Bool, true, false, List, Option, Some, None, refl, sym, ap, subst, ◌∙◌}
 use Rattle.std.specs.Prelude.{Result, Ok, Err, ◌&&◌, not, if◌then◌else◌}
 use Rattle.kernel_core.specs.NameCalls.{make_refusal}
-use Rattle.kernel_core.specs.NodeCalls.{after_resize, held}
-use Rattle.kernel_core.specs.Nodes.{Nodes, update}
+use Rattle.kernel_core.specs.NodeCalls.{after_resize}
 use Rattle.kernel_core.specs.PathWalk.{Place}
 use Rattle.kernel_core.specs.declared.core_error.CoreError.{CoreError}
 use Rattle.kernel_core.specs.declared.core_error.CoreError.TheVariants as errors
@@ -11,15 +10,14 @@ use Rattle.kernel_core.specs.declared.core_error.Stop.TheVariants as stops
 use Rattle.kernel_core.specs.declared.error.Errno.{Errno}
 use Rattle.kernel_core.specs.declared.error.Errno.TheVariants.{EEXIST, EINVAL, EMFILE, ENOENT}
 use Rattle.kernel_model.specs.Came.{Did, done, refused_by, refused_if, with_given, with_some}
-use Rattle.kernel_model.specs.Descriptions.{content_at, description_of}
+use Rattle.kernel_model.specs.Descriptions.{content_at}
 use Rattle.kernel_model.specs.Modes.{permitted}
-use Rattle.kernel_model.specs.Opening.{after_open, follows, kind_refusal, open_file, open_place, truncated}
+use Rattle.kernel_model.specs.Opening.{after_open, follows, kind_refusal, open_file, open_place}
 use Rattle.kernel_model.specs.Paths.{Base, is_missing_before_slash, walk}
 use Rattle.kernel_model.specs.Shared.{OpenSet}
 use Rattle.kernel_model.specs.State.{Descriptors, Files, Flow}
-use Rattle.kernel_model.specs.Table.{inserted, lowest_free}
+use Rattle.kernel_model.specs.Table.{lowest_free}
 use Rattle.kernel_model.specs.declared.descriptor.Description.{Description}
-use Rattle.kernel_model.specs.declared.descriptor.Object.TheVariants as objects
 use Rattle.kernel_model.specs.declared.terminal.Terminal.{Terminal}
 use Rattle.native_vfs.specs.Keyed.{Keyed, number_at as node_at, place_at}
 use Rattle.native_vfs.specs.declared.place.Place.{Place as KeyedPlace}

@@ -1,12 +1,11 @@
 -- The holds of nodes and the keys of descriptions, as a description comes that has a node open.
-use Rattle.std.proofs.Common.{◌≡◌, ◌≢◌, ℕ, ◌+◌, ◌-◌, ◌<◌, ◌≤◌, ◌^◌, Bool, true, false, cond, ◌==◌, List, length, set, get_or, Option, Some, None, refl, sym, ap, ◌∙◌, inl, inr, arith, IfSome, IsSome}
+use Rattle.std.proofs.Common.{◌≡◌, ℕ, ◌+◌, ◌<◌, ◌^◌, Bool, true, false, cond, ◌==◌, List, length, set, get_or, Option, Some, None, refl, sym, ap, ◌∙◌, inl, inr, arith, IfSome, IsSome}
 use Rattle.std.specs.Prelude.{is_some, count_by, unwrap_or}
 use Rattle.std.specs.FinMap.{get}
 use Rattle.std.proofs.lemmas.Bool.{cases_eq}
 use Rattle.std.proofs.lemmas.Bool.Decides.{nat_tests}
 use Rattle.std.proofs.lemmas.List.{get_or-set_same, get_or-set_other, length-set}
 use Rattle.std.proofs.lemmas.List.Sums.{count_by-le-length, sum_by-set}
-use Rattle.std.proofs.lemmas.Option.{same_Some}
 use Rattle.kernel_core.specs.FileSystem.{IsFileSystem}
 use Rattle.kernel_core.specs.Nodes.{Inode}
 use Rattle.kernel_core.specs.Queries.{holds_at, holds_in, kind_at}
@@ -18,7 +17,7 @@ use Rattle.kernel_model.specs.Table.{inserted, slot, with_cloexec}
 use Rattle.kernel_model.specs.declared.descriptor.Description.{Description}
 use Rattle.kernel_model.specs.declared.descriptor.Object.TheVariants as objects
 use Rattle.native_vfs.specs.Held.{ChangesHeld, StaysKey}
-use Rattle.native_vfs.specs.Keyed.{Keyed, number_at as node_at, inode_at}
+use Rattle.native_vfs.specs.Keyed.{Keyed, number_at as node_at}
 use Rattle.native_files.specs.inside.Kept.{AreKept, node_in}
 use Rattle.native_files.specs.inside.Openings.{StaysKept}
 use Rattle.native_files.proofs.KeptLemmas.{inserted-cloexec, one}

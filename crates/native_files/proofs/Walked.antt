@@ -1,5 +1,5 @@
 -- Where paths lead, in the words of rows.
-use Rattle.std.proofs.Common.{◌≡◌, ℕ, Bool, true, false, cond, ◌==◌, List, [], ◌∷◌, refl, sym, ap, ◌∙◌, get_or, length, eq-eqb, ne_eqb}
+use Rattle.std.proofs.Common.{◌≡◌, ℕ, Bool, true, false, ◌==◌, List, [], ◌∷◌, refl, sym, ap, ◌∙◌, get_or, length, eq-eqb, ne_eqb}
 use Rattle.std.specs.Prelude.{Result, Ok, Err, if◌then◌else◌}
 use Rattle.kernel_core.specs.Nodes.{Nodes}
 use Rattle.kernel_core.specs.PathWalk.{Place, begins_with_slash, components, ends_with_slash, link_limit}
@@ -9,7 +9,6 @@ use Rattle.kernel_core.specs.declared.core_error.CoreError.{CoreError}
 use Rattle.kernel_core.specs.declared.core_error.CoreError.TheVariants as errors
 use Rattle.kernel_core.specs.declared.core_error.Stop.TheVariants as stops
 use Rattle.kernel_core.specs.declared.error.Errno.{Errno}
-use Rattle.kernel_core.specs.declared.error.Errno.TheVariants.{ENOENT}
 use Rattle.file_system_laws.proofs.WalkedPaths.{walked_is_the_walk}
 use Rattle.file_system_laws.proofs.Walking.{one_answer}
 use Rattle.kernel_model.specs.Paths.{Base, Working, Descriptor, walk, walked_by}

@@ -1,5 +1,5 @@
 -- Which node is opened, before a description leads to it.
-use Rattle.std.specs.Prelude.{◌≡◌, ℕ, ◌&&◌, ◌||◌, not, ⊤, ℤ, Bool, List, Option, Some, None, Result, Ok, Err, if◌then◌else◌}
+use Rattle.std.specs.Prelude.{◌≡◌, ℕ, ◌&&◌, not, ⊤, ℤ, List, Option, Some, None, Result, Ok, Err, if◌then◌else◌}
 use Rattle.kernel_core.specs.NameCalls.{after_create, make_refusal}
 use Rattle.kernel_core.specs.NodeCalls.{after_resize, held}
 use Rattle.kernel_core.specs.Nodes.{Nodes, update}

@@ -1,4 +1,4 @@
-use Rattle.std.proofs.Common.{ap, of_z, subst, sym, to_z}
+use Rattle.std.proofs.Common.{ap, of_z, subst, to_z}
 use Rattle.std.proofs.Math.Facts.{to_z-of_z}
 use Rattle.std.specs.Int.{w128}
 use Rattle.std.specs.Prelude.{option_map}

@@ -1,4 +1,4 @@
-use Rattle.std.proofs.Common.{Err, None, Ok, Some, of_z, refl, subst, sym, to_z}
+use Rattle.std.proofs.Common.{Err, None, Ok, Some, of_z, subst, sym, to_z}
 use Rattle.std.proofs.Math.Facts.{to_z-of_z}
 use Rattle.std.specs.Int.{w128}
 use Rattle.kernel_core.specs.declared.core_error.CoreError.TheVariants as errors
