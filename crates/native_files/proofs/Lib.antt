@@ -14,9 +14,12 @@ pub mod NameSteps
 pub mod NamedRows
 pub mod NodeFacts
 pub mod NodeRows
+pub mod OpenRows
+pub mod OpenedKept
 pub mod PipePlaces
 pub mod PlaceLemmas
 pub mod Places
+pub mod TargetRows
 pub mod TimesAsked
 pub mod Walked
 pub mod WriteSteps

@@ -7,6 +7,8 @@ pub mod Lengths
 pub mod Listings
 pub mod NewTimes
 pub mod NodeSteps
+pub mod Openings
 pub mod Places
 pub mod Steps
+pub mod Targets
 pub mod Walks

@@ -109,12 +109,7 @@ impl Files {
     /// EINVAL for other bits; then as the walk is, and ENOENT where the node is not there; EACCES where a file is to
     /// be executed whose mode has no execute bit. Other bits of a mode are not looked at (this project's own).
     #[tactic(auto, unfolding(kernel_model::specs::NodeRows::access))]
-    pub fn access(
-        &self,
-        base: Base,
-        path: Result<&[u8], Errno>,
-        mode: u32,
-    ) -> Result<(), CoreError>
+    pub fn access(&self, base: Base, path: Result<&[u8], Errno>, mode: u32) -> Result<(), CoreError>
         requires path { WhereRead IsPlain (text_of path) }
         ensures row { Answers (rows.access self.now (base_of base) (text_of path.entry) mode) result self.now }
     {

@@ -79,13 +79,7 @@ impl Files {
 }
 
 /// Makes the directory `to` the working directory in place of `from`, by their keys.
-fn move_home(
-    vfs: &mut Vfs,
-    table: &Table<Description>,
-    node_keys: &[usize],
-    from: usize,
-    to: usize,
-)
+fn move_home(vfs: &mut Vfs, table: &Table<Description>, node_keys: &[usize], from: usize, to: usize)
     requires kept { AreKept vfs.old table.now.live node_keys.now from }
     requires live { IsLiveKey vfs.old to }
     requires directory { kind_at vfs.old.nodes (number_at vfs.old to) ≡ Some DirectoryKind }
