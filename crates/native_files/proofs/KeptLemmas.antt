@@ -51,7 +51,7 @@ count_changed live number node o within =
     ∙ sum_by-set (λ x. one (has_open (is_node node) x)) live number o None within
     ∙ ap (λ b. count_by (has_open (is_node node)) live + one b) (has_node node o)
 
-count_some : (live : List (Option Description)) (number node : ℕ) → node_in (slot live number) ≡ Some node → 1 ≤ count_by (has_open (is_node node)) live
+pub count_some : (live : List (Option Description)) (number node : ℕ) → node_in (slot live number) ≡ Some node → 1 ≤ count_by (has_open (is_node node)) live
 count_some live number node at = elim (cases_lt number (length live)) [
   | inl within ↦
       let same : (node == node) ≡ true = grind (arith, nat_tests) in
@@ -72,7 +72,7 @@ node_set live number o same n =
     ]
 
 -- where a key leads
-key_found : (o : Option ℕ) → IsSome o → o ≡ Some (unwrap_or o 0)
+pub key_found : (o : Option ℕ) → IsSome o → o ≡ Some (unwrap_or o 0)
 key_found None some = absurd (let bad : false ≡ true = some in cc)
 key_found (Some n) some = refl
 

@@ -4,6 +4,7 @@ pub mod ContentSteps
 pub mod EndSteps
 pub mod Filled
 pub mod FirstFiles
+pub mod Homes
 pub mod Keeping
 pub mod KeptLemmas
 pub mod ListingRows
@@ -12,11 +13,13 @@ pub mod Made
 pub mod NameSteps
 pub mod NamedRows
 pub mod NodeFacts
+pub mod NodeRows
 pub mod OpenRows
 pub mod OpenedKept
 pub mod PipePlaces
 pub mod PlaceLemmas
 pub mod Places
 pub mod TargetRows
+pub mod TimesAsked
 pub mod Walked
 pub mod WriteSteps

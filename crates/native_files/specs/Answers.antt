@@ -12,10 +12,13 @@ use Rattle.kernel_core.specs.declared.error.Errno.{Errno}
 use Rattle.kernel_model.specs.Came.{Came, Done, Refused, Waits, Did, Given, came_as}
 use Rattle.kernel_model.specs.ContentRows as contents
 use Rattle.kernel_model.specs.DescriptorRows as rows
+use Rattle.kernel_model.specs.NodeRows as nodes
 use Rattle.kernel_model.specs.Paths as paths
 use Rattle.kernel_model.specs.State.{Files}
 use Rattle.kernel_model.specs.Transfers.{Reading, Writing}
 use Rattle.layouts.specs.Dirents.{dirent64_length}
+use Rattle.native_files.specs.declared.asking.StatusFlags.{StatusFlags}
+use Rattle.native_files.specs.declared.node_times.Times.{Times}
 use Rattle.native_files.specs.declared.pipes.Ends.{Ends}
 use Rattle.native_files.specs.declared.pipes.PipeFlags.{PipeFlags}
 use Rattle.native_files.specs.declared.progress.Entry.{Entry}
@@ -61,6 +64,11 @@ text_of (Err error) = Err error
 abbrev pub WhereRead : (List ℕ → Type 0) → Given (List ℕ) → Type 0
 WhereRead P (Ok text) = P text
 WhereRead P (Err error) = ⊤
+
+-- a path whose pointer may be null
+abbrev pub path_of : Option (Result (Bor (List ℕ)) Errno) → Option (Given (List ℕ))
+path_of None = None
+path_of (Some path) = Some (text_of path)
 
 -- where a path begins, in the row's terms
 abbrev pub base_of : Base → paths.Base
@@ -158,6 +166,20 @@ status_told status = record {
   changed = status.changed;
 }
 
+-- a status in the row's terms, where it is told
+abbrev pub status_answered : Result Status CoreError → Result contents.Status CoreError
+status_answered (Ok status) = Ok (status_told status)
+status_answered (Err error) = Err error
+
+-- the flags of fstatat(2) in the row's terms
+
+abbrev pub status_flags_of : StatusFlags → nodes.StatusFlags
+status_flags_of flags = record { follow = flags.follow; empty = flags.empty }
+
+abbrev pub status_flags_told : Option StatusFlags → Option nodes.StatusFlags
+status_flags_told None = None
+status_flags_told (Some flags) = Some (status_flags_of flags)
+
 -- what a status always is
 pub record IsStatus (status : Status) : Type 0 where
   pub number : status.number ≤ greatest_number
@@ -165,6 +187,21 @@ pub record IsStatus (status : Status) : Type 0 where
   pub access : IsTime status.access
   pub modified : IsTime status.modified
   pub changed : IsTime status.changed
+
+-- Times
+
+-- the times that a program gives, in the row's terms
+
+abbrev pub times_of : Times → nodes.Times
+times_of times = record { access = times.access; modified = times.modified }
+
+abbrev pub times_read : Result Times Errno → Given nodes.Times
+times_read (Ok times) = Ok (times_of times)
+times_read (Err error) = Err error
+
+abbrev pub times_given : Option (Result Times Errno) → Option (Given nodes.Times)
+times_given None = None
+times_given (Some times) = Some (times_read times)
 
 -- Entries
 

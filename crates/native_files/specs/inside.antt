@@ -5,6 +5,8 @@ pub mod Events
 pub mod Kept
 pub mod Lengths
 pub mod Listings
+pub mod NewTimes
+pub mod NodeSteps
 pub mod Openings
 pub mod Places
 pub mod Steps
