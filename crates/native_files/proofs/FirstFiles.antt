@@ -10,11 +10,13 @@ use Rattle.std.proofs.lemmas.List.{length-replicate}
 use Rattle.std.proofs.lemmas.List.Folds.{sum_by-replicate}
 use Rattle.kernel_core.specs.FileSystem.{IsFileSystem}
 use Rattle.kernel_core.specs.LoadedTree.{loaded, loaded_inode}
-use Rattle.kernel_core.specs.Nodes.{Inode, Nodes}
-use Rattle.kernel_core.specs.Queries.{holds_at, holds_in}
+use Rattle.kernel_core.specs.NodeCalls.{held}
+use Rattle.kernel_core.specs.Nodes.{Inode, Nodes, is_directory, listing_in, update}
+use Rattle.kernel_core.specs.Queries.{DirectoryKind, holds_at, holds_in, kind_at}
 use Rattle.kernel_core.specs.ValidTree.{root}
 use Rattle.kernel_core.specs.declared.tree.Node.{Node}
 use Rattle.kernel_core.specs.declared.tree.Tree.{Tree}
+use Rattle.file_system_laws.proofs.HeldNodes.{listing_kind, told, update-kind}
 use Rattle.kernel_model.specs.Begin.{free_places, first_table, stream_description, stream_descriptor}
 use Rattle.kernel_core.specs.declared.open_flags.Access.TheVariants as accesses
 use Rattle.kernel_model.specs.declared.stream.Stream.TheVariants as streams
@@ -60,16 +62,22 @@ count-free : (node : ℕ) → count_by (has_open (is_node node)) (free_places 10
 unfolding free_places
 count-free node = sum_by-replicate {X = Option Description} (λ x. cond (has_open (is_node node) x) 1 0) 1024 None
 
+pub first-kind : (system now : Keyed) (node : ℕ) → is_directory system.nodes root ≡ true → now.nodes ≡ update system.nodes node held → kind_at now.nodes root ≡ Some DirectoryKind
+first-kind system now node is after =
+    ap (λ (n : Nodes). kind_at n root) after ∙ update-kind system.nodes node held (λ i. refl) root
+    ∙ (told listing_in DirectoryKind listing_kind (get system.nodes root)).1 is
+
 pub AreKept-first : (system now : Keyed) (tree : Tree) (key : ℕ) → system.nodes ≡ loaded tree → get system.keys key ≡ Some root
-    → now.keys ≡ system.keys → ChangesHeld system now (node_at system key) (λ holds. holds + 1)
+    → now.keys ≡ system.keys → kind_at now.nodes root ≡ Some DirectoryKind → ChangesHeld system now (node_at system key) (λ holds. holds + 1)
     → IsFileSystem now.nodes → AreKept now (free_places 1024) (replicate 1024 0) key
-AreKept-first system now tree key is at same changes valid = record {
+AreKept-first system now tree key is at same kind changes valid = record {
   keyed = record {
     sized = length-replicate {A = ℕ} 1024 0;
     leads = λ number node there. absurd (let bad : None ≡ Some node = sym (ap (λ o. node_in o) (slot-free 1024 number)) ∙ there in cc);
   };
   valid = valid;
   home = ap (λ o. is_some o) (ap (λ keys. get keys key) same ∙ at);
+  home_kind = ap (λ o. kind_at now.nodes (unwrap_or o 0)) (ap (λ keys. get keys key) same ∙ at) ∙ kind;
   holds = λ node.
       let none : holds_at system.nodes node ≡ 0 = ap (λ (n : Nodes). holds_at n node) is ∙ holds-loaded tree node in
       let there : node_at now key ≡ root = ap (λ o. unwrap_or o 0) (ap (λ keys. get keys key) same ∙ at) in

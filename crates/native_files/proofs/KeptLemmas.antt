@@ -10,7 +10,7 @@ use Rattle.std.proofs.lemmas.List.Sums.{sum_by-set}
 use Rattle.std.proofs.lemmas.Option.{same_Some}
 use Rattle.kernel_core.specs.FileSystem.{IsFileSystem}
 use Rattle.kernel_core.specs.Nodes.{Inode}
-use Rattle.kernel_core.specs.Queries.{holds_at, holds_in}
+use Rattle.kernel_core.specs.Queries.{holds_at, holds_in, kind_at}
 use Rattle.kernel_model.specs.Always.{has_open, is_node, IsTable}
 use Rattle.kernel_model.specs.Descriptions.{node_of}
 use Rattle.kernel_model.specs.State.{Descriptors}
@@ -20,7 +20,7 @@ use Rattle.kernel_model.specs.declared.descriptor.Description.{Description}
 use Rattle.kernel_model.specs.declared.descriptor.Object.{Object}
 use Rattle.kernel_model.specs.declared.descriptor.Object.TheVariants as objects
 use Rattle.kernel_model.proofs.LeastFree.{least_free}
-use Rattle.native_vfs.specs.Held.{ChangesHeld, KeepsHeld}
+use Rattle.native_vfs.specs.Held.{ChangesHeld, KeepsHeld, StaysKey}
 use Rattle.native_vfs.specs.Keyed.{Keyed, number_at as node_at, inode_at, IsLiveKey}
 use Rattle.native_files.specs.inside.Kept.{AreKept, node_in}
 
@@ -51,7 +51,7 @@ count_changed live number node o within =
     ∙ sum_by-set (λ x. one (has_open (is_node node) x)) live number o None within
     ∙ ap (λ b. count_by (has_open (is_node node)) live + one b) (has_node node o)
 
-count_some : (live : List (Option Description)) (number node : ℕ) → node_in (slot live number) ≡ Some node → 1 ≤ count_by (has_open (is_node node)) live
+pub count_some : (live : List (Option Description)) (number node : ℕ) → node_in (slot live number) ≡ Some node → 1 ≤ count_by (has_open (is_node node)) live
 count_some live number node at = elim (cases_lt number (length live)) [
   | inl within ↦
       let same : (node == node) ≡ true = grind (arith, nat_tests) in
@@ -72,7 +72,7 @@ node_set live number o same n =
     ]
 
 -- where a key leads
-key_found : (o : Option ℕ) → IsSome o → o ≡ Some (unwrap_or o 0)
+pub key_found : (o : Option ℕ) → IsSome o → o ≡ Some (unwrap_or o 0)
 key_found None some = absurd (let bad : false ≡ true = some in cc)
 key_found (Some n) some = refl
 
@@ -82,6 +82,7 @@ module _ (system : Keyed) (live : List (Option Description)) (keys : List ℕ) (
   AreKept-set number o same = record {
     keyed = record { sized = are.keyed.sized; leads = λ n node at. are.keyed.leads n node (sym (node_set live number o same n) ∙ at) };
     home = are.home;
+    home_kind = are.home_kind;
     holds = λ node. are.holds node ∙ ap (λ c. c + one (node_at system directory == node)) (sym (count node));
     valid = are.valid;
   }
@@ -152,15 +153,15 @@ module _ (system : Keyed) (live : List (Option Description)) (keys : List ℕ) (
             omega (arith, e, f, count_left m, are.holds m)
       ]
 
-      home_kept : get now.keys directory ≡ Some (node_at system directory)
+      home_kept : StaysKey system now directory (node_at system directory)
       home_kept =
           let h = node_at system directory in
           let same : (h == h) ≡ true = grind (arith, nat_tests) in
           let more : one (h == h) ≡ one true = ap one same in
-          (changes.keys directory h (key_found (get system.keys directory) are.home) (omega (arith, are.holds h, more)) (omega (arith, holds_left h, more))).0
+          changes.keys directory h (key_found (get system.keys directory) are.home) (omega (arith, are.holds h, more)) (omega (arith, holds_left h, more))
 
       pub home-now : node_at now directory ≡ node_at system directory
-      home-now = ap (λ o. unwrap_or o 0) home_kept
+      home-now = ap (λ o. unwrap_or o 0) home_kept.0
 
       stays : (n m : ℕ) → node_in (slot (set live number None) n) ≡ Some m → n ≢ number
       stays n m there here =
@@ -176,7 +177,8 @@ module _ (system : Keyed) (live : List (Option Description)) (keys : List ℕ) (
               (changes.keys (get_or keys n 0) m (are.keyed.leads n m before) (omega (arith, are.holds m, count_left m, some)) (omega (arith, holds_left m, some))).0;
         };
         valid = valid;
-        home = ap (λ o. is_some o) home_kept;
+        home = ap (λ o. is_some o) home_kept.0;
+        home_kind = ap (kind_at now.nodes) home-now ∙ home_kept.1 ∙ are.home_kind;
         holds = λ m. holds_left m ∙ ap (λ h. count_by (has_open (is_node m)) (set live number None) + one (h == m)) (sym home-now);
       }
 
@@ -295,13 +297,28 @@ live-shared {A} table fd onto cloexec = by (number_at table fd)
     by None = refl
     by (Some number) = refl
 
--- a call on a node's content keeps how often nodes are held
-pub AreKept-content : (system now : Keyed) (live : List (Option Description)) (keys : List ℕ) (directory : ℕ) → now.keys ≡ system.keys → KeepsHeld system now → IsFileSystem now.nodes
-    → AreKept system live keys directory → AreKept now live keys directory
-AreKept-content system now live keys directory same held valid are = record {
-  keyed = record { sized = are.keyed.sized; leads = λ n node at. ap (λ k. get k (get_or keys n 0)) same ∙ are.keyed.leads n node at };
-  home = ap (λ k. is_some (get k directory)) same ∙ are.home;
-  holds = λ node.
-      held.holds node ∙ are.holds node ∙ ap (λ k. count_by (has_open (is_node node)) live + one (unwrap_or (get k directory) 0 == node)) (sym same);
-  valid = valid;
-}
+-- a call that keeps how often nodes are held
+module _ (system now : Keyed) (live : List (Option Description)) (keys : List ℕ) (directory : ℕ) (are : AreKept system live keys directory) (held : KeepsHeld system now) where
+  home_stays : StaysKey system now directory (node_at system directory)
+  home_stays =
+      let h = node_at system directory in
+      let same : (h == h) ≡ true = grind (arith, nat_tests) in
+      let more : one (h == h) ≡ one true = ap one same in
+      held.keys directory h (key_found (get system.keys directory) are.home) (omega (arith, are.holds h, more))
+
+  pub home-held : node_at now directory ≡ node_at system directory
+  home-held = ap (λ o. unwrap_or o 0) home_stays.0
+
+  pub AreKept-held : IsFileSystem now.nodes → AreKept now live keys directory
+  AreKept-held valid = record {
+    keyed = record {
+      sized = are.keyed.sized;
+      leads = λ n node at.
+          let some = count_some live n node at in
+          (held.keys (get_or keys n 0) node (are.keyed.leads n node at) (omega (arith, are.holds node, some))).0;
+    };
+    home = ap (λ o. is_some o) home_stays.0;
+    home_kind = ap (kind_at now.nodes) home-held ∙ home_stays.1 ∙ are.home_kind;
+    holds = λ node. held.holds node ∙ are.holds node ∙ ap (λ h. count_by (has_open (is_node node)) live + one (h == node)) (sym home-held);
+    valid = valid;
+  }

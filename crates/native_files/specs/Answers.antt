@@ -1,5 +1,7 @@
 -- What an answer of code says of a row of `kernel_model`.
-use Rattle.std.specs.Prelude.{◌≡◌, ℕ, ◌≤◌, ⊤, ◌⊎◌, List, [], ◌++◌, length, drop, map, Option, Some, None, Result, Ok, Err}
+use Rattle.std.specs.Borrow.{Bor}
+use Rattle.std.specs.List.{list_any}
+use Rattle.std.specs.Prelude.{◌≡◌, ℕ, ◌≤◌, ◌==◌, false, ⊤, ◌⊎◌, List, [], ◌++◌, length, drop, map, Option, Some, None, Result, Ok, Err}
 use Rattle.kernel_core.specs.FileContent.{greatest_size}
 use Rattle.kernel_core.specs.FileSystem.{IsTime}
 use Rattle.kernel_core.specs.ValidTree.{greatest_number}
@@ -7,18 +9,24 @@ use Rattle.kernel_core.specs.declared.core_error.CoreError.{CoreError}
 use Rattle.kernel_core.specs.declared.core_error.CoreError.TheVariants as errors
 use Rattle.kernel_core.specs.declared.core_error.Stop.TheVariants as stops
 use Rattle.kernel_core.specs.declared.error.Errno.{Errno}
-use Rattle.kernel_model.specs.Came.{Came, Done, Refused, Waits, Did, came_as}
+use Rattle.kernel_model.specs.Came.{Came, Done, Refused, Waits, Did, Given, came_as}
 use Rattle.kernel_model.specs.ContentRows as contents
 use Rattle.kernel_model.specs.DescriptorRows as rows
+use Rattle.kernel_model.specs.NodeRows as nodes
+use Rattle.kernel_model.specs.Paths as paths
 use Rattle.kernel_model.specs.State.{Files}
 use Rattle.kernel_model.specs.Transfers.{Reading, Writing}
 use Rattle.layouts.specs.Dirents.{dirent64_length}
+use Rattle.native_files.specs.declared.asking.StatusFlags.{StatusFlags}
+use Rattle.native_files.specs.declared.node_times.Times.{Times}
 use Rattle.native_files.specs.declared.pipes.Ends.{Ends}
 use Rattle.native_files.specs.declared.pipes.PipeFlags.{PipeFlags}
 use Rattle.native_files.specs.declared.progress.Entry.{Entry}
 use Rattle.native_files.specs.declared.progress.Progress.{Progress}
 use Rattle.native_files.specs.declared.progress.Progress.TheVariants as progress
 use Rattle.native_files.specs.declared.progress.Status.{Status}
+use Rattle.native_files.specs.declared.walking.Base.{Base}
+use Rattle.native_files.specs.declared.walking.Base.TheVariants as bases
 use Rattle.native_vfs.specs.Seen.{kind_told}
 use Rattle.outside.specs.Count.{Rose}
 use Rattle.outside.specs.Output.{GainsText, GainsBetween}
@@ -35,6 +43,37 @@ Answers step (Err (errors.Refused error)) state = (step.came ≡ Refused error) 
 Answers step (Err (errors.Stop stops.NoMemory)) state = ⊤
 Answers step (Err (errors.Stop stops.ReadFault)) state = ⊥
 Answers step (Err (errors.Stop stops.WriteFault)) state = ⊥
+
+-- Paths
+
+-- a path or a target as it was read up to its NUL: no byte of it is NUL
+abbrev pub IsPlain : List ℕ → Type 0
+IsPlain text = list_any (λ byte. byte == 0) text ≡ false
+
+-- a target that a symbolic link may have: 4095 bytes at most (symlink(2))
+pub record IsShortPlain (text : List ℕ) : Type 0 where
+  pub plain : IsPlain text
+  pub short : length text ≤ 4095
+
+-- what was read, or why it could not be
+abbrev pub text_of : Result (Bor (List ℕ)) Errno → Given (List ℕ)
+text_of (Ok text) = Ok text.now
+text_of (Err error) = Err error
+
+-- of what was read
+abbrev pub WhereRead : (List ℕ → Type 0) → Given (List ℕ) → Type 0
+WhereRead P (Ok text) = P text
+WhereRead P (Err error) = ⊤
+
+-- a path whose pointer may be null
+abbrev pub path_of : Option (Result (Bor (List ℕ)) Errno) → Option (Given (List ℕ))
+path_of None = None
+path_of (Some path) = Some (text_of path)
+
+-- where a path begins, in the row's terms
+abbrev pub base_of : Base → paths.Base
+base_of bases.Working = paths.Working
+base_of (bases.Descriptor fd) = paths.Descriptor fd
 
 -- Transfers
 
@@ -127,6 +166,20 @@ status_told status = record {
   changed = status.changed;
 }
 
+-- a status in the row's terms, where it is told
+abbrev pub status_answered : Result Status CoreError → Result contents.Status CoreError
+status_answered (Ok status) = Ok (status_told status)
+status_answered (Err error) = Err error
+
+-- the flags of fstatat(2) in the row's terms
+
+abbrev pub status_flags_of : StatusFlags → nodes.StatusFlags
+status_flags_of flags = record { follow = flags.follow; empty = flags.empty }
+
+abbrev pub status_flags_told : Option StatusFlags → Option nodes.StatusFlags
+status_flags_told None = None
+status_flags_told (Some flags) = Some (status_flags_of flags)
+
 -- what a status always is
 pub record IsStatus (status : Status) : Type 0 where
   pub number : status.number ≤ greatest_number
@@ -134,6 +187,21 @@ pub record IsStatus (status : Status) : Type 0 where
   pub access : IsTime status.access
   pub modified : IsTime status.modified
   pub changed : IsTime status.changed
+
+-- Times
+
+-- the times that a program gives, in the row's terms
+
+abbrev pub times_of : Times → nodes.Times
+times_of times = record { access = times.access; modified = times.modified }
+
+abbrev pub times_read : Result Times Errno → Given nodes.Times
+times_read (Ok times) = Ok (times_of times)
+times_read (Err error) = Err error
+
+abbrev pub times_given : Option (Result Times Errno) → Option (Given nodes.Times)
+times_given None = None
+times_given (Some times) = Some (times_read times)
 
 -- Entries
 

@@ -1,8 +1,14 @@
+pub mod Changes
 pub mod Contents
 pub mod Ends
 pub mod Events
 pub mod Kept
 pub mod Lengths
 pub mod Listings
+pub mod NewTimes
+pub mod NodeSteps
+pub mod Openings
 pub mod Places
 pub mod Steps
+pub mod Targets
+pub mod Walks

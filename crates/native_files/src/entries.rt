@@ -20,7 +20,7 @@ impl Files {
     /// (getdents64(2)), `.` and `..` first: as many as have records that fit into `size` bytes. `room` is how
     /// many bytes can be stored. EBADF where the descriptor is not open; ENOTDIR for what is no directory;
     /// ENOENT for a removed one; EINVAL where the first record does not fit; EFAULT where the records can't all
-    /// be stored. After NoMemory the files are as they were.
+    /// be stored. After NoMemory the files are not used again.
     #[tactic(auto, unfolding(kernel_model::specs::ContentRows::entries))]
     pub fn entries(&mut self, fd: u32, size: u32, room: usize) -> Result<Items<Entry>, CoreError>
         ensures row { Answers (rows.entries self.old fd entry_records size room) (entries_told result) self.new }

@@ -2,7 +2,7 @@
 ghost use Rattle.std.specs.Prelude.{◌≡◌, ◌*◌, true};
 ghost use Rattle.kernel_core.specs.Bits.{one_if};
 ghost use Rattle.kernel_core.specs.inside.OpenBits.{open_bits};
-ghost use Rattle.kernel_model.specs.Descriptions.{no_flags};
+ghost use Rattle.kernel_model.specs.Descriptions.{kept_flags, no_flags};
 
 use bitflags::Flags;
 use kernel_core::{Access, OpenBits, OpenFlags};
@@ -56,4 +56,23 @@ fn bit_if(bit: OpenBits, set: bool) -> u16
     ensures { result ≡ bit.0 * one_if set }
 {
     if set { bit.bits() } else { 0 }
+}
+
+/// Those flags that a description keeps of the ones with which it was opened (F_GETFL of fcntl(2)).
+pub(crate) fn kept(flags: OpenFlags) -> OpenFlags
+    ensures { result ≡ kept_flags flags }
+{
+    OpenFlags::new(flags.access(), OpenBits::from_bits_retain(kept_bits(flags)))
+}
+
+fn kept_bits(flags: OpenFlags) -> u16
+    ensures { result ≡ open_bits (kept_flags flags) }
+{
+    bit_if(OpenBits::APPEND, flags.append())
+        + bit_if(OpenBits::DSYNC, flags.dsync())
+        + bit_if(OpenBits::NONBLOCK, flags.nonblock())
+        + bit_if(OpenBits::LARGEFILE, flags.largefile())
+        + bit_if(OpenBits::SYNC, flags.sync())
+        + bit_if(OpenBits::DIRECTORY, flags.directory())
+        + bit_if(OpenBits::NOFOLLOW, flags.nofollow())
 }

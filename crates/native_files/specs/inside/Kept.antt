@@ -1,9 +1,9 @@
--- What the files of a process keep: which node each description has open, that a node is held as often as it is open or the working
--- directory, and that the nodes are a file system.
+-- What the files of a process keep: which node each description has open, that the working directory is one, that a node is held as
+-- often as it is open or the working directory, and that the nodes are a file system.
 use Rattle.std.specs.Prelude.{◌≡◌, ℕ, ◌+◌, ◌==◌, List, length, Option, Some, option_and_then, count_by, slice_index, if◌then◌else◌}
 use Rattle.std.specs.FinMap.{get}
 use Rattle.kernel_core.specs.FileSystem.{IsFileSystem}
-use Rattle.kernel_core.specs.Queries.{holds_at}
+use Rattle.kernel_core.specs.Queries.{DirectoryKind, holds_at, kind_at}
 use Rattle.kernel_model.specs.Always.{has_open, is_node}
 use Rattle.kernel_model.specs.Descriptions.{node_of}
 use Rattle.kernel_model.specs.Table.{slot}
@@ -26,5 +26,6 @@ pub record AreKeyed (system : Keyed) (live : List (Option Description)) (keys : 
 pub record AreKept (system : Keyed) (live : List (Option Description)) (keys : List ℕ) (directory : ℕ) : Type 0 where
   pub keyed : AreKeyed system live keys
   pub home : IsLiveKey system directory
+  pub home_kind : kind_at system.nodes (number_at system directory) ≡ Some DirectoryKind
   pub holds : (node : ℕ) → holds_at system.nodes node ≡ holders_in live (number_at system directory) node
   pub valid : IsFileSystem system.nodes
