@@ -2,8 +2,16 @@ pub mod Calls
 pub mod CommandMirrors
 pub mod DescriptorMirrors
 pub mod Fitting
-pub mod ReadFills
+pub mod Limits
+pub mod LookMirrors
 pub mod PipeMirrors
+pub mod ReadFills
 pub mod ReadvMirrors
+pub mod Rooms
+pub mod StatusSize
 pub mod Storing
 pub mod TerminalMirrors
+pub mod Unmoving
+pub mod WriteMirrors
+pub mod WritevMirrors
+pub mod Writes

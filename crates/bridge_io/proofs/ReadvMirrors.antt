@@ -50,31 +50,27 @@ use Rattle.bridge_io.specs.inside.Outcomes.{wrong_count}
 
 -- A vector that is wrong
 
-Wrong : Errno → Type 0
+abbrev pub Wrong : Errno → Type 0
 Wrong error = (error ≡ EINVAL) ⊎ (error ≡ EFAULT)
 
 wrong_sum : (above : Bool) (ranges : List Range) (error : Errno) → (if above then Err EINVAL else Ok ranges) ≡ Err error → Wrong error
-unfolding Wrong
 wrong_sum true ranges error same = inl (let e : EINVAL ≡ error = cc in sym e)
 wrong_sum false ranges error same = absurd cc
 
 wrong_bytes : (count : ℕ) (denied : Option Denied) (bytes : List ℕ) (error : Errno) → if_countable (read_as (ranges_in count) (given denied bytes)) ≡ Err error → Wrong error
-unfolding Wrong
 wrong_bytes count None bytes error same = wrong_sum (nat_lt sum_limit (total (ranges_in count bytes))) (ranges_in count bytes) error same
 wrong_bytes count (Some denied) bytes error same = inr (let e : EFAULT ≡ error = cc in sym e)
 
 wrong_vector : (many : Bool) (count : ℕ) (denied : Option Denied) (bytes : List ℕ) (error : Errno) → (if many then Err EINVAL else if_countable (read_as (ranges_in count) (given denied bytes))) ≡ Err error → Wrong error
-unfolding Wrong
 wrong_vector true count denied bytes error same = inl (let e : EINVAL ≡ error = cc in sym e)
 wrong_vector false count denied bytes error same = wrong_bytes count denied bytes error same
 
-is_wrong : (memory : Memory) (address count : ℕ) (error : Errno) → vector memory address count ≡ Err error → Wrong error
+pub is_wrong : (memory : Memory) (address count : ℕ) (error : Errno) → vector memory address count ≡ Err error → Wrong error
 is_wrong memory address count error same =
     wrong_vector (nat_lt vector_limit count) count (first_denied Load memory.pages address (count * 8)) (bytes_at memory.pages address (count * 8)) error same
 
 -- the native kernel finds the same error
-found_wrong : (memory : List ℕ) (error : Errno) → Wrong error → host.vector memory 0 (wrong_count error) ≡ Err error
-unfolding Wrong
+pub found_wrong : (memory : List ℕ) (error : Errno) → Wrong error → host.vector memory 0 (wrong_count error) ≡ Err error
 found_wrong memory error wrong =
     elim wrong [
       | inl is ↦ subst (λ (e : Errno). host.vector memory 0 (wrong_count e) ≡ Err e) (sym is) refl

@@ -1,4 +1,7 @@
+pub mod Looks
 pub mod Outcomes
 pub mod Purposes
+pub mod Rooms
 pub mod Stores
 pub mod Takes
+pub mod Written

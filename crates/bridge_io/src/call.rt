@@ -10,10 +10,12 @@ ghost use Rattle.outside.specs.Streams.{NoCountFell, contents};
 
 use crate::commands::fcntl;
 use crate::descriptors::{close, dup, dup2, dup3};
+use crate::gathering::writev;
 use crate::pipes::{pipe, pipe2};
 use crate::reading::{pread, read};
 use crate::terminal::ioctl;
 use crate::vectors::readv;
+use crate::writing::write;
 use guest_space::Space;
 use host_mem::HostMem;
 use kernel_core::Stop;
@@ -44,6 +46,7 @@ pub fn io_call<I: Source, O: Sink, E: Sink>(
     let [a0, a1, a2, _] = args.reg;
     match args.nr {
         4003 => read(args, a0, a1, a2, space, k, mem, dev, log),
+        4004 => write(args, a0, a1, a2, space, k, mem, dev, log),
         4006 => close(args, a0, k, mem, dev, log),
         4041 => dup(args, a0, k, mem, dev, log),
         4042 => pipe(args, k, mem, dev, log),
@@ -51,6 +54,7 @@ pub fn io_call<I: Source, O: Sink, E: Sink>(
         4055 => fcntl(args, a0, a1, a2, k, mem, dev, log),
         4063 => dup2(args, a0, a1, k, mem, dev, log),
         4145 => readv(args, a0, a1, a2, space, k, mem, dev, log),
+        4146 => writev(args, a0, a1, a2, space, k, mem, dev, log),
         4200 => pread(args, a0, a1, a2, space, k, mem, dev, log),
         4220 => fcntl(args, a0, a1, a2, k, mem, dev, log),
         4327 => dup3(args, a0, a1, a2, k, mem, dev, log),

@@ -4,11 +4,16 @@
 mod call;
 mod commands;
 mod descriptors;
+mod gathering;
+mod looking;
 mod numbers;
 mod pipes;
 mod reading;
+mod room;
 mod structures;
+mod telling;
 mod terminal;
 mod vectors;
+mod writing;
 
 pub use call::io_call;

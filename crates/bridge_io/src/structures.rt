@@ -1,4 +1,5 @@
-//! Calls whose structure goes from host memory to the program's memory.
+//! Structures, whose bytes have another order in the program's memory than in host memory, and calls that
+//! give one.
 ghost use Rattle.std.specs.Prelude.{◌≡◌, ◌≤◌, ℕ, List, length, map, replicate, slice_index, OnOk};
 ghost use Rattle.bridge_io.specs.inside.Stores.{Stores, bytes_told, byte_from, places, size};
 ghost use Rattle.bridge_io.specs.inside.Takes.{places_back};
@@ -23,7 +24,7 @@ use native_kernel::NativeKernel;
 use o32_model::{CallWords, Log, Outcome};
 use outside::{Devices, Sink, Source};
 
-/// A structure that a native call puts into host memory.
+/// A structure that both worlds have.
 #[derive(Clone, Copy)]
 pub(crate) enum Structure {
     /// Two descriptors.
@@ -32,7 +33,7 @@ pub(crate) enum Structure {
     Int,
     /// The size of a window.
     Window,
-    /// The settings of a terminal, whose characters stand elsewhere in host memory.
+    /// The settings of a terminal (struct termios), whose characters have other places in host memory.
     Settings,
 }
 
@@ -114,7 +115,8 @@ static WINDOW: [Option<usize>; 8] = [
     Some(6),
 ];
 
-/// Four words of flags, the line and 23 characters.
+/// Four words of flags, the line and 23 characters (Linux `arch/mips/include/uapi/asm/termbits.h`), of which
+/// the native kernel lacks six.
 static SETTINGS: [Option<usize>; 40] = [
     Some(3),
     Some(2),
@@ -133,24 +135,24 @@ static SETTINGS: [Option<usize>; 40] = [
     Some(13),
     Some(12),
     Some(16),
-    Some(17),
-    Some(18),
-    Some(19),
-    Some(20),
-    Some(23),
-    Some(22),
-    Some(33),
-    Some(24),
-    Some(25),
-    Some(26),
-    Some(27),
+    Some(17), // VINTR
+    Some(18), // VQUIT
+    Some(19), // VERASE
+    Some(20), // VKILL
+    Some(23), // VMIN
+    Some(22), // VTIME
+    Some(33), // VEOL2
+    Some(24), // VSWTC
+    Some(25), // VSTART
+    Some(26), // VSTOP
+    Some(27), // VSUSP
     None,
-    Some(29),
-    Some(30),
-    Some(31),
-    Some(32),
-    Some(21),
-    Some(28),
+    Some(29), // VREPRINT
+    Some(30), // VDISCARD
+    Some(31), // VWERASE
+    Some(32), // VLNEXT
+    Some(21), // VEOF
+    Some(28), // VEOL
     None,
     None,
     None,
@@ -158,7 +160,8 @@ static SETTINGS: [Option<usize>; 40] = [
     None,
 ];
 
-/// The same with the 19 characters of the native kernel.
+/// The same with the 19 characters of the native kernel (Linux `include/uapi/asm-generic/termbits.h`), of
+/// which the last two have no name.
 static SETTINGS_BACK: [Option<usize>; 36] = [
     Some(3),
     Some(2),
@@ -177,23 +180,23 @@ static SETTINGS_BACK: [Option<usize>; 36] = [
     Some(13),
     Some(12),
     Some(16),
-    Some(17),
-    Some(18),
-    Some(19),
-    Some(20),
-    Some(33),
-    Some(22),
-    Some(21),
-    Some(24),
-    Some(25),
-    Some(26),
-    Some(27),
-    Some(34),
-    Some(29),
-    Some(30),
-    Some(31),
-    Some(32),
-    Some(23),
+    Some(17), // VINTR
+    Some(18), // VQUIT
+    Some(19), // VERASE
+    Some(20), // VKILL
+    Some(33), // VEOF
+    Some(22), // VTIME
+    Some(21), // VMIN
+    Some(24), // VSWTC
+    Some(25), // VSTART
+    Some(26), // VSTOP
+    Some(27), // VSUSP
+    Some(34), // VEOL
+    Some(29), // VREPRINT
+    Some(30), // VDISCARD
+    Some(31), // VWERASE
+    Some(32), // VLNEXT
+    Some(23), // VEOL2
     None,
     None,
 ];

@@ -56,7 +56,7 @@ pub(crate) fn readv<I: Source, O: Sink, E: Sink>(
 
 /// How many buffers a vector has at address 0 of host memory, where no byte is, for which the native kernel
 /// finds this error: more than there may be, or one that can't be loaded.
-fn wrong_count(error: Errno) -> u64
+pub(crate) fn wrong_count(error: Errno) -> u64
     ensures { result ≡ wrong_count error }
 {
     match error {

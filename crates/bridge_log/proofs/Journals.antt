@@ -1,15 +1,20 @@
 -- What is kept of effects over none, one and several of them.
-use Rattle.std.proofs.Common.{◌≡◌, ℕ, ◌<◌, ◌^◌, List, [], ◌∷◌, ◌++◌, length, Option, None, Some, refl, sym, ap, ◌∙◌, inl, inr}
+use Rattle.std.proofs.Common.{◌≡◌, ℕ, ◌<◌, ◌^◌, ◌⊎◌, Bool, true, false, List, [], ◌∷◌, ◌++◌, length, Option, None, Some, refl, sym, ap, subst, ◌∙◌, inl, inr}
 use Rattle.std.proofs.lemmas.List.Elements.{All-append, All-nil, All-cons}
+use Rattle.std.specs.Prelude.{◌==◌, if◌then◌else◌}
 use Rattle.guest_space.specs.Access.{first_denied}
 use Rattle.guest_space.specs.Bytes.{with_bytes}
 use Rattle.guest_space.specs.Memory.{Pages}
 use Rattle.guest_space.specs.declared.access.Access.TheVariants.{Store}
 use Rattle.kernel_core.specs.declared.record.Effect.{Effect}
 use Rattle.kernel_core.specs.declared.record.Effect.TheVariants.{Write, Output}
+use Rattle.kernel_model.specs.Pipes.{Sent, nothing}
+use Rattle.mips_exec.specs.Processor.{Processor}
 use Rattle.o32_model.specs.Effects.{Target, IsFormed, Effected, after_write, carried, carried_on, on_pages}
 use Rattle.o32_model.specs.Logs.{with_more}
 use Rattle.bridge_log.proofs.Histories.{with_more-none, with_more-twice}
+use Rattle.bridge_log.specs.Keeping.{reached}
+use Rattle.bridge_log.specs.Sending.{sent_by}
 
 carried_on-none : (effects : List Effect) → carried_on effects None ≡ None
 carried_on-none [] = refl
@@ -49,3 +54,27 @@ effected_out old new at bytes kept short = effected_one old new (Output 1 bytes)
 
 pub effected_err : (old new : Option (List Effect)) (at : Target) (bytes : List ℕ) → new ≡ with_more old (Output 2 bytes ∷ []) → length bytes < 2 ^ 32 → Effected old new at (record at { sent = record at.sent { err = at.sent.err ++ bytes } })
 effected_err old new at bytes kept short = effected_one old new (Output 2 bytes) at _ kept (inr refl, short) refl
+
+-- Bytes that went out on a stream, which may be none
+
+pub effected_sent : (old new : Option (List Effect)) (stream : ℕ) (processor : Processor) (pages : Pages) (bytes : List ℕ) → (stream ≡ 1) ⊎ (stream ≡ 2) → length bytes < 2 ^ 32 → new ≡ with_more old (Output stream bytes ∷ [])
+    → Effected old new (reached processor pages nothing) (reached processor pages (sent_by stream bytes))
+effected_sent old new stream processor pages bytes (inl is) short kept =
+    subst (λ (s : ℕ). Effected old new (reached processor pages nothing) (reached processor pages (sent_by s bytes))) (sym is)
+    (effected_out old new (reached processor pages nothing) bytes (kept ∙ ap (λ (s : ℕ). with_more old (Output s bytes ∷ [])) is) short)
+effected_sent old new stream processor pages bytes (inr is) short kept =
+    subst (λ (s : ℕ). Effected old new (reached processor pages nothing) (reached processor pages (sent_by s bytes))) (sym is)
+    (effected_err old new (reached processor pages nothing) bytes (kept ∙ ap (λ (s : ℕ). with_more old (Output s bytes ∷ [])) is) short)
+
+no_bytes : (stream : ℕ) → nothing ≡ sent_by stream []
+no_bytes stream = by (stream == 1) where
+  by : (out : Bool) → nothing ≡ (if out then record nothing { out = [] } else record nothing { err = [] })
+  by true = refl
+  by false = refl
+
+pub effected_unsent : (old new : Option (List Effect)) (stream : ℕ) (processor : Processor) (pages : Pages) (bytes : List ℕ) → bytes ≡ [] → new ≡ old
+    → Effected old new (reached processor pages nothing) (reached processor pages (sent_by stream bytes))
+effected_unsent old new stream processor pages bytes none same =
+    subst (λ (b : List ℕ). Effected old new (reached processor pages nothing) (reached processor pages (sent_by stream b))) (sym none)
+    (subst (λ (s : Sent). Effected old new (reached processor pages nothing) (reached processor pages s)) (no_bytes stream)
+    (subst (λ (e : Option (List Effect)). Effected old e (reached processor pages nothing) (reached processor pages nothing)) (sym same) (effected_none old (reached processor pages nothing))))

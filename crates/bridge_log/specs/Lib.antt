@@ -3,3 +3,4 @@ pub mod Fills
 pub mod Keeping
 pub mod Mirrors
 pub mod Outcomes
+pub mod Sending

@@ -14,4 +14,4 @@ pub use effects::{sent, wrote};
 pub use filled::fill_call;
 pub use mirrored::number_call;
 pub use outcomes::outcome_of;
-pub use storing::put;
+pub use storing::{put, sent_back};

@@ -1,13 +1,15 @@
 //! Bytes that go to the program's memory, and are kept as effects.
-ghost use Rattle.std.specs.Prelude.{◌≡◌, length, take, IfOk, OnOk};
+ghost use Rattle.std.specs.Prelude.{◌≡◌, ◌<◌, ◌^◌, ◌⊎◌, length, take, IfOk, OnOk};
 ghost use Rattle.bridge_log.specs.Fills.{bytes_back};
 ghost use Rattle.bridge_log.specs.Keeping.{reached};
-ghost use Rattle.kernel_model.specs.Pipes.{Sent};
+ghost use Rattle.bridge_log.specs.Sending.{sent_by};
+ghost use Rattle.guest_space.specs.Memory.{Pages};
+ghost use Rattle.kernel_model.specs.Pipes.{Sent, nothing};
 ghost use Rattle.mips_exec.specs.Processor.{Processor};
 ghost use Rattle.o32_model.specs.Effects.{Effected};
 ghost use Rattle.o32_model.specs.GuestBytes.{is_storable, with_stored};
 
-use crate::effects::wrote;
+use crate::effects::{sent, wrote};
 use bridge_mem::store_structure;
 use guest_space::Space;
 use host_mem::HostMem;
@@ -48,6 +50,26 @@ pub(crate) fn put_back(
         Reply::Done(count) => {
             if count > 0 {
                 put(space, address, first_bytes(mem, count as u64), log)?;
+            }
+            Ok(())
+        }
+        Reply::Sleep(_) => Ok(()),
+    }
+}
+
+/// Keeps, where effects are kept, that those bytes of host memory went out on stream 1 or 2 which a reply
+/// counts; for a reply that counts none, nothing is kept.
+pub fn sent_back(log: &mut Log, stream: u8, mem: &HostMem, reply: Reply) -> Result<(), NoMemory>
+    ensures effects { OnOk result ((stream ≡ 1) ⊎ (stream ≡ 2) → length mem.now < 2 ^ 32
+        → (processor : Processor) (pages : Pages)
+        → Effected log.old.effects log.new.effects (reached processor pages nothing)
+        (reached processor pages (sent_by stream (bytes_back mem.now reply)))) }
+    ensures native { log.new.native ≡ log.old.native }
+{
+    match reply {
+        Reply::Done(count) => {
+            if count > 0 {
+                sent(log, stream, first_bytes(mem, count as u64))?;
             }
             Ok(())
         }

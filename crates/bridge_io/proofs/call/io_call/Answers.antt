@@ -77,3 +77,15 @@ returns-in-4220-clause-row g c = λ left told.
     let guest = found c.args.args.now c.args.cpu.now c.args.space.now in
     by_number 4220 c.args.k.now guest left c.fcntl-in-4220.result c.fcntl-in-4220.new.k c.args.space.now c.args.cpu.now (contents g.I.Source.left g.O.Sink.written g.E.Sink.written c.args.dev.now) (contents g.I.Source.left g.O.Sink.written g.E.Sink.written c.fcntl-in-4220.new.dev) c.in-4220.is
     (c.fcntl-in-4220.ensures.row guest refl left told)
+
+pub returns-in-4004-clause-row : goal.returns-in-4004-clause-row
+returns-in-4004-clause-row g c = λ left told.
+    let guest = found c.args.args.now c.args.cpu.now c.args.space.now in
+    by_number 4004 c.args.k.now guest left c.write.result c.write.new.k c.args.space.now c.args.cpu.now (contents g.I.Source.left g.O.Sink.written g.E.Sink.written c.args.dev.now) (contents g.I.Source.left g.O.Sink.written g.E.Sink.written c.write.new.dev) c.in-4004.is
+    (c.write.ensures.row guest refl refl left told)
+
+pub returns-in-4146-clause-row : goal.returns-in-4146-clause-row
+returns-in-4146-clause-row g c = λ left told.
+    let guest = found c.args.args.now c.args.cpu.now c.args.space.now in
+    by_number 4146 c.args.k.now guest left c.writev.result c.writev.new.k c.args.space.now c.args.cpu.now (contents g.I.Source.left g.O.Sink.written g.E.Sink.written c.args.dev.now) (contents g.I.Source.left g.O.Sink.written g.E.Sink.written c.writev.new.dev) c.in-4146.is
+    (c.writev.ensures.row guest refl refl left told)
