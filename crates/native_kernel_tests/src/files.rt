@@ -1,11 +1,9 @@
 //! The calls of `Files` with ample memory: descriptors, their duplicates and flags, pipes, and the terminal.
-ghost use Rattle.std.specs.Prelude.{IfOk};
-ghost use Rattle.kernel_core.specs.ValidTree.{IsValidTree};
 
-use kernel_core::{Items, Kind, Node, Tree};
+use crate::trees::empty_tree;
 use kernel_model::{TerminalSettings, Winsize};
 use native_files::{CoreError, Errno, Files, PipeFlags};
-use std::alloc::{AllocError, Global};
+use std::alloc::Global;
 use std::test::Fail;
 
 /// A call, whose answer is told as a number.
@@ -118,23 +116,6 @@ fn first_wrong(files: &mut Files, calls: &[(Call, Answer)]) -> Option<usize> {
         }
     }
     None
-}
-
-/// The tree of one empty root directory.
-fn empty_tree(alloc: Global) -> Result<Tree, AllocError>
-    ensures { IfOk result IsValidTree }
-{
-    let mut nodes = Vec::new(alloc);
-    let entries = Items::from(Vec::new(alloc));
-    nodes.push(Node {
-        number: 1,
-        mode: 0o755,
-        mtime: 0,
-        kind: Kind::Dir { entries },
-    })?;
-    Ok(Tree {
-        nodes: Items::from(nodes),
-    })
 }
 
 fn new_files(alloc: Global, terminal: Option<Winsize>) -> Result<Files, Fail> {

@@ -2,4 +2,18 @@
 #![tactic(auto)]
 
 #[cfg(test)]
+mod calls;
+#[cfg(test)]
+mod descriptors;
+#[cfg(test)]
 mod files;
+#[cfg(test)]
+mod from_outside;
+#[cfg(test)]
+mod numbers;
+#[cfg(test)]
+mod terminal;
+#[cfg(test)]
+mod transfers;
+#[cfg(test)]
+mod trees;

@@ -1,7 +1,7 @@
 use Rattle.std.proofs.Common.{◌≡◌, sym, subst, rules, ◌∷◌, []}
 use Rattle.kernel_core.specs.ValidTree.{IsValidTree}
 use Rattle.native_vfs.proofs.trees.SmallTrees.{empty_root, empty_tree_valid}
-use Rattle.native_kernel_tests.proofs.files.empty_tree.Goals as goal
+use Rattle.native_kernel_tests.proofs.trees.empty_tree.Goals as goal
 
 pub returns : goal.returns
 returns c =
