@@ -5,6 +5,9 @@ pub mod Fitting
 pub mod Limits
 pub mod LookMirrors
 pub mod PipeMirrors
+pub mod PlaceLimits
+pub mod Plans
+pub mod PwriteMirrors
 pub mod ReadFills
 pub mod ReadvMirrors
 pub mod Rooms

@@ -35,19 +35,19 @@ content_cut files limit now d node at bytes after content small before =
     let below : nat_le limit (write_place d.flags.append at content) ≡ false = grind (arith, nat_tests) in
     rw (small, below) refl
 
-content_past : (files : Files) (limit : ℕ) (now : ℤ) (d : Description) (node at : ℕ) (bytes : List ℕ) (after : Files → ℕ → Files) (content : FileContent) → d.flags.largefile ≡ false → limit ≤ write_place d.flags.append at content
+pub content_past : (files : Files) (limit : ℕ) (now : ℤ) (d : Description) (node at : ℕ) (bytes : List ℕ) (after : Files → ℕ → Files) (content : FileContent) → d.flags.largefile ≡ false → limit ≤ write_place d.flags.append at content
     → write_content files (Some limit) now d node at bytes after (Some content) ≡ refused files EFBIG
 content_past files limit now d node at bytes after content small begun =
     let past : nat_le limit (write_place d.flags.append at content) ≡ true = grind (arith, nat_tests) in
     rw (small, past) refl
 
-content_far : (files : Files) (now : ℤ) (d : Description) (node at : ℕ) (bytes : List ℕ) (after : Files → ℕ → Files) (content : FileContent) → 0 < length bytes → greatest_size < write_place d.flags.append at content
+pub content_far : (files : Files) (now : ℤ) (d : Description) (node at : ℕ) (bytes : List ℕ) (after : Files → ℕ → Files) (content : FileContent) → 0 < length bytes → greatest_size < write_place d.flags.append at content
     → write_content files None now d node at bytes after (Some content) ≡ refused files EFBIG
 content_far files now d node at bytes after content some far =
     let refusal = refusal_far files.nodes content (write_place d.flags.append at content) (length bytes) some far in
     rw (no_limit d.flags.largefile, refusal) refl
 
-content_large : (files : Files) (limit : Option ℕ) (now : ℤ) (d : Description) (node at : ℕ) (bytes : List ℕ) (after : Files → ℕ → Files) (content : Option FileContent) → d.flags.largefile ≡ true
+pub content_large : (files : Files) (limit : Option ℕ) (now : ℤ) (d : Description) (node at : ℕ) (bytes : List ℕ) (after : Files → ℕ → Files) (content : Option FileContent) → d.flags.largefile ≡ true
     → write_content files limit now d node at bytes after content ≡ write_content files None now d node at bytes after content
 content_large files limit now d node at bytes after None large = refl
 content_large files limit now d node at bytes after (Some content) large = rw large refl
@@ -61,7 +61,7 @@ take_all (byte ∷ bytes) (suc count) within = ap (λ (rest : List ℕ). byte �
 take_some : (bytes : List ℕ) (count : ℕ) → 0 < count → 0 < length bytes → 0 < length (take count bytes)
 take_some bytes count some there = omega (arith, length-take count bytes)
 
-room_for_file : (files : Files) (limit room : ℕ) (now : ℤ) (d : Description) (node at : ℕ) (bytes : List ℕ) (after : Files → ℕ → Files) (content : Option FileContent) → d.flags.largefile ≡ false → 0 < room → 0 < length bytes
+pub room_for_file : (files : Files) (limit room : ℕ) (now : ℤ) (d : Description) (node at : ℕ) (bytes : List ℕ) (after : Files → ℕ → Files) (content : Option FileContent) → d.flags.largefile ≡ false → 0 < room → 0 < length bytes
     → ContentRoom limit room d.flags.append at content
     → write_content files (Some limit) now d node at bytes after content ≡ write_content files None now d node at (take room bytes) after content
 room_for_file files limit room now d node at bytes after None small some there fits = refl
@@ -99,7 +99,7 @@ large_object files limit now fd d bytes (objects.Node node) large =
 -- The transfer
 
 -- the first bytes of those that count are those that count of fewer
-fewer_bytes : (bytes : List ℕ) (most room : ℕ) → take room (take most bytes) ≡ take (min most room) bytes
+pub fewer_bytes : (bytes : List ℕ) (most room : ℕ) → take room (take most bytes) ≡ take (min most room) bytes
 fewer_bytes [] most room = none most room where
   none_of : (count : ℕ) → take {A = ℕ} count [] ≡ []
   none_of zero = refl
@@ -117,7 +117,7 @@ fewer_bytes (byte ∷ bytes) (suc most) (suc room) =
     rw less (ap (λ (rest : List ℕ). byte ∷ rest) (fewer_bytes bytes most room))
 
 -- `rest` of so many bytes is `other` of fewer
-fewer : {S V : Type 0} (state : S) (count accessible room : ℕ) (none : V) (rest other : ℕ → Did S V) → 0 < room
+pub fewer : {S V : Type 0} (state : S) (count accessible room : ℕ) (none : V) (rest other : ℕ → Did S V) → 0 < room
     → ((most : ℕ) → 0 < most → most ≤ accessible → most ≤ transfer_limit → rest most ≡ other (min most room))
     → transferring state (Ok count) accessible none rest ≡ transferring state (Ok (min count room)) accessible none other
 fewer state zero accessible room none rest other some each =
@@ -161,12 +161,12 @@ room_for_write files limit room now fd count bytes some fits = by (opened files 
 
 -- Past the limit
 
-past_for_node : (files : Files) (limit : ℕ) (time : ℤ) (d : Description) (node at : ℕ) (bytes : List ℕ) (after : Files → ℕ → Files) (content : Option FileContent) → d.flags.largefile ≡ false → ContentPast limit d.flags.append at content
+pub past_for_node : (files : Files) (limit : ℕ) (time : ℤ) (d : Description) (node at : ℕ) (bytes : List ℕ) (after : Files → ℕ → Files) (content : Option FileContent) → d.flags.largefile ≡ false → ContentPast limit d.flags.append at content
     → write_content files (Some limit) time d node at bytes after content ≡ refused files (if is_some content then EFBIG else EBADF)
 past_for_node files limit time d node at bytes after None small past = refl
 past_for_node files limit time d node at bytes after (Some content) small past = content_past files limit time d node at bytes after content small past
 
-file_is_ready : (position : ℕ) (content : Option FileContent) → is_some (file_rest position content) ≡ is_some content
+pub file_is_ready : (position : ℕ) (content : Option FileContent) → is_some (file_rest position content) ≡ is_some content
 file_is_ready position None = refl
 file_is_ready position (Some content) = refl
 
@@ -179,7 +179,7 @@ past_for_object files limit time fd d bytes (objects.Node node) small past =
     ap (widened writing) (past_for_node files limit time d node d.position bytes (λ files position. moved_to files fd d position) (file_at files.nodes node) small past)
     ∙ ap (λ (b : Bool). refused (writing files) (if b then EFBIG else EBADF)) (sym (file_is_ready d.position (file_at files.nodes node)))
 
-past_moves : (state : Writing) (count accessible : ℕ) (file : Bool) (rest : ℕ → Did Writing ℕ) → ((most : ℕ) → rest most ≡ refused state (if file then EFBIG else EBADF))
+pub past_moves : {S : Type 0} (state : S) (count accessible : ℕ) (file : Bool) (rest : ℕ → Did S ℕ) → ((most : ℕ) → rest most ≡ refused state (if file then EFBIG else EBADF))
     → transferring state (Ok count) accessible 0 rest ≡ record { state = state; came = past_came true file count accessible }
 past_moves state count accessible file rest each = by (count == 0) (accessible == 0) file (each (min (min count accessible) transfer_limit)) where
   by : (none unreachable file : Bool) → rest (min (min count accessible) transfer_limit) ≡ refused state (if file then EFBIG else EBADF)
@@ -211,10 +211,10 @@ past_for_write files limit time fd count writable file bytes past = by (opened f
 
 -- Only the bytes that count do.
 
-taken_twice : (bytes : List ℕ) (asked : ℕ) → let there = take (min asked (length bytes)) bytes in min asked (length there) ≡ min asked (length bytes)
+pub taken_twice : (bytes : List ℕ) (asked : ℕ) → let there = take (min asked (length bytes)) bytes in min asked (length there) ≡ min asked (length bytes)
 taken_twice bytes asked = omega (arith, length-take (min asked (length bytes)) bytes)
 
-zero_same : (asked whole part : ℕ) → (asked == 0) ≡ false → part ≡ min asked whole → (part == 0) ≡ (whole == 0)
+pub zero_same : (asked whole part : ℕ) → (asked == 0) ≡ false → part ≡ min asked whole → (part == 0) ≡ (whole == 0)
 zero_same asked zero part some is = let none : part ≡ 0 = omega arith in rw none refl
 zero_same asked (suc whole) part some is =
     let there : (part == 0) ≡ false = grind (arith, nat_tests) in

@@ -27,7 +27,7 @@ pub closed_room : (files : Files) (room : ℕ) (at : Description → ℕ) (there
 closed_room files room at None none = tt
 closed_room files room at (Some d) none = absurd cc
 
-some_is : {A : Type 0} {a b : A} → Some a ≡ Some b → a ≡ b
+pub some_is : {A : Type 0} {a b : A} → Some a ≡ Some b → a ≡ b
 some_is same = cc
 
 pub large_room : (files : Files) (room : ℕ) (at : Description → ℕ) (there : Option Description) (flags : WriteFlags) → flags_there there ≡ Some flags → flags.largefile ≡ true → transfer_limit ≤ room → HasRoom files small_file_limit room at there
@@ -73,7 +73,7 @@ position_told at begin is = by (nat_le at greatest_size) is where
   by true is = cc
   by false is = absurd cc
 
-position_room_in : (at begin : ℕ) (content : Option FileContent) → at ≡ begin → begin < small_file_limit → ContentRoom small_file_limit (small_file_limit - begin) false at content
+pub position_room_in : (at begin : ℕ) (content : Option FileContent) → at ≡ begin → begin < small_file_limit → ContentRoom small_file_limit (small_file_limit - begin) false at content
 position_room_in at begin None is below = tt
 position_room_in at begin (Some content) is below = inl (omega arith, ap (λ (n : ℕ). small_file_limit - n) (sym is))
 
@@ -86,7 +86,7 @@ position_past_in at begin (Some content) is past = omega arith
 no_size : (size begin : ℕ) → size ≡ 0 → size % 2 ^ 64 ≡ begin → begin ≡ 0
 no_size size begin none is = let low : size % 2 ^ 64 ≡ 0 = rw none in omega arith
 
-size_none_object : (files : Files) (room at : ℕ) (object : Object) → option_map low_size (object_status files object) ≡ None → transfer_limit ≤ room → ObjectRoom files.nodes small_file_limit room true at object
+pub size_none_object : (files : Files) (room at : ℕ) (object : Object) → option_map low_size (object_status files object) ≡ None → transfer_limit ≤ room → ObjectRoom files.nodes small_file_limit room true at object
 size_none_object files room at (objects.Stream stream) none all = all
 size_none_object files room at (objects.ReadEnd pipe) none all = all
 size_none_object files room at (objects.WriteEnd pipe) none all = all
@@ -96,13 +96,13 @@ stream_begins : (number begin : ℕ) (terminal : Option Terminal) → Some (low_
 stream_begins number begin None is = sym (some_is is)
 stream_begins number begin (Some terminal) is = sym (some_is is)
 
-size_room_object : (files : Files) (at begin : ℕ) (object : Object) → option_map low_size (object_status files object) ≡ Some begin → begin < small_file_limit → ObjectRoom files.nodes small_file_limit (small_file_limit - begin) true at object
+pub size_room_object : (files : Files) (at begin : ℕ) (object : Object) → option_map low_size (object_status files object) ≡ Some begin → begin < small_file_limit → ObjectRoom files.nodes small_file_limit (small_file_limit - begin) true at object
 size_room_object files at begin (objects.Stream stream) is below = let none = stream_begins _ begin files.terminal is in omega arith
 size_room_object files at begin (objects.ReadEnd pipe) is below = let none : 0 ≡ begin = some_is is in omega arith
 size_room_object files at begin (objects.WriteEnd pipe) is below = let none : 0 ≡ begin = some_is is in omega arith
 size_room_object files at begin (objects.Node node) is below = size_room_at node at begin (get files.nodes node) is below
 
-size_past_object : (files : Files) (at begin : ℕ) (object : Object) → option_map low_size (object_status files object) ≡ Some begin → small_file_limit ≤ begin → ObjectPast files.nodes small_file_limit true at object
+pub size_past_object : (files : Files) (at begin : ℕ) (object : Object) → option_map low_size (object_status files object) ≡ Some begin → small_file_limit ≤ begin → ObjectPast files.nodes small_file_limit true at object
 size_past_object files at begin (objects.Stream stream) is past = let none = stream_begins _ begin files.terminal is in omega arith
 size_past_object files at begin (objects.ReadEnd pipe) is past = let none : 0 ≡ begin = some_is is in omega arith
 size_past_object files at begin (objects.WriteEnd pipe) is past = let none : 0 ≡ begin = some_is is in omega arith

@@ -54,7 +54,7 @@ use Rattle.bridge_io.specs.inside.Written.{write_of, count_done}
 
 -- The bytes of host memory that a native write finds
 
-loadable_is : (memory : List ℕ) (count : ℕ) → host.loadable memory 65536 count ≡ take (min count (length memory)) memory
+pub loadable_is : (memory : List ℕ) (count : ℕ) → host.loadable memory 65536 count ≡ take (min count (length memory)) memory
 loadable_is memory count =
     let there : room_from memory 65536 ≡ length memory = omega arith in
     ap (λ (n : ℕ). take (min count n) memory) there
@@ -127,7 +127,7 @@ past_stays kernel writable file count there = ap (with_sigpipe kernel) (past_by 
   by true false false true = refl
   by true false false false = refl
 
-past_value : (guest : Guest) (writable file : Bool) (count there : ℕ) → o32_step.outcome_of o32_step.value guest.words (past_came writable file count there) ≡ past_outcome writable file count there
+pub past_value : (guest : Guest) (writable file : Bool) (count there : ℕ) → o32_step.outcome_of o32_step.value guest.words (past_came writable file count there) ≡ past_outcome writable file count there
 past_value guest writable file count there = ap (o32_step.outcome_of o32_step.value guest.words) (past_by writable file count there) ∙ by writable (count == 0) (there == 0) file where
   by : (writable none unreachable file : Bool) → o32_step.outcome_of o32_step.value guest.words (past_of writable none unreachable file)
       ≡ (if writable then (if none then Value 0 else (if unreachable then Error EFAULT else (if file then Error EFBIG else Error EBADF))) else Error EBADF)

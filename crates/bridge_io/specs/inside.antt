@@ -1,7 +1,9 @@
 pub mod Looks
 pub mod Outcomes
+pub mod Plans
 pub mod Purposes
 pub mod Rooms
+pub mod Rows
 pub mod Stores
 pub mod Takes
 pub mod Written

@@ -8,6 +8,7 @@ mod gathering;
 mod looking;
 mod numbers;
 mod pipes;
+mod placing;
 mod reading;
 mod room;
 mod structures;

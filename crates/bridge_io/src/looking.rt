@@ -32,7 +32,7 @@ use outside::{Devices, Sink, Source};
 const STATUS_SIZE: u32 = 128;
 
 /// The size from which on a file without O_LARGEFILE takes no byte (open(2)).
-const SMALL_FILE_LIMIT: u64 = 0x7FFF_FFFF;
+pub(crate) const SMALL_FILE_LIMIT: u64 = 0x7FFF_FFFF;
 
 /// Makes a native call that changes nothing.
 fn look<I: Source, O: Sink, E: Sink>(
@@ -55,7 +55,7 @@ fn look<I: Source, O: Sink, E: Sink>(
 }
 
 /// The flags of a descriptor; None where it is not open.
-fn write_flags<I: Source, O: Sink, E: Sink>(
+pub(crate) fn write_flags<I: Source, O: Sink, E: Sink>(
     k: &mut NativeKernel,
     fd: u32,
     mem: &mut HostMem,
@@ -91,7 +91,7 @@ fn position<I: Source, O: Sink, E: Sink>(
 }
 
 /// The size of what a descriptor has open, where it has one.
-fn size<I: Source, O: Sink, E: Sink>(
+pub(crate) fn size<I: Source, O: Sink, E: Sink>(
     k: &mut NativeKernel,
     fd: u32,
     mem: &mut HostMem,
@@ -131,7 +131,7 @@ fn begin<I: Source, O: Sink, E: Sink>(
 
 /// Whether FIONREAD tells how many bytes of a descriptor are ready. Of nodes it does so of regular files
 /// alone.
-fn is_ready<I: Source, O: Sink, E: Sink>(
+pub(crate) fn is_ready<I: Source, O: Sink, E: Sink>(
     k: &mut NativeKernel,
     fd: u32,
     mem: &mut HostMem,

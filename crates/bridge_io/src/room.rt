@@ -20,3 +20,12 @@ pub(crate) enum Room {
     /// None: it would begin at the limit or past it. `file` says whether a regular file is open.
     Past { writable: bool, file: bool },
 }
+
+/// How bytes are written at a place. (The form is this project's own.)
+#[derive(Clone, Copy)]
+pub(crate) enum Plan {
+    /// At most so many, of which there is at least one, at this place.
+    Write { most: u64, place: u64 },
+    /// None: it would begin at the limit or past it. `file` says whether a regular file is open.
+    Past { writable: bool, file: bool },
+}

@@ -1,0 +1,23 @@
+-- As it was found.
+use Rattle.std.proofs.Common.{◌≡◌, ◌^◌, ◌<◌, ◌≤◌, Some, sym, ap, ◌∙◌, lit<, lit≤, arith}
+use Rattle.std.specs.Int.{w64, cast_signed}
+use Rattle.kernel_model.specs.Descriptions.{opened}
+use Rattle.kernel_model.specs.State.{Kernel}
+use Rattle.o32_model.specs.Transfers.{small_file_limit}
+use Rattle.outside.specs.Streams.{contents}
+use Rattle.bridge_io.proofs.Plans.{closed_plan, far_plan, large_plan, negative_plan, place_plan, size_none_plan, size_past_plan, size_room_plan}
+use Rattle.bridge_io.proofs.Unmoving.{looked_stop, looked_then, still_told, unmoved_none}
+use Rattle.bridge_io.specs.inside.Plans.{IsPlan}
+use Rattle.bridge_io.specs.inside.Rooms.{flags_there, size_there}
+use Rattle.bridge_io.proofs.placing.plan_behind.Goals as goal
+
+pub returns-then-size-lt-SMALL_FILE_LIMIT-clause-looks : goal.returns-then-size-lt-SMALL_FILE_LIMIT-clause-looks
+returns-then-size-lt-SMALL_FILE_LIMIT-clause-looks g c = λ found small append is left told. (
+  size_room_plan c.args.k.now.files c.args.fd c.args.place c.args.size c.args.flags c.requires found small append is c.if-size-lt-SMALL_FILE_LIMIT.true,
+  unmoved_none c.args.k.now (contents g.I.Source.left g.O.Sink.written g.E.Sink.written c.args.dev.now) left c.args.log.now,
+)
+
+pub returns-clause-looks : goal.returns-clause-looks
+returns-clause-looks g c = λ found small append is left told.
+    let seen = c.in_ok-file.ensures.looks left told in
+    (size_past_plan c.args.k.now.files c.args.fd c.args.place c.args.size c.in_ok-file.file c.args.flags c.requires found small append is c.if-size-lt-SMALL_FILE_LIMIT.false (sym seen.0), seen.1)
