@@ -1,5 +1,6 @@
 pub mod EntryLemmas
 pub mod ErrorNumbers
+pub mod Expiry
 pub mod OpenNumbers
 pub mod OtherNumbers
 pub mod Pairs
@@ -10,4 +11,5 @@ pub mod Sending
 pub mod Storing
 pub mod Taking
 pub mod TerminalLemmas
+pub mod Unblocked
 pub mod VectorLemmas

@@ -1,5 +1,5 @@
 -- Numbers of sets of flags are small.
-use Rattle.std.proofs.Common.{ℕ, ◌<◌, ◌≤◌, ◌^◌, Bool, true, false, arith}
+use Rattle.std.proofs.Common.{◌<◌, ◌≤◌, ◌^◌, Bool, true, false, arith}
 use Rattle.kernel_core.specs.Bits.{one_if}
 use Rattle.kernel_core.specs.declared.open_flags.Access.{Access}
 use Rattle.kernel_core.specs.declared.open_flags.Access.TheVariants.{Read, Write, ReadWrite}

@@ -1,11 +1,11 @@
 -- Numbers that no call has.
-use Rattle.std.proofs.Common.{◌≡◌, ℕ, ◌==◌, true, false, List, Option, None, refl, ap, arith}
+use Rattle.std.proofs.Common.{◌≡◌, ℕ, ◌==◌, false, List, Option, None, refl, ap, arith}
 use Rattle.std.proofs.lemmas.Bool.Decides.{nat_tests}
 use Rattle.kernel_core.specs.declared.error.Errno.TheVariants.{ENOSYS}
 use Rattle.kernel_core.specs.declared.reply.Reply.{Reply}
 use Rattle.kernel_model.specs.Came.{refused}
 use Rattle.kernel_model.specs.State.{Kernel}
-use Rattle.native_calls.specs.Step.{NativeStep, NativeCall, failure, gives}
+use Rattle.native_calls.specs.Step.{NativeCall, failure, gives}
 use Rattle.native_calls.specs.Table.{step_of}
 use Rattle.native_kernel.specs.Built.{built_call, built_of}
 use Rattle.native_kernel.specs.inside.Quiet.{Quietly}

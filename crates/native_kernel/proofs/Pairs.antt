@@ -1,5 +1,5 @@
 -- A pair of descriptors that is stored or closed again.
-use Rattle.std.proofs.Common.{◌≡◌, ℕ, List, subst, sym}
+use Rattle.std.proofs.Common.{◌≡◌, ℕ, List, subst}
 use Rattle.host_mem.specs.Memory.{is_inside}
 use Rattle.kernel_core.specs.declared.reply.Reply.{Reply}
 use Rattle.kernel_model.specs.Came.{Done, Did, done, told_as}

@@ -1,11 +1,10 @@
 -- Parts of host memory that are written in place.
-use Rattle.std.proofs.Common.{◌≡◌, ℕ, zero, suc, ◌+◌, ◌-◌, ◌<◌, ◌≤◌, ◌==◌, Bool, true, false, List, [], ◌∷◌, ◌++◌, length, take, drop, refl, sym, ap, ◌∙◌, subst, arith, append_assoc, append-nil, add-zero, if◌then◌else◌}
-use Rattle.std.proofs.lemmas.List.{take-append-drop, length-take-le, length-drop, drop-drop, drop-append-le, length-append}
+use Rattle.std.proofs.Common.{◌≡◌, ℕ, zero, suc, ◌+◌, ◌-◌, ◌<◌, ◌≤◌, Bool, true, false, List, [], ◌∷◌, ◌++◌, length, take, drop, refl, sym, ap, ◌∙◌, arith, append_assoc, append-nil, add-zero, if◌then◌else◌}
+use Rattle.std.proofs.lemmas.List.{take-append-drop, length-take-le, length-drop, drop-drop, drop-append-le}
 use Rattle.std.proofs.Math.ListN.{drop_of_length-le}
-use Rattle.std.proofs.lemmas.Bool.Decides.{nat_tests}
 use Rattle.host_mem.specs.Lending.{overwritten}
-use Rattle.host_mem.specs.Memory.{first_address, end_address, is_inside, room_from, replaced, written}
-use Rattle.native_calls.specs.HostBytes.{accessible, loadable}
+use Rattle.host_mem.specs.Memory.{first_address, is_inside, replaced, written}
+use Rattle.native_calls.specs.HostBytes.{accessible}
 use Rattle.native_kernel.specs.inside.Moving.{part_place}
 
 part_tail : (memory : List ℕ) (place room count : ℕ) → place + room ≤ length memory → count ≤ room

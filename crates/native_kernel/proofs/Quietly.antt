@@ -1,14 +1,14 @@
 -- A call that reaches no stream is a call over devices.
-use Rattle.std.proofs.Common.{◌≡◌, ℕ, List, [], ◌++◌, Option, Some, None, Result, refl, sym, ap, subst, ◌∙◌, inl, append-nil, Ok, Err}
+use Rattle.std.proofs.Common.{◌≡◌, ℕ, List, [], Option, Some, None, Result, refl, sym, ap, subst, ◌∙◌, inl, append-nil, Ok, Err}
 use Rattle.kernel_core.specs.declared.core_error.Stop.{Stop}
 use Rattle.kernel_core.specs.declared.reply.Reply.{Reply}
-use Rattle.kernel_model.specs.Pipes.{Sent, nothing}
+use Rattle.kernel_model.specs.Pipes.{Sent}
 use Rattle.kernel_model.specs.State.{Kernel}
-use Rattle.native_calls.specs.Answered.{Answers, Called, Stopped, IsCall}
+use Rattle.native_calls.specs.Answered.{Answers, Stopped, IsCall}
 use Rattle.native_calls.specs.Step.{NativeStep}
-use Rattle.native_kernel.specs.inside.Moving.{HasTaken, Takes, IsReading, HasSent, HasSentPart, Sends, IsWriting}
-use Rattle.native_kernel.specs.inside.Quiet.{Quietly, IsQuiet}
-use Rattle.outside.specs.Output.{with_text, GainsText, GainsBetween, IsPrefix}
+use Rattle.native_kernel.specs.inside.Moving.{Takes, IsReading, HasSentPart, Sends, IsWriting}
+use Rattle.native_kernel.specs.inside.Quiet.{IsQuiet}
+use Rattle.outside.specs.Output.{GainsText, GainsBetween}
 use Rattle.outside.specs.Streams.{Contents}
 
 pub gains_nothing : (text : Option (List ℕ)) → GainsText text text []

@@ -1,7 +1,7 @@
 -- Structures that are read from host memory.
-use Rattle.std.proofs.Common.{◌≡◌, ℕ, ◌+◌, ◌-◌, ◌≤◌, Bool, true, false, List, length, take, drop, Option, Some, None, refl, arith, if◌then◌else◌, length-take-le, length-drop}
+use Rattle.std.proofs.Common.{◌≡◌, ℕ, ◌-◌, ◌≤◌, Bool, true, false, List, length, take, drop, Some, None, refl, arith, if◌then◌else◌, length-take-le, length-drop}
 use Rattle.std.proofs.lemmas.Bool.Decides.{nat_tests}
-use Rattle.host_mem.specs.Memory.{first_address, end_address, is_inside, bytes_at}
+use Rattle.host_mem.specs.Memory.{first_address, is_inside, bytes_at}
 
 enough : (memory : List ℕ) (address count : ℕ) → is_inside memory address count ≡ true → count ≤ length memory - (address - first_address)
 enough memory address count inside = grind (arith, nat_tests)

@@ -1,5 +1,5 @@
 -- What a write is as a call.
-use Rattle.std.proofs.Common.{◌≡◌, ℕ, List, [], ◌++◌, Option, Some, None, Result, Ok, Err, ℤ, refl, sym, ap, subst, ◌∙◌, append-nil}
+use Rattle.std.proofs.Common.{◌≡◌, ℕ, List, [], Option, None, Result, Ok, Err, ℤ, refl, sym, ap, subst, ◌∙◌, append-nil}
 use Rattle.kernel_core.specs.declared.core_error.CoreError.{CoreError}
 use Rattle.kernel_core.specs.declared.core_error.CoreError.TheVariants as errors
 use Rattle.kernel_core.specs.declared.core_error.Stop.{Stop}
@@ -9,13 +9,13 @@ use Rattle.kernel_model.specs.Clock as clock
 use Rattle.kernel_model.specs.State.{Kernel, Files}
 use Rattle.kernel_model.specs.Transfers.{Writing, write}
 use Rattle.kernel_model.specs.Whole.{with_files, with_sigpipe, with_writing, kernel_write}
-use Rattle.native_calls.specs.Step.{NativeStep, reply_to, value}
+use Rattle.native_calls.specs.Step.{reply_to, value}
 use Rattle.native_calls.specs.Transfers.{after_write}
-use Rattle.native_files.specs.Answers.{HasWritten, SendsPart, WritesSo, moved}
+use Rattle.native_files.specs.Answers.{HasWritten, WritesSo, moved}
 use Rattle.native_files.specs.declared.progress.Progress.{Progress}
 use Rattle.native_files.specs.declared.progress.Progress.TheVariants as progress
 use Rattle.native_kernel.specs.inside.Moving.{HasSent, HasSentPart, Sends, after_came, settled}
-use Rattle.outside.specs.Output.{GainsText, GainsBetween, IsPrefix}
+use Rattle.outside.specs.Output.{GainsText, GainsBetween}
 
 -- what was added is a first part of itself
 all_of_it : (before after : Option (List ℕ)) (text : List ℕ) → GainsText before after text → GainsBetween before after [] text

@@ -1,8 +1,8 @@
 -- A structure that a call stores.
-use Rattle.std.proofs.Common.{◌≡◌, ℕ, List, refl, sym, ap, ◌∙◌}
+use Rattle.std.proofs.Common.{◌≡◌, ℕ, List, sym, ap, ◌∙◌}
 use Rattle.host_mem.specs.Memory.{written}
 use Rattle.kernel_core.specs.declared.reply.Reply.{Reply}
-use Rattle.kernel_model.specs.Came.{Came, Done, Did, came_as, told_as}
+use Rattle.kernel_model.specs.Came.{Done, Did, came_as, told_as}
 use Rattle.kernel_model.specs.State.{Kernel, Files}
 use Rattle.kernel_model.specs.Whole.{with_files, on_files}
 use Rattle.native_calls.specs.Step.{reply_to, memory_after, stored}

@@ -1,5 +1,5 @@
 -- What a read into memory is as a call.
-use Rattle.std.proofs.Common.{◌≡◌, ℕ, ℤ, ◌+◌, ◌≤◌, List, [], ◌++◌, length, take, drop, Option, Some, None, Result, Ok, Err, refl, sym, ap, ◌∙◌, subst, arith}
+use Rattle.std.proofs.Common.{◌≡◌, ℕ, ℤ, ◌+◌, ◌≤◌, List, ◌++◌, length, take, drop, Option, Result, Ok, Err, refl, sym, ap, ◌∙◌, subst, arith}
 use Rattle.std.proofs.lemmas.List.{length-append}
 use Rattle.host_mem.specs.Memory.{written}
 use Rattle.kernel_core.specs.declared.core_error.Stop.{Stop}
@@ -13,7 +13,7 @@ use Rattle.kernel_model.specs.Whole.{with_files, with_reading, kernel_read, on_f
 use Rattle.native_calls.specs.HostBytes.{accessible}
 use Rattle.native_calls.specs.Step.{NativeStep, value, failure, reply_to, memory_after}
 use Rattle.native_calls.specs.Transfers.{after_read, read_row}
-use Rattle.native_files.specs.Answers.{HasRead, ReadsSo, filled, moved}
+use Rattle.native_files.specs.Answers.{ReadsSo, filled, moved}
 use Rattle.native_files.specs.declared.progress.Progress.{Progress}
 use Rattle.native_files.specs.declared.progress.Progress.TheVariants as progress
 use Rattle.host_mem.specs.Lending.{overwritten}

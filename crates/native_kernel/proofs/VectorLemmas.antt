@@ -1,5 +1,5 @@
 -- The buffers of a vector, one behind the other.
-use Rattle.std.proofs.Common.{◌≡◌, ℕ, zero, suc, ◌+◌, ◌-◌, ◌*◌, ◌<◌, ◌≤◌, Bool, true, false, ◌==◌, nat_lt, if◌then◌else◌, min, List, [], ◌∷◌, ◌++◌, length, take, drop, Option, Some, None, Result, Ok, Err, get_or, add-one, drop-cons, refl, sym, ap, subst, ◌∙◌, inl, inr, arith}
+use Rattle.std.proofs.Common.{◌≡◌, ℕ, zero, suc, ◌+◌, ◌-◌, ◌*◌, ◌<◌, ◌≤◌, Bool, true, false, ◌==◌, nat_lt, if◌then◌else◌, min, List, [], ◌∷◌, ◌++◌, length, take, drop, Option, Result, Ok, Err, get_or, add-one, drop-cons, refl, sym, ap, subst, ◌∙◌, inl, inr, arith}
 use Rattle.std.proofs.Math.ListN.{drop_of_length-le}
 use Rattle.std.proofs.lemmas.Bool.{cases_lt}
 use Rattle.std.proofs.lemmas.Bool.Decides.{nat_tests}
@@ -20,7 +20,7 @@ use Rattle.layouts.specs.Shape.{record_values}
 use Rattle.native_calls.specs.HostBytes.{accessible, all_accessible, all_loadable, all_written, if_countable, loadable, range_of, ranges_in, read_as, sum_limit, total, vector, vector_limit, vector_structures}
 use Rattle.native_calls.specs.Transfers.{after_read, read_into, readv_row}
 use Rattle.native_calls.specs.declared.range.Range.{Range}
-use Rattle.native_files.specs.Answers.{HasRead, ReadsSo, moved}
+use Rattle.native_files.specs.Answers.{ReadsSo, moved}
 use Rattle.native_files.specs.declared.progress.Progress.{Progress}
 use Rattle.native_files.specs.declared.progress.Progress.TheVariants as progress
 use Rattle.native_kernel.proofs.Taking.{reading_step}

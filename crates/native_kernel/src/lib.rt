@@ -4,6 +4,7 @@
 
 mod arguments;
 mod call;
+mod clock;
 mod descriptors;
 mod ids;
 mod kernel;
@@ -19,3 +20,4 @@ mod vectors;
 
 pub use kernel::NativeKernel;
 pub use kernel_core::{NoMemory, Reply, Stop, Wake};
+pub use kernel_model::Post;

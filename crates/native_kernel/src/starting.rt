@@ -1,6 +1,7 @@
-//! A kernel that begins.
-ghost use Rattle.std.specs.Prelude.{◌≡◌, ◌+◌, ◌*◌, ◌^◌, ◌<◌, IfOk, option_map};
-ghost use Rattle.kernel_core.specs.ValidTree.{IsValidTree};
+//! A kernel that begins, and the file tree that it leaves.
+ghost use Rattle.std.specs.Prelude.{◌≡◌, ◌↔◌, ℕ, ◌+◌, ◌*◌, ◌^◌, ◌<◌, Contains, IfOk, option_map};
+ghost use Rattle.kernel_core.specs.LoadedTree.{saved};
+ghost use Rattle.kernel_core.specs.ValidTree.{IsReached, IsValidTree, numbers};
 ghost use Rattle.kernel_model.specs.Begin.{first_limits, first_state};
 ghost use Rattle.kernel_model.specs.Clock.{second};
 ghost use Rattle.native_kernel.specs.Settings.{settings_of, size_of};
@@ -64,6 +65,16 @@ impl NativeKernel {
             next_chance: STACK_CHANCE % random.len(),
             alloc,
         })
+    }
+
+    /// The nodes as a file tree: those that names lead to from the root, by rising number, each with the time
+    /// of its last modification in whole seconds. It copies every byte once. (The form is this project's own.)
+    pub fn tree(&self) -> Result<Tree, NoMemory>
+        ensures saved { IfOk result (λ tree. tree ≡ saved self.now.files.nodes) }
+        ensures valid { IfOk result IsValidTree }
+        ensures reached { IfOk result (λ tree. (number : ℕ) → Contains (numbers tree.nodes) number ↔ IsReached tree.nodes number) }
+    {
+        self.files.tree()
     }
 }
 

@@ -1,3 +1,4 @@
+pub mod Built
 pub mod Clocks
 pub mod Descriptors
 pub mod Effects

@@ -1,5 +1,6 @@
 pub mod Actions
 pub mod Answered
+pub mod Built
 pub mod Clocks
 pub mod Descriptors
 pub mod Effects

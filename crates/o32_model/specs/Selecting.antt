@@ -94,8 +94,8 @@ newselect_row kernel guest asked None left = gives guest (refused kernel EFAULT)
 newselect_row kernel guest asked (Some time) left =
     newselected kernel guest asked time (checked_or_none select_length (unless_null time (val_at guest.memory time))) left
 
--- pselect(2), with nanoseconds and a mask; both of its words on the stack are needed (own): its address and its size stand in a pair of words, and there is no mask where the pair's pointer or
--- the mask's is null
+-- pselect(2), with nanoseconds and a mask. The mask's address and its size stand in a pair of words, and there is no mask where the pair's
+-- pointer or the mask's is null.
 
 pub record OwnMask : Type 0 where
   pub mask : Option (Given SignalSet)
@@ -126,6 +126,7 @@ with_pair kernel guest asked time (Err error) left = gives guest (refused kernel
 with_pair kernel guest asked time (Ok own) left =
     pselected kernel guest asked time (checked_or_none length_of (unless_null time (spec_at guest.memory time))) own left
 
+-- the time's address and the pair's are on the stack, and where one of them can't be read, that is EFAULT before all else (own)
 unfoldable pub pselect6_row : Kernel → Guest → Asked → Option ℕ → Option ℕ → List ℕ → O32Step
 pselect6_row kernel guest asked None pair left = gives guest (refused kernel EFAULT) left
 pselect6_row kernel guest asked (Some time) None left = gives guest (refused kernel EFAULT) left

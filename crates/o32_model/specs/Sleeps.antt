@@ -1,5 +1,5 @@
 -- Sleeping, and the interval timer: nanosleep(2), clock_nanosleep(2), alarm(2), setitimer(2), getitimer(2).
-use Rattle.std.specs.Prelude.{ℕ, Bool, false, List, [], ◌∷◌, drop, Option, Some}
+use Rattle.std.specs.Prelude.{ℕ, ◌%◌, ◌^◌, Bool, false, List, [], ◌∷◌, drop, Option, Some}
 use Rattle.guest_space.specs.Memory.{Memory}
 use Rattle.kernel_model.specs.Came.{Given, told_as, told_zero}
 use Rattle.kernel_model.specs.Clock.{TimerSetting, sleep, arm_timer, read_timer, alarm}
@@ -35,8 +35,9 @@ clock_nanosleep_row kernel guest clock flags address left = slept kernel guest c
 
 -- The interval timer
 
+-- of more seconds than an unsigned int holds the low 32 bits (own): alarm(2) itself sets no such timer
 unfoldable pub alarm_row : Kernel → Guest → ℕ → List ℕ → O32Step
-alarm_row kernel guest seconds left = gives guest (alarm kernel seconds) left
+alarm_row kernel guest seconds left = gives guest (told_as (λ before. before % 2 ^ 32) (alarm kernel seconds)) left
 
 -- the period and then the value (struct itimerval of setitimer(2))
 abbrev pub setting_in : List ℕ → TimerSetting

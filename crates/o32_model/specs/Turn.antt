@@ -14,8 +14,8 @@ use Rattle.mips_exec.specs.Step.{step_of}
 use Rattle.mips_exec.specs.declared.Stepped.{Stepped}
 use Rattle.mips_exec.specs.declared.Stepped.TheVariants.{Next, Syscall, Fault}
 use Rattle.number_tables.specs.Signals.{o32_signal}
+use Rattle.o32_model.specs.Built.{built_call}
 use Rattle.o32_model.specs.Step.{Guest, O32Step}
-use Rattle.o32_model.specs.Table.{o32_call}
 use Rattle.o32_model.specs.Words.{call_words, returned}
 use Rattle.o32_model.specs.declared.outcome.Outcome.{Outcome}
 use Rattle.o32_model.specs.declared.outcome.Outcome.TheVariants as outcomes
@@ -78,10 +78,10 @@ later quantum turn = record turn { machine = record turn.machine { kernel = reco
 abbrev pub stepped : Processor → Memory → Kernel → Option Sig → Machine
 stepped processor memory kernel fault = record { processor = processor; memory = memory; kernel = kernel; wait = None; fault = fault }
 
--- what one step of the processor comes to
+-- what one step of the processor comes to, with a call of those that there are so far
 abbrev pub after_step : Processor → Memory → Kernel → List ℕ → Stepped → Turn
 after_step processor memory kernel left Next = goes_on (stepped processor memory kernel None) left nothing
-after_step processor memory kernel left Syscall = after_call (o32_call kernel (guest_of processor memory) left)
+after_step processor memory kernel left Syscall = after_call (built_call kernel (guest_of processor memory) left)
 after_step processor memory kernel left (Fault signal code address) = goes_on (stepped processor memory kernel (Some signal)) left nothing
 
 -- one instruction, with its call

@@ -7,7 +7,7 @@ use Rattle.guest_space.specs.Memory.{Memory}
 use Rattle.kernel_core.specs.declared.error.Errno.TheVariants.{EFAULT, EINTR}
 use Rattle.kernel_model.specs.Clock.{left_until}
 use Rattle.kernel_model.specs.Readiness.{Sets, no_events}
-use Rattle.kernel_model.specs.SignalRows.{with_signals}
+use Rattle.kernel_model.specs.SignalRows.{with_mask}
 use Rattle.kernel_model.specs.SignalSets.{SignalSet}
 use Rattle.kernel_model.specs.State.{Kernel}
 use Rattle.o32_model.specs.GuestBytes.{is_storable, with_stored}
@@ -37,10 +37,11 @@ interrupted kernel memory = ends_with (closes.Error EINTR) kernel memory
 abbrev pub wait_word : Wait → ℕ → ℕ
 wait_word wait place = slice_index wait.words place
 
--- A mask of the call's own is put back, but not where a handler ends the wait: then its frame keeps the mask that is put back.
+-- Where the call has a mask of its own, the one before it is put back, but not where a handler ends the wait: then the handler's frame keeps
+-- the mask that is put back. As any mask that is set it loses KILL and STOP.
 abbrev pub with_old_mask : Option SignalSet → Kernel → Kernel
 with_old_mask None kernel = kernel
-with_old_mask (Some mask) kernel = with_signals kernel (record kernel.signals { mask = mask })
+with_old_mask (Some mask) kernel = with_mask kernel mask
 
 -- Sleeps
 

@@ -79,6 +79,10 @@ module _ (whole : Kernel) (processor : Processor) (memory : Memory) (left : List
   unfolding gettimeofday_row read_clock
   day_alone room = simp room refl
 
+  day_last : first_denied Store memory.pages 65536 8 ≡ None → in_kernel last (words 4078 65536 0 0 0) ≡ leaves last (copied_out memory 65536 (u32 0x7FFF_FFFF ++ u32 999_999)) (Value 0)
+  unfolding gettimeofday_row read_clock
+  day_last room = simp room refl
+
   day_of_nothing : in_kernel seven (words 4078 0 0 0 0) ≡ leaves seven memory (Value 0)
   unfolding gettimeofday_row read_clock
   day_of_nothing = refl
@@ -134,6 +138,32 @@ module _ (whole : Kernel) (processor : Processor) (memory : Memory) (left : List
   real : first_denied Store memory.pages 65536 8 ≡ None → in_machine a_second (words 4263 0 65536 0 0) ≡ leaves a_second (copied_out memory 65536 (u32 6 ++ u32 0x4650)) (Value 0)
   unfolding clock_gettime_row read_clock
   real room = simp room refl
+
+  -- the coarse clock is real time too, the thread's is the process's, and the others are the clock itself
+
+  real_coarse : first_denied Store memory.pages 65536 8 ≡ None → in_machine a_second (words 4263 5 65536 0 0) ≡ leaves a_second (copied_out memory 65536 (u32 6 ++ u32 0x4650)) (Value 0)
+  unfolding clock_gettime_row read_clock
+  real_coarse room = simp room refl
+
+  of_the_thread : first_denied Store memory.pages 65536 8 ≡ None → in_machine a_second (words 4263 3 65536 0 0) ≡ leaves a_second (copied_out memory 65536 (u32 0 ++ u32 0x4A38)) (Value 0)
+  unfolding clock_gettime_row read_clock
+  of_the_thread room = simp room refl
+
+  monotonic_raw : first_denied Store memory.pages 65536 8 ≡ None → in_machine a_second (words 4263 4 65536 0 0) ≡ leaves a_second (copied_out memory 65536 (u32 1 ++ u32 0x4650)) (Value 0)
+  unfolding clock_gettime_row read_clock
+  monotonic_raw room = simp room refl
+
+  monotonic_coarse : first_denied Store memory.pages 65536 8 ≡ None → in_machine a_second (words 4263 6 65536 0 0) ≡ leaves a_second (copied_out memory 65536 (u32 1 ++ u32 0x4650)) (Value 0)
+  unfolding clock_gettime_row read_clock
+  monotonic_coarse room = simp room refl
+
+  since_boot : first_denied Store memory.pages 65536 8 ≡ None → in_machine a_second (words 4263 7 65536 0 0) ≡ leaves a_second (copied_out memory 65536 (u32 1 ++ u32 0x4650)) (Value 0)
+  unfolding clock_gettime_row read_clock
+  since_boot room = simp room refl
+
+  clock_last : first_denied Store memory.pages 65536 8 ≡ None → in_machine last (words 4263 0 65536 0 0) ≡ leaves last (copied_out memory 65536 (u32 0x7FFF_FFFF ++ u32 999_999_999)) (Value 0)
+  unfolding clock_gettime_row read_clock
+  clock_last room = simp room refl
 
   clock_of_none : in_machine a_second (words 4263 8 0 0 0) ≡ leaves a_second memory (Error EINVAL)
   unfolding clock_gettime_row read_clock

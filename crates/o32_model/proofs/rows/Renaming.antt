@@ -20,7 +20,6 @@ use Rattle.o32_model.specs.Names.{rename_row}
 use Rattle.o32_model.specs.Paths.{path_at}
 use Rattle.o32_model.specs.Step.{O32Step}
 use Rattle.o32_model.specs.Table.{o32_call}
-use Rattle.o32_model.specs.declared.outcome.Outcome.{Outcome}
 use Rattle.o32_model.specs.declared.outcome.Outcome.TheVariants.{Value, Error}
 
 module _ (whole : Kernel) (nodes : Nodes) (processor : Processor) (memory : Memory) (at_1 : get nodes 1 ≡ Some other_root) where

@@ -10,11 +10,11 @@ use Rattle.guest_space.specs.declared.access.Why.TheVariants.{Forbidden}
 use Rattle.kernel_core.specs.declared.error.Errno.{Errno}
 use Rattle.kernel_core.specs.declared.error.Errno.TheVariants.{EAGAIN, EFAULT, EINTR, EINVAL, ENOMEM, EPERM, ESRCH}
 use Rattle.kernel_core.specs.declared.signal.Sig.{Sig}
-use Rattle.kernel_core.specs.declared.signal.Sig.TheVariants.{Alrm, Usr1, RealTime}
+use Rattle.kernel_core.specs.declared.signal.Sig.TheVariants.{Alrm, Kill, Usr1, RealTime}
 use Rattle.kernel_model.specs.Begin.{first_signals}
 use Rattle.kernel_model.specs.Pipes.{nothing}
 use Rattle.kernel_model.specs.Shared.{Info}
-use Rattle.kernel_model.specs.SignalRows.{accept, appended, change_mask, kill, kill_info, kill_thread, kill_thread_of, pause, pending, post, queue, scheduled_info, set_action, set_stack, suspend, tkill_info, with_mask, with_pending}
+use Rattle.kernel_model.specs.SignalRows.{accept, appended, change_mask, kill, kill_info, kill_thread, kill_thread_of, no_action, no_stack, pause, pending, post, queue, scheduled_info, set_action, set_stack, suspend, tkill_info, with_mask, with_pending}
 use Rattle.kernel_model.specs.SignalSets.{SignalSet}
 use Rattle.kernel_model.specs.State.{Kernel, Signals}
 use Rattle.kernel_model.specs.declared.signal.Action.{Action}
@@ -98,6 +98,11 @@ module _ (whole : Kernel) (processor : Processor) (memory : Memory) (left : List
   unfolding kill_row kill post
   kill_another = refl
 
+  -- every other process, of which there is none; also where nothing is sent
+  kill_others : called (words 4037 0xFFFF_FFFF 0 0 0) ≡ fails ESRCH
+  unfolding kill_row kill post
+  kill_others = refl
+
   kill_unlisted : called (words 4037 100 129 0 0) ≡ fails EINVAL
   unfolding kill_row kill post real_time real_time_if
   kill_unlisted = refl
@@ -122,6 +127,18 @@ module _ (whole : Kernel) (processor : Processor) (memory : Memory) (left : List
   unfolding tkill_row kill_thread
   tkill_another = refl
 
+  tkill_another_unlisted : called (words 4236 101 129 0 0) ≡ fails ESRCH
+  unfolding tkill_row kill_thread real_time real_time_if
+  tkill_another_unlisted = refl
+
+  tkill_unlisted : called (words 4236 100 0xFFFF_FFFF 0 0) ≡ fails EINVAL
+  unfolding tkill_row kill_thread real_time real_time_if
+  tkill_unlisted = refl
+
+  tkill_with_nothing : called (words 4236 100 0 0 0) ≡ leaves first memory (Value 0)
+  unfolding tkill_row kill_thread
+  tkill_with_nothing = refl
+
   tgkill_itself : called (words 4266 100 100 16 0) ≡ posts (tkill_info Usr1)
   unfolding tgkill_row kill_thread_of post
   tgkill_itself = refl
@@ -133,6 +150,19 @@ module _ (whole : Kernel) (processor : Processor) (memory : Memory) (left : List
   tgkill_another : called (words 4266 101 100 16 0) ≡ fails ESRCH
   unfolding tgkill_row kill_thread_of
   tgkill_another = refl
+
+  -- an id below 1 comes before one of another
+  tgkill_another_none : called (words 4266 101 0 129 0) ≡ fails EINVAL
+  unfolding tgkill_row kill_thread_of real_time real_time_if
+  tgkill_another_none = refl
+
+  tgkill_another_thread : called (words 4266 100 101 129 0) ≡ fails ESRCH
+  unfolding tgkill_row kill_thread_of real_time real_time_if
+  tgkill_another_thread = refl
+
+  tgkill_unlisted : called (words 4266 100 100 129 0) ≡ fails EINVAL
+  unfolding tgkill_row kill_thread_of real_time real_time_if
+  tgkill_unlisted = refl
 
   -- rt_sigqueueinfo: the number in the structure is not looked at
 
@@ -151,6 +181,16 @@ module _ (whole : Kernel) (processor : Processor) (memory : Memory) (left : List
   queue_unread : get memory.pages 17 ≡ None → called (words 4198 100 16 69632 0) ≡ fails EFAULT
   unfolding rt_sigqueueinfo_row queue post first_denied refusal bytes_at
   queue_unread absent = simp absent refl
+
+  -- 0 sends nothing, and the structure is read all the same
+
+  queue_nothing : first_denied Load memory.pages 65536 128 ≡ None → called (words 4198 100 0 65536 0) ≡ leaves first memory (Value 0)
+  unfolding rt_sigqueueinfo_row queue
+  queue_nothing loaded = simp loaded refl
+
+  queue_nothing_unread : get memory.pages 17 ≡ None → called (words 4198 100 0 69632 0) ≡ fails EFAULT
+  unfolding rt_sigqueueinfo_row queue first_denied refusal bytes_at
+  queue_nothing_unread absent = simp absent refl
 
   -- rt_sigaction
 
@@ -208,6 +248,16 @@ module _ (whole : Kernel) (processor : Processor) (memory : Memory) (left : List
   unfolding rt_sigaction_row set_action first_denied refusal
   action_unshown absent = simp absent refl
 
+  -- the old action is given, and the new one stands also where that can't be stored
+
+  action_exchanged : first_denied Load memory.pages 65536 24 ≡ None → bytes_at memory.pages 65536 24 ≡ wanted_bytes → first_denied Store memory.pages 65792 24 ≡ None → called (words 4194 16 65536 65792 16) ≡ leaves with_action (copied_out memory 65792 (replicate 24 0)) (Value 0)
+  unfolding rt_sigaction_row set_action
+  action_exchanged loaded held room = simp (loaded, held, room) refl
+
+  action_set_unshown : first_denied Load memory.pages 65536 24 ≡ None → bytes_at memory.pages 65536 24 ≡ wanted_bytes → first_denied Store memory.pages 65792 24 ≡ Some (record { addr = 65792; why = Forbidden }) → called (words 4194 16 65536 65792 16) ≡ leaves with_action memory (Error EFAULT)
+  unfolding rt_sigaction_row set_action
+  action_set_unshown loaded held full_page = simp (loaded, held, full_page) refl
+
   -- rt_sigprocmask
 
   abbrev masks : SignalSet → Kernel
@@ -243,6 +293,11 @@ module _ (whole : Kernel) (processor : Processor) (memory : Memory) (left : List
   unfolding rt_sigprocmask_row change_mask first_denied refusal bytes_at
   mask_unread absent = simp absent refl
 
+  -- the new mask stands where the old one can't be stored
+  mask_set_unshown : first_denied Load memory.pages 65536 16 ≡ None → bytes_at memory.pages 65536 16 ≡ set 4 → first_denied Store memory.pages 65792 16 ≡ Some (record { addr = 65792; why = Forbidden }) → called (words 4195 3 65536 65792 16) ≡ leaves (masks (4 ∷ 0 ∷ 0 ∷ 0 ∷ [])) memory (Error EFAULT)
+  unfolding rt_sigprocmask_row change_mask
+  mask_set_unshown loaded held full_page = simp (loaded, held, full_page) refl
+
   -- rt_sigpending
 
   abbrev usr1_pends : Kernel
@@ -251,6 +306,25 @@ module _ (whole : Kernel) (processor : Processor) (memory : Memory) (left : List
   pending_shown : first_denied Store memory.pages 65536 16 ≡ None → in_kernel usr1_pends (words 4196 65536 16 0 0) ≡ leaves usr1_pends (copied_out memory 65536 (set 0x8000)) (Value 0)
   unfolding rt_sigpending_row pending
   pending_shown room = simp room refl
+
+  -- what an action ignores is removed
+  action_ignoring : first_denied Load memory.pages 65536 24 ≡ None → bytes_at memory.pages 65536 24 ≡ u32 0 ++ u32 1 ++ set 0 → in_kernel usr1_pends (words 4194 16 65536 0 16) ≡ leaves (with_signals (record first_signals { actions = slice_set first_signals.actions 15 (record no_action { handler = 1 }) })) memory (Value 0)
+  unfolding rt_sigaction_row set_action
+  action_ignoring loaded held = simp (loaded, held) refl
+
+  -- a standard signal that pends is sent no second time
+  kill_again : in_kernel usr1_pends (words 4037 100 16 0 0) ≡ leaves usr1_pends memory (Value 0)
+  unfolding kill_row kill post
+  kill_again = refl
+
+  -- 34 is bit 1 of the second word
+
+  abbrev both_queued : Kernel
+  both_queued = with_signals (with_pending first_signals thirty_four (scheduled_info thirty_four (Some 5) ∷ scheduled_info thirty_four (Some 6) ∷ []))
+
+  pending_in_second_word : first_denied Store memory.pages 65536 16 ≡ None → in_kernel both_queued (words 4196 65536 16 0 0) ≡ leaves both_queued (copied_out memory 65536 (u32 0 ++ u32 2 ++ u32 0 ++ u32 0)) (Value 0)
+  unfolding rt_sigpending_row pending thirty_four
+  pending_in_second_word room = simp room refl
 
   pending_of_eight : called (words 4196 0 8 0 0) ≡ fails EINVAL
   unfolding rt_sigpending_row pending
@@ -298,6 +372,16 @@ module _ (whole : Kernel) (processor : Processor) (memory : Memory) (left : List
   unfolding sigaltstack_row set_stack
   stack_in_use_shown here room = simp (here, room) refl
 
+  -- at its start it is not on it; a disabled stack has no place and no size, and needs none
+  stack_disabled : register processor 29 ≡ 0x10000 → first_denied Load memory.pages 65536 12 ≡ None → bytes_at memory.pages 65536 12 ≡ u32 0x20000 ++ u32 5 ++ u32 2 → first_denied Store memory.pages 65792 12 ≡ None → in_kernel on_stack (words 4206 65536 65792 0 0) ≡ leaves (with_signals (record first_signals { stack = no_stack })) (copied_out memory 65792 (u32 0x10000 ++ u32 2048 ++ u32 0)) (Value 0)
+  unfolding sigaltstack_row set_stack
+  stack_disabled here loaded held room = simp (here, loaded, held, room) refl
+
+  -- nor past its end; SS_ONSTACK is taken, and not kept
+  stack_moved : register processor 29 ≡ 0x10801 → first_denied Load memory.pages 65536 12 ≡ None → bytes_at memory.pages 65536 12 ≡ u32 0x20000 ++ u32 4096 ++ u32 1 → first_denied Store memory.pages 65792 12 ≡ Some (record { addr = 65792; why = Forbidden }) → in_kernel on_stack (words 4206 65536 65792 0 0) ≡ leaves (with_signals (record first_signals { stack = record { sp = 0x20000; size = 4096; flags = 0 } })) memory (Error EFAULT)
+  unfolding sigaltstack_row set_stack
+  stack_moved here loaded held full_page = simp (here, loaded, held, full_page) refl
+
   -- pause and rt_sigsuspend: the set is the mask, KILL not in it, and the mask before is kept
 
   pausing : called (words 4029 1 2 3 4) ≡ leaves first memory (Sleep (wait_of (words 4029 1 2 3 4) (record { done = 0; until = None })))
@@ -316,6 +400,11 @@ module _ (whole : Kernel) (processor : Processor) (memory : Memory) (left : List
   suspending_unread : get memory.pages 17 ≡ None → called (words 4199 69632 16 0 0) ≡ fails EFAULT
   unfolding rt_sigsuspend_row suspend first_denied refusal bytes_at
   suspending_unread absent = simp absent refl
+
+  -- a null pointer is an address like any other
+  suspending_at_null : get memory.pages 0 ≡ None → called (words 4199 0 16 0 0) ≡ fails EFAULT
+  unfolding rt_sigsuspend_row suspend first_denied refusal bytes_at
+  suspending_at_null none = simp none refl
 
   -- rt_sigtimedwait: of ALRM and USR1, 14 and 16, the lower
 
@@ -359,6 +448,21 @@ module _ (whole : Kernel) (processor : Processor) (memory : Memory) (left : List
   unfolding rt_sigtimedwait_row accept first_denied refusal bytes_at
   accept_unread absent = simp absent refl
 
+  -- the time is looked at before what pends
+  accept_time_unread : first_denied Load memory.pages 65536 16 ≡ None → bytes_at memory.pages 65536 16 ≡ set 0xA000 → first_denied Load memory.pages 69632 8 ≡ Some (record { addr = 69632; why = Forbidden }) → in_kernel usr1_pends (words 4197 65536 0 69632 16) ≡ leaves usr1_pends memory (Error EFAULT)
+  unfolding rt_sigtimedwait_row accept signals_from real_time real_time_if
+  accept_time_unread loaded held denied = simp (loaded, held, denied) refl
+
+  -- KILL and STOP can't be waited for
+  accept_no_kill : first_denied Load memory.pages 65536 16 ≡ None → bytes_at memory.pages 65536 16 ≡ set 0x40_0100 → first_denied Load memory.pages 66048 8 ≡ None → bytes_at memory.pages 66048 8 ≡ u32 0 ++ u32 0 → in_kernel (with_signals (appended first_signals (kill_info Kill))) (words 4197 65536 0 66048 16) ≡ leaves (with_signals (appended first_signals (kill_info Kill))) memory (Error EAGAIN)
+  unfolding rt_sigtimedwait_row accept signals_from real_time real_time_if
+  accept_no_kill loaded held timed time = simp (loaded, held, timed, time) refl
+
+  -- of two that are queued the first, with its value
+  accept_queued : first_denied Load memory.pages 65536 16 ≡ None → bytes_at memory.pages 65536 16 ≡ u32 0 ++ u32 2 ++ u32 0 ++ u32 0 → first_denied Store memory.pages 65792 128 ≡ None → in_kernel both_queued (words 4197 65536 65792 0 16) ≡ leaves (with_signals (with_pending first_signals thirty_four (scheduled_info thirty_four (Some 6) ∷ []))) (copied_out memory 65792 (u32 34 ++ u32 0xFFFF_FFFF ++ u32 0 ++ u32 1 ++ u32 0 ++ u32 5 ++ replicate 104 0)) (Value 34)
+  unfolding rt_sigtimedwait_row accept signals_from real_time real_time_if thirty_four
+  accept_queued loaded held room = simp (loaded, held, room) refl
+
   -- returns: what the frame keeps, with a mask that loses KILL and STOP
   module _ (pointer : ℕ) (here : register processor 29 ≡ pointer) where
     sigreturn_reads : (bytes : List ℕ) → first_denied Load memory.pages pointer 632 ≡ None → bytes_at memory.pages pointer 632 ≡ bytes
@@ -387,6 +491,15 @@ module _ (whole : Kernel) (processor : Processor) (memory : Memory) (left : List
     wrong_stack : with_frame_stack first processor (record { sp = 0x10000; size = 2047; flags = 0 }) ≡ first
     unfolding set_stack
     wrong_stack = refl
+
+    -- it is the stack pointer of the frame that says whether it is on the stack
+    stack_of_the_frame : with_frame_stack on_stack (record processor { registers = replicate 29 0 ++ 0x10800 ∷ 0 ∷ 0 ∷ [] }) (record { sp = 0x20000; size = 4096; flags = 0 }) ≡ on_stack
+    unfolding set_stack
+    stack_of_the_frame = refl
+
+    stack_off_the_frame : with_frame_stack on_stack (record processor { registers = replicate 29 0 ++ 0x10801 ∷ 0 ∷ 0 ∷ [] }) (record { sp = 0x20000; size = 4096; flags = 1 }) ≡ with_signals (record first_signals { stack = record { sp = 0x20000; size = 4096; flags = 0 } })
+    unfolding set_stack
+    stack_off_the_frame = refl
 
   -- how these waits end
 
@@ -424,6 +537,12 @@ module _ (whole : Kernel) (processor : Processor) (memory : Memory) (left : List
       → signal_wait_ended accepting Accepted both_pend memory ≡ ends_with (closes.Value 14) usr1_pends memory
   unfolding rt_sigtimedwait_row accept signals_from real_time real_time_if
   accepting_accepted loaded held = simp (loaded, held) refl
+
+  -- the information can't be stored, and the signal is gone
+  accepting_untold : first_denied Load memory.pages 65536 16 ≡ None → bytes_at memory.pages 65536 16 ≡ set 0xA000 → first_denied Store memory.pages 65792 128 ≡ Some (record { addr = 65792; why = Forbidden })
+      → signal_wait_ended (waits 4197 (65536 ∷ 65792 ∷ 0 ∷ 16 ∷ 0 ∷ 0 ∷ []) None) Accepted usr1_pends memory ≡ ends_with (closes.Error EFAULT) first memory
+  unfolding rt_sigtimedwait_row accept signals_from real_time real_time_if
+  accepting_untold loaded held full_page = simp (loaded, held, full_page) refl
 
 -- reads and writes of pipes
 

@@ -62,6 +62,14 @@ module _ (whole : Kernel) (processor : Processor) (memory : Memory) (left : List
   unfolding nanosleep_row sleep
   sleep_below_zero loaded held = simp (loaded, held) refl
 
+  sleep_nanoseconds_below_zero : first_denied Load memory.pages 65536 8 ≡ None → bytes_at memory.pages 65536 8 ≡ u32 0 ++ u32 0xFFFF_FFFF → in_kernel at_five (words 4166 65536 0 0 0) ≡ fails EINVAL
+  unfolding nanosleep_row sleep
+  sleep_nanoseconds_below_zero loaded held = simp (loaded, held) refl
+
+  sleep_longest : first_denied Load memory.pages 65536 8 ≡ None → bytes_at memory.pages 65536 8 ≡ u32 0x7FFF_FFFF ++ u32 999_999_999 → in_kernel at_five (words 4166 65536 0 0 0) ≡ until (words 4166 65536 0 0 0) 2_147_483_648_000_000_004
+  unfolding nanosleep_row sleep
+  sleep_longest loaded held = simp (loaded, held) refl
+
   sleep_unread : get memory.pages 17 ≡ None → in_kernel at_five (words 4166 69632 0 0 0) ≡ fails EFAULT
   unfolding nanosleep_row sleep first_denied refusal bytes_at
   sleep_unread absent = simp absent refl
@@ -89,6 +97,15 @@ module _ (whole : Kernel) (processor : Processor) (memory : Memory) (left : List
   until_the_past : first_denied Load memory.pages 65536 8 ≡ None → bytes_at memory.pages 65536 8 ≡ u32 0 ++ u32 5 → in_kernel at_five (words 4265 1 1 65536 0) ≡ leaves at_five memory (Value 0)
   unfolding clock_nanosleep_row sleep
   until_the_past loaded held = simp (loaded, held) refl
+
+  -- 6 seconds past the Epoch are before the clock's beginning
+  until_before_the_beginning : first_denied Load memory.pages 65536 8 ≡ None → bytes_at memory.pages 65536 8 ≡ u32 6 ++ u32 0 → in_kernel at_five (words 4265 0 1 65536 0) ≡ leaves at_five memory (Value 0)
+  unfolding clock_nanosleep_row sleep
+  until_before_the_beginning loaded held = simp (loaded, held) refl
+
+  until_below_zero : first_denied Load memory.pages 65536 8 ≡ None → bytes_at memory.pages 65536 8 ≡ u32 0xFFFF_FFFF ++ u32 0 → in_kernel at_five (words 4265 1 1 65536 0) ≡ fails EINVAL
+  unfolding clock_nanosleep_row sleep
+  until_below_zero loaded held = simp (loaded, held) refl
 
   by_another_clock : in_kernel at_five (words 4265 2 9 0x8000_0000 0) ≡ fails EINVAL
   unfolding clock_nanosleep_row sleep
@@ -120,6 +137,24 @@ module _ (whole : Kernel) (processor : Processor) (memory : Memory) (left : List
   unfolding alarm_row alarm
   alarm_soon = refl
 
+  alarm_under_half_more : in_kernel (with_timer (Some 1_500_000_004) 9) (words 4027 0 0 0 0) ≡ leaves (with_timer None 0) memory (Value 1)
+  unfolding alarm_row alarm
+  alarm_under_half_more = refl
+
+  alarm_of_nothing : in_kernel (with_timer None 0) (words 4027 0 0 0 0) ≡ leaves (with_timer None 0) memory (Value 0)
+  unfolding alarm_row alarm
+  alarm_of_nothing = refl
+
+  -- the seconds are a number without a sign
+  alarm_latest : in_kernel (with_timer (Some 4_294_967_295_000_000_005) 0) (words 4027 0xFFFF_FFFF 0 0 0) ≡ leaves (with_timer (Some 4_294_967_295_000_000_005) 0) memory (Value 0xFFFF_FFFF)
+  unfolding alarm_row alarm
+  alarm_latest = refl
+
+  -- of 2^32 + 2 seconds the low 32 bits
+  alarm_of_many_seconds : in_kernel (with_timer (Some 4_294_967_298_000_000_005) 0) (words 4027 0 0 0 0) ≡ leaves (with_timer None 0) memory (Value 2)
+  unfolding alarm_row alarm
+  alarm_of_many_seconds = refl
+
   -- the period stands before the value
   timer_set : first_denied Load memory.pages 65536 16 ≡ None → bytes_at memory.pages 65536 16 ≡ u32 0 ++ u32 7 ++ u32 1 ++ u32 2 → in_kernel (with_timer None 0) (words 4104 0 65536 0 0) ≡ leaves (with_timer (Some 1_000_002_005) 7_000) memory (Value 0)
   unfolding setitimer_row arm_timer
@@ -130,6 +165,15 @@ module _ (whole : Kernel) (processor : Processor) (memory : Memory) (left : List
   unfolding setitimer_row arm_timer
   timer_disarmed room = simp room refl
 
+  -- a value of 0 disarms it, whatever the period
+  timer_zero : first_denied Load memory.pages 65536 16 ≡ None → bytes_at memory.pages 65536 16 ≡ u32 0 ++ u32 7 ++ u32 0 ++ u32 0 → in_kernel (with_timer (Some 9) 7) (words 4104 0 65536 0 0) ≡ leaves (with_timer None 0) memory (Value 0)
+  unfolding setitimer_row arm_timer
+  timer_zero loaded held = simp (loaded, held) refl
+
+  timer_exchanged : first_denied Load memory.pages 65536 16 ≡ None → bytes_at memory.pages 65536 16 ≡ u32 0 ++ u32 7 ++ u32 1 ++ u32 2 → first_denied Store memory.pages 65536 16 ≡ None → in_kernel (with_timer (Some 2_000_009) 3_000) (words 4104 0 65536 65536 0) ≡ leaves (with_timer (Some 1_000_002_005) 7_000) (copied_out memory 65536 (u32 0 ++ u32 3 ++ u32 0 ++ u32 2_000)) (Value 0)
+  unfolding setitimer_row arm_timer
+  timer_exchanged loaded held room = simp (loaded, held, room) refl
+
   -- the old value can't be stored, and the timer is disarmed
   timer_unshown : get memory.pages 17 ≡ None → in_kernel (with_timer (Some 9) 7) (words 4104 0 0 69632 0) ≡ leaves (with_timer None 0) memory (Error EFAULT)
   unfolding setitimer_row arm_timer first_denied refusal
@@ -138,6 +182,11 @@ module _ (whole : Kernel) (processor : Processor) (memory : Memory) (left : List
   timer_wrong : first_denied Load memory.pages 65536 16 ≡ None → bytes_at memory.pages 65536 16 ≡ u32 0 ++ u32 0 ++ u32 0 ++ u32 1_000_000 → in_kernel (with_timer (Some 9) 7) (words 4104 0 65536 0 0) ≡ leaves (with_timer (Some 9) 7) memory (Error EINVAL)
   unfolding setitimer_row arm_timer
   timer_wrong loaded held = simp (loaded, held) refl
+
+  -- the old value isn't stored then
+  timer_period_below_zero : first_denied Load memory.pages 65536 16 ≡ None → bytes_at memory.pages 65536 16 ≡ u32 0xFFFF_FFFF ++ u32 0 ++ u32 1 ++ u32 0 → in_kernel (with_timer (Some 9) 7) (words 4104 0 65536 65792 0) ≡ leaves (with_timer (Some 9) 7) memory (Error EINVAL)
+  unfolding setitimer_row arm_timer
+  timer_period_below_zero loaded held = simp (loaded, held) refl
 
   timer_unread : get memory.pages 17 ≡ None → in_kernel at_five (words 4104 0 69632 0 0) ≡ fails EFAULT
   unfolding setitimer_row arm_timer first_denied refusal bytes_at

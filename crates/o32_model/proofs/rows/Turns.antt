@@ -1,6 +1,6 @@
 -- Worked rows on turns and whole runs, of a machine that stands at 65536. A turn with an instruction takes 1000 nanoseconds.
 use Rattle.std.proofs.Common.{arith}
-use Rattle.std.specs.Prelude.{◌≡◌, ℕ, zero, suc, ◌+◌, ◌<◌, true, List, [], ◌∷◌, ◌++◌, replicate, Some, None, Ok, Err, refl}
+use Rattle.std.specs.Prelude.{◌≡◌, ℕ, zero, suc, ◌+◌, ◌<◌, List, [], ◌∷◌, replicate, Some, None, Ok, Err, refl}
 use Rattle.guest_space.specs.Access.{writable_prefix}
 use Rattle.guest_space.specs.Bytes.{read as loaded}
 use Rattle.guest_space.specs.Memory.{Memory}
@@ -21,7 +21,7 @@ use Rattle.o32_model.specs.Descriptors.{pipe_row}
 use Rattle.o32_model.specs.Runs.{reached, IsRunningAt, IsOverAt}
 use Rattle.o32_model.specs.Small.{exit_row}
 use Rattle.o32_model.specs.Transfers.{read_row}
-use Rattle.o32_model.specs.Turn.{Machine, turn_of, goes_on, ends, is_blocked}
+use Rattle.o32_model.specs.Turn.{Machine, turn_of, goes_on, ends}
 use Rattle.o32_model.specs.Words.{call_words}
 
 -- what the registers hold: $v0, $v1, $a0, $a1, $a2, $a3

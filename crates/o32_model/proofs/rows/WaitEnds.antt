@@ -148,6 +148,11 @@ module _ (whole : Kernel) (memory : Memory) where
   unfolding fds_bytes
   select_stopped left_room = simp left_room refl
 
+  -- microseconds are rounded down
+  select_handled_later : first_denied Store memory.pages 65792 8 ≡ None → wait_ended (selecting 4142) Handler 499_999_001 whole memory ≡ ends_with (closes.Error EINTR) whole (copied_out memory 65792 (u32 0 ++ u32 500_000))
+  unfolding fds_bytes
+  select_handled_later left_room = simp left_room refl
+
   pselect_handled : first_denied Store memory.pages 65792 8 ≡ None → ended (selecting 4301) Handler ≡ ends_with (closes.Error EINTR) whole (copied_out memory 65792 half_left)
   unfolding fds_bytes
   pselect_handled left_room = simp left_room refl
@@ -155,3 +160,25 @@ module _ (whole : Kernel) (memory : Memory) where
   pselect_stopped : first_denied Store memory.pages 65792 8 ≡ None → ended (selecting 4301) Stopped ≡ ends_with closes.Again whole (copied_out memory 65792 half_left)
   unfolding fds_bytes
   pselect_stopped left_room = simp left_room refl
+
+  -- with a mask of its own
+  abbrev selecting_masked : ℕ → Wait
+  selecting_masked time = waits 4301 (5 ∷ 0 ∷ 65536 ∷ 0 ∷ time ∷ 66304 ∷ []) (Some 1_000_000_000) (Some before)
+
+  pselect_masked_over : first_denied Store memory.pages 65536 4 ≡ None → first_denied Store memory.pages 65792 8 ≡ None → wait_ended (selecting_masked 65792) Due 1_000_000_000 whole memory ≡ ends_with (closes.Value 0) put_back (copied_out (copied_out memory 65536 (u32 0)) 65792 (u32 0 ++ u32 0))
+  unfolding fds_bytes
+  pselect_masked_over room left_room = simp (room, left_room) refl
+
+  pselect_masked_handled : first_denied Store memory.pages 65792 8 ≡ None → ended (selecting_masked 65792) Handler ≡ ends_with (closes.Error EINTR) whole (copied_out memory 65792 half_left)
+  pselect_masked_handled left_room = simp left_room refl
+
+  pselect_masked_stopped : first_denied Store memory.pages 65792 8 ≡ None → ended (selecting_masked 65792) Stopped ≡ ends_with closes.Again put_back (copied_out memory 65792 half_left)
+  pselect_masked_stopped left_room = simp left_room refl
+
+  pselect_masked_stopped_unstored : get memory.pages 17 ≡ None → ended (selecting_masked 69632) Stopped ≡ ends_with (closes.Error EINTR) put_back memory
+  unfolding first_denied refusal
+  pselect_masked_stopped_unstored absent = simp absent refl
+
+  -- KILL is not put back
+  pselect_masked_by_kill : wait_ended (waits 4301 (0 ∷ 0 ∷ 0 ∷ 0 ∷ 0 ∷ 66304 ∷ []) None (Some (0x102 ∷ 0 ∷ 0 ∷ 0 ∷ []))) Stopped 0 whole memory ≡ ends_with closes.Again put_back memory
+  pselect_masked_by_kill = refl

@@ -1,5 +1,4 @@
 use Rattle.std.proofs.Common.{◌≡◌, Option, sym, ap, ◌∙◌}
-use Rattle.kernel_model.specs.Came.{Done}
 use Rattle.kernel_model.specs.DescriptorRows.{PipeFlags, ends, make_pipe}
 use Rattle.kernel_model.specs.State.{Files, Kernel}
 use Rattle.kernel_model.specs.Whole.{with_files}

@@ -1,4 +1,4 @@
-use Rattle.std.proofs.Common.{◌≡◌, Ok, ap, length, subst, ◌∙◌}
+use Rattle.std.proofs.Common.{Ok, ap, length, subst, ◌∙◌}
 use Rattle.kernel_model.specs.State.{Kernel}
 use Rattle.kernel_model.specs.Whole.{with_files}
 use Rattle.kernel_model.specs.Transfers.{read}

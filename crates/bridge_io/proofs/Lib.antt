@@ -1,0 +1,9 @@
+pub mod Calls
+pub mod CommandMirrors
+pub mod DescriptorMirrors
+pub mod Fitting
+pub mod ReadFills
+pub mod PipeMirrors
+pub mod ReadvMirrors
+pub mod Storing
+pub mod TerminalMirrors

@@ -1,0 +1,4 @@
+pub mod Outcomes
+pub mod Purposes
+pub mod Stores
+pub mod Takes

@@ -1,0 +1,59 @@
+//! A call by its number.
+ghost use Rattle.std.specs.Prelude.{IsTrue};
+ghost use Rattle.bridge_io.specs.Found.{found};
+ghost use Rattle.bridge_io.specs.Rows.{is_row_there};
+ghost use Rattle.bridge_log.specs.Keeping.{KeepsCall};
+ghost use Rattle.kernel_model.specs.Stops.{StopsOnlyIfRose};
+ghost use Rattle.o32_model.specs.Answered.{IsCall};
+ghost use Rattle.o32_model.specs.Table.{o32_call};
+ghost use Rattle.outside.specs.Streams.{NoCountFell, contents};
+
+use crate::commands::fcntl;
+use crate::descriptors::{close, dup, dup2, dup3};
+use crate::pipes::{pipe, pipe2};
+use crate::reading::{pread, read};
+use crate::terminal::ioctl;
+use crate::vectors::readv;
+use guest_space::Space;
+use host_mem::HostMem;
+use kernel_core::Stop;
+use mips_exec::Cpu;
+use native_kernel::NativeKernel;
+use o32_model::{CallWords, Log, Outcome, Seen};
+use outside::{Devices, Sink, Source};
+
+/// Makes a call of the program, by its words.
+pub fn io_call<I: Source, O: Sink, E: Sink>(
+    args: &CallWords,
+    cpu: &mut Cpu,
+    space: &mut Space,
+    k: &mut NativeKernel,
+    mem: &mut HostMem,
+    dev: &mut Devices<I, O, E>,
+    log: &mut Log,
+    seen: &Seen,
+) -> Result<Outcome, Stop>
+    requires { IsTrue (is_row_there args.now.nr) }
+    ensures row { IsCall (o32_call k.old (found args.now cpu.old space.old)) result k.new space.new cpu.new
+        (contents I.left O.written E.written dev.old) (contents I.left O.written E.written dev.new) }
+    ensures kept { KeepsCall (o32_call k.old (found args.now cpu.old space.old)) result k.old
+        (found args.now cpu.old space.old) (I.left dev.old.input) log.old log.new }
+    ensures cause { StopsOnlyIfRose I.faults O.faults E.faults result dev.old dev.new }
+    ensures counts { NoCountFell I.faults O.faults E.faults dev.old dev.new }
+{
+    let [a0, a1, a2, _] = args.reg;
+    match args.nr {
+        4003 => read(args, a0, a1, a2, space, k, mem, dev, log),
+        4006 => close(args, a0, k, mem, dev, log),
+        4041 => dup(args, a0, k, mem, dev, log),
+        4042 => pipe(args, k, mem, dev, log),
+        4054 => ioctl(args, a0, a1, a2, space, k, mem, dev, log),
+        4055 => fcntl(args, a0, a1, a2, k, mem, dev, log),
+        4063 => dup2(args, a0, a1, k, mem, dev, log),
+        4145 => readv(args, a0, a1, a2, space, k, mem, dev, log),
+        4200 => pread(args, a0, a1, a2, space, k, mem, dev, log),
+        4220 => fcntl(args, a0, a1, a2, k, mem, dev, log),
+        4327 => dup3(args, a0, a1, a2, k, mem, dev, log),
+        _ => pipe2(args, a0, a1, space, k, mem, dev, log),
+    }
+}

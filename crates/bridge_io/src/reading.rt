@@ -1,0 +1,71 @@
+//! Reading: read(2), pread(2).
+ghost use Rattle.std.specs.Prelude.{◌≡◌};
+ghost use Rattle.bridge_log.specs.Keeping.{KeepsCall};
+ghost use Rattle.kernel_model.specs.Stops.{StopsOnlyIfRose};
+ghost use Rattle.o32_model.specs.Answered.{IsCall};
+ghost use Rattle.o32_model.specs.Step.{Guest};
+ghost use Rattle.o32_model.specs.Transfers.{pread_row, read_row};
+ghost use Rattle.o32_model.specs.Words.{stack_pair};
+ghost use Rattle.outside.specs.Streams.{NoCountFell, contents};
+
+use crate::numbers::{PREAD64, READ};
+use bridge_log::fill_call;
+use bridge_mem::stack_pair;
+use guest_space::Space;
+use host_mem::{FIRST_ADDRESS, HostMem};
+use kernel_core::{Errno, Stop};
+use native_kernel::NativeKernel;
+use o32_model::{CallWords, Log, Outcome};
+use outside::{Devices, Sink, Source};
+
+/// read(2): EBADF, EFAULT, EISDIR, EAGAIN. The longest prefix of the buffer that may be stored to is filled.
+pub(crate) fn read<I: Source, O: Sink, E: Sink>(
+    words: &CallWords,
+    fd: u32,
+    buffer: u32,
+    count: u32,
+    space: &mut Space,
+    k: &mut NativeKernel,
+    mem: &mut HostMem,
+    dev: &mut Devices<I, O, E>,
+    log: &mut Log,
+) -> Result<Outcome, Stop>
+    ensures row { (guest : Guest) → guest.words ≡ words.now → guest.memory ≡ space.old
+        → IsCall (read_row k.old guest fd buffer count) result k.new space.new guest.processor
+        (contents I.left O.written E.written dev.old) (contents I.left O.written E.written dev.new) }
+    ensures kept { (guest : Guest) → guest.words ≡ words.now → guest.memory ≡ space.old
+        → KeepsCall (read_row k.old guest fd buffer count) result k.old guest (I.left dev.old.input) log.old log.new }
+    ensures cause { StopsOnlyIfRose I.faults O.faults E.faults result dev.old dev.new }
+    ensures counts { NoCountFell I.faults O.faults E.faults dev.old dev.new }
+{
+    let args = [u64::from(fd), FIRST_ADDRESS, u64::from(count), 0, 0, 0];
+    fill_call(words, buffer, count, space, k, READ, args, mem, dev, log)
+}
+
+/// pread(2): as read(2) at a place, which two words on the stack give. EFAULT before all else where one of
+/// them can't be read; EINVAL for a place below 0; ESPIPE for a stream or a pipe.
+pub(crate) fn pread<I: Source, O: Sink, E: Sink>(
+    words: &CallWords,
+    fd: u32,
+    buffer: u32,
+    count: u32,
+    space: &mut Space,
+    k: &mut NativeKernel,
+    mem: &mut HostMem,
+    dev: &mut Devices<I, O, E>,
+    log: &mut Log,
+) -> Result<Outcome, Stop>
+    ensures row { (guest : Guest) → guest.words ≡ words.now → guest.memory ≡ space.old
+        → IsCall (pread_row k.old guest fd buffer count (stack_pair words.now)) result k.new space.new guest.processor
+        (contents I.left O.written E.written dev.old) (contents I.left O.written E.written dev.new) }
+    ensures kept { (guest : Guest) → guest.words ≡ words.now → guest.memory ≡ space.old
+        → KeepsCall (pread_row k.old guest fd buffer count (stack_pair words.now)) result k.old guest (I.left dev.old.input) log.old log.new }
+    ensures cause { StopsOnlyIfRose I.faults O.faults E.faults result dev.old dev.new }
+    ensures counts { NoCountFell I.faults O.faults E.faults dev.old dev.new }
+{
+    let Some(place) = stack_pair(words) else {
+        return Ok(Outcome::Error(Errno::EFAULT));
+    };
+    let args = [u64::from(fd), FIRST_ADDRESS, u64::from(count), place, 0, 0];
+    fill_call(words, buffer, count, space, k, PREAD64, args, mem, dev, log)
+}

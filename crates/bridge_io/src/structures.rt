@@ -1,0 +1,303 @@
+//! Calls whose structure goes from host memory to the program's memory.
+ghost use Rattle.std.specs.Prelude.{◌≡◌, ◌≤◌, ℕ, List, length, map, replicate, slice_index, OnOk};
+ghost use Rattle.bridge_io.specs.inside.Stores.{Stores, bytes_told, byte_from, places, size};
+ghost use Rattle.bridge_io.specs.inside.Takes.{places_back};
+ghost use Rattle.bridge_log.specs.Keeping.{KeepsCall, reached};
+ghost use Rattle.kernel_model.specs.Pipes.{Sent};
+ghost use Rattle.kernel_model.specs.Stops.{StopsOnlyIfRose};
+ghost use Rattle.mips_exec.specs.Processor.{Processor};
+ghost use Rattle.native_calls.specs.Table.{native_call};
+ghost use Rattle.native_kernel.specs.Built.{built_call};
+ghost use Rattle.o32_model.specs.Answered.{IsCall};
+ghost use Rattle.o32_model.specs.Effects.{Effected};
+ghost use Rattle.o32_model.specs.GuestBytes.{with_stored};
+ghost use Rattle.o32_model.specs.Step.{Guest, O32Step};
+ghost use Rattle.outside.specs.Streams.{NoCountFell, contents};
+
+use bridge_log::{native, outcome_of, put};
+use bridge_mem::fresh_room;
+use guest_space::Space;
+use host_mem::HostMem;
+use kernel_core::{NoMemory, Reply, Stop};
+use native_kernel::NativeKernel;
+use o32_model::{CallWords, Log, Outcome};
+use outside::{Devices, Sink, Source};
+
+/// A structure that a native call puts into host memory.
+#[derive(Clone, Copy)]
+pub(crate) enum Structure {
+    /// Two descriptors.
+    Pair,
+    /// An int.
+    Int,
+    /// The size of a window.
+    Window,
+    /// The settings of a terminal, whose characters stand elsewhere in host memory.
+    Settings,
+}
+
+impl Structure {
+    /// How many bytes it has in host memory.
+    fn size(self) -> u32
+        ensures { result ≡ size self }
+    {
+        match self {
+            Structure::Pair | Structure::Window => 8,
+            Structure::Int => 4,
+            Structure::Settings => 36,
+        }
+    }
+
+    /// How many bytes it has in the program's memory.
+    pub(crate) fn size_for_program(self) -> u32
+        ensures value { result ≡ length (places self) }
+        ensures bound { result ≤ 40 }
+    {
+        match self {
+            Structure::Pair | Structure::Window => 8,
+            Structure::Int => 4,
+            Structure::Settings => 40,
+        }
+    }
+
+    /// For each of its bytes in the program's memory the place in host memory, or none for a byte that is 0.
+    fn places(self) -> &'static [Option<usize>]
+        ensures places { result.now ≡ places self }
+        ensures bound { length result.now ≤ 40 }
+    {
+        match self {
+            Structure::Pair => &PAIR,
+            Structure::Int => &INT,
+            Structure::Window => &WINDOW,
+            Structure::Settings => &SETTINGS,
+        }
+    }
+
+    /// For each of its bytes in host memory the place in the program's memory, or none for a byte that is 0.
+    pub(crate) fn places_back(self) -> &'static [Option<usize>]
+        ensures places { result.now ≡ places_back self }
+        ensures bound { length result.now ≤ 36 }
+    {
+        match self {
+            Structure::Pair => &PAIR,
+            Structure::Int => &INT,
+            Structure::Window => &WINDOW,
+            Structure::Settings => &SETTINGS_BACK,
+        }
+    }
+}
+
+/// Two numbers of four bytes, the first byte of each counting most.
+static PAIR: [Option<usize>; 8] = [
+    Some(3),
+    Some(2),
+    Some(1),
+    Some(0),
+    Some(7),
+    Some(6),
+    Some(5),
+    Some(4),
+];
+
+/// One such number.
+static INT: [Option<usize>; 4] = [Some(3), Some(2), Some(1), Some(0)];
+
+/// Four numbers of two bytes.
+static WINDOW: [Option<usize>; 8] = [
+    Some(1),
+    Some(0),
+    Some(3),
+    Some(2),
+    Some(5),
+    Some(4),
+    Some(7),
+    Some(6),
+];
+
+/// Four words of flags, the line and 23 characters.
+static SETTINGS: [Option<usize>; 40] = [
+    Some(3),
+    Some(2),
+    Some(1),
+    Some(0),
+    Some(7),
+    Some(6),
+    Some(5),
+    Some(4),
+    Some(11),
+    Some(10),
+    Some(9),
+    Some(8),
+    Some(15),
+    Some(14),
+    Some(13),
+    Some(12),
+    Some(16),
+    Some(17),
+    Some(18),
+    Some(19),
+    Some(20),
+    Some(23),
+    Some(22),
+    Some(33),
+    Some(24),
+    Some(25),
+    Some(26),
+    Some(27),
+    None,
+    Some(29),
+    Some(30),
+    Some(31),
+    Some(32),
+    Some(21),
+    Some(28),
+    None,
+    None,
+    None,
+    None,
+    None,
+];
+
+/// The same with the 19 characters of the native kernel.
+static SETTINGS_BACK: [Option<usize>; 36] = [
+    Some(3),
+    Some(2),
+    Some(1),
+    Some(0),
+    Some(7),
+    Some(6),
+    Some(5),
+    Some(4),
+    Some(11),
+    Some(10),
+    Some(9),
+    Some(8),
+    Some(15),
+    Some(14),
+    Some(13),
+    Some(12),
+    Some(16),
+    Some(17),
+    Some(18),
+    Some(19),
+    Some(20),
+    Some(33),
+    Some(22),
+    Some(21),
+    Some(24),
+    Some(25),
+    Some(26),
+    Some(27),
+    Some(34),
+    Some(29),
+    Some(30),
+    Some(31),
+    Some(32),
+    Some(23),
+    None,
+    None,
+];
+
+/// Makes the native call that a call of the program is, where it gives a structure: over host memory with
+/// as many zeros as the structure has bytes, from where it then goes to the program's memory. `row` and
+/// `kept` hold of every o32 call that this native call stores for.
+pub(crate) fn store_call<I: Source, O: Sink, E: Sink>(
+    words: &CallWords,
+    address: u32,
+    structure: Structure,
+    space: &mut Space,
+    k: &mut NativeKernel,
+    nr: u64,
+    args: [u64; 6],
+    mem: &mut HostMem,
+    dev: &mut Devices<I, O, E>,
+    log: &mut Log,
+) -> Result<Outcome, Stop>
+    requires built { built_call nr ≡ native_call nr }
+    ensures row { (guest : Guest) (step : List ℕ → O32Step) → guest.words ≡ words.now → guest.memory ≡ space.old
+        → ((left : List ℕ) → Stores guest address structure (native_call nr args k.old (replicate (size structure) 0) left) (step left))
+        → IsCall step result k.new space.new guest.processor
+        (contents I.left O.written E.written dev.old) (contents I.left O.written E.written dev.new) }
+    ensures kept { (guest : Guest) (step : List ℕ → O32Step) → guest.words ≡ words.now → guest.memory ≡ space.old
+        → ((left : List ℕ) → Stores guest address structure (native_call nr args k.old (replicate (size structure) 0) left) (step left))
+        → KeepsCall step result k.old guest (I.left dev.old.input) log.old log.new }
+    ensures cause { StopsOnlyIfRose I.faults O.faults E.faults result dev.old dev.new }
+    ensures counts { NoCountFell I.faults O.faults E.faults dev.old dev.new }
+{
+    fresh_room(mem, structure.size())?;
+    let reply = native(k, nr, args, mem, dev, log)?;
+    put_structure(space, address, structure, mem, reply, log)?;
+    Ok(outcome_of(words, reply))
+}
+
+/// Writes the structure that stands in host memory after a reply that is no error to the program's memory,
+/// where it may be stored whole.
+fn put_structure(
+    space: &mut Space,
+    address: u32,
+    structure: Structure,
+    mem: &HostMem,
+    reply: Reply,
+    log: &mut Log,
+) -> Result<(), NoMemory>
+    ensures stored { OnOk result (space.new ≡ with_stored space.old address (bytes_told structure mem.now reply)) }
+    ensures effects { OnOk result ((processor : Processor) (sent : Sent)
+        → Effected log.old.effects log.new.effects (reached processor space.old.pages sent) (reached processor space.new.pages sent)) }
+    ensures native { log.new.native ≡ log.old.native }
+{
+    match reply {
+        Reply::Done(number) => {
+            if number >= 0 {
+                put_bytes(space, address, structure, mem, log)?;
+            }
+            Ok(())
+        }
+        Reply::Sleep(_) => Ok(()),
+    }
+}
+
+fn put_bytes(
+    space: &mut Space,
+    address: u32,
+    structure: Structure,
+    mem: &HostMem,
+    log: &mut Log,
+) -> Result<(), NoMemory>
+    ensures stored { OnOk result (space.new ≡ with_stored space.old address (map (byte_from mem.now) (places structure))) }
+    ensures effects { OnOk result ((processor : Processor) (sent : Sent)
+        → Effected log.old.effects log.new.effects (reached processor space.old.pages sent) (reached processor space.new.pages sent)) }
+    ensures native { log.new.native ≡ log.old.native }
+{
+    let places = structure.places();
+    let mut buffer = [0; 40];
+    let bytes = &mut buffer[..places.len()];
+    rearrange(mem.as_slice(), places, bytes);
+    put(space, address, bytes, log)?;
+    Ok(())
+}
+
+/// Sets each byte to the one at its place, or to 0.
+pub(crate) fn rearrange(from: &[u8], places: &[Option<usize>], bytes: &mut [u8])
+    requires { length bytes.old ≡ length places.now }
+    ensures { bytes.new ≡ map (byte_from from.now) places.now }
+{
+    for k in 0..bytes.len() {
+        bytes[k] = byte_from(from, places[k]);
+    }
+}
+
+fn byte_from(from: &[u8], place: Option<usize>) -> u8
+    ensures { result ≡ byte_from from.now place }
+{
+    match place {
+        None => 0,
+        Some(place) => byte_at(from, place),
+    }
+}
+
+/// The byte at a place, or 0 past the end.
+pub(crate) fn byte_at(from: &[u8], place: usize) -> u8
+    ensures { result ≡ slice_index from.now place }
+{
+    if place < from.len() { from[place] } else { 0 }
+}

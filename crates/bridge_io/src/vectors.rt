@@ -1,0 +1,161 @@
+//! Reading into the buffers of a vector: readv(2).
+ghost use Rattle.std.specs.Prelude.{◌≡◌, ◌≤◌, ℕ, [], Ok, length, take, OnOk};
+ghost use Rattle.bridge_io.specs.inside.Outcomes.{wrong_count};
+ghost use Rattle.bridge_log.specs.Fills.{bytes_back};
+ghost use Rattle.bridge_log.specs.Keeping.{KeepsCall, reached};
+ghost use Rattle.kernel_model.specs.Pipes.{Sent};
+ghost use Rattle.kernel_model.specs.Stops.{StopsOnlyIfRose};
+ghost use Rattle.mips_exec.specs.Processor.{Processor};
+ghost use Rattle.o32_model.specs.Answered.{IsCall};
+ghost use Rattle.o32_model.specs.Effects.{Effected};
+ghost use Rattle.o32_model.specs.GuestBytes.{vector, all_accessible, all_copied_out, with_stored};
+ghost use Rattle.o32_model.specs.Step.{Guest};
+ghost use Rattle.o32_model.specs.Transfers.{readv_row};
+ghost use Rattle.outside.specs.Streams.{NoCountFell, contents};
+
+use crate::numbers::{READ, READV};
+use bridge_log::{native, number_call, outcome_of, put};
+use bridge_mem::{Vector, fresh_room};
+use guest_space::Space;
+use host_mem::{FIRST_ADDRESS, HostMem};
+use kernel_core::{Errno, NoMemory, Reply, Stop};
+use native_kernel::NativeKernel;
+use o32_model::{CallWords, Log, Outcome, Range};
+use outside::{Devices, Sink, Source};
+
+/// readv(2): EBADF; EINVAL for more than 1,024 buffers, then EFAULT where the vector can't be loaded, then
+/// EINVAL for more than 2^31 - 1 bytes; EFAULT where the first byte can't be stored to, EISDIR, EAGAIN. The
+/// buffers are filled in order, up to the first byte that may not be stored to.
+pub(crate) fn readv<I: Source, O: Sink, E: Sink>(
+    words: &CallWords,
+    fd: u32,
+    address: u32,
+    count: u32,
+    space: &mut Space,
+    k: &mut NativeKernel,
+    mem: &mut HostMem,
+    dev: &mut Devices<I, O, E>,
+    log: &mut Log,
+) -> Result<Outcome, Stop>
+    ensures row { (guest : Guest) → guest.words ≡ words.now → guest.memory ≡ space.old
+        → IsCall (readv_row k.old guest fd address count) result k.new space.new guest.processor
+        (contents I.left O.written E.written dev.old) (contents I.left O.written E.written dev.new) }
+    ensures kept { (guest : Guest) → guest.words ≡ words.now → guest.memory ≡ space.old
+        → KeepsCall (readv_row k.old guest fd address count) result k.old guest (I.left dev.old.input) log.old log.new }
+    ensures cause { StopsOnlyIfRose I.faults O.faults E.faults result dev.old dev.new }
+    ensures counts { NoCountFell I.faults O.faults E.faults dev.old dev.new }
+{
+    match Vector::read(space, address, count) {
+        Ok(buffers) => fill_buffers(words, fd, &buffers, space, k, mem, dev, log),
+        Err(error) => {
+            let args = [u64::from(fd), 0, wrong_count(error), 0, 0, 0];
+            number_call(words, k, READV, args, mem, dev, log)
+        }
+    }
+}
+
+/// How many buffers a vector has at address 0 of host memory, where no byte is, for which the native kernel
+/// finds this error: more than there may be, or one that can't be loaded.
+fn wrong_count(error: Errno) -> u64
+    ensures { result ≡ wrong_count error }
+{
+    match error {
+        Errno::EINVAL => 1025,
+        _ => 1,
+    }
+}
+
+/// Reads into the buffers of a vector, by one native read of as many bytes as they have in all.
+fn fill_buffers<I: Source, O: Sink, E: Sink>(
+    words: &CallWords,
+    fd: u32,
+    buffers: &Vector,
+    space: &mut Space,
+    k: &mut NativeKernel,
+    mem: &mut HostMem,
+    dev: &mut Devices<I, O, E>,
+    log: &mut Log,
+) -> Result<Outcome, Stop>
+    ensures row { (guest : Guest) (address count : ℕ) → guest.words ≡ words.now → guest.memory ≡ space.old → vector guest.memory address count ≡ Ok buffers.now
+        → IsCall (readv_row k.old guest fd address count) result k.new space.new guest.processor
+        (contents I.left O.written E.written dev.old) (contents I.left O.written E.written dev.new) }
+    ensures kept { (guest : Guest) (address count : ℕ) → guest.words ≡ words.now → guest.memory ≡ space.old → vector guest.memory address count ≡ Ok buffers.now
+        → KeepsCall (readv_row k.old guest fd address count) result k.old guest (I.left dev.old.input) log.old log.new }
+    ensures cause { StopsOnlyIfRose I.faults O.faults E.faults result dev.old dev.new }
+    ensures counts { NoCountFell I.faults O.faults E.faults dev.old dev.new }
+{
+    let total = buffers.total();
+    let room = buffers.accessible(space);
+    fresh_room(mem, room)?;
+    let args = [u64::from(fd), FIRST_ADDRESS, u64::from(total), 0, 0, 0];
+    let reply = native(k, READ, args, mem, dev, log)?;
+    scatter_back(space, buffers, mem, reply, log)?;
+    Ok(outcome_of(words, reply))
+}
+
+/// Writes the bytes of host memory that a reply says were put there to the buffers, one after the other.
+/// Nothing is promised of memory where one of them may not be stored to; for a reply that gives none,
+/// nothing is written.
+fn scatter_back(
+    space: &mut Space,
+    buffers: &Vector,
+    mem: &HostMem,
+    reply: Reply,
+    log: &mut Log,
+) -> Result<(), NoMemory>
+    ensures stored { OnOk result (length (bytes_back mem.now reply) ≤ all_accessible space.old buffers.now
+        → space.new ≡ all_copied_out space.old buffers.now (bytes_back mem.now reply)) }
+    ensures effects { OnOk result ((processor : Processor) (sent : Sent)
+        → Effected log.old.effects log.new.effects (reached processor space.old.pages sent) (reached processor space.new.pages sent)) }
+    ensures native { log.new.native ≡ log.old.native }
+{
+    match reply {
+        Reply::Done(count) => {
+            if count > 0 {
+                scatter(space, buffers.ranges(), first_bytes(mem, count as u64), log)?;
+            }
+            Ok(())
+        }
+        Reply::Sleep(_) => Ok(()),
+    }
+}
+
+/// The first bytes of host memory, at most so many.
+fn first_bytes(mem: &HostMem, count: u64) -> &[u8]
+    ensures { result.now ≡ take count mem.now }
+{
+    let bytes = mem.as_slice();
+    let there = bytes.len().min(count as usize);
+    &bytes[..there]
+}
+
+/// Writes the bytes to the buffers, one after the other, and keeps what was written to each.
+fn scatter(space: &mut Space, ranges: &[Range], bytes: &[u8], log: &mut Log) -> Result<(), NoMemory>
+    ensures stored { OnOk result (length bytes.now ≤ all_accessible space.old ranges.now
+        → space.new ≡ all_copied_out space.old ranges.now bytes.now) }
+    ensures effects { OnOk result ((processor : Processor) (sent : Sent)
+        → Effected log.old.effects log.new.effects (reached processor space.old.pages sent) (reached processor space.new.pages sent)) }
+    ensures native { log.new.native ≡ log.old.native }
+{
+    let mut rest = bytes;
+    for range in ranges {
+        let (piece, later) = rest.split_at(rest.len().min(range.length as usize));
+        put_piece(space, range.address, piece, log)?;
+        rest = later;
+    }
+    Ok(())
+}
+
+/// Writes the bytes from an address on, where each may be stored to. Of no byte nothing is kept.
+fn put_piece(space: &mut Space, address: u32, bytes: &[u8], log: &mut Log) -> Result<(), NoMemory>
+    ensures stored { OnOk result (space.new ≡ with_stored space.old address bytes.now) }
+    ensures effects { OnOk result ((processor : Processor) (sent : Sent)
+        → Effected log.old.effects log.new.effects (reached processor space.old.pages sent) (reached processor space.new.pages sent)) }
+    ensures native { log.new.native ≡ log.old.native }
+{
+    if bytes.is_empty() {
+        return Ok(());
+    }
+    put(space, address, bytes, log)?;
+    Ok(())
+}

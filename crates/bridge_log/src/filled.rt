@@ -1,0 +1,57 @@
+//! o32 calls that are one native call which fills a buffer.
+ghost use Rattle.std.specs.Prelude.{◌≡◌, ℕ, List, replicate};
+ghost use Rattle.bridge_log.specs.Fills.{Fills};
+ghost use Rattle.bridge_log.specs.Keeping.{KeepsCall};
+ghost use Rattle.guest_space.specs.Access.{writable_prefix};
+ghost use Rattle.kernel_model.specs.Stops.{StopsOnlyIfRose};
+ghost use Rattle.native_calls.specs.Table.{native_call};
+ghost use Rattle.native_kernel.specs.Built.{built_call};
+ghost use Rattle.o32_model.specs.Answered.{IsCall};
+ghost use Rattle.o32_model.specs.Step.{Guest, O32Step};
+ghost use Rattle.outside.specs.Streams.{NoCountFell, contents};
+
+use crate::calls::native;
+use crate::outcomes::outcome_of;
+use crate::storing::put_back;
+use bridge_mem::fresh_room;
+use guest_space::Space;
+use host_mem::HostMem;
+use kernel_core::Stop;
+use native_kernel::NativeKernel;
+use o32_model::{CallWords, Log, Outcome};
+use outside::{Devices, Sink, Source};
+
+/// Makes the native call that a call of the program is, where it fills a buffer of `count` bytes: over host
+/// memory with as many zeros as bytes of the buffer may be stored to, from where they then go to the
+/// program's buffer. `row` and `kept` hold of every o32 call that this native call fills for.
+pub fn fill_call<I: Source, O: Sink, E: Sink>(
+    words: &CallWords,
+    buffer: u32,
+    count: u32,
+    space: &mut Space,
+    k: &mut NativeKernel,
+    nr: u64,
+    args: [u64; 6],
+    mem: &mut HostMem,
+    dev: &mut Devices<I, O, E>,
+    log: &mut Log,
+) -> Result<Outcome, Stop>
+    requires built { built_call nr ≡ native_call nr }
+    ensures row { (guest : Guest) (step : List ℕ → O32Step) → guest.words ≡ words.now → guest.memory ≡ space.old
+        → (let room = replicate (writable_prefix space.old.pages buffer count) 0 in
+        (left : List ℕ) → Fills guest buffer room (native_call nr args k.old room left) (step left))
+        → IsCall step result k.new space.new guest.processor
+        (contents I.left O.written E.written dev.old) (contents I.left O.written E.written dev.new) }
+    ensures kept { (guest : Guest) (step : List ℕ → O32Step) → guest.words ≡ words.now → guest.memory ≡ space.old
+        → (let room = replicate (writable_prefix space.old.pages buffer count) 0 in
+        (left : List ℕ) → Fills guest buffer room (native_call nr args k.old room left) (step left))
+        → KeepsCall step result k.old guest (I.left dev.old.input) log.old log.new }
+    ensures cause { StopsOnlyIfRose I.faults O.faults E.faults result dev.old dev.new }
+    ensures counts { NoCountFell I.faults O.faults E.faults dev.old dev.new }
+{
+    let room = space.writable(buffer, count);
+    fresh_room(mem, room)?;
+    let reply = native(k, nr, args, mem, dev, log)?;
+    put_back(space, buffer, mem, reply, log)?;
+    Ok(outcome_of(words, reply))
+}

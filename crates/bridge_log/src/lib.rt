@@ -1,0 +1,17 @@
+//! What every bridge call does beside its row: it makes native calls and keeps them, keeps effects, and
+//! makes an o32 outcome of a native reply.
+#![tactic(auto)]
+
+mod calls;
+mod effects;
+mod filled;
+mod mirrored;
+mod outcomes;
+mod storing;
+
+pub use calls::native;
+pub use effects::{sent, wrote};
+pub use filled::fill_call;
+pub use mirrored::number_call;
+pub use outcomes::outcome_of;
+pub use storing::put;

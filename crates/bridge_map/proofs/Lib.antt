@@ -1,0 +1,10 @@
+pub mod Breaks
+pub mod Journal
+pub mod Moving
+pub mod NoFile
+pub mod Pages
+pub mod Ranges
+pub mod Resizing
+pub mod Runs
+pub mod Sizes
+pub mod Travel

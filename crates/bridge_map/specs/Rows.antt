@@ -1,0 +1,101 @@
+-- What is said of a row that changes memory alone. (The journal is this project's own.)
+use Rattle.std.specs.Prelude.{◌≡◌, ℕ, zero, suc, ◌+◌, ◌-◌, ◌*◌, ◌==◌, ◌&&◌, ◌||◌, not, ⊤, min, Bool, true, false, List, [], ◌∷◌, ◌++◌, Option, Some, None, nat_lt, if◌then◌else◌}
+use Rattle.std.specs.FinMap.{get}
+use Rattle.guest_space.specs.Mapping.{zero_bytes}
+use Rattle.guest_space.specs.Memory.{MappedPage, Memory, Pages}
+use Rattle.kernel_core.specs.declared.error.Errno.TheVariants.{ENOMEM}
+use Rattle.kernel_core.specs.declared.map_flags.MapFlags.{MapFlags}
+use Rattle.kernel_core.specs.Bits.{has}
+use Rattle.kernel_model.specs.State.{Kernel}
+use Rattle.kernel_model.specs.Came.{Came, Done, Refused, Did, with_given}
+use Rattle.o32_model.specs.Mappings.{mapped, place_for}
+use Rattle.o32_model.specs.Ranges.{page_size}
+use Rattle.o32_model.specs.Step.{Guest, O32Step}
+use Rattle.o32_model.specs.Table.{is_map_call, o32_call}
+use Rattle.o32_model.specs.Words.{argument}
+use Rattle.o32_model.specs.declared.call_words.CallWords.{CallWords}
+use Rattle.o32_model.specs.declared.outcome.Outcome.{Outcome}
+use Rattle.kernel_core.specs.declared.record.Effect.{Effect}
+use Rattle.kernel_core.specs.declared.record.Effect.TheVariants.{Map, Protect, Unmap, Write}
+use Rattle.kernel_model.specs.Pipes.{nothing}
+use Rattle.mips_exec.specs.Processor.{Processor}
+use Rattle.o32_model.specs.Effects.{Target, Effected, after_map, user_pages}
+
+-- pages as effects act on them, with nothing sent
+abbrev pub on_pages : Processor → Pages → Target
+on_pages processor pages = record { processor = processor; pages = pages; sent = nothing }
+
+-- What is kept of effects has become more, and those that came lead from the pages before to those after.
+abbrev pub Leads : Option (List Effect) → Option (List Effect) → Pages → Pages → Type 0
+Leads old new before after = (processor : Processor) → Effected old new (on_pages processor before) (on_pages processor after)
+
+-- Pages of zeros were mapped, or they were more than may be mapped, and nothing changed.
+abbrev pub MapsPages : Bool → Pages → Pages → ℕ → ℕ → ℕ → Type 0
+MapsPages true before after first count protection = after_map before first count protection ≡ Some after
+MapsPages false before after first count protection = (after_map before first count protection ≡ None) × (after ≡ before)
+
+-- what a break leads over that moves from one number of pages to another; past user space no page is mapped
+abbrev pub break_effects : ℕ → ℕ → List Effect
+break_effects from to =
+    if nat_lt from to then Map from (to - from) 3 ∷ []
+    else (if nat_lt to from then Unmap to (min from user_pages - to) ∷ []
+    else [])
+
+-- new pages at the place that a mapping is given, which begin with these bytes
+abbrev pub placed : Memory → MapFlags → ℕ → ℕ → ℕ → List ℕ → Did Memory ℕ
+placed memory flags address count protection bytes =
+    with_given memory (place_for memory.pages flags address count) (λ first. mapped memory first count protection bytes)
+
+-- What a change of size leads over, by the pages after it. Of a range that moves each page is mapped and written anew: one that was never
+-- written is zeros, and one that was is written before it gets its protection.
+
+abbrev pub page_effects : ℕ → Option MappedPage → List Effect
+page_effects number None = []
+page_effects number (Some page) =
+    if page.ready then Map number 1 3 ∷ Write (number * page_size) page.bytes ∷ Protect number 1 page.protection ∷ []
+    else Map number 1 page.protection ∷ []
+
+unfoldable pub pages_effects : Pages → ℕ → ℕ → List Effect
+pages_effects pages first zero = []
+pages_effects pages first (suc count) = pages_effects pages first count ++ page_effects (first + count) (get pages (first + count))
+
+-- it is taken away where it stood, and stands anew where it goes
+abbrev pub move_effects : Pages → ℕ → ℕ → ℕ → List Effect
+move_effects pages first old at = if at == first then [] else Unmap first old ∷ pages_effects pages at old
+
+unfoldable pub resize_effects : Pages → ℕ → ℕ → ℕ → ℕ → ℕ → List Effect
+resize_effects pages first old new at protection =
+    if nat_lt new old then Unmap (first + new) (old - new) ∷ []
+    else (if new == old then []
+    else move_effects pages first old at ++ Map (at + old) (new - old) protection ∷ [])
+
+-- a page that was never written is zeros
+abbrev pub IsWrittenOrZeros : Option MappedPage → Type 0
+IsWrittenOrZeros None = ⊤
+IsWrittenOrZeros (Some page) = page.ready ≡ false → page.bytes ≡ zero_bytes
+
+abbrev pub came_at : Option ℕ → Came ℕ
+came_at None = Refused ENOMEM
+came_at (Some at) = Done at
+
+-- A call of the program that leaves the kernel, the input and the processor: what it came to, and memory then
+abbrev pub leaves : Kernel → Processor → List ℕ → Outcome → Memory → O32Step
+leaves kernel processor left outcome memory =
+    record { kernel = kernel; left = left; memory = memory; processor = processor; sent = nothing; outcome = outcome }
+
+abbrev pub guest_of : CallWords → Processor → Memory → Guest
+guest_of words processor memory = record { words = words; processor = processor; memory = memory }
+
+-- what is said of such a call: whatever the kernel, the processor and the input, the table says so
+abbrev pub IsCallOfMemory : CallWords → Outcome → Memory → Memory → Type 0
+IsCallOfMemory words outcome before after =
+    (kernel : Kernel) (processor : Processor) (left : List ℕ)
+    → o32_call kernel (guest_of words processor before) left ≡ leaves kernel processor left outcome after
+
+-- MAP_ANONYMOUS of mmap(2) is set in the flags
+abbrev pub maps_no_file : CallWords → Bool
+maps_no_file words = has (argument words 3) 0x800
+
+-- whether a call on mappings asks the kernel for nothing: one that maps no file
+abbrev pub is_call_of_memory : CallWords → Bool
+is_call_of_memory words = is_map_call words.nr && (not (words.nr == 4090 || words.nr == 4210) || maps_no_file words)
