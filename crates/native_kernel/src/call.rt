@@ -1,7 +1,9 @@
 //! A call by its number.
-ghost use Rattle.std.specs.Prelude.{◌≡◌, ◌<◌, ◌⊎◌, IfOk};
+ghost use Rattle.std.specs.Prelude.{◌≡◌, ◌<◌, ◌⊎◌, IfOk, None};
 ghost use Rattle.kernel_model.specs.Stops.{StopsOnlyIfRose};
 ghost use Rattle.native_calls.specs.Answered.{IsCall};
+ghost use Rattle.native_calls.specs.Names.{name_calls};
+ghost use Rattle.native_calls.specs.Table.{call_in, step_of};
 ghost use Rattle.native_kernel.specs.Built.{built_call};
 ghost use Rattle.native_kernel.specs.inside.Quiet.{IsQuiet};
 ghost use Rattle.outside.specs.Streams.{NoCountFell, contents};
@@ -10,8 +12,9 @@ use crate::arguments::low_word;
 use crate::ids;
 use crate::kernel::NativeKernel;
 use crate::numbers::{
-    CLOSE, DUP, DUP3, FCNTL, FDATASYNC, FSTAT, FSYNC, GETDENTS64, GETPID, GETPPID, IOCTL, LSEEK,
-    PIPE2, PREAD64, PWRITE64, READ, READV, WRITE, WRITEV,
+    CLOSE, DUP, DUP3, FCNTL, FDATASYNC, FSTAT, FSYNC, GETDENTS64, GETPID, GETPPID, IOCTL, LINKAT,
+    LSEEK, MKDIRAT, OPENAT, PIPE2, PREAD64, PWRITE64, READ, READLINKAT, READV, RENAMEAT, SYMLINKAT,
+    UNLINKAT, WRITE, WRITEV,
 };
 use crate::replies::failure;
 use host_mem::HostMem;
@@ -25,7 +28,7 @@ impl NativeKernel {
     /// `Done` has the result, or below 0 the native number of an error with its sign turned; a number
     /// that no call has is ENOSYS. `Sleep` comes where the call waits. A call that waits holds no wait:
     /// made again, it is tried again. After a `Stop` the kernel is not used again. The calls on
-    /// names, nodes, the system, clocks, signals and readiness are still to come, and are ENOSYS for now.
+    /// nodes, the system, clocks, signals and readiness are still to come, and are ENOSYS for now.
     #[tactic(auto, using(crate::proofs::Quietly::over_devices))]
     pub fn call<I: Source, O: Sink, E: Sink>(
         &mut self,
@@ -99,6 +102,42 @@ impl NativeKernel {
             FDATASYNC => Ok(self.sync(low_word(args[0]))),
             GETPID => Ok(ids::process_id()),
             GETPPID => Ok(ids::parent_id()),
+            _ => self.name_call(nr, args, mem),
+        }
+    }
+
+    /// A call on names.
+    #[tactic(auto, unfolding(native_calls::specs::Names::openat_row, native_calls::specs::Names::mkdirat_row, native_calls::specs::Names::symlinkat_row, native_calls::specs::Names::unlinkat_row, native_calls::specs::Names::linkat_row, native_calls::specs::Names::renameat_row, native_calls::specs::Names::readlinkat_row))]
+    fn name_call(&mut self, nr: u64, args: [u64; 6], mem: &mut HostMem) -> Result<Reply, NoMemory>
+        ensures { IfOk result (λ reply. IsQuiet (λ left. step_of (call_in name_calls None nr) args self.old mem.old left) reply self.new mem.new) }
+    {
+        match nr {
+            MKDIRAT => self.mkdirat(low_word(args[0]), args[1], low_word(args[2]), mem),
+            UNLINKAT => self.unlinkat(low_word(args[0]), args[1], low_word(args[2]), mem),
+            SYMLINKAT => self.symlinkat(args[0], low_word(args[1]), args[2], mem),
+            LINKAT => self.linkat(
+                low_word(args[0]),
+                args[1],
+                low_word(args[2]),
+                args[3],
+                low_word(args[4]),
+                mem,
+            ),
+            RENAMEAT => self.renameat(low_word(args[0]), args[1], low_word(args[2]), args[3], mem),
+            OPENAT => self.openat(
+                low_word(args[0]),
+                args[1],
+                low_word(args[2]),
+                low_word(args[3]),
+                mem,
+            ),
+            READLINKAT => self.readlinkat(
+                low_word(args[0]),
+                args[1],
+                args[2],
+                low_word(args[3]).cast_signed(),
+                mem,
+            ),
             _ => Ok(failure(Errno::ENOSYS)),
         }
     }
