@@ -1,8 +1,9 @@
 //! Calls of the native kernel in rows: a number, arguments and host memory, and what comes of them.
+ghost use Rattle.kernel_core.specs.ValidTree.{IsValidTree};
 
 use crate::trees::empty_tree;
 use host_mem::HostMem;
-use kernel_core::{NoMemory, Reply, Stop, Wake};
+use kernel_core::{NoMemory, Reply, Stop, Tree, Wake};
 use native_kernel::NativeKernel;
 use outside::{Devices, MemSink, MemSource};
 use schedule::parse;
@@ -81,7 +82,10 @@ impl Row {
             | Row::Words(_, arguments, _, _, _)
             | Row::Tells(_, arguments, _, _, _)
             | Row::Stops(_, arguments, _, _) => arguments,
-            Row::Five(_, [first, second, third, fourth, _], _, _) => [first, second, third, fourth],
+            Row::Five(_, arguments, _, _) => {
+                let [first, second, third, fourth, _] = arguments;
+                [first, second, third, fourth]
+            }
             Row::Clock(_) => [0; 4],
         };
         [first, second, third, fourth, self.fifth_argument(), 0]
@@ -89,7 +93,7 @@ impl Row {
 
     fn fifth_argument(&self) -> u64 {
         match *self {
-            Row::Five(_, [_, _, _, _, fifth], _, _) => fifth,
+            Row::Five(_, arguments, _, _) => arguments[4],
             _ => 0,
         }
     }
@@ -179,7 +183,13 @@ fn with_places(mut memory: HostMem, words: &[u64]) -> Result<HostMem, NoMemory> 
 
 /// A new kernel of an empty tree, whose schedule is this text.
 pub(crate) fn new_kernel(alloc: Global, text: &[u8]) -> Result<NativeKernel, Fail> {
-    let tree = empty_tree(alloc)?;
+    kernel_of(alloc, empty_tree(alloc)?, text)
+}
+
+/// A new kernel of this tree.
+pub(crate) fn kernel_of(alloc: Global, tree: Tree, text: &[u8]) -> Result<NativeKernel, Fail>
+    requires { IsValidTree tree }
+{
     let Ok(schedule) = parse(alloc, text) else {
         return Err(Fail::from("a schedule"));
     };

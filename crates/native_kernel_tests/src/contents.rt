@@ -4,8 +4,8 @@
 use crate::calls::{AT, DONE, NOWHERE, Row, first_wrong_of_new};
 use crate::numbers::{
     AT_REMOVEDIR, CWD, EBADF, EFAULT, EFBIG, EINVAL, EISDIR, ENOENT, ENOTDIR, FDATASYNC, FIONREAD,
-    FSYNC, GETDENTS64, IOCTL, LSEEK, MKDIRAT, O_APPEND, O_CREAT, O_RDONLY, O_RDWR, O_WRONLY, OPENAT,
-    PREAD64, PWRITE64, READ, READV, SYMLINKAT, UNLINKAT, WRITE, WRITEV,
+    FSYNC, GETDENTS64, IOCTL, LSEEK, MKDIRAT, O_APPEND, O_CREAT, O_RDONLY, O_RDWR, O_WRONLY,
+    OPENAT, PREAD64, PWRITE64, READ, READV, SYMLINKAT, UNLINKAT, WRITE, WRITEV,
 };
 use kernel_core::Reply;
 use std::test::Fail;
@@ -20,8 +20,18 @@ const MINUS_TWO: u64 = u64::MAX - 1;
 /// A file that is written from its beginning and behind its end. The descriptor 4 writes alone, and at the end, 5
 /// reads alone, and 6 is a directory.
 static FILE: [Row; 51] = [
-    Row::Keeps(OPENAT, [CWD, AT, O_CREAT | O_RDWR, 0o600], b"/f\0", Reply::Done(3)),
-    Row::Keeps(OPENAT, [CWD, AT, O_WRONLY | O_APPEND, 0], b"/f\0", Reply::Done(4)),
+    Row::Keeps(
+        OPENAT,
+        [CWD, AT, O_CREAT | O_RDWR, 0o600],
+        b"/f\0",
+        Reply::Done(3),
+    ),
+    Row::Keeps(
+        OPENAT,
+        [CWD, AT, O_WRONLY | O_APPEND, 0],
+        b"/f\0",
+        Reply::Done(4),
+    ),
     Row::Keeps(OPENAT, [CWD, AT, O_RDONLY, 0], b"/f\0", Reply::Done(5)),
     Row::Keeps(OPENAT, [CWD, AT, O_RDONLY, 0], b"/\0", Reply::Done(6)),
     Row::Leaves(READ, [3, AT, 4, 0], 4, DONE),
@@ -35,7 +45,13 @@ static FILE: [Row; 51] = [
     Row::Plain(LSEEK, [3, GREATEST + 1, 0, 0], EINVAL),
     Row::Plain(LSEEK, [3, 0, 1, 0], Reply::Done(2)),
     Row::Fills(IOCTL, [3, FIONREAD, AT, 0], 4, b"\x03", DONE),
-    Row::Stores(PREAD64, [3, AT, 8, 1], b"zzzzzzzz", b"ellozzzz", Reply::Done(4)),
+    Row::Stores(
+        PREAD64,
+        [3, AT, 8, 1],
+        b"zzzzzzzz",
+        b"ellozzzz",
+        Reply::Done(4),
+    ),
     Row::Leaves(PREAD64, [3, AT, 8, 5], 8, DONE),
     Row::Leaves(PREAD64, [3, AT, 8, MINUS_ONE], 8, EINVAL),
     Row::Leaves(PREAD64, [4, AT, 8, 0], 8, EBADF),
@@ -47,12 +63,24 @@ static FILE: [Row; 51] = [
     Row::Plain(PWRITE64, [3, NOWHERE, 1, 0], EFAULT),
     Row::Plain(PWRITE64, [3, NOWHERE, 0, 0], DONE),
     Row::Plain(LSEEK, [3, 0, 1, 0], Reply::Done(2)),
-    Row::Stores(READ, [3, AT, 8, 0], b"zzzzzzzz", b"llo\0\0XYz", Reply::Done(7)),
+    Row::Stores(
+        READ,
+        [3, AT, 8, 0],
+        b"zzzzzzzz",
+        b"llo\0\0XYz",
+        Reply::Done(7),
+    ),
     Row::Leaves(READ, [3, AT, 8, 0], 8, DONE),
     Row::Plain(READ, [3, NOWHERE, 1, 0], EFAULT),
     Row::Keeps(WRITE, [4, AT, 1, 0], b"!", Reply::Done(1)),
     Row::Keeps(PWRITE64, [4, AT, 1, 0], b"?", Reply::Done(1)),
-    Row::Stores(PREAD64, [5, AT, 8, 7], b"zzzzzzzz", b"XY!?zzzz", Reply::Done(4)),
+    Row::Stores(
+        PREAD64,
+        [5, AT, 8, 7],
+        b"zzzzzzzz",
+        b"XY!?zzzz",
+        Reply::Done(4),
+    ),
     Row::Keeps(
         WRITEV,
         [4, AT, 2, 0],
@@ -180,6 +208,9 @@ fn contents(rt: HostRuntime) -> Result<(), Fail> {
     let alloc = rt.alloc();
     assert_eq!(rt; first_wrong_of_new(alloc, b"", &FILE)?, None);
     assert_eq!(rt; first_wrong_of_new(alloc, b"", &ENTRIES)?, None);
-    assert_eq!(rt; first_wrong_of_new(alloc, b"", &ENTRIES_WHILE_NAMES_GO)?, None);
+    assert_eq!(rt;
+        first_wrong_of_new(alloc, b"", &ENTRIES_WHILE_NAMES_GO)?,
+        None
+    );
     Ok(())
 }

@@ -41,7 +41,10 @@ fn devices_that_fail(rt: HostRuntime) -> Result<(), Fail> {
     let alloc = rt.alloc();
     let mut kernel = new_kernel(alloc, b"")?;
     let mut streams = failing_streams(alloc)?;
-    assert_eq!(rt; first_wrong(alloc, &mut kernel, &mut streams, &FAILING), None);
+    assert_eq!(rt;
+        first_wrong(alloc, &mut kernel, &mut streams, &FAILING),
+        None
+    );
     assert!(rt; streams.out.bytes() == b"zzz".as_slice());
     assert!(rt; streams.err.bytes().is_empty());
     Ok(())

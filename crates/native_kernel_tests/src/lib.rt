@@ -14,8 +14,6 @@ mod files;
 #[cfg(test)]
 mod from_outside;
 #[cfg(test)]
-mod images;
-#[cfg(test)]
 mod names;
 #[cfg(test)]
 mod nodes;
@@ -29,5 +27,7 @@ mod system;
 mod terminal;
 #[cfg(test)]
 mod transfers;
+#[cfg(test)]
+mod tree_tables;
 #[cfg(test)]
 mod trees;

@@ -74,7 +74,12 @@ static LINKING_AND_REMOVING: [Row; 34] = [
     Row::Five(LINKAT, [CWD, NOWHERE, CWD, AT, 0], b"/c\0", EFAULT),
     Row::Five(LINKAT, [CWD, AT, CWD, NOWHERE, 0], b"/b\0", EFAULT),
     Row::Five(LINKAT, [CWD, AT, CWD, AT + 3, 1], b"/b\0/c\0", EINVAL),
-    Row::Five(LINKAT, [CWD, AT, CWD, AT + 3, AT_SYMLINK_FOLLOW], b"/l\0/c\0", DONE),
+    Row::Five(
+        LINKAT,
+        [CWD, AT, CWD, AT + 3, AT_SYMLINK_FOLLOW],
+        b"/l\0/c\0",
+        DONE,
+    ),
     Row::Keeps(READLINKAT, [CWD, AT, AT + 3, 4], b"/c\0zzzz", EINVAL),
     Row::Five(LINKAT, [CWD, AT, CWD, AT + 3, 0], b"/l\0/k\0", DONE),
     Row::Stores(
@@ -140,7 +145,10 @@ static RENAMING: [Row; 30] = [
 fn names(rt: HostRuntime) -> Result<(), Fail> {
     let alloc = rt.alloc();
     assert_eq!(rt; first_wrong_of_new(alloc, b"", &MAKING)?, None);
-    assert_eq!(rt; first_wrong_of_new(alloc, b"", &LINKING_AND_REMOVING)?, None);
+    assert_eq!(rt;
+        first_wrong_of_new(alloc, b"", &LINKING_AND_REMOVING)?,
+        None
+    );
     assert_eq!(rt; first_wrong_of_new(alloc, b"", &RENAMING)?, None);
     Ok(())
 }

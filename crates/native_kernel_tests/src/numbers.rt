@@ -3,8 +3,6 @@
 
 use kernel_core::Reply;
 
-pub(crate) const GETCWD: u64 = 17;
-
 pub(crate) const DUP: u64 = 23;
 
 pub(crate) const DUP3: u64 = 24;
@@ -70,38 +68,6 @@ pub(crate) const FSYNC: u64 = 82;
 pub(crate) const FDATASYNC: u64 = 83;
 
 pub(crate) const UTIMENSAT: u64 = 88;
-
-pub(crate) const NANOSLEEP: u64 = 101;
-
-pub(crate) const GETITIMER: u64 = 102;
-
-pub(crate) const SETITIMER: u64 = 103;
-
-pub(crate) const CLOCK_GETTIME: u64 = 113;
-
-pub(crate) const CLOCK_GETRES: u64 = 114;
-
-pub(crate) const CLOCK_NANOSLEEP: u64 = 115;
-
-pub(crate) const KILL: u64 = 129;
-
-pub(crate) const TKILL: u64 = 130;
-
-pub(crate) const TGKILL: u64 = 131;
-
-pub(crate) const SIGALTSTACK: u64 = 132;
-
-pub(crate) const RT_SIGSUSPEND: u64 = 133;
-
-pub(crate) const RT_SIGACTION: u64 = 134;
-
-pub(crate) const RT_SIGPROCMASK: u64 = 135;
-
-pub(crate) const RT_SIGPENDING: u64 = 136;
-
-pub(crate) const RT_SIGTIMEDWAIT: u64 = 137;
-
-pub(crate) const RT_SIGQUEUEINFO: u64 = 138;
 
 pub(crate) const UNAME: u64 = 160;
 
@@ -227,13 +193,9 @@ pub(crate) const ENOTTY: Reply = Reply::Done(-25);
 
 pub(crate) const EFBIG: Reply = Reply::Done(-27);
 
-pub(crate) const ENOSPC: Reply = Reply::Done(-28);
-
 pub(crate) const ESPIPE: Reply = Reply::Done(-29);
 
 pub(crate) const EPIPE: Reply = Reply::Done(-32);
-
-pub(crate) const ERANGE: Reply = Reply::Done(-34);
 
 pub(crate) const ENAMETOOLONG: Reply = Reply::Done(-36);
 

@@ -68,8 +68,19 @@ static FILES_AND_PATHS: [Row; 36] = [
     Row::Leaves(READ, [6, AT, 1, 0], 1, EBADF),
     Row::Leaves(WRITE, [4, AT, 1, 0], 1, EBADF),
     Row::Keeps(WRITE, [6, AT, 5, 0], b"hello", Reply::Done(5)),
-    Row::Stores(READ, [3, AT, 8, 0], b"zzzzzzzz", b"hellozzz", Reply::Done(5)),
-    Row::Keeps(OPENAT, [CWD, AT, O_TRUNC | O_RDWR, 0], b"/a\0", Reply::Done(7)),
+    Row::Stores(
+        READ,
+        [3, AT, 8, 0],
+        b"zzzzzzzz",
+        b"hellozzz",
+        Reply::Done(5),
+    ),
+    Row::Keeps(
+        OPENAT,
+        [CWD, AT, O_TRUNC | O_RDWR, 0],
+        b"/a\0",
+        Reply::Done(7),
+    ),
     Row::Plain(LSEEK, [7, 0, 2, 0], DONE),
 ];
 
@@ -79,7 +90,12 @@ static LINKS_AND_A_REMOVED_DIRECTORY: [Row; 17] = [
     Row::Keeps(OPENAT, [CWD, AT, O_CREAT, 0o600], b"/a\0", Reply::Done(3)),
     Row::Keeps(SYMLINKAT, [AT, CWD, AT + 3, 0], b"/a\0/l\0", DONE),
     Row::Keeps(OPENAT, [CWD, AT, O_NOFOLLOW, 0], b"/l\0", ELOOP),
-    Row::Keeps(OPENAT, [CWD, AT, O_NOFOLLOW | O_DIRECTORY, 0], b"/l\0", ENOTDIR),
+    Row::Keeps(
+        OPENAT,
+        [CWD, AT, O_NOFOLLOW | O_DIRECTORY, 0],
+        b"/l\0",
+        ENOTDIR,
+    ),
     Row::Keeps(OPENAT, [CWD, AT, O_RDONLY, 0], b"/l\0", Reply::Done(4)),
     Row::Keeps(OPENAT, [CWD, AT, O_CREAT | O_EXCL, 0], b"/l\0", EEXIST),
     Row::Keeps(SYMLINKAT, [AT, CWD, AT + 2, 0], b"n\0/m\0", DONE),
@@ -97,11 +113,21 @@ static LINKS_AND_A_REMOVED_DIRECTORY: [Row; 17] = [
 
 /// What was written to a file without a name is there until its last descriptor is closed.
 static FILE_WITHOUT_A_NAME: [Row; 9] = [
-    Row::Keeps(OPENAT, [CWD, AT, O_CREAT | O_RDWR, 0o600], b"u\0", Reply::Done(3)),
+    Row::Keeps(
+        OPENAT,
+        [CWD, AT, O_CREAT | O_RDWR, 0o600],
+        b"u\0",
+        Reply::Done(3),
+    ),
     Row::Keeps(UNLINKAT, [CWD, AT, 0, 0], b"u\0", DONE),
     Row::Keeps(OPENAT, [CWD, AT, O_RDONLY, 0], b"u\0", ENOENT),
     Row::Keeps(WRITE, [3, AT, 3, 0], b"abc", Reply::Done(3)),
-    Row::Keeps(OPENAT, [CWD, AT, O_CREAT | O_RDWR, 0o600], b"u\0", Reply::Done(4)),
+    Row::Keeps(
+        OPENAT,
+        [CWD, AT, O_CREAT | O_RDWR, 0o600],
+        b"u\0",
+        Reply::Done(4),
+    ),
     Row::Leaves(READ, [4, AT, 3, 0], 3, DONE),
     Row::Plain(LSEEK, [3, 1, 0, 0], Reply::Done(1)),
     Row::Stores(READ, [3, AT, 3, 0], b"zzz", b"bcz", Reply::Done(2)),

@@ -1,6 +1,8 @@
 //! uname, prlimit64 and getrandom.
 
-use crate::calls::{AT, DONE, NOWHERE, Row, first_wrong, first_wrong_of_new, memory_of, new_kernel, streams};
+use crate::calls::{
+    AT, DONE, NOWHERE, Row, first_wrong, first_wrong_of_new, memory_of, new_kernel, streams,
+};
 use crate::numbers::{EFAULT, EINVAL, EPERM, ESRCH, GETRANDOM, PRLIMIT64, UNAME};
 use kernel_core::Reply;
 use std::alloc::{AllocError, Global};
@@ -22,9 +24,27 @@ const PLACE: u64 = 0x7A7A_7A7A_7A7A_7A7A;
 
 /// A limit is two numbers, the soft one and the hard one. A new limit comes first in memory. The process is 0 or 100.
 static LIMITS: [Row; 18] = [
-    Row::Words(PRLIMIT64, [0, NOFILE, 0, AT], &[PLACE, PLACE], &[1024, 1024], DONE),
-    Row::Words(PRLIMIT64, [100, STACK, 0, AT], &[PLACE, PLACE], &[8 << 20, INFINITY], DONE),
-    Row::Words(PRLIMIT64, [0, RTTIME, 0, AT], &[PLACE, PLACE], &[INFINITY, INFINITY], DONE),
+    Row::Words(
+        PRLIMIT64,
+        [0, NOFILE, 0, AT],
+        &[PLACE, PLACE],
+        &[1024, 1024],
+        DONE,
+    ),
+    Row::Words(
+        PRLIMIT64,
+        [100, STACK, 0, AT],
+        &[PLACE, PLACE],
+        &[8 << 20, INFINITY],
+        DONE,
+    ),
+    Row::Words(
+        PRLIMIT64,
+        [0, RTTIME, 0, AT],
+        &[PLACE, PLACE],
+        &[INFINITY, INFINITY],
+        DONE,
+    ),
     Row::Plain(PRLIMIT64, [0, CPU, 0, 0], DONE),
     Row::Words(
         PRLIMIT64,
@@ -33,24 +53,90 @@ static LIMITS: [Row; 18] = [
         &[10, 20, 1024, 1024],
         DONE,
     ),
-    Row::Words(PRLIMIT64, [0, NOFILE, 0, AT], &[PLACE, PLACE], &[10, 20], DONE),
-    Row::Words(PRLIMIT64, [0, CPU, 0, AT], &[PLACE, PLACE], &[INFINITY, INFINITY], DONE),
+    Row::Words(
+        PRLIMIT64,
+        [0, NOFILE, 0, AT],
+        &[PLACE, PLACE],
+        &[10, 20],
+        DONE,
+    ),
+    Row::Words(
+        PRLIMIT64,
+        [0, CPU, 0, AT],
+        &[PLACE, PLACE],
+        &[INFINITY, INFINITY],
+        DONE,
+    ),
     Row::Words(PRLIMIT64, [0, NOFILE, AT, 0], &[2, 1], &[2, 1], EINVAL),
-    Row::Words(PRLIMIT64, [0, NOFILE, AT, 0], &[1024, 1025], &[1024, 1025], EPERM),
-    Row::Words(PRLIMIT64, [0, CPU, AT, 0], &[1025, 1025], &[1025, 1025], DONE),
-    Row::Words(PRLIMIT64, [0, CPU, 0, AT], &[PLACE, PLACE], &[1025, 1025], DONE),
-    Row::Words(PRLIMIT64, [0, 16, 0, AT], &[PLACE, PLACE], &[PLACE, PLACE], EINVAL),
-    Row::Words(PRLIMIT64, [1, 16, 0, AT], &[PLACE, PLACE], &[PLACE, PLACE], ESRCH),
+    Row::Words(
+        PRLIMIT64,
+        [0, NOFILE, AT, 0],
+        &[1024, 1025],
+        &[1024, 1025],
+        EPERM,
+    ),
+    Row::Words(
+        PRLIMIT64,
+        [0, CPU, AT, 0],
+        &[1025, 1025],
+        &[1025, 1025],
+        DONE,
+    ),
+    Row::Words(
+        PRLIMIT64,
+        [0, CPU, 0, AT],
+        &[PLACE, PLACE],
+        &[1025, 1025],
+        DONE,
+    ),
+    Row::Words(
+        PRLIMIT64,
+        [0, 16, 0, AT],
+        &[PLACE, PLACE],
+        &[PLACE, PLACE],
+        EINVAL,
+    ),
+    Row::Words(
+        PRLIMIT64,
+        [1, 16, 0, AT],
+        &[PLACE, PLACE],
+        &[PLACE, PLACE],
+        ESRCH,
+    ),
     Row::Words(PRLIMIT64, [0, NOFILE, AT, 0], &[1], &[1], EFAULT),
     Row::Words(PRLIMIT64, [0, NOFILE, 0, AT], &[PLACE], &[PLACE], EFAULT),
-    Row::Words(PRLIMIT64, [0, NOFILE, 0, AT], &[PLACE, PLACE], &[10, 20], DONE),
-    Row::Words(PRLIMIT64, [0, NOFILE, AT, NOWHERE], &[30, 40], &[30, 40], EFAULT),
-    Row::Words(PRLIMIT64, [0, NOFILE, 0, AT], &[PLACE, PLACE], &[30, 40], DONE),
+    Row::Words(
+        PRLIMIT64,
+        [0, NOFILE, 0, AT],
+        &[PLACE, PLACE],
+        &[10, 20],
+        DONE,
+    ),
+    Row::Words(
+        PRLIMIT64,
+        [0, NOFILE, AT, NOWHERE],
+        &[30, 40],
+        &[30, 40],
+        EFAULT,
+    ),
+    Row::Words(
+        PRLIMIT64,
+        [0, NOFILE, 0, AT],
+        &[PLACE, PLACE],
+        &[30, 40],
+        DONE,
+    ),
 ];
 
 /// The bytes of chance are 1, 2 and 3, round and round, of which 16 are taken before the first call.
 static CHANCE: [Row; 12] = [
-    Row::Stores(GETRANDOM, [AT, 4, 0, 0], b"zzzzz", b"\x02\x03\x01\x02z", Reply::Done(4)),
+    Row::Stores(
+        GETRANDOM,
+        [AT, 4, 0, 0],
+        b"zzzzz",
+        b"\x02\x03\x01\x02z",
+        Reply::Done(4),
+    ),
     Row::Stores(GETRANDOM, [AT, 1, 1, 0], b"zz", b"\x03z", Reply::Done(1)),
     Row::Stores(GETRANDOM, [AT, 1, 2, 0], b"zz", b"\x01z", Reply::Done(1)),
     Row::Stores(GETRANDOM, [AT, 1, 5, 0], b"zz", b"\x02z", Reply::Done(1)),
@@ -104,6 +190,9 @@ fn names_of_the_system(rt: HostRuntime) -> Result<(), Fail> {
 fn limits_and_chance(rt: HostRuntime) -> Result<(), Fail> {
     let alloc = rt.alloc();
     assert_eq!(rt; first_wrong_of_new(alloc, b"", &LIMITS)?, None);
-    assert_eq!(rt; first_wrong_of_new(alloc, b"random 010203\n", &CHANCE)?, None);
+    assert_eq!(rt;
+        first_wrong_of_new(alloc, b"random 010203\n", &CHANCE)?,
+        None
+    );
     Ok(())
 }
