@@ -202,7 +202,7 @@ impl NativeKernel {
 }
 
 /// Whether the flag is set; None where there are others.
-fn only_flag(flag: u64, flags: u32) -> Option<bool>
+pub(crate) fn only_flag(flag: u64, flags: u32) -> Option<bool>
     requires { 0 < flag }
     ensures { result ≡ only_flag flag flags }
 {
