@@ -131,18 +131,19 @@ impl NativeKernel {
     ) -> Result<Reply, NoMemory>
         ensures { IfOk result (λ reply. Stores (told_as status_bytes (on_files self.now (rows.status_at_path self.now.files (base_of directory) (path_at mem.old path) (status_flags flags)))) address reply self.now mem.old mem.new) }
     {
-        match self
-            .files
-            .status_at_path(base_of(directory), path_at(mem, path), status_flags(flags))
-        {
+        match self.files.status_at_path(
+            base_of(directory),
+            path_at(mem, path),
+            status_flags(flags),
+        ) {
             Ok(status) => Ok(store(mem, address, &status_bytes(status))),
             Err(CoreError::Refused(error)) => Ok(failure(error)),
             Err(CoreError::Stop(_)) => Err(NoMemory),
         }
     }
 
-    /// utimensat(2): the errors of the path; EFAULT where the times can't be read, EINVAL for times that are none and for
-    /// other flags than AT_SYMLINK_NOFOLLOW.
+    /// utimensat(2): the errors of the path; EFAULT where the times can't be read; EINVAL for times that are none and for
+    /// other flags than AT_SYMLINK_NOFOLLOW; EBADF where a null path leaves no descriptor.
     pub(crate) fn utimensat(
         &mut self,
         directory: u32,
@@ -247,7 +248,6 @@ fn times_unless_null(mem: &HostMem, address: u64) -> Option<Result<Times, Errno>
 }
 
 /// The times at an address, or EFAULT where they are not all there.
-#[tactic(auto, using(crate::proofs::Read::length_read))]
 fn times_at(mem: &HostMem, address: u64) -> Result<Times, Errno>
     ensures { times_read result ≡ times_at mem.now address }
 {
