@@ -9,6 +9,7 @@ mod descriptors;
 mod ids;
 mod kernel;
 mod names;
+mod nodes;
 mod numbers;
 mod paths;
 mod pipes;
@@ -17,6 +18,7 @@ mod starting;
 mod status;
 mod structures;
 mod terminal;
+mod times;
 mod transfers;
 mod vectors;
 
