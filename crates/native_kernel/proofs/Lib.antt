@@ -7,8 +7,10 @@ pub mod Pairs
 pub mod Parts
 pub mod Quietly
 pub mod Read
+pub mod Rounds
 pub mod Sending
 pub mod Storing
+pub mod SystemLemmas
 pub mod Taking
 pub mod TerminalLemmas
 pub mod Unblocked

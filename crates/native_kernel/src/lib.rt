@@ -4,6 +4,7 @@
 
 mod arguments;
 mod call;
+mod chance;
 mod clock;
 mod descriptors;
 mod ids;
@@ -14,6 +15,7 @@ mod replies;
 mod starting;
 mod status;
 mod structures;
+mod system;
 mod terminal;
 mod transfers;
 mod vectors;
