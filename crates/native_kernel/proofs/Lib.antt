@@ -8,8 +8,10 @@ pub mod Parts
 pub mod PathTexts
 pub mod Quietly
 pub mod Read
+pub mod Rounds
 pub mod Sending
 pub mod Storing
+pub mod SystemLemmas
 pub mod Taking
 pub mod TerminalLemmas
 pub mod Unblocked

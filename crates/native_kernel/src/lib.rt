@@ -4,6 +4,7 @@
 
 mod arguments;
 mod call;
+mod chance;
 mod clock;
 mod descriptors;
 mod ids;
@@ -17,6 +18,7 @@ mod replies;
 mod starting;
 mod status;
 mod structures;
+mod system;
 mod terminal;
 mod times;
 mod transfers;
