@@ -1,6 +1,7 @@
 pub mod EntryLemmas
 pub mod ErrorNumbers
 pub mod Expiry
+pub mod MaskLemmas
 pub mod OpenNumbers
 pub mod OtherNumbers
 pub mod Pairs

@@ -1,3 +1,4 @@
 pub mod Moving
 pub mod Quiet
+pub mod Signals
 pub mod Vectors
