@@ -9,6 +9,10 @@ pub mod Parts
 pub mod Quietly
 pub mod Read
 pub mod Sending
+pub mod SignalFields
+pub mod SignalLemmas
+pub mod SignalOrder
+pub mod SignalTaking
 pub mod Storing
 pub mod Taking
 pub mod TerminalLemmas

@@ -1,5 +1,5 @@
 //! Signals in host memory: sets, actions, the alternate stack, and what is known of a signal (sigaction(2)).
-ghost use Rattle.std.specs.Prelude.{◌≡◌, ◌+◌, ◌≤◌, ◌∷◌, drop, false, length, map, pos, true};
+ghost use Rattle.std.specs.Prelude.{◌≡◌, ◌+◌, ◌≤◌, [], ◌∷◌, drop, false, length, map, pos, true};
 ghost use Rattle.std.specs.List.{flat_map};
 ghost use Rattle.host_mem.specs.Memory.{written};
 ghost use Rattle.layouts.specs.Number.{bytes_of, unsigned, value_of};
@@ -7,7 +7,9 @@ ghost use Rattle.native_calls.specs.HostBytes.{read_as};
 ghost use Rattle.native_calls.specs.SignalBytes.{action_at, action_bytes, action_in, info_bytes, named_by, sent_at, sent_in, set_at, set_bytes, set_in, stack_at, stack_bytes, stack_in};
 ghost use Rattle.native_calls.specs.Step.{stored_unless_null};
 ghost use Rattle.native_kernel.specs.inside.Signals.{listed, sent_told};
+ghost use Rattle.number_tables.specs.Codes.{native_code};
 ghost use Rattle.number_tables.specs.SaNumbers.{native_sa};
+ghost use Rattle.number_tables.specs.Signals.{native_signal};
 ghost use Rattle.signal_sets.specs.NativeSets.{native_of};
 
 use crate::arguments::low_word;
@@ -208,17 +210,24 @@ fn signed_word_at(bytes: &[u8], place: usize) -> i32
 pub(crate) fn info_bytes(info: Info) -> [u8; INFO_SIZE]
     ensures { result ≡ info_bytes info }
 {
-    let values = [
+    let values = info_values(info);
+    let mut bytes = [0; INFO_SIZE];
+    put(NativeStructure::Siginfo, &values, &mut bytes);
+    bytes
+}
+
+/// The fields of that structure.
+fn info_values(info: Info) -> [i128; 6]
+    ensures { result ≡ pos (native_signal info.sig) ∷ native_code info.code ∷ info.errno ∷ pos info.pid ∷ pos info.uid ∷ pos info.value ∷ [] }
+{
+    [
         i128::from(info.sig.to_native()),
         i128::from(native_code(info.code)),
         i128::from(info.errno),
         i128::from(info.pid),
         i128::from(info.uid),
         i128::from(info.value),
-    ];
-    let mut bytes = [0; INFO_SIZE];
-    put(NativeStructure::Siginfo, &values, &mut bytes);
-    bytes
+    ]
 }
 
 /// Stores a structure as `store` does, or nothing where the address is null.

@@ -1,10 +1,10 @@
 //! The calls that wait for signals: sigtimedwait(2), sigsuspend(2).
-ghost use Rattle.std.specs.Prelude.{◌≡◌, ◌&&◌, find};
+ghost use Rattle.std.specs.Prelude.{◌≡◌, ◌&&◌, Some};
 ghost use Rattle.host_mem.specs.Memory.{written};
 ghost use Rattle.kernel_core.specs.declared.error.Errno.TheVariants.{EAGAIN};
 ghost use Rattle.kernel_model.specs.Came.{refused, told_zero};
 ghost use Rattle.kernel_model.specs.Clock.{deadline, waits_until};
-ghost use Rattle.kernel_model.specs.SignalRows.{accept, accept_signal, first_pending, suspend};
+ghost use Rattle.kernel_model.specs.SignalRows.{accept, accept_signal, first_pending, pends, suspend};
 ghost use Rattle.kernel_model.specs.SignalSets as spec;
 ghost use Rattle.native_calls.specs.HostBytes.{unless_null};
 ghost use Rattle.native_calls.specs.SignalBytes.{info_bytes, set_at};
@@ -12,8 +12,8 @@ ghost use Rattle.native_calls.specs.Signals.{native_order};
 ghost use Rattle.native_calls.specs.Step.{told_unless_null};
 ghost use Rattle.native_calls.specs.Times.{time_at};
 ghost use Rattle.native_kernel.specs.inside.Quiet.{Gives};
-ghost use Rattle.native_kernel.specs.inside.Signals.{Accepts, accepted_of};
-ghost use Rattle.number_tables.specs.Signals.{native_signal};
+ghost use Rattle.native_kernel.specs.inside.Signals.{Accepts, Takes, accepted_of, kept};
+ghost use Rattle.number_tables.specs.Signals.{native_signal, signal_of_native};
 
 use crate::kernel::NativeKernel;
 use crate::masks::has;
@@ -22,8 +22,8 @@ use crate::signal_bytes::{SET_SIZE, info_bytes, set_at};
 use crate::sleeping::{deadline, length_or_none, time_unless_null};
 use host_mem::HostMem;
 use kernel_core::{Errno, Info, Reply, Sig, Wake};
-use kernel_laws::sets::the_pending_set_has_what_pends;
 use kernel_model::TimeSpec;
+use native_signal::Signals;
 use number_tables::NativeNumber;
 
 /// The number past that of the last signal.
@@ -75,31 +75,20 @@ impl NativeKernel {
         let set = set?;
         let length = length_or_none(time)?;
         let until = deadline(self.clock, length);
-        self.take_first(&set, until)
+        self.accept_from(&set, until)
     }
 
     /// The same, of a set that is there, until a time of the clock.
-    fn take_first(&mut self, set: &[u32; 4], until: Option<u64>) -> Result<Accepted, Errno>
+    fn accept_from(&mut self, set: &[u32; 4], until: Option<u64>) -> Result<Accepted, Errno>
         ensures came { accepted_of result ≡ (accept_signal self.old (first_pending self.old.signals native_order set.now)
             (waits_until self.old until (refused self.old EAGAIN))).came }
         ensures state { self.new ≡ (accept_signal self.old (first_pending self.old.signals native_order set.now)
             (waits_until self.old until (refused self.old EAGAIN))).state }
     {
-        let Some(sig) = self.first_pending(set) else {
-            return self.wait(until);
-        };
-        match self.signals.take(sig) {
+        match take_first(&mut self.signals, set) {
             Some(info) => Ok(Accepted::Signal(info)),
             None => self.wait(until),
         }
-    }
-
-    /// The signal of a set that pends and has the lowest native number.
-    fn first_pending(&self, set: &[u32; 4]) -> Option<Sig>
-        ensures { result ≡ first_pending self.now.signals native_order set.now }
-    {
-        the_pending_set_has_what_pends();
-        first_of_both(set, &self.signals.pending())
     }
 
     /// A wait until a time of the clock, or without end; EAGAIN where that time is not past the clock.
@@ -131,19 +120,37 @@ impl NativeKernel {
     }
 }
 
-/// The signal of the lowest native number that is in two sets.
-fn first_of_both(set: &[u32; 4], other: &[u32; 4]) -> Option<Sig>
-    ensures { result ≡ find (λ sig. spec.has set.now sig && spec.has other.now sig) native_order }
+/// Takes the signal of a set that pends and has the lowest native number.
+fn take_first(signals: &mut Signals, set: &[u32; 4]) -> Option<Info>
+    ensures { Takes signals.old (first_pending signals.old native_order set.now) result signals.new }
 {
     for number in 1..SIGNAL_END {
-        if let Some(sig) = Sig::of_native(number)
-            && has(set, sig)
-            && has(other, sig)
-        {
-            return Some(sig);
+        if let Some(info) = take_numbered(signals, set, number) {
+            return Some(info);
         }
     }
     None
+}
+
+/// Takes the signal of a number, where it is in a set and pends.
+fn take_numbered(signals: &mut Signals, set: &[u32; 4], number: u64) -> Option<Info>
+    ensures { Takes signals.old (kept (λ sig. spec.has set.now sig && pends signals.old sig) (signal_of_native number)) result signals.new }
+{
+    match Sig::of_native(number) {
+        None => None,
+        Some(sig) => take_from(signals, set, sig),
+    }
+}
+
+/// Takes a signal, where it is in a set and pends.
+fn take_from(signals: &mut Signals, set: &[u32; 4], sig: Sig) -> Option<Info>
+    ensures { Takes signals.old (kept (λ sig. spec.has set.now sig && pends signals.old sig) (Some sig)) result signals.new }
+{
+    if has(set, sig) {
+        signals.take(sig)
+    } else {
+        None
+    }
 }
 
 /// Stores what is known of an accepted signal, where the address is not null, and gives its number.
