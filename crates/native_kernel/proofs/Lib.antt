@@ -1,6 +1,7 @@
 pub mod EntryLemmas
 pub mod ErrorNumbers
 pub mod Expiry
+pub mod MaskLemmas
 pub mod OpenNumbers
 pub mod OtherNumbers
 pub mod Pairs
@@ -10,6 +11,10 @@ pub mod Quietly
 pub mod Read
 pub mod Rounds
 pub mod Sending
+pub mod SignalFields
+pub mod SignalLemmas
+pub mod SignalOrder
+pub mod SignalTaking
 pub mod Storing
 pub mod SystemLemmas
 pub mod Taking
