@@ -114,12 +114,7 @@ impl NativeKernel {
 
     /// A call on what is open, on ids, or of a later group.
     #[tactic(auto, unfolding(native_calls::specs::Status::getdents_row, native_calls::specs::Status::lseek_row, native_calls::specs::Status::fstat_row, native_calls::specs::Status::sync_row, native_calls::specs::Ids::getpid_row, native_calls::specs::Ids::getppid_row))]
-    fn status_call(
-        &mut self,
-        nr: u64,
-        args: [u64; 6],
-        mem: &mut HostMem,
-    ) -> Result<Reply, NoMemory>
+    fn status_call(&mut self, nr: u64, args: [u64; 6], mem: &mut HostMem) -> Result<Reply, NoMemory>
         ensures { IfOk result (λ reply. IsQuiet (call_of_groups status_groups nr args self.old mem.old) reply self.new mem.new) }
     {
         match nr {
