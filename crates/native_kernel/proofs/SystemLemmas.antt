@@ -1,11 +1,11 @@
 -- The calls on limits and chance.
-use Rattle.std.proofs.Common.{◌≡◌, ℕ, ◌==◌, ℤ, Bool, true, false, not, List, [], length, min, Option, Ok, refl, sym, ap, subst, ◌∙◌, arith, if◌then◌else◌}
+use Rattle.std.proofs.Common.{◌≡◌, ℕ, ◌==◌, ℤ, Bool, true, false, not, List, [], length, min, Option, refl, sym, ap, subst, ◌∙◌, arith, if◌then◌else◌}
 use Rattle.std.proofs.lemmas.Bool.Decides.{nat_tests}
 use Rattle.host_mem.specs.Memory.{written}
 use Rattle.kernel_core.specs.declared.error.Errno.TheVariants.{EFAULT, EINVAL}
 use Rattle.kernel_core.specs.declared.reply.Reply.{Reply}
 use Rattle.kernel_core.specs.declared.resource.Resource.{Resource}
-use Rattle.kernel_model.specs.Came.{Came, Did, Given, Done, done, refused, came_as, told_as}
+use Rattle.kernel_model.specs.Came.{Came, Did, Given, Done, done, refused, came_as}
 use Rattle.kernel_model.specs.State.{Chance, Kernel}
 use Rattle.kernel_model.specs.System.{after_chance, are_random_flags, random_bytes, round, set_limit}
 use Rattle.kernel_model.specs.Transfers.{transfer_limit}
@@ -15,7 +15,7 @@ use Rattle.native_calls.specs.Step.{memory_after, reply_to, stored_unless_null, 
 use Rattle.native_calls.specs.System.{limit_at, limit_bytes, prlimit_row}
 use Rattle.number_tables.specs.Resources.{resource_of_native}
 use Rattle.native_kernel.proofs.Rounds.{length-round}
-use Rattle.native_kernel.specs.inside.Quiet.{Fills, IsQuiet, Quietly}
+use Rattle.native_kernel.specs.inside.Quiet.{Fills, Quietly}
 
 -- Chance
 
