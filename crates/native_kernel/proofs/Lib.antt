@@ -1,6 +1,7 @@
 pub mod EntryLemmas
 pub mod ErrorNumbers
 pub mod Expiry
+pub mod LimitCall
 pub mod MaskLemmas
 pub mod OpenNumbers
 pub mod OtherNumbers
