@@ -1,5 +1,5 @@
 -- The calls of the table that there are so far. (That they come in steps is this project's own.)
-use Rattle.std.specs.Prelude.{ℕ, List, [], ◌∷◌, drop, Option, None}
+use Rattle.std.specs.Prelude.{ℕ, List, [], ◌∷◌, Option, None}
 use Rattle.kernel_model.specs.State.{Kernel}
 use Rattle.native_calls.specs.Clocks.{clock_calls}
 use Rattle.native_calls.specs.Descriptors.{descriptor_calls}
@@ -27,9 +27,8 @@ signal_groups = signal_calls ∷ []
 abbrev pub system_groups : List (List NativeCall)
 system_groups = system_calls ∷ clock_calls ∷ signal_groups
 
--- of the calls on nodes those after the first, which is getcwd(2)
 abbrev pub node_groups : List (List NativeCall)
-node_groups = drop 1 node_calls ∷ system_groups
+node_groups = node_calls ∷ system_groups
 
 abbrev pub name_groups : List (List NativeCall)
 name_groups = name_calls ∷ node_groups

@@ -12,11 +12,12 @@ use crate::kernel::NativeKernel;
 use crate::names::only_flag;
 use crate::numbers::{
     CHDIR, CLOCK_GETRES, CLOCK_GETTIME, CLOCK_NANOSLEEP, CLOSE, DUP, DUP3, FACCESSAT, FCHDIR,
-    FCHMOD, FCHMODAT, FCNTL, FDATASYNC, FSTAT, FSYNC, FTRUNCATE, GETDENTS64, GETITIMER, GETPID,
-    GETPPID, GETRANDOM, IOCTL, KILL, LINKAT, LSEEK, MKDIRAT, NANOSLEEP, NEWFSTATAT, OPENAT, PIPE2,
-    PREAD64, PRLIMIT64, PWRITE64, READ, READLINKAT, READV, RENAMEAT, RT_SIGACTION, RT_SIGPENDING,
-    RT_SIGPROCMASK, RT_SIGQUEUEINFO, RT_SIGSUSPEND, RT_SIGTIMEDWAIT, SETITIMER, SIGALTSTACK,
-    SYMLINKAT, TGKILL, TKILL, TRUNCATE, UMASK, UNAME, UNLINKAT, UTIMENSAT, WRITE, WRITEV,
+    FCHMOD, FCHMODAT, FCNTL, FDATASYNC, FSTAT, FSYNC, FTRUNCATE, GETCWD, GETDENTS64, GETITIMER,
+    GETPID, GETPPID, GETRANDOM, IOCTL, KILL, LINKAT, LSEEK, MKDIRAT, NANOSLEEP, NEWFSTATAT, OPENAT,
+    PIPE2, PREAD64, PRLIMIT64, PWRITE64, READ, READLINKAT, READV, RENAMEAT, RT_SIGACTION,
+    RT_SIGPENDING, RT_SIGPROCMASK, RT_SIGQUEUEINFO, RT_SIGSUSPEND, RT_SIGTIMEDWAIT, SETITIMER,
+    SIGALTSTACK, SYMLINKAT, TGKILL, TKILL, TRUNCATE, UMASK, UNAME, UNLINKAT, UTIMENSAT, WRITE,
+    WRITEV,
 };
 use crate::replies::failure;
 use crate::sleeping::{CLOCK_MONOTONIC, TIMER_ABSTIME};
@@ -30,8 +31,8 @@ impl NativeKernel {
     ///
     /// `Done` has the result, or below 0 the native number of an error with its sign turned; a number
     /// that no call has is ENOSYS. `Sleep` comes where the call waits. A call that waits holds no wait:
-    /// made again, it is tried again. After a `Stop` the kernel is not used again. getcwd(2) and the
-    /// calls on readiness are still to come, and are ENOSYS for now.
+    /// made again, it is tried again. After a `Stop` the kernel is not used again. The calls on
+    /// readiness are still to come, and are ENOSYS for now.
     #[tactic(auto, using(crate::proofs::Quietly::over_devices))]
     pub fn call<I: Source, O: Sink, E: Sink>(
         &mut self,
@@ -176,6 +177,7 @@ impl NativeKernel {
         ensures { IfOk result (λ reply. IsQuiet (call_of_groups node_groups nr args self.old mem.old) reply self.new mem.new) }
     {
         match nr {
+            GETCWD => self.getcwd(args[0], args[1], mem),
             TRUNCATE => self.truncate(args[0], args[1].cast_signed(), mem),
             FTRUNCATE => Ok(self.ftruncate(low_word(args[0]), args[1].cast_signed())),
             FACCESSAT => self.faccessat(low_word(args[0]), args[1], low_word(args[2]), mem),

@@ -7,6 +7,7 @@ mod call;
 mod chance;
 mod clock;
 mod descriptors;
+mod directory;
 mod ids;
 mod interval;
 mod kernel;

@@ -1,5 +1,7 @@
 //! The numbers of the calls (Linux `include/uapi/asm-generic/unistd.h`).
 
+pub(crate) const GETCWD: u64 = 17;
+
 pub(crate) const DUP: u64 = 23;
 
 pub(crate) const DUP3: u64 = 24;
