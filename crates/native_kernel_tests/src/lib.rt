@@ -31,3 +31,5 @@ mod transfers;
 mod tree_tables;
 #[cfg(test)]
 mod trees;
+#[cfg(test)]
+mod working_directory;

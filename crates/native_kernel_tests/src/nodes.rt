@@ -531,20 +531,34 @@ static TIMES: [Row; 24] = [
 ];
 
 #[test]
-fn nodes(rt: HostRuntime) -> Result<(), Fail> {
-    let alloc = rt.alloc();
-    assert_eq!(rt; first_wrong_of_new(alloc, b"", &DIRECTORIES)?, None);
-    assert_eq!(rt; first_wrong_of_new(alloc, b"", &SIZES_AND_ACCESS)?, None);
+fn directories(rt: HostRuntime) -> Result<(), Fail> {
+    assert_eq!(rt; first_wrong_of_new(rt.alloc(), b"", &DIRECTORIES)?, None);
     Ok(())
 }
 
 #[test]
-fn status_and_times(rt: HostRuntime) -> Result<(), Fail> {
-    let alloc = rt.alloc();
+fn sizes_and_access(rt: HostRuntime) -> Result<(), Fail> {
     assert_eq!(rt;
-        first_wrong_of_new(alloc, b"epoch 1000 5\n", &STATUS)?,
+        first_wrong_of_new(rt.alloc(), b"", &SIZES_AND_ACCESS)?,
         None
     );
-    assert_eq!(rt; first_wrong_of_new(alloc, b"epoch 1000 5\n", &TIMES)?, None);
+    Ok(())
+}
+
+#[test]
+fn status(rt: HostRuntime) -> Result<(), Fail> {
+    assert_eq!(rt;
+        first_wrong_of_new(rt.alloc(), b"epoch 1000 5\n", &STATUS)?,
+        None
+    );
+    Ok(())
+}
+
+#[test]
+fn times(rt: HostRuntime) -> Result<(), Fail> {
+    assert_eq!(rt;
+        first_wrong_of_new(rt.alloc(), b"epoch 1000 5\n", &TIMES)?,
+        None
+    );
     Ok(())
 }

@@ -3,6 +3,8 @@
 
 use kernel_core::Reply;
 
+pub(crate) const GETCWD: u64 = 17;
+
 pub(crate) const DUP: u64 = 23;
 
 pub(crate) const DUP3: u64 = 24;
@@ -196,6 +198,8 @@ pub(crate) const EFBIG: Reply = Reply::Done(-27);
 pub(crate) const ESPIPE: Reply = Reply::Done(-29);
 
 pub(crate) const EPIPE: Reply = Reply::Done(-32);
+
+pub(crate) const ERANGE: Reply = Reply::Done(-34);
 
 pub(crate) const ENAMETOOLONG: Reply = Reply::Done(-36);
 

@@ -135,13 +135,28 @@ static FILE_WITHOUT_A_NAME: [Row; 9] = [
 ];
 
 #[test]
-fn opening(rt: HostRuntime) -> Result<(), Fail> {
-    let alloc = rt.alloc();
-    assert_eq!(rt; first_wrong_of_new(alloc, b"", &FILES_AND_PATHS)?, None);
+fn files_and_paths(rt: HostRuntime) -> Result<(), Fail> {
     assert_eq!(rt;
-        first_wrong_of_new(alloc, b"", &LINKS_AND_A_REMOVED_DIRECTORY)?,
+        first_wrong_of_new(rt.alloc(), b"", &FILES_AND_PATHS)?,
         None
     );
-    assert_eq!(rt; first_wrong_of_new(alloc, b"", &FILE_WITHOUT_A_NAME)?, None);
+    Ok(())
+}
+
+#[test]
+fn links_and_a_removed_directory(rt: HostRuntime) -> Result<(), Fail> {
+    assert_eq!(rt;
+        first_wrong_of_new(rt.alloc(), b"", &LINKS_AND_A_REMOVED_DIRECTORY)?,
+        None
+    );
+    Ok(())
+}
+
+#[test]
+fn file_without_a_name(rt: HostRuntime) -> Result<(), Fail> {
+    assert_eq!(rt;
+        first_wrong_of_new(rt.alloc(), b"", &FILE_WITHOUT_A_NAME)?,
+        None
+    );
     Ok(())
 }

@@ -187,11 +187,15 @@ fn names_of_the_system(rt: HostRuntime) -> Result<(), Fail> {
 }
 
 #[test]
-fn limits_and_chance(rt: HostRuntime) -> Result<(), Fail> {
-    let alloc = rt.alloc();
-    assert_eq!(rt; first_wrong_of_new(alloc, b"", &LIMITS)?, None);
+fn limits(rt: HostRuntime) -> Result<(), Fail> {
+    assert_eq!(rt; first_wrong_of_new(rt.alloc(), b"", &LIMITS)?, None);
+    Ok(())
+}
+
+#[test]
+fn chance(rt: HostRuntime) -> Result<(), Fail> {
     assert_eq!(rt;
-        first_wrong_of_new(alloc, b"random 010203\n", &CHANCE)?,
+        first_wrong_of_new(rt.alloc(), b"random 010203\n", &CHANCE)?,
         None
     );
     Ok(())
