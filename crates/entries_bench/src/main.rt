@@ -40,6 +40,7 @@ const EMPTY_TREE: &[u8] =
 type Streams = Devices<SureSource, SureSink, SureSink>;
 
 /// A kernel with its streams.
+#[derive(Drop)]
 struct Machine {
     alloc: Global,
     kernel: NativeKernel,
