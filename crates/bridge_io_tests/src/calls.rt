@@ -86,4 +86,7 @@ pub(crate) enum Row {
     Puts(u32, &'static [u8]),
     /// The program's memory has these bytes.
     Holds(u32, &'static [u8]),
+    /// A call of the 64-bit kernel itself, by its number and its first four arguments, with these bytes in host
+    /// memory; and its result.
+    Native(u64, [u64; 4], &'static [u8], i64),
 }

@@ -8,6 +8,8 @@ mod descriptors;
 #[cfg(test)]
 mod effects;
 #[cfg(test)]
+mod files;
+#[cfg(test)]
 mod machine;
 #[cfg(test)]
 mod numbers;

@@ -6,7 +6,7 @@ use crate::calls::{Call, Row};
 use bridge_io::io_call;
 use guest_space::Space;
 use host_mem::HostMem;
-use kernel_core::{Effect, Items, Kind, Node, Tree};
+use kernel_core::{Effect, Items, Kind, Node, Reply, Tree};
 use mips_exec::Cpu;
 use native_kernel::NativeKernel;
 use o32_model::{CallWords, Log, Outcome, Seen};
@@ -156,6 +156,21 @@ impl Machine {
         self.space.copy_in(address, there).is_ok() && &*there == bytes
     }
 
+    /// What a call of the 64-bit kernel itself replies, with these bytes in host memory.
+    fn reply(&mut self, number: u64, arguments: [u64; 4], bytes: &[u8]) -> Option<Reply> {
+        let [first, second, third, fourth] = arguments;
+        self.memory.clear();
+        self.memory.push(bytes).ok()?;
+        self.kernel
+            .call(
+                number,
+                [first, second, third, fourth, 0, 0],
+                &mut self.memory,
+                &mut self.streams,
+            )
+            .ok()
+    }
+
     /// Whether a row comes out as it says.
     fn is_right(&mut self, row: &Row) -> bool {
         match *row {
@@ -174,6 +189,9 @@ impl Machine {
             }
             Row::Puts(address, bytes) => self.space.copy_out(address, bytes).is_ok(),
             Row::Holds(address, bytes) => self.holds(address, bytes),
+            Row::Native(number, arguments, bytes, result) => {
+                self.reply(number, arguments, bytes) == Some(Reply::Done(result))
+            }
         }
     }
 

@@ -21,6 +21,8 @@ pub(crate) const FD_CLOEXEC: u32 = 1;
 /// Flags of open(2).
 pub(crate) const O_WRONLY: u32 = 1;
 
+pub(crate) const O_RDWR: u32 = 2;
+
 pub(crate) const O_APPEND: u32 = 0x8;
 
 pub(crate) const O_NONBLOCK: u32 = 0x80;
