@@ -82,10 +82,22 @@ pub(crate) enum Row {
     Fails(Call, [u32; 3], Errno),
     /// One that waits, and how many bytes it has written already.
     Waits(Call, [u32; 3], u32),
+    /// dup(2) of standard input gives each descriptor from 3 on.
+    OpensAll,
     /// The program stores these bytes.
     Puts(u32, &'static [u8]),
     /// The program's memory has these bytes.
     Holds(u32, &'static [u8]),
+    /// These bytes were written to standard output, and these to standard error.
+    Written(&'static [u8], &'static [u8]),
+    /// Whether a signal pends that is not blocked.
+    Signalled(bool),
+    /// The next effect that is kept: these bytes are written from an address on.
+    Stores(u32, &'static [u8]),
+    /// The next effect that is kept: these bytes go out on stream 1 or 2.
+    Sends(u8, &'static [u8]),
+    /// No other effect is kept.
+    NoEffect,
     /// A call of the 64-bit kernel itself, by its number and its first four arguments, with these bytes in host
     /// memory; and its result.
     Native(u64, [u64; 4], &'static [u8], i64),

@@ -1,7 +1,7 @@
 //! close(2), dup(2), dup2(2), dup3(2) and fcntl(2).
 
 use crate::calls::{Call, Row};
-use crate::machine::{AT, CONST_END, new_machine};
+use crate::machine::{AT, CONST_END, first_wrong};
 use crate::numbers::{
     F_DUPFD, F_DUPFD_CLOEXEC, F_GETFD, F_GETFL, F_GETLK, F_SETFD, F_SETFL, FD_CLOEXEC, O_APPEND,
     O_CLOEXEC, O_LARGEFILE, O_NONBLOCK, O_WRONLY, OTHER_NONBLOCK,
@@ -10,7 +10,7 @@ use kernel_core::Errno;
 use std::test::Fail;
 
 /// dup2(2) onto itself changes nothing, and onto another one closes that; dup3(2) refuses the first.
-static DUPLICATES: [Row; 37] = [
+static DUPLICATES: [Row; 38] = [
     Row::Gives(Call::Dup, [1, 0, 0], 3),
     Row::Fails(Call::Dup, [9, 0, 0], Errno::EBADF),
     Row::Gives(Call::Close, [3, 0, 0], 0),
@@ -48,14 +48,12 @@ static DUPLICATES: [Row; 37] = [
     Row::Gives(Call::Close, [8, 0, 0], 0),
     Row::Gives(Call::Write, [1, AT, 1], 1),
     Row::Gives(Call::Read, [5, AT, 8], 1),
+    Row::Written(b"e", b"e"),
 ];
 
 #[test]
 fn duplicates(rt: HostRuntime) -> Result<(), Fail> {
-    let mut machine = new_machine(rt.alloc(), b"", b"")?;
-    assert_eq!(rt; machine.first_wrong(&DUPLICATES), None);
-    assert!(rt; machine.output() == b"e".as_slice());
-    assert!(rt; machine.errors() == b"e".as_slice());
+    assert_eq!(rt; first_wrong(rt.alloc(), b"", b"", &DUPLICATES)?, None);
     Ok(())
 }
 
@@ -105,7 +103,8 @@ static COMMANDS: [Row; 28] = [
 
 /// With all descriptors open; then 7 and 8 are closed, of which the first alone is not enough for a pipe, and
 /// is free again after it.
-static NO_DESCRIPTOR: [Row; 14] = [
+static NO_DESCRIPTOR: [Row; 15] = [
+    Row::OpensAll,
     Row::Fails(Call::Dup, [0, 0, 0], Errno::EMFILE),
     Row::Fails(Call::Dup, [1024, 0, 0], Errno::EBADF),
     Row::Fails(Call::Fcntl, [0, F_DUPFD, 0], Errno::EMFILE),
@@ -123,14 +122,13 @@ static NO_DESCRIPTOR: [Row; 14] = [
 ];
 
 #[test]
-fn commands_and_no_descriptor(rt: HostRuntime) -> Result<(), Fail> {
-    let mut machine = new_machine(rt.alloc(), b"", b"")?;
-    assert_eq!(rt; machine.first_wrong(&COMMANDS), None);
-    let mut machine = new_machine(rt.alloc(), b"", b"")?;
-    for fd in 3..1024 {
-        let rows = [Row::Gives(Call::Dup, [0, 0, 0], fd)];
-        assert_eq!(rt; machine.first_wrong(&rows), None);
-    }
-    assert_eq!(rt; machine.first_wrong(&NO_DESCRIPTOR), None);
+fn commands(rt: HostRuntime) -> Result<(), Fail> {
+    assert_eq!(rt; first_wrong(rt.alloc(), b"", b"", &COMMANDS)?, None);
+    Ok(())
+}
+
+#[test]
+fn no_descriptor(rt: HostRuntime) -> Result<(), Fail> {
+    assert_eq!(rt; first_wrong(rt.alloc(), b"", b"", &NO_DESCRIPTOR)?, None);
     Ok(())
 }

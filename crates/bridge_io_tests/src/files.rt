@@ -1,7 +1,7 @@
 //! The calls that move bytes, of a regular file and a directory, which the 64-bit kernel itself opens.
 
 use crate::calls::{Call, Row};
-use crate::machine::{AT, CONST_END, TAIL_END, new_machine};
+use crate::machine::{AT, CONST_END, TAIL_END, first_wrong};
 use crate::numbers::{F_GETFL, FIONREAD, O_APPEND, O_LARGEFILE, O_RDWR, O_WRONLY};
 use kernel_core::Errno;
 use std::test::Fail;
@@ -37,7 +37,7 @@ const PWRITE_AT_LIMIT: Call = Call::Pwrite64(Some(0), Some(0x7FFF_FFFF));
 
 /// A file `/f` that is open as 3 for reading and writing, as 4 with O_LARGEFILE, and as 5 for writing with
 /// O_APPEND; and the root directory, as 6.
-static OPEN: [Row; 7] = [
+static FILES: [Row; 87] = [
     Row::Native(OPENAT, [AT_FDCWD, HOST, CREATED, 0o600], b"/f\0", 3),
     Row::Native(OPENAT, [AT_FDCWD, HOST, LARGE, 0], b"/f\0", 4),
     Row::Native(OPENAT, [AT_FDCWD, HOST, APPENDED, 0], b"/f\0", 5),
@@ -45,10 +45,7 @@ static OPEN: [Row; 7] = [
     Row::Gives(Call::Fcntl, [3, F_GETFL, 0], O_RDWR),
     Row::Gives(Call::Fcntl, [4, F_GETFL, 0], O_LARGEFILE + O_RDWR),
     Row::Gives(Call::Fcntl, [5, F_GETFL, 0], O_APPEND + O_WRONLY),
-];
-
-/// A place has no part in a position. Under O_APPEND each write goes to the file's end.
-static PLACES: [Row; 46] = [
+    // A place has no part in a position. Under O_APPEND each write goes to the file's end.
     Row::Puts(AT, b"abcdefXY"),
     Row::Gives(Call::Write, [3, AT, 6], 6),
     Row::Gives(Call::Read, [3, AT + 16, 8], 0),
@@ -95,10 +92,7 @@ static PLACES: [Row; 46] = [
     Row::Gives(Call::Writev, [3, AT + 64, 2], 5),
     Row::Gives(Call::Pread64(Some(0), Some(7)), [4, AT + 48, 8], 6),
     Row::Holds(AT + 48, b"bab\0\0\x03\0"),
-];
-
-/// A directory is open for reading, and has no bytes.
-static DIRECTORY: [Row; 8] = [
+    // A directory is open for reading, and has no bytes.
     Row::Fails(Call::Read, [6, AT, 1], Errno::EISDIR),
     Row::Gives(Call::Read, [6, TAIL_END, 0], 0),
     Row::Fails(Call::Read, [6, TAIL_END, 1], Errno::EFAULT),
@@ -107,10 +101,7 @@ static DIRECTORY: [Row; 8] = [
     Row::Fails(Call::Write, [6, AT, 1], Errno::EBADF),
     Row::Fails(PWRITE, [6, AT, 1], Errno::EBADF),
     Row::Fails(Call::Ioctl, [6, FIONREAD, AT], Errno::ENOTTY),
-];
-
-/// A write that would pass 2^31 - 1 bytes without O_LARGEFILE is cut, and one that begins there is EFBIG.
-static LIMIT: [Row; 26] = [
+    // A write that would pass 2^31 - 1 bytes without O_LARGEFILE is cut, and one that begins there is EFBIG.
     Row::Native(LSEEK, [3, 0x7FFF_FFFD, 0, 0], b"", 0x7FFF_FFFD),
     Row::Gives(Call::Write, [3, AT, 4], 2),
     Row::Fails(Call::Write, [3, AT, 1], Errno::EFBIG),
@@ -145,14 +136,6 @@ static LIMIT: [Row; 26] = [
 
 #[test]
 fn files(rt: HostRuntime) -> Result<(), Fail> {
-    let mut machine = new_machine(rt.alloc(), b"", b"")?;
-    for rows in [
-        OPEN.as_slice(),
-        PLACES.as_slice(),
-        DIRECTORY.as_slice(),
-        LIMIT.as_slice(),
-    ] {
-        assert_eq!(rt; machine.first_wrong(rows), None);
-    }
+    assert_eq!(rt; first_wrong(rt.alloc(), b"", b"", &FILES)?, None);
     Ok(())
 }

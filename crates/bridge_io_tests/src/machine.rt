@@ -35,13 +35,15 @@ pub(crate) const LARGE: u32 = 0x2_0000;
 
 /// A machine of one program.
 #[derive(Drop)]
-pub(crate) struct Machine {
+struct Machine {
     cpu: Cpu,
     space: Space,
     kernel: NativeKernel,
     memory: HostMem,
     streams: Streams,
     log: Log,
+    /// How many of the effects in it were looked at.
+    effects_seen: usize,
 }
 
 /// The tree of one empty root directory.
@@ -89,7 +91,7 @@ fn new_kernel(alloc: Global, text: &[u8]) -> Result<NativeKernel, Fail> {
 }
 
 /// A machine with this schedule and this input, none of whose streams fails. What its calls do is kept.
-pub(crate) fn new_machine(alloc: Global, schedule: &[u8], input: &[u8]) -> Result<Machine, Fail> {
+fn new_machine(alloc: Global, schedule: &[u8], input: &[u8]) -> Result<Machine, Fail> {
     Ok(Machine {
         cpu: Cpu::new(0x40_0000),
         space: new_space(alloc)?,
@@ -104,6 +106,7 @@ pub(crate) fn new_machine(alloc: Global, schedule: &[u8], input: &[u8]) -> Resul
             native: Some(Vec::new(alloc)),
             effects: Some(Vec::new(alloc)),
         },
+        effects_seen: 0,
     })
 }
 
@@ -171,12 +174,35 @@ impl Machine {
             .ok()
     }
 
+    /// Whether a call gives this result.
+    fn gives(&mut self, call: Call, arguments: [u32; 3], number: u32) -> bool {
+        matches!(self.native_call(call, arguments), Some(Outcome::Value(there)) if there == number)
+    }
+
+    /// Whether dup(2) of standard input gives each descriptor from 3 on.
+    fn opens_all(&mut self) -> bool {
+        for fd in 3..1024 {
+            if !self.gives(Call::Dup, [0, 0, 0], fd) {
+                return false;
+            }
+        }
+        true
+    }
+
+    /// The next effect that is kept.
+    fn next_effect(&mut self) -> Option<&Effect> {
+        let place = self.effects_seen;
+        self.effects_seen = place.saturating_add(1);
+        match &self.log.effects {
+            Some(effects) => effects.get(place),
+            None => None,
+        }
+    }
+
     /// Whether a row comes out as it says.
     fn is_right(&mut self, row: &Row) -> bool {
         match *row {
-            Row::Gives(call, arguments, number) => {
-                matches!(self.native_call(call, arguments), Some(Outcome::Value(there)) if there == number)
-            }
+            Row::Gives(call, arguments, number) => self.gives(call, arguments, number),
             Row::GivesTwo(call, arguments, first, second) => {
                 matches!(self.native_call(call, arguments), Some(Outcome::Pair(one, other)) if one == first && other == second)
             }
@@ -187,16 +213,32 @@ impl Machine {
                 let words = call.words(arguments);
                 is_wait(self.native_call(call, arguments), &words, done)
             }
+            Row::OpensAll => self.opens_all(),
             Row::Puts(address, bytes) => self.space.copy_out(address, bytes).is_ok(),
-            Row::Holds(address, bytes) => self.holds(address, bytes),
             Row::Native(number, arguments, bytes, result) => {
                 self.reply(number, arguments, bytes) == Some(Reply::Done(result))
             }
+            _ => self.is_so(row),
+        }
+    }
+
+    /// Whether a row that looks at something comes out as it says.
+    fn is_so(&mut self, row: &Row) -> bool {
+        match *row {
+            Row::Holds(address, bytes) => self.holds(address, bytes),
+            Row::Written(out, err) => {
+                self.streams.out.bytes() == out && self.streams.err.bytes() == err
+            }
+            Row::Signalled(wanted) => self.kernel.deliverable() == wanted,
+            Row::Stores(address, bytes) => is_write(self.next_effect(), address, bytes),
+            Row::Sends(stream, bytes) => is_output(self.next_effect(), stream, bytes),
+            Row::NoEffect => self.next_effect().is_none(),
+            _ => false,
         }
     }
 
     /// The first row that does not come out so, counted from 0.
-    pub(crate) fn first_wrong(&mut self, rows: &[Row]) -> Option<usize> {
+    fn first_wrong(&mut self, rows: &[Row]) -> Option<usize> {
         for (place, row) in rows.iter().enumerate() {
             if !self.is_right(row) {
                 return Some(place);
@@ -204,29 +246,28 @@ impl Machine {
         }
         None
     }
+}
 
-    /// What was written to standard output.
-    pub(crate) fn output(&self) -> &[u8] {
-        self.streams.out.bytes()
-    }
+/// The first row, counted from 0, that does not come out so in a new machine with this schedule and this
+/// input.
+pub(crate) fn first_wrong(
+    alloc: Global,
+    schedule: &[u8],
+    input: &[u8],
+    rows: &[Row],
+) -> Result<Option<usize>, Fail> {
+    let mut machine = new_machine(alloc, schedule, input)?;
+    Ok(machine.first_wrong(rows))
+}
 
-    /// What was written to standard error.
-    pub(crate) fn errors(&self) -> &[u8] {
-        self.streams.err.bytes()
-    }
+/// Whether an effect is that these bytes are written from an address on.
+fn is_write(effect: Option<&Effect>, at: u32, text: &[u8]) -> bool {
+    matches!(effect, Some(Effect::Write { address, bytes }) if *address == at && bytes.as_slice() == text)
+}
 
-    /// Whether a signal pends that is not blocked.
-    pub(crate) fn is_signalled(&self) -> bool {
-        self.kernel.deliverable()
-    }
-
-    /// The effects that are kept.
-    pub(crate) fn effects(&self) -> &[Effect] {
-        match &self.log.effects {
-            Some(effects) => effects.as_slice(),
-            None => &[],
-        }
-    }
+/// Whether an effect is that these bytes go out on stream 1 or 2.
+fn is_output(effect: Option<&Effect>, number: u8, text: &[u8]) -> bool {
+    matches!(effect, Some(Effect::Output { stream, bytes }) if *stream == number && bytes.as_slice() == text)
 }
 
 /// Whether an outcome is that these words wait, without a deadline and a mask.

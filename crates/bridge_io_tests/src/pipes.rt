@@ -1,7 +1,7 @@
 //! pipe(2) and pipe2(2).
 
 use crate::calls::{Call, Row};
-use crate::machine::{AT, CONST, TAIL_END, new_machine};
+use crate::machine::{AT, CONST, TAIL_END, first_wrong};
 use crate::numbers::{
     F_GETFD, F_GETFL, FD_CLOEXEC, O_CLOEXEC, O_NONBLOCK, O_WRONLY, OTHER_NONBLOCK,
 };
@@ -39,7 +39,6 @@ static PIPES: [Row; 24] = [
 
 #[test]
 fn pipes(rt: HostRuntime) -> Result<(), Fail> {
-    let mut machine = new_machine(rt.alloc(), b"", b"")?;
-    assert_eq!(rt; machine.first_wrong(&PIPES), None);
+    assert_eq!(rt; first_wrong(rt.alloc(), b"", b"", &PIPES)?, None);
     Ok(())
 }

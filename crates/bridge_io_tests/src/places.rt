@@ -1,7 +1,7 @@
 //! pread64(2) and pwrite64(2).
 
 use crate::calls::{Call, Row};
-use crate::machine::{AT, CONST_END, new_machine};
+use crate::machine::{AT, CONST_END, first_wrong};
 use kernel_core::Errno;
 use std::test::Fail;
 
@@ -15,7 +15,7 @@ const PREAD_BELOW: Call = Call::Pread64(Some(u32::MAX), Some(u32::MAX));
 const PWRITE_BELOW: Call = Call::Pwrite64(Some(u32::MAX), Some(u32::MAX));
 
 /// Streams and pipes have no places.
-static NO_PLACES: [Row; 20] = [
+static NO_PLACES: [Row; 21] = [
     Row::GivesTwo(Call::Pipe, [0, 0, 0], 3, 4),
     Row::Fails(PREAD, [0, AT, 1], Errno::ESPIPE),
     Row::Fails(PREAD, [3, CONST_END, 0], Errno::ESPIPE),
@@ -36,12 +36,11 @@ static NO_PLACES: [Row; 20] = [
     Row::Fails(Call::Pwrite64(Some(0), None), [9, AT, 1], Errno::EFAULT),
     Row::Fails(Call::Pwrite64(None, Some(0)), [9, AT, 1], Errno::EFAULT),
     Row::Gives(Call::Read, [0, AT, 8], 2),
+    Row::Written(b"", b""),
 ];
 
 #[test]
 fn no_places(rt: HostRuntime) -> Result<(), Fail> {
-    let mut machine = new_machine(rt.alloc(), b"", b"xy")?;
-    assert_eq!(rt; machine.first_wrong(&NO_PLACES), None);
-    assert!(rt; machine.output().is_empty());
+    assert_eq!(rt; first_wrong(rt.alloc(), b"", b"xy", &NO_PLACES)?, None);
     Ok(())
 }

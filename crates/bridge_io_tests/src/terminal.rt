@@ -1,7 +1,7 @@
 //! ioctl(2).
 
 use crate::calls::{Call, Row};
-use crate::machine::{AT, CONST, CONST_END, TAIL_END, new_machine};
+use crate::machine::{AT, CONST, CONST_END, TAIL_END, first_wrong};
 use crate::numbers::{
     F_GETFD, F_GETFL, FD_CLOEXEC, FIOCLEX, FIONBIO, FIONCLEX, FIONREAD, O_NONBLOCK, OTHER_TCGETS,
     TCGETS, TCSETS, TCSETSF, TCSETSW, TIOCGWINSZ,
@@ -82,10 +82,16 @@ static NO_TERMINAL: [Row; 29] = [
 ];
 
 #[test]
-fn requests(rt: HostRuntime) -> Result<(), Fail> {
-    let mut machine = new_machine(rt.alloc(), b"tty 24 80\n", b"")?;
-    assert_eq!(rt; machine.first_wrong(&TERMINAL), None);
-    let mut machine = new_machine(rt.alloc(), b"", b"")?;
-    assert_eq!(rt; machine.first_wrong(&NO_TERMINAL), None);
+fn terminal(rt: HostRuntime) -> Result<(), Fail> {
+    assert_eq!(rt;
+        first_wrong(rt.alloc(), b"tty 24 80\n", b"", &TERMINAL)?,
+        None
+    );
+    Ok(())
+}
+
+#[test]
+fn no_terminal(rt: HostRuntime) -> Result<(), Fail> {
+    assert_eq!(rt; first_wrong(rt.alloc(), b"", b"", &NO_TERMINAL)?, None);
     Ok(())
 }

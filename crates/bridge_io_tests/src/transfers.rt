@@ -1,7 +1,7 @@
 //! read(2) and write(2), at streams and pipes.
 
 use crate::calls::{Call, Row};
-use crate::machine::{AT, CONST, CONST_END, LARGE, TAIL_END, new_machine};
+use crate::machine::{AT, CONST, CONST_END, LARGE, TAIL_END, first_wrong};
 use crate::numbers::{F_SETFL, O_NONBLOCK};
 use kernel_core::Errno;
 use std::test::Fail;
@@ -47,14 +47,13 @@ static READS: [Row; 34] = [
 
 #[test]
 fn reads(rt: HostRuntime) -> Result<(), Fail> {
-    let mut machine = new_machine(rt.alloc(), b"", b"abcdefgh")?;
-    assert_eq!(rt; machine.first_wrong(&READS), None);
+    assert_eq!(rt; first_wrong(rt.alloc(), b"", b"abcdefgh", &READS)?, None);
     Ok(())
 }
 
 /// Standard output and error, and a duplicate of the first, from buffers that end on a page that is not there;
-/// then a pipe, which is read, and which nobody reads any more.
-static WRITES: [Row; 26] = [
+/// then a pipe, which is read, and which nobody reads any more. SIGPIPE comes with EPIPE, and not before it.
+static WRITES: [Row; 30] = [
     Row::Puts(AT, b"Hi\n?"),
     Row::Gives(Call::Write, [1, AT, 3], 3),
     Row::Gives(Call::Write, [2, AT + 3, 1], 1),
@@ -81,20 +80,15 @@ static WRITES: [Row; 26] = [
     Row::Gives(Call::Write, [4, AT, 0], 0),
     Row::Fails(Call::Write, [4, CONST_END, 1], Errno::EFAULT),
     Row::Gives(Call::Write, [2, AT, 1], 1),
+    Row::Written(b"Hi\nd.H", b"?end.H"),
+    Row::Signalled(false),
+    Row::Fails(Call::Write, [4, AT, 1], Errno::EPIPE),
+    Row::Signalled(true),
 ];
-
-/// SIGPIPE comes with EPIPE, and not before it.
-static BROKEN_PIPE: [Row; 1] = [Row::Fails(Call::Write, [4, AT, 1], Errno::EPIPE)];
 
 #[test]
 fn writes(rt: HostRuntime) -> Result<(), Fail> {
-    let mut machine = new_machine(rt.alloc(), b"", b"")?;
-    assert_eq!(rt; machine.first_wrong(&WRITES), None);
-    assert!(rt; machine.output() == b"Hi\nd.H".as_slice());
-    assert!(rt; machine.errors() == b"?end.H".as_slice());
-    assert!(rt; !machine.is_signalled());
-    assert_eq!(rt; machine.first_wrong(&BROKEN_PIPE), None);
-    assert!(rt; machine.is_signalled());
+    assert_eq!(rt; first_wrong(rt.alloc(), b"", b"", &WRITES)?, None);
     Ok(())
 }
 
@@ -120,7 +114,6 @@ static FULL_PIPE: [Row; 15] = [
 
 #[test]
 fn full_pipe(rt: HostRuntime) -> Result<(), Fail> {
-    let mut machine = new_machine(rt.alloc(), b"", b"")?;
-    assert_eq!(rt; machine.first_wrong(&FULL_PIPE), None);
+    assert_eq!(rt; first_wrong(rt.alloc(), b"", b"", &FULL_PIPE)?, None);
     Ok(())
 }

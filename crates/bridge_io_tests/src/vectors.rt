@@ -1,7 +1,7 @@
 //! readv(2) and writev(2). A vector has 8 bytes a buffer: the address, and the length.
 
 use crate::calls::{Call, Row};
-use crate::machine::{AT, CONST, CONST_END, TAIL_END, new_machine};
+use crate::machine::{AT, CONST, CONST_END, TAIL_END, first_wrong};
 use crate::numbers::{F_SETFL, O_NONBLOCK};
 use kernel_core::Errno;
 use std::test::Fail;
@@ -44,14 +44,16 @@ static READV: [Row; 27] = [
 
 #[test]
 fn readv(rt: HostRuntime) -> Result<(), Fail> {
-    let mut machine = new_machine(rt.alloc(), b"", b"abcdefghijkl")?;
-    assert_eq!(rt; machine.first_wrong(&READV), None);
+    assert_eq!(rt;
+        first_wrong(rt.alloc(), b"", b"abcdefghijkl", &READV)?,
+        None
+    );
     Ok(())
 }
 
 /// The same for bytes that are written: `abc` and `defg` to standard output, then two of a buffer that ends on
 /// a page that is not there, behind which nothing is written; and a pipe, with one reader and without.
-static WRITEV: [Row; 24] = [
+static WRITEV: [Row; 26] = [
     Row::Puts(0x1_0100, b"abcdefg"),
     Row::Puts(
         AT,
@@ -79,14 +81,12 @@ static WRITEV: [Row; 24] = [
     Row::Fails(Call::Writev, [4, AT, 1025], Errno::EINVAL),
     Row::Fails(Call::Writev, [4, CONST_END, 1], Errno::EFAULT),
     Row::Fails(Call::Writev, [4, AT, 2], Errno::EPIPE),
+    Row::Signalled(true),
+    Row::Written(b"abcdefgd.", b""),
 ];
 
 #[test]
 fn writev(rt: HostRuntime) -> Result<(), Fail> {
-    let mut machine = new_machine(rt.alloc(), b"", b"")?;
-    assert_eq!(rt; machine.first_wrong(&WRITEV), None);
-    assert!(rt; machine.output() == b"abcdefgd.".as_slice());
-    assert!(rt; machine.errors().is_empty());
-    assert!(rt; machine.is_signalled());
+    assert_eq!(rt; first_wrong(rt.alloc(), b"", b"", &WRITEV)?, None);
     Ok(())
 }
