@@ -213,7 +213,7 @@ static STACKS: [Step; 17] = [
     Step::Stores(
         SIGALTSTACK,
         [AT, AT, 0, 0],
-        &[0x7100_0000, OLD << 32, 8192],
+        &[0x7100_0000, 0x7A7A_7A7A_0000_0000, 8192],
         &[0x7000_0000, 0, 2048],
         DONE,
     ),
