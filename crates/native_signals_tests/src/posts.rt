@@ -3,17 +3,17 @@
 use crate::numbers::{
     CHLD, DONE, RT_SIGACTION, RT_SIGPENDING, RT_SIGPROCMASK, RT_SIGTIMEDWAIT, TSTP, USR1,
 };
-use crate::steps::{AT, OLD, Step, first_wrong, new_kernel, no_streams};
-use kernel_core::{Reply, Sig};
+use crate::steps::{AT, OLD, Outside, Step, first_wrong, new_kernel, no_streams};
+use kernel_core::Reply;
 use native_kernel::Post;
 use std::test::Fail;
 
 static POSTS: [Step; 29] = [
     Step::IsDeliverable(false),
     // CHLD is ignored without an action, unless a sigtimedwait waits for it.
-    Step::Posts(Sig::Chld, false, Post::Dropped),
+    Step::Posts(Outside::Chld, false, Post::Dropped),
     Step::IsDeliverable(false),
-    Step::Posts(Sig::Chld, true, Post::Queued),
+    Step::Posts(Outside::Chld, true, Post::Queued),
     Step::IsDeliverable(true),
     Step::Tells(
         RT_SIGTIMEDWAIT,
@@ -25,10 +25,10 @@ static POSTS: [Step; 29] = [
     Step::IsDeliverable(false),
     // A blocked signal pends and is not delivered; a standard one pends once.
     Step::Keeps(RT_SIGPROCMASK, [0, AT, 0, 16], &[USR1, 0], DONE),
-    Step::Posts(Sig::Usr1, false, Post::Queued),
-    Step::Posts(Sig::Usr1, false, Post::Dropped),
+    Step::Posts(Outside::Usr1, false, Post::Queued),
+    Step::Posts(Outside::Usr1, false, Post::Dropped),
     Step::IsDeliverable(false),
-    Step::Posts(Sig::Term, false, Post::Queued),
+    Step::Posts(Outside::Term, false, Post::Queued),
     Step::IsDeliverable(true),
     Step::Keeps(
         RT_SIGTIMEDWAIT,
@@ -42,12 +42,12 @@ static POSTS: [Step; 29] = [
     // SIG_IGN, where a blocked signal pends all the same.
     Step::Keeps(RT_SIGACTION, [10, AT, 0, 16], &[1, 0, 0, 0], DONE),
     Step::IsDeliverable(false),
-    Step::Posts(Sig::Usr1, false, Post::Dropped),
+    Step::Posts(Outside::Usr1, false, Post::Dropped),
     Step::Keeps(RT_SIGPROCMASK, [0, AT, 0, 16], &[USR1, 0], DONE),
-    Step::Posts(Sig::Usr1, false, Post::Queued),
+    Step::Posts(Outside::Usr1, false, Post::Queued),
     // A stop signal takes CONT away, and CONT stop signals, also where it is dropped itself.
-    Step::Posts(Sig::Cont, true, Post::Queued),
-    Step::Posts(Sig::Tstp, false, Post::Queued),
+    Step::Posts(Outside::Cont, true, Post::Queued),
+    Step::Posts(Outside::Tstp, false, Post::Queued),
     Step::Stores(
         RT_SIGPENDING,
         [AT, 16, 0, 0],
@@ -55,9 +55,9 @@ static POSTS: [Step; 29] = [
         &[USR1 + TSTP, 0],
         DONE,
     ),
-    Step::Posts(Sig::Cont, false, Post::Dropped),
+    Step::Posts(Outside::Cont, false, Post::Dropped),
     Step::Stores(RT_SIGPENDING, [AT, 16, 0, 0], &[OLD, OLD], &[USR1, 0], DONE),
-    Step::Posts(Sig::Hup, false, Post::Queued),
+    Step::Posts(Outside::Hup, false, Post::Queued),
     Step::Keeps(
         RT_SIGTIMEDWAIT,
         [AT, 0, 0, 16],

@@ -4,8 +4,8 @@ use crate::numbers::{
     DONE, EAGAIN, EFAULT, EINVAL, ESRCH, KILL, MINUS_1, MINUS_100, RT_SIGPENDING, RT_SIGQUEUEINFO,
     RT_SIGTIMEDWAIT, TGKILL, TKILL, USR1,
 };
-use crate::steps::{AT, NOWHERE, OLD, Step, first_wrong, new_kernel, no_streams};
-use kernel_core::{RealTime, Reply, Sig};
+use crate::steps::{AT, NOWHERE, OLD, Outside, Step, first_wrong, new_kernel, no_streams};
+use kernel_core::Reply;
 use native_kernel::Post;
 use std::test::Fail;
 
@@ -132,7 +132,7 @@ static SENT: [Step; 45] = [
 ];
 
 /// With 1,024 real-time signals queued: each call that sends one more is EAGAIN, and a standard one pends still.
-static FULL: [Step; 8] = [
+static FULL: [Step; 9] = [
     Step::Plain(KILL, [100, 40, 0, 0], EAGAIN),
     Step::Plain(TKILL, [100, 41, 0, 0], EAGAIN),
     Step::Plain(TGKILL, [100, 100, 128, 0], EAGAIN),
@@ -151,6 +151,7 @@ static FULL: [Step; 8] = [
     ),
     Step::Plain(KILL, [100, 41, 0, 0], DONE),
     Step::Plain(KILL, [100, 41, 0, 0], EAGAIN),
+    Step::Posts(Outside::Fortieth, false, Post::Full),
 ];
 
 #[test]
@@ -167,7 +168,6 @@ fn full_queue(rt: HostRuntime) -> Result<(), Fail> {
     let alloc = rt.alloc();
     let mut kernel = new_kernel(alloc, b"")?;
     let mut streams = no_streams(alloc)?;
-    let signal = RealTime::new(40).ok_or("a signal")?;
     let one_more = [Step::Plain(KILL, [100, 40, 0, 0], DONE)];
     for _sent in 0..1024 {
         assert_eq!(rt;
@@ -176,10 +176,5 @@ fn full_queue(rt: HostRuntime) -> Result<(), Fail> {
         );
     }
     assert_eq!(rt; first_wrong(alloc, &mut kernel, &mut streams, &FULL), None);
-    let from_outside = [Step::Posts(Sig::RealTime(signal), false, Post::Full)];
-    assert_eq!(rt;
-        first_wrong(alloc, &mut kernel, &mut streams, &from_outside),
-        None
-    );
     Ok(())
 }

@@ -2,7 +2,7 @@
 
 use crate::trees::empty_tree;
 use host_mem::HostMem;
-use kernel_core::{Info, NoMemory, Reply, Sig};
+use kernel_core::{Info, NoMemory, RealTime, Reply, Sig};
 use native_kernel::{NativeKernel, Post};
 use outside::{Devices, MemSink, MemSource};
 use schedule::parse;
@@ -11,6 +11,18 @@ use std::test::Fail;
 
 /// The streams of a test.
 pub(crate) type Streams = Devices<MemSource, MemSink, MemSink>;
+
+/// The signals that tests post from outside; the last is the real-time signal 40.
+#[derive(Clone, Copy)]
+pub(crate) enum Outside {
+    Hup,
+    Usr1,
+    Term,
+    Chld,
+    Cont,
+    Tstp,
+    Fortieth,
+}
 
 /// A step. A call is given by its number and its first four arguments, of which the others are 0; host memory by
 /// its numbers of 64 bits from [`AT`] on.
@@ -28,7 +40,7 @@ pub(crate) enum Step {
     /// The clock moves to a time.
     Advance(u64),
     /// A signal is posted from outside, which a sigtimedwait waits for or not, and what becomes of it.
-    Posts(Sig, bool, Post),
+    Posts(Outside, bool, Post),
     /// Whether a signal that is not blocked pends.
     IsDeliverable(bool),
     /// When the interval timer is due next.
@@ -130,6 +142,21 @@ fn is_called(
     reply.ok() == Some(call.reply) && memory.as_slice() == wanted.as_slice()
 }
 
+fn signal_of(signal: Outside) -> Option<Sig> {
+    match signal {
+        Outside::Hup => Some(Sig::Hup),
+        Outside::Usr1 => Some(Sig::Usr1),
+        Outside::Term => Some(Sig::Term),
+        Outside::Chld => Some(Sig::Chld),
+        Outside::Cont => Some(Sig::Cont),
+        Outside::Tstp => Some(Sig::Tstp),
+        Outside::Fortieth => match RealTime::new(40) {
+            Some(signal) => Some(Sig::RealTime(signal)),
+            None => None,
+        },
+    }
+}
+
 /// A signal that the process with the id 1 sends by kill(2).
 fn sent_from_outside(sig: Sig) -> Info {
     Info {
@@ -163,10 +190,13 @@ fn is_right(
             kernel.advance(to, false)?;
             Ok(true)
         }
-        Step::Posts(sig, kept, expected) => {
-            let post = kernel.post(sent_from_outside(sig), kept)?;
-            Ok(is_same(post, expected))
-        }
+        Step::Posts(signal, kept, expected) => match signal_of(signal) {
+            Some(sig) => {
+                let post = kernel.post(sent_from_outside(sig), kept)?;
+                Ok(is_same(post, expected))
+            }
+            None => Ok(false),
+        },
         Step::IsDeliverable(expected) => Ok(kernel.deliverable() == expected),
         Step::NextTime(expected) => Ok(kernel.next_time() == expected),
         Step::Plain(number, arguments, reply) => {
