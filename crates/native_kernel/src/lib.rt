@@ -4,13 +4,18 @@
 
 mod arguments;
 mod call;
+mod chance;
 mod clock;
 mod descriptors;
+mod directory;
 mod ids;
 mod interval;
 mod kernel;
 mod masks;
+mod names;
+mod nodes;
 mod numbers;
+mod paths;
 mod pipes;
 mod replies;
 mod signal_bytes;
@@ -21,6 +26,7 @@ mod sleeping;
 mod starting;
 mod status;
 mod structures;
+mod system;
 mod terminal;
 mod times;
 mod transfers;

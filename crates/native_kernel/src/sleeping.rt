@@ -21,11 +21,14 @@ use native_timer::LATEST_TIME;
 /// The clocks that calls tell apart (clock_gettime(2)).
 const CLOCK_REALTIME: u32 = 0;
 
-const CLOCK_MONOTONIC: u32 = 1;
+pub(crate) const CLOCK_MONOTONIC: u32 = 1;
 
 const CLOCK_REALTIME_COARSE: u32 = 5;
 
 const CLOCK_BOOTTIME: u32 = 7;
+
+/// The flag of clock_nanosleep(2) by which a time is one of the clock (Linux `include/uapi/linux/time.h`).
+pub(crate) const TIMER_ABSTIME: u64 = 1;
 
 /// The clock of the greatest id, CLOCK_BOOTTIME.
 const LAST_CLOCK: u32 = 7;
