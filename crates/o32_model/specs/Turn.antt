@@ -1,13 +1,14 @@
 -- The machine of an o32 program over the kernel, and one turn of it (MIPS32 Architecture for Programmers, Volume II, Release 2, for a step of
--- the processor; signal(7) for the signal of a fault). What a turn is, that a fault's signal kills in the turn after its own, and how long a
--- turn takes, is this project's own. So far no signal but a fault's is delivered: what a write to a pipe without readers posts (SIGPIPE of
--- pipe(7)) stays pending.
-use Rattle.std.specs.Prelude.{ℕ, ◌+◌, Bool, List, Option, Some, None, is_some}
+-- the processor; signal(7) for the signal of a fault; setitimer(2) for a timer that is due). What a turn is, that a fault's signal kills in the
+-- turn after its own, and how long a turn takes, is this project's own. So far no signal but a fault's is delivered: what a write to a pipe
+-- without readers posts (SIGPIPE of pipe(7)), and what a timer posts, stays pending.
+use Rattle.std.specs.Prelude.{ℕ, ◌+◌, Bool, false, List, Option, Some, None, is_some}
 use Rattle.guest_space.specs.Memory.{Memory}
 use Rattle.kernel_core.specs.declared.finish.Finish.{Finish}
 use Rattle.kernel_core.specs.declared.finish.Finish.TheVariants.{Exited, Killed}
 use Rattle.kernel_core.specs.declared.signal.Sig.{Sig}
 use Rattle.kernel_model.specs.Pipes.{Sent, nothing}
+use Rattle.kernel_model.specs.SignalRows.{advance}
 use Rattle.kernel_model.specs.State.{Kernel}
 use Rattle.mips_exec.specs.Processor.{Processor}
 use Rattle.mips_exec.specs.Step.{step_of}
@@ -69,11 +70,11 @@ after_outcome step (outcomes.Exit status) = ends (behind step None) step.left st
 abbrev pub after_call : O32Step → Turn
 after_call step = after_outcome step step.outcome
 
--- Instructions
+-- the call of the SYSCALL that was just executed
+abbrev pub called : Machine → List ℕ → Turn
+called machine left = after_call (built_call machine.kernel (guest_of machine.processor machine.memory) left)
 
--- a turn with an instruction takes this many nanoseconds of the clock
-abbrev pub later : ℕ → Turn → Turn
-later quantum turn = record turn { machine = record turn.machine { kernel = record turn.machine.kernel { clock = turn.machine.kernel.clock + quantum } } }
+-- Instructions
 
 abbrev pub stepped : Processor → Memory → Kernel → Option Sig → Machine
 stepped processor memory kernel fault = record { processor = processor; memory = memory; kernel = kernel; wait = None; fault = fault }
@@ -81,25 +82,35 @@ stepped processor memory kernel fault = record { processor = processor; memory =
 -- what one step of the processor comes to, with a call of those that there are so far
 abbrev pub after_step : Processor → Memory → Kernel → List ℕ → Stepped → Turn
 after_step processor memory kernel left Next = goes_on (stepped processor memory kernel None) left nothing
-after_step processor memory kernel left Syscall = after_call (built_call kernel (guest_of processor memory) left)
+after_step processor memory kernel left Syscall = called (stepped processor memory kernel None) left
 after_step processor memory kernel left (Fault signal code address) = goes_on (stepped processor memory kernel (Some signal)) left nothing
 
 -- one instruction, with its call
-abbrev pub instructed : ℕ → Machine → List ℕ → Turn
-instructed quantum machine left =
+abbrev pub executed : Machine → List ℕ → Turn
+executed machine left =
     let step = step_of machine.processor machine.memory in
-    later quantum (after_step step.processor step.memory machine.kernel left step.came)
+    after_step step.processor step.memory machine.kernel left step.came
+
+-- Time
+
+-- the same at this time of the clock, in nanoseconds
+abbrev pub at_time : ℕ → Turn → Turn
+at_time time turn = record turn { machine = record turn.machine { kernel = record turn.machine.kernel { clock = time } } }
+
+-- A turn begins with the interval timer: where it is due it goes off. No call waits then.
+abbrev pub timed : Machine → Machine
+timed machine = record machine { kernel = advance machine.kernel machine.kernel.clock false }
 
 -- Turns
 
--- The fault of the turn before kills the process, and is used up by that.
+-- The fault of the turn before kills the process, and is used up by that. Else an instruction is carried out, and the clock stands at `later`.
 abbrev pub after_fault : ℕ → Machine → List ℕ → Option Sig → Turn
-after_fault quantum machine left (Some signal) = ends (record machine { fault = None }) left nothing (Killed (o32_signal signal))
-after_fault quantum machine left None = instructed quantum machine left
+after_fault later machine left (Some signal) = ends (record machine { fault = None }) left nothing (Killed (o32_signal signal))
+after_fault later machine left None = at_time later (executed machine left)
 
--- one turn of a machine that does not wait
+-- One turn of a machine that does not wait. One with an instruction takes a quantum, in nanoseconds of the clock.
 unfoldable pub turn_of : ℕ → Machine → List ℕ → Turn
-turn_of quantum machine left = after_fault quantum machine left machine.fault
+turn_of quantum machine left = after_fault (machine.kernel.clock + quantum) (timed machine) left machine.fault
 
 -- A call waits, and nothing can come that would end its wait: no turn follows. So far nothing ends a wait, neither time nor a signal.
 abbrev pub is_blocked : Machine → Bool

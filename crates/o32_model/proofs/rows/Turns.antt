@@ -1,4 +1,5 @@
--- Worked rows on turns and whole runs, of a machine that stands at 65536. A turn with an instruction takes 1000 nanoseconds.
+-- Worked rows on turns and whole runs, of a machine that stands at 65536 and has no timer armed. A turn with an instruction takes 1000
+-- nanoseconds.
 use Rattle.std.proofs.Common.{arith}
 use Rattle.std.specs.Prelude.{◌≡◌, ℕ, zero, suc, ◌+◌, ◌<◌, List, [], ◌∷◌, replicate, Some, None, Ok, Err, refl}
 use Rattle.guest_space.specs.Access.{writable_prefix}
@@ -8,8 +9,10 @@ use Rattle.guest_space.specs.declared.access.Why.TheVariants.{Absent}
 use Rattle.kernel_core.specs.Nodes.{Nodes}
 use Rattle.kernel_core.specs.declared.finish.Finish.TheVariants.{Exited, Killed, Budget, Blocked}
 use Rattle.kernel_core.specs.declared.signal.Sig.TheVariants.{Segv}
+use Rattle.kernel_model.specs.Clock.{unarmed}
 use Rattle.kernel_model.specs.DescriptorRows.{make_pipe}
 use Rattle.kernel_model.specs.Pipes.{nothing}
+use Rattle.kernel_model.specs.SignalRows.{advance}
 use Rattle.kernel_model.specs.State.{Kernel}
 use Rattle.kernel_model.specs.Transfers.{read}
 use Rattle.kernel_model.specs.Whole.{with_files, kernel_read}
@@ -38,12 +41,16 @@ module _ (whole : Kernel) (nodes : Nodes) (memory : Memory) (left : List ℕ) wh
     fault = None;
   }
 
+  -- no timer is armed
+  abbrev quiet : Kernel
+  quiet = record whole { timer = unarmed }
+
   -- the kernel at first, and with an empty pipe whose read end is 3
   abbrev first : Kernel
-  first = with_files whole (at_first nodes)
+  first = with_files quiet (at_first nodes)
 
   abbrev with_pipe : Kernel
-  with_pipe = with_files whole (with_pipe_of nodes [])
+  with_pipe = with_files quiet (with_pipe_of nodes [])
 
   abbrev a_turn_later : Kernel → Kernel
   a_turn_later kernel = record kernel { clock = kernel.clock + 1000 }
@@ -52,18 +59,18 @@ module _ (whole : Kernel) (nodes : Nodes) (memory : Memory) (left : List ℕ) wh
   module _ (syscall : loaded memory 65536 4 ≡ Ok 12) where
     -- $v0 becomes the error's number, and $a3 says that it is one
     no_such_call : turn_of 1000 (at first 65536 (registers 4999 5 6 7 8 9)) left ≡ goes_on (at (a_turn_later first) 65540 (registers 89 5 6 7 8 1)) left nothing
-    unfolding turn_of step_of effect_at special_rows call_words
+    unfolding turn_of advance step_of effect_at special_rows call_words
     no_such_call = simp syscall refl
 
     -- both ends are told, in $v0 and $v1
     two_results : turn_of 1000 (at first 65536 (registers 4042 5 6 7 8 9)) left ≡ goes_on (at (a_turn_later with_pipe) 65540 (registers 3 4 6 7 8 0)) left nothing
-    unfolding turn_of step_of effect_at special_rows call_words pipe_row make_pipe
+    unfolding turn_of advance step_of effect_at special_rows call_words pipe_row make_pipe
     two_results = simp syscall refl
 
     -- the turn that ends the process takes its time and counts
 
     exits : turn_of 1000 (at first 65536 (registers 4001 5 7 0 0 9)) left ≡ ends (at (a_turn_later first) 65540 (registers 4001 5 7 0 0 9)) left nothing (Exited 7)
-    unfolding turn_of step_of effect_at special_rows call_words exit_row
+    unfolding turn_of advance step_of effect_at special_rows call_words exit_row
     exits = simp syscall refl
 
     before_exit : (j : ℕ) → j < 1 → IsRunningAt 1000 (at first 65536 (registers 4001 5 7 0 0 9)) left j
@@ -72,7 +79,7 @@ module _ (whole : Kernel) (nodes : Nodes) (memory : Memory) (left : List ℕ) wh
     before_exit (suc j) below = absurd (omega arith)
 
     exited : IsOverAt 1000 (at first 65536 (registers 4001 5 7 0 0 9)) left 1 1 (Exited 7)
-    unfolding reached turn_of step_of effect_at special_rows call_words exit_row
+    unfolding reached turn_of advance step_of effect_at special_rows call_words exit_row
     exited = (omega arith, record { ended = simp syscall refl; first = before_exit })
 
     -- a read of the empty pipe waits, and no turn follows
@@ -86,16 +93,16 @@ module _ (whole : Kernel) (nodes : Nodes) (memory : Memory) (left : List ℕ) wh
       before_read (suc j) below = absurd (omega arith)
 
       blocked : IsOverAt 1000 reading left 2 1 Blocked
-      unfolding reached turn_of step_of effect_at special_rows call_words read_row kernel_read read
+      unfolding reached turn_of advance step_of effect_at special_rows call_words read_row kernel_read read
       blocked = (omega arith, record { alive = simp (syscall, room) refl; waits = simp (syscall, room) refl; first = before_read })
 
       -- the budget's one turn is done, and none is tried that would find it blocked
       blocked_at_the_budget : IsOverAt 1000 reading left 1 1 Budget
-      unfolding reached turn_of step_of effect_at special_rows call_words read_row kernel_read read
+      unfolding reached turn_of advance step_of effect_at special_rows call_words read_row kernel_read read
       blocked_at_the_budget = (refl, before_read, simp (syscall, room) refl)
 
       stays_blocked : reached 1000 reading left 2 ≡ reached 1000 reading left 1
-      unfolding reached turn_of step_of effect_at special_rows call_words read_row kernel_read read
+      unfolding reached turn_of advance step_of effect_at special_rows call_words read_row kernel_read read
       stays_blocked = simp (syscall, room) refl
 
   -- LW $v0, 0($zero) stands there, and the page at 0 is absent
@@ -105,26 +112,26 @@ module _ (whole : Kernel) (nodes : Nodes) (memory : Memory) (left : List ℕ) wh
 
     -- the fault is found in a turn that takes its time
     faults : turn_of 1000 loading left ≡ goes_on (record (at (a_turn_later first) 65536 (registers 5 5 6 7 8 9)) { fault = Some Segv }) left nothing
-    unfolding turn_of step_of effect_at memory_rows immediate_form signed_immediate
+    unfolding turn_of advance step_of effect_at memory_rows immediate_form signed_immediate
     faults = simp (load, absent) refl
 
     before_kill : (j : ℕ) → j < 2 → IsRunningAt 1000 loading left j
-    unfolding reached turn_of step_of effect_at memory_rows immediate_form signed_immediate
+    unfolding reached turn_of advance step_of effect_at memory_rows immediate_form signed_immediate
     before_kill zero below = record { alive = refl; awake = refl }
     before_kill (suc zero) below = record { alive = simp (load, absent) refl; awake = simp (load, absent) refl }
     before_kill (suc (suc j)) below = absurd (omega arith)
 
     killed : IsOverAt 1000 loading left 2 2 (Killed 11)
-    unfolding reached turn_of step_of effect_at memory_rows immediate_form signed_immediate
+    unfolding reached turn_of advance step_of effect_at memory_rows immediate_form signed_immediate
     killed = (omega arith, record { ended = simp (load, absent) refl; first = before_kill })
 
     killed_past_the_budget : IsOverAt 1000 loading left 1 1 Budget
-    unfolding reached turn_of step_of effect_at memory_rows immediate_form signed_immediate
+    unfolding reached turn_of advance step_of effect_at memory_rows immediate_form signed_immediate
     killed_past_the_budget = (refl, λ j below. before_kill j (omega arith), simp (load, absent) refl)
 
   -- the turn after it takes no time, and uses the fault up
   kills : turn_of 1000 (record (at first 65536 (registers 5 5 6 7 8 9)) { fault = Some Segv }) left ≡ ends (at first 65536 (registers 5 5 6 7 8 9)) left nothing (Killed 11)
-  unfolding turn_of
+  unfolding turn_of advance
   kills = refl
 
   -- a branch to itself stands there, with an SLL of nothing in its slot: the budget's turns are done, and nothing is sent
@@ -133,16 +140,16 @@ module _ (whole : Kernel) (nodes : Nodes) (memory : Memory) (left : List ℕ) wh
     looping = at first 65536 (registers 5 5 6 7 8 9)
 
     in_the_loop : (j : ℕ) → j < 3 → IsRunningAt 1000 looping left j
-    unfolding reached turn_of step_of effect_at plain_rows special_rows immediate_form signed_immediate
+    unfolding reached turn_of advance step_of effect_at plain_rows special_rows immediate_form signed_immediate
     in_the_loop zero below = record { alive = refl; awake = refl }
     in_the_loop (suc zero) below = record { alive = simp branch refl; awake = simp branch refl }
     in_the_loop (suc (suc zero)) below = record { alive = simp (branch, slot) refl; awake = simp (branch, slot) refl }
     in_the_loop (suc (suc (suc j))) below = absurd (omega arith)
 
     budget_done : IsOverAt 1000 looping left 3 3 Budget
-    unfolding reached turn_of step_of effect_at plain_rows special_rows immediate_form signed_immediate
+    unfolding reached turn_of advance step_of effect_at plain_rows special_rows immediate_form signed_immediate
     budget_done = (refl, in_the_loop, simp (branch, slot) refl)
 
     nothing_sent : (reached 1000 looping left 3).sent ≡ nothing
-    unfolding reached turn_of step_of effect_at plain_rows special_rows immediate_form signed_immediate
+    unfolding reached turn_of advance step_of effect_at plain_rows special_rows immediate_form signed_immediate
     nothing_sent = simp (branch, slot) refl
