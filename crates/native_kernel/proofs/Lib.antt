@@ -5,6 +5,7 @@ pub mod OpenNumbers
 pub mod OtherNumbers
 pub mod Pairs
 pub mod Parts
+pub mod PathTexts
 pub mod Quietly
 pub mod Read
 pub mod Sending

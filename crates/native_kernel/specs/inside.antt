@@ -1,3 +1,4 @@
+pub mod Counted
 pub mod Moving
 pub mod Quiet
 pub mod Vectors

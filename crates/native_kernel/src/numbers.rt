@@ -8,6 +8,18 @@ pub(crate) const FCNTL: u64 = 25;
 
 pub(crate) const IOCTL: u64 = 29;
 
+pub(crate) const MKDIRAT: u64 = 34;
+
+pub(crate) const UNLINKAT: u64 = 35;
+
+pub(crate) const SYMLINKAT: u64 = 36;
+
+pub(crate) const LINKAT: u64 = 37;
+
+pub(crate) const RENAMEAT: u64 = 38;
+
+pub(crate) const OPENAT: u64 = 56;
+
 pub(crate) const CLOSE: u64 = 57;
 
 pub(crate) const PIPE2: u64 = 59;
@@ -27,6 +39,8 @@ pub(crate) const WRITEV: u64 = 66;
 pub(crate) const PREAD64: u64 = 67;
 
 pub(crate) const PWRITE64: u64 = 68;
+
+pub(crate) const READLINKAT: u64 = 78;
 
 pub(crate) const FSTAT: u64 = 80;
 

@@ -152,7 +152,7 @@ impl NativeKernel {
     }
 
     /// The time that nodes are marked with, in nanoseconds since the Unix epoch.
-    fn real_time(&self) -> i128
+    pub(crate) fn real_time(&self) -> i128
         ensures time { result ≡ clock.now self.now }
         ensures within { IsTime result }
     {
