@@ -10,12 +10,11 @@ use Rattle.kernel_core.specs.NodeCalls.{held}
 use Rattle.kernel_core.specs.Nodes.{Nodes, Inode, NodeContent, File, Directory, Link, is_directory, listing_in, in_inode, update}
 use Rattle.kernel_core.specs.Queries.{DirectoryKind, holds_at, holds_in, kind_at, kind_of}
 use Rattle.kernel_model.specs.Always.{has_open, is_node}
-use Rattle.kernel_model.specs.Table.{slot}
 use Rattle.kernel_model.specs.declared.descriptor.Description.{Description}
 use Rattle.file_system_laws.proofs.HeldNodes.{update-kind}
 use Rattle.native_vfs.specs.Held.{ChangesHeld, StaysKey}
 use Rattle.native_vfs.specs.Keyed.{Keyed, number_at as node_at, inode_at, IsLiveKey}
-use Rattle.native_files.specs.inside.Kept.{AreKept, node_in}
+use Rattle.native_files.specs.inside.Kept.{AreKept}
 use Rattle.native_files.proofs.KeptLemmas.{count_some, key_found, one}
 
 -- a hold of one node and a release of another

@@ -12,6 +12,7 @@ pub mod Listings
 pub mod Made
 pub mod NameSteps
 pub mod NamedRows
+pub mod NamesUp
 pub mod NodeFacts
 pub mod NodeRows
 pub mod OpenRows

@@ -1,16 +1,16 @@
 -- The rows on the node that a path names, from what the walk of the path and the call on the node gave.
-use Rattle.std.proofs.Common.{◌≡◌, ℕ, ℤ, Bool, true, false, cond, List, Option, Some, None, refl, sym, ap, subst, ◌∙◌}
+use Rattle.std.proofs.Common.{◌≡◌, ℕ, ℤ, Bool, true, false, List, Option, Some, None, refl, sym, ap, subst, ◌∙◌}
 use Rattle.std.specs.Prelude.{◌&&◌, not, is_some, option_map, Result, Ok, Err}
 use Rattle.std.proofs.lemmas.Option.{same_Some}
 use Rattle.std.specs.FinMap.{get}
-use Rattle.kernel_core.specs.NodeCalls.{after_resize, held, released, with_mode}
+use Rattle.kernel_core.specs.NodeCalls.{after_resize, held, released}
 use Rattle.kernel_core.specs.Nodes.{Nodes, Inode, NodeContent, File, Directory, Link, in_inode, is_directory, listing_in, update}
 use Rattle.kernel_core.specs.Queries.{NodeKind, FileKind, DirectoryKind, LinkKind, kind_at, kind_of}
 use Rattle.kernel_core.specs.declared.core_error.CoreError.{CoreError}
 use Rattle.kernel_core.specs.declared.core_error.CoreError.TheVariants as errors
 use Rattle.kernel_core.specs.declared.error.Errno.{Errno}
 use Rattle.kernel_core.specs.declared.error.Errno.TheVariants.{EACCES, ENOENT, ENOTDIR}
-use Rattle.kernel_model.specs.Came.{Did, Done, done, refused, refused_by, refused_if, with_given, with_some}
+use Rattle.kernel_model.specs.Came.{Did, Done, done, refused_by, refused_if, with_given, with_some}
 use Rattle.kernel_model.specs.ContentRows as contents
 use Rattle.kernel_model.specs.Descriptions.{content_at}
 use Rattle.kernel_model.specs.NameRows.{with_nodes}
@@ -24,7 +24,7 @@ use Rattle.native_files.specs.Answers.{Answers}
 use Rattle.native_files.specs.inside.NodeSteps.{ChangesSurely, access_answer, truncate_refusal, wide}
 use Rattle.native_files.specs.inside.Walks.{FindsNode, walk_in}
 use Rattle.native_files.proofs.NameSteps.{seen}
-use Rattle.native_files.proofs.NamedRows.{find-lost, found-at}
+use Rattle.native_files.proofs.NamedRows.{found-at}
 
 -- another size, as its reason to be refused and its effect
 truncate-is : (files : Files) (time : ℤ) (node size : ℕ) (o : Option NodeContent)

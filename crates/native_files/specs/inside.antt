@@ -5,6 +5,7 @@ pub mod Events
 pub mod Kept
 pub mod Lengths
 pub mod Listings
+pub mod Locations
 pub mod NewTimes
 pub mod NodeSteps
 pub mod Openings

@@ -9,8 +9,9 @@ ghost use Rattle.native_files.specs.inside.Kept.{AreKept};
 ghost use Rattle.native_vfs.specs.Keyed.{IsLiveKey, number_at};
 
 use crate::files::Files;
+use crate::location::path_to;
 use crate::walking::{Base, directory_key, walk_to_node};
-use kernel_core::{CoreError, Errno};
+use kernel_core::{Bytes, CoreError, Errno};
 use kernel_model::Description;
 use native_fd::Table;
 use native_vfs::{NodeKind, Vfs};
@@ -75,6 +76,22 @@ impl Files {
                 Ok(())
             }
         }
+    }
+
+    /// The path of the working directory from the root, without a NUL (getcwd(2)); `size` is for how many bytes the
+    /// program has room. ENOENT where the directory was removed; ERANGE where there is no room for the path and a
+    /// NUL. It looks at the entries of each directory on the way, up to the one whose name it takes.
+    #[tactic(auto, unfolding(kernel_model::specs::NodeRows::working_directory))]
+    pub fn working_directory(&self, size: u64) -> Result<Bytes, CoreError>
+        ensures row { Answers (rows.working_directory self.now size) result self.now }
+    {
+        let Some(path) = path_to(&self.vfs, self.alloc, self.directory)? else {
+            return Err(CoreError::Refused(Errno::ENOENT));
+        };
+        if path.len() as u64 >= size {
+            return Err(CoreError::Refused(Errno::ERANGE));
+        }
+        Ok(Bytes::from(path))
     }
 }
 

@@ -13,6 +13,7 @@ mod flow;
 mod home;
 mod lengths;
 mod listing;
+mod location;
 mod looking;
 mod modes;
 mod naming;

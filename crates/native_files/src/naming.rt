@@ -1,6 +1,6 @@
-//! The calls that make, take and move names: mkdir(2), rmdir(2), unlink(2), link(2), symlink(2), rename(2), and
-//! readlink(2). Each is told where its path begins, and the path as it was read up to its NUL, or why it could not
-//! be read: EFAULT or ENAMETOOLONG.
+//! The calls that make, take and move names: mkdir(2), rmdir(2), unlink(2), link(2), symlink(2), rename(2). Each is
+//! told where its path begins, and the path as it was read up to its NUL, or why it could not be read: EFAULT or
+//! ENAMETOOLONG.
 ghost use Rattle.std.specs.Prelude.{◌≡◌, Ok, Some, true, false};
 ghost use Rattle.kernel_core.specs.FileSystem.{IsTime};
 ghost use Rattle.kernel_core.specs.NameCalls.{is_empty_list};

@@ -87,30 +87,28 @@ impl Files {
         requires allowed { (flags.creat && flags.directory) ≡ false }
         ensures row { Answers (open_file self.old None now (base_of base) (Ok path.now) (Some flags) mode) result self.new }
     {
-        match self.table.lowest(0) {
-            None => Err(CoreError::Refused(Errno::EMFILE)),
-            Some(fd) => {
-                let keys = self.node_keys.as_slice();
-                let follow = follows(flags);
-                match walk(
-                    &self.vfs,
-                    &self.table,
-                    keys,
-                    self.directory,
-                    base,
-                    path,
-                    follow,
-                ) {
+        let Some(fd) = self.table.lowest(0) else {
+            return Err(CoreError::Refused(Errno::EMFILE));
+        };
+        let keys = self.node_keys.as_slice();
+        let follow = follows(flags);
+        match walk(
+            &self.vfs,
+            &self.table,
+            keys,
+            self.directory,
+            base,
+            path,
+            follow,
+        ) {
+            Err(error) => Err(error),
+            Ok(at) => {
+                let mode = permitted(self.umask, (mode % 0x1000) as u16);
+                let how = Opening { flags, mode, now };
+                let keys = self.node_keys.as_mut_slice();
+                match open_place(&mut self.vfs, &mut self.table, keys, fd, &at, path, how) {
                     Err(error) => Err(error),
-                    Ok(at) => {
-                        let mode = permitted(self.umask, (mode % 0x1000) as u16);
-                        let how = Opening { flags, mode, now };
-                        let keys = self.node_keys.as_mut_slice();
-                        match open_place(&mut self.vfs, &mut self.table, keys, fd, &at, path, how) {
-                            Err(error) => Err(error),
-                            Ok(()) => Ok(fd),
-                        }
-                    }
+                    Ok(()) => Ok(fd),
                 }
             }
         }

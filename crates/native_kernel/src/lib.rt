@@ -4,19 +4,31 @@
 
 mod arguments;
 mod call;
+mod chance;
 mod clock;
 mod descriptors;
+mod directory;
 mod ids;
+mod interval;
 mod kernel;
+mod masks;
 mod names;
+mod nodes;
 mod numbers;
 mod paths;
 mod pipes;
 mod replies;
+mod signal_bytes;
+mod signal_posts;
+mod signal_waits;
+mod signals;
+mod sleeping;
 mod starting;
 mod status;
 mod structures;
+mod system;
 mod terminal;
+mod times;
 mod transfers;
 mod vectors;
 

@@ -87,7 +87,7 @@ impl NativeKernel {
 }
 
 /// The structure of a status.
-fn status_bytes(status: Status) -> [u8; STATUS_SIZE]
+pub(crate) fn status_bytes(status: Status) -> [u8; STATUS_SIZE]
     requires { IsStatus status }
     ensures { result ≡ status_bytes (status_told status) }
 {

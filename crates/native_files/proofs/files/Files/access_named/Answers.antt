@@ -6,7 +6,6 @@ use Rattle.kernel_model.specs.NodeRows.{is_not_executable}
 use Rattle.kernel_model.specs.State.{Files}
 use Rattle.native_files.specs.Answers.{Answers, base_of}
 use Rattle.native_files.specs.inside.NodeSteps.{access_answer, access_by_path}
-use Rattle.native_files.proofs.NameSteps.{seen}
 use Rattle.native_files.proofs.NamedRows.{find-lost}
 use Rattle.native_files.proofs.NodeRows.{access-row, may_access}
 use Rattle.native_files.proofs.files.Files.access_named.Goals as goal

@@ -1,4 +1,4 @@
-use Rattle.std.proofs.Common.{ℤ, ℕ, Ok, Err, true, of_z, to_z, ◌%◌, ap, subst, ◌∙◌}
+use Rattle.std.proofs.Common.{ℤ, ℕ, Ok, Err, true, ◌%◌, ap, subst, ◌∙◌}
 use Rattle.std.proofs.Math.Facts.{to_z-of_z}
 use Rattle.std.specs.Int.{w128}
 use Rattle.kernel_core.specs.NodeCalls.{with_mode}

@@ -1,12 +1,4 @@
-use Rattle.std.proofs.Common.{Ok, sym, ap, ◌∙◌}
-use Rattle.std.specs.Prelude.{Result}
-use Rattle.kernel_core.specs.declared.error.Errno.{Errno}
-use Rattle.kernel_model.specs.Came.{Did, done, with_given}
-use Rattle.kernel_model.specs.NodeRows as rows
-use Rattle.kernel_model.specs.State.{Files}
 use Rattle.native_files.proofs.Homes.{directory-kind}
-use Rattle.native_files.proofs.NameSteps.{seen}
-use Rattle.native_files.proofs.NodeRows.{moved-home}
 use Rattle.native_files.proofs.files.Files.change_to_open.Goals as goal
 use Rattle.native_vfs.specs.Keyed.{number_at}
 

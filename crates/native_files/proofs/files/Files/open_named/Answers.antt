@@ -13,12 +13,12 @@ use Rattle.native_files.proofs.OpenRows.{open-full, open-lost, open-row}
 use Rattle.native_files.proofs.files.Files.open_named.Goals as goal
 use Rattle.native_vfs.specs.Keyed.{number_at}
 
-pub returns-in-None : goal.returns-in-None
-returns-in-None c = record {
+pub returns-in_default : goal.returns-in_default
+returns-in_default c = record {
   row =
       let s = c.self.inside in
       subst (λ (f : Files). Answers (open_file f None c.args.now (base_of c.args.base) (Ok c.args.path.now) (Some c.args.flags) c.args.mode) (Err (errors.Refused EMFILE)) f) c.self.view_is
-      (open-full s.table s.flow s.directory s.umask s.terminal s.vfs (base_of c.args.base) c.args.path.now c.args.now c.args.flags c.args.mode c.requires.allowed (sym c.in-None.ensures.lowest));
+      (open-full s.table s.flow s.directory s.umask s.terminal s.vfs (base_of c.args.base) c.args.path.now c.args.now c.args.flags c.args.mode c.requires.allowed (sym c.in_default.ensures.lowest));
 }
 
 pub returns-in-Err : goal.returns-in-Err

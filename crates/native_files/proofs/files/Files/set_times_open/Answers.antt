@@ -1,4 +1,4 @@
-use Rattle.std.proofs.Common.{◌≡◌, ℤ, None, Ok, of_z, sym, ap, subst, to_z, ◌∙◌}
+use Rattle.std.proofs.Common.{◌≡◌, ℤ, None, sym, ap, subst, ◌∙◌}
 use Rattle.std.proofs.Math.Facts.{to_z-of_z}
 use Rattle.std.specs.Int.{w128}
 use Rattle.std.specs.Prelude.{Result}

@@ -1,4 +1,4 @@
-use Rattle.std.proofs.Common.{ℤ, ℕ, Err, true, sym, subst}
+use Rattle.std.proofs.Common.{ℤ, Err, true, sym, subst}
 use Rattle.std.specs.Prelude.{Result}
 use Rattle.std.proofs.Math.Facts.{to_z-of_z}
 use Rattle.std.specs.Int.{w128}
