@@ -10,7 +10,6 @@ use Rattle.kernel_core.specs.declared.error.Errno.TheVariants.{EINVAL}
 use Rattle.kernel_model.specs.Came.{Did, done}
 use Rattle.kernel_model.specs.State.{Kernel}
 use Rattle.kernel_model.specs.System.{after_chance, are_random_flags, random_bytes, round}
-use Rattle.kernel_model.specs.Transfers.{transferring}
 use Rattle.native_calls.specs.HostBytes as host
 use Rattle.native_calls.specs.Step as native_step
 use Rattle.native_calls.specs.System as native

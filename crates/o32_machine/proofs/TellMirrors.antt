@@ -1,8 +1,8 @@
 -- What is said of a native call that gives names or a limit, said of the o32 call that it tells for.
-use Rattle.std.proofs.Common.{◌≡◌, ℕ, ◌+◌, ◌≤◌, List, [], length, take, drop, ◌++◌, Some, refl, sym, ap, subst, ◌∙◌, zero-add, append-nil, arith}
+use Rattle.std.proofs.Common.{◌≡◌, ℕ, List, length, drop, ◌++◌, refl, sym, ap, subst, ◌∙◌, zero-add, append-nil, arith}
 use Rattle.std.proofs.lemmas.Bool.Decides.{nat_tests}
 use Rattle.std.proofs.lemmas.List.{drop_all}
-use Rattle.std.specs.Prelude.{⊤, Bool, true, false, if◌then◌else◌}
+use Rattle.std.specs.Prelude.{Bool, true, if◌then◌else◌}
 use Rattle.guest_space.specs.Memory.{Memory}
 use Rattle.host_mem.specs.Memory.{first_address, is_inside, replaced, written}
 use Rattle.kernel_core.specs.declared.error.Errno.{Errno}

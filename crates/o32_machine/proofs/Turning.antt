@@ -1,9 +1,6 @@
 -- Turns: what a call and an instruction leave, as the turn that is defined.
-use Rattle.std.proofs.Common.{◌≡◌, ℕ, ◌+◌, ◌⊎◌, inl, inr, Bool, true, false, List, [], Option, Some, None, Result, Ok, Err, IsErr, refl, sym, ap, subst, ◌∙◌}
-use Rattle.std.specs.Prelude.{is_some}
-use Rattle.guest_space.specs.Memory.{Memory}
+use Rattle.std.proofs.Common.{◌≡◌, ℕ, ◌+◌, inl, inr, Bool, true, false, List, [], Option, Some, None, Result, Ok, Err, IsErr, refl, sym, ap, subst, ◌∙◌}
 use Rattle.kernel_core.specs.declared.core_error.Stop.{Stop}
-use Rattle.kernel_core.specs.declared.finish.Finish.{Finish}
 use Rattle.kernel_core.specs.declared.finish.Finish.TheVariants.{Killed}
 use Rattle.kernel_core.specs.declared.signal.Sig.{Sig}
 use Rattle.kernel_model.proofs.Advances.{clock_at}
@@ -11,7 +8,6 @@ use Rattle.kernel_model.specs.Clock.{gone_off}
 use Rattle.kernel_model.specs.Pipes.{Sent, nothing}
 use Rattle.kernel_model.specs.SignalRows.{advance, after_expiry}
 use Rattle.kernel_model.specs.State.{Kernel, Timer}
-use Rattle.mips_exec.specs.Processor.{Processor}
 use Rattle.number_tables.specs.Signals.{o32_signal}
 use Rattle.o32_machine.specs.Answered.{Answers, Stopped, Turned, attempt_of, over_of, unless_blocked}
 use Rattle.o32_machine.specs.Emulator.{Emulated, at_clock, machine_at}
@@ -27,7 +23,6 @@ use Rattle.o32_model.specs.Words.{call_words}
 use Rattle.o32_model.specs.declared.call_words.CallWords.{CallWords}
 use Rattle.o32_model.specs.declared.outcome.Outcome.{Outcome}
 use Rattle.o32_model.specs.declared.outcome.Outcome.TheVariants as outcomes
-use Rattle.o32_model.specs.declared.wait.Wait.{Wait}
 use Rattle.outside.proofs.OutputLemmas.{GainsBetween-nothing, GainsText-nothing}
 use Rattle.outside.specs.Output.{GainsBetween, GainsText}
 use Rattle.outside.specs.Streams.{Contents}

@@ -1,5 +1,5 @@
 -- The native call tells for the row, or mirrors it where the old limit is not asked for.
-use Rattle.std.proofs.Common.{ℕ, List, [], ◌∷◌, sym, subst}
+use Rattle.std.proofs.Common.{ℕ, [], ◌∷◌, sym, subst}
 use Rattle.std.specs.Int.{cast_signed, w32}
 use Rattle.guest_space.specs.Memory.{Memory}
 use Rattle.native_calls.specs.Table.{native_call}

@@ -1,5 +1,4 @@
 -- The call at the machine's time.
-use Rattle.outside.specs.Streams.{contents}
 use Rattle.o32_machine.proofs.Turning.{call_stopped_here, call_went}
 use Rattle.o32_machine.proofs.emulator.Emulator.call.Goals as goal
 

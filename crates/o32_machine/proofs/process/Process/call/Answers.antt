@@ -1,5 +1,4 @@
 -- A call that stops.
-use Rattle.outside.specs.Streams.{contents}
 use Rattle.o32_machine.proofs.Turning.{call_stops}
 use Rattle.o32_model.specs.Turn.{Machine}
 use Rattle.o32_machine.proofs.process.Process.call.Goals as goal
