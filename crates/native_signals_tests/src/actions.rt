@@ -253,15 +253,29 @@ static STACKS: [Step; 17] = [
 #[test]
 fn actions(rt: HostRuntime) -> Result<(), Fail> {
     let alloc = rt.alloc();
-    let mut streams = no_streams(alloc)?;
     let mut kernel = new_kernel(alloc, b"")?;
+    let mut streams = no_streams(alloc)?;
     assert_eq!(rt;
         first_wrong(alloc, &mut kernel, &mut streams, &ACTIONS),
         None
     );
+    Ok(())
+}
+
+#[test]
+fn masks(rt: HostRuntime) -> Result<(), Fail> {
+    let alloc = rt.alloc();
     let mut kernel = new_kernel(alloc, b"")?;
+    let mut streams = no_streams(alloc)?;
     assert_eq!(rt; first_wrong(alloc, &mut kernel, &mut streams, &MASKS), None);
+    Ok(())
+}
+
+#[test]
+fn stacks(rt: HostRuntime) -> Result<(), Fail> {
+    let alloc = rt.alloc();
     let mut kernel = new_kernel(alloc, b"")?;
+    let mut streams = no_streams(alloc)?;
     assert_eq!(rt;
         first_wrong(alloc, &mut kernel, &mut streams, &STACKS),
         None
