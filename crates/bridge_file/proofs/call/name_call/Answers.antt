@@ -3,7 +3,7 @@ use Rattle.std.proofs.Common.{◌≡◌, refl, rules}
 use Rattle.bridge_file.specs.Found.{found}
 use Rattle.o32_model.specs.Names.{link_row}
 use Rattle.outside.specs.Streams.{contents}
-use Rattle.bridge_file.proofs.ByNumber.{by_number}
+use Rattle.bridge_file.proofs.ByNumber.{by_number, by_number_kept}
 use Rattle.bridge_file.proofs.call.name_call.Goals as goal
 
 pub returns-in-4009-clause-row : goal.returns-in-4009-clause-row
@@ -12,6 +12,12 @@ returns-in-4009-clause-row g c = λ left told.
     let guest = found c.args.args.now c.args.cpu.now c.args.space.now in
     by_number 4009 c.args.k.now guest left c.link.result c.link.new.k c.args.space.now c.args.cpu.now (contents g.I.Source.left g.O.Sink.written g.E.Sink.written c.args.dev.now) (contents g.I.Source.left g.O.Sink.written g.E.Sink.written c.link.new.dev) c.in-4009.is
     (c.link.ensures.row guest refl refl left told)
+
+pub returns-in-4009-clause-kept : goal.returns-in-4009-clause-kept
+unfolding link_row
+returns-in-4009-clause-kept g c = λ left told.
+    let guest = found c.args.args.now c.args.cpu.now c.args.space.now in
+    by_number_kept 4009 c.args.k.now guest left c.link.result c.args.log.now c.link.new.log c.in-4009.is (c.link.ensures.kept guest refl refl left told)
 
 pub returns-in-4010-clause-row : goal.returns-in-4010-clause-row
 returns-in-4010-clause-row g c = λ left told.
