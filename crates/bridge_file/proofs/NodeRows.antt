@@ -1,6 +1,6 @@
 -- The rows of calls on nodes, as native calls.
-use Rattle.std.proofs.Common.{◌≡◌, ℕ, ◌<◌, ◌^◌, ◌%◌, List, [], ◌∷◌, Option, Some, None, Bool, Ok, Err, refl, ap, subst, ◌∙◌}
-use Rattle.std.specs.Prelude.{⊤, ℤ, true, ◌==◌, ◌&&◌, not, nat_lt}
+use Rattle.std.proofs.Common.{◌≡◌, ℕ, ◌<◌, ◌^◌, ◌%◌, List, [], ◌∷◌, Option, Some, None, Ok, Err, refl, ap, subst}
+use Rattle.std.specs.Prelude.{ℤ, true, ◌==◌, ◌&&◌, not, nat_lt}
 use Rattle.std.specs.FinMap.{get}
 use Rattle.kernel_core.specs.declared.error.Errno.{Errno}
 use Rattle.kernel_core.specs.declared.error.Errno.TheVariants.{EACCES, EBADF, EINVAL, ENOTDIR}
@@ -8,7 +8,7 @@ use Rattle.kernel_model.specs.Came.{Did, Given, refused, told_zero}
 use Rattle.kernel_model.specs.Clock.{now}
 use Rattle.kernel_model.specs.ContentRows.{sync}
 use Rattle.kernel_model.specs.Descriptions.{node_of, opened}
-use Rattle.kernel_model.specs.NodeRows.{access, after_mode, change_mode, change_open_mode, change_directory, change_to_open, is_not_executable, on_open_node}
+use Rattle.kernel_model.specs.NodeRows.{access, change_mode, change_open_mode, change_directory, change_to_open, is_not_executable, on_open_node}
 use Rattle.kernel_core.specs.Nodes.{is_directory}
 use Rattle.kernel_model.specs.Paths.{Working, directory_of, walk_to_node}
 use Rattle.kernel_model.specs.State.{Kernel, Files}
@@ -18,7 +18,6 @@ use Rattle.native_calls.specs.Status as native_status
 use Rattle.native_calls.specs.Table.{native_call}
 use Rattle.o32_model.specs.NodeCalls as o32
 use Rattle.o32_model.specs.PathArguments.{base}
-use Rattle.o32_model.specs.Step as o32_step
 use Rattle.o32_model.specs.Step.{Guest, O32Step}
 use Rattle.bridge_log.proofs.Replies.{Fits}
 use Rattle.bridge_log.specs.Bounds.{Bounded}

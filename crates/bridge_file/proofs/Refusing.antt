@@ -1,5 +1,5 @@
 -- A call that is refused for its path does nothing.
-use Rattle.std.proofs.Common.{◌≡◌, ℕ, List, refl, sym, subst}
+use Rattle.std.proofs.Common.{ℕ, List, refl, sym, subst}
 use Rattle.kernel_core.specs.declared.error.Errno.{Errno}
 use Rattle.kernel_model.specs.State.{Kernel}
 use Rattle.o32_model.specs.Step.{Guest, O32Step, failure}

@@ -7,7 +7,7 @@ use Rattle.native_calls.specs.Flags.{only_flag}
 use Rattle.host_mem.specs.Memory.{first_address}
 use Rattle.kernel_core.specs.declared.error.Errno.{Errno}
 use Rattle.kernel_core.specs.declared.error.Errno.TheVariants.{EINVAL, ENOENT, EPERM}
-use Rattle.kernel_model.specs.Came.{Came, Done, Refused, Waits, Did, Given, came_as, done, refused, refused_if, refused_by, told_zero, with_given, with_some}
+use Rattle.kernel_model.specs.Came.{Came, Done, Refused, Waits, Did, Given, came_as, refused, refused_if, refused_by, told_zero, with_given, with_some}
 use Rattle.kernel_core.specs.NameCalls.{is_empty_list, link_refusal, make_refusal, rename_refusal, symlink_refusal}
 use Rattle.kernel_core.specs.Nodes.{is_directory}
 use Rattle.kernel_core.specs.PathWalk.{Place}
@@ -15,7 +15,7 @@ use Rattle.kernel_model.specs.Clock.{now}
 use Rattle.kernel_model.specs.NameRows.{make_directory, remove_name, link, make_link, makes_file_before_slash, rename}
 use Rattle.kernel_model.specs.Paths.{is_missing_before_slash, walk, walk_to_node}
 use Rattle.kernel_model.specs.State.{Kernel, Files}
-use Rattle.kernel_model.specs.Whole.{on_files, marked}
+use Rattle.kernel_model.specs.Whole.{marked}
 use Rattle.native_calls.specs.Names as native
 use Rattle.native_calls.specs.Paths as host
 use Rattle.native_calls.specs.Step as native_step
@@ -30,7 +30,7 @@ use Rattle.bridge_log.proofs.Replies.{Fits}
 use Rattle.bridge_log.specs.Bounds.{Bounded}
 use Rattle.bridge_log.specs.Mirrors.{Mirrors}
 use Rattle.bridge_log.specs.Outcomes.{by_reply}
-use Rattle.bridge_file.specs.inside.Paths.{MirrorsPath, MirrorsPaths, Refuses}
+use Rattle.bridge_file.specs.inside.Paths.{MirrorsPath, MirrorsPaths}
 
 -- Rows that never wait
 

@@ -1,10 +1,9 @@
 -- Flags that can't be read are refused before any native call; else it is linkat with them.
-use Rattle.std.proofs.Common.{◌≡◌, ℕ, List, Option, Some, None, refl, sym, subst, ◌∙◌}
+use Rattle.std.proofs.Common.{ℕ, Option, None, refl, sym, subst, ◌∙◌}
 use Rattle.kernel_core.specs.declared.error.Errno.TheVariants.{EFAULT}
 use Rattle.o32_model.specs.Answered.{Called, IsCall}
 use Rattle.o32_model.specs.Names.{linkat_row}
 use Rattle.o32_model.specs.PathArguments.{base}
-use Rattle.o32_model.specs.Words.{stack_word}
 use Rattle.o32_model.specs.declared.outcome.Outcome.TheVariants.{Error}
 use Rattle.outside.specs.Streams.{contents}
 use Rattle.bridge_log.proofs.Ends.{still_called, still_keeps}

@@ -1,5 +1,4 @@
 -- Both paths are read back.
-use Rattle.std.proofs.Common.{◌≡◌, ℕ, ap, ◌∙◌}
 use Rattle.bridge_file.proofs.HostPaths.{first_path, has_path}
 use Rattle.bridge_file.proofs.paths.put_two.Goals as goal
 
