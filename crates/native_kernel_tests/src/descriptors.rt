@@ -3,9 +3,9 @@
 
 use crate::calls::{AT, DONE, Row, first_wrong, new_kernel, streams};
 use crate::numbers::{
-    CLOSE, DUP, DUP3, EBADF, EFAULT, EINVAL, EMFILE, ENOTDIR, ESPIPE, F_DUPFD, F_DUPFD_CLOEXEC,
-    F_GETFD, F_GETFL, F_SETFD, F_SETFL, FCNTL, FDATASYNC, FSYNC, GETDENTS64, GETPID, GETPPID,
-    LSEEK, O_CLOEXEC, O_NONBLOCK, PIPE2,
+    CLOSE, CWD, DUP, DUP3, EBADF, EFAULT, EINVAL, EMFILE, ENOTDIR, ESPIPE, F_DUPFD,
+    F_DUPFD_CLOEXEC, F_GETFD, F_GETFL, F_SETFD, F_SETFL, FCNTL, FDATASYNC, FSYNC, GETDENTS64,
+    GETPID, GETPPID, LSEEK, O_CLOEXEC, O_NONBLOCK, OPENAT, PIPE2,
 };
 use kernel_core::Reply;
 use std::test::Fail;
@@ -56,8 +56,9 @@ static DESCRIPTORS: [Row; 41] = [
 
 /// With all descriptors open; then the descriptors 7 and 8 are closed, of which the first alone is not enough
 /// for a pipe, and is free again after it.
-static NO_DESCRIPTOR: [Row; 11] = [
+static NO_DESCRIPTOR: [Row; 12] = [
     Row::Plain(DUP, [0, 0, 0, 0], EMFILE),
+    Row::Keeps(OPENAT, [CWD, AT, 0, 0], b"/x\0", EMFILE),
     Row::Plain(DUP, [2000, 0, 0, 0], EBADF),
     Row::Plain(FCNTL, [0, F_DUPFD, 0, 0], EMFILE),
     Row::Plain(FCNTL, [0, F_DUPFD_CLOEXEC, 1023, 0], EMFILE),
