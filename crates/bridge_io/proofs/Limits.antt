@@ -10,7 +10,7 @@ use Rattle.kernel_model.specs.Came.{Done, Refused, Did, done, refused, refused_i
 use Rattle.kernel_model.specs.ContentRows.{ready_bytes, file_rest}
 use Rattle.kernel_model.specs.Descriptions.{opened, writable, if_writes, writes}
 use Rattle.kernel_model.specs.State.{Files}
-use Rattle.kernel_model.specs.Transfers.{Writing, limit_for, transferring, transfer_limit, write, write_content, write_object, write_place, writing, moved_to}
+use Rattle.kernel_model.specs.Transfers.{limit_for, transferring, transfer_limit, write, write_content, write_object, write_place, writing, moved_to}
 use Rattle.kernel_model.specs.declared.descriptor.Description.{Description}
 use Rattle.kernel_model.specs.declared.descriptor.Object.{Object}
 use Rattle.kernel_model.specs.declared.descriptor.Object.TheVariants as objects

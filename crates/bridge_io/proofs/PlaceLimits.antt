@@ -1,13 +1,11 @@
 -- How a file's size limits a write at a place (pwrite(2)).
-use Rattle.std.proofs.Common.{◌≡◌, ◌≢◌, ℕ, zero, suc, ◌+◌, ◌-◌, ◌<◌, ◌≤◌, ◌^◌, ◌⊎◌, List, [], ◌∷◌, length, take, Option, Some, None, refl, sym, ap, subst, ◌∙◌, inl, inr, arith, Ok, length-take, lit<, lit≤}
-use Rattle.std.proofs.lemmas.Bool.Decides.{nat_tests}
-use Rattle.std.specs.Int.{w64, cast_signed}
-use Rattle.std.specs.Prelude.{⊤, ℤ, pos, Bool, true, false, min, is_some, int_lt, nat_abs, ◌==◌, if◌then◌else◌}
+use Rattle.std.proofs.Common.{◌≡◌, ℕ, ◌<◌, ◌≤◌, ◌⊎◌, List, length, take, Option, Some, None, refl, sym, ap, subst, ◌∙◌, inl, inr, arith, Ok, length-take}
+use Rattle.std.specs.Prelude.{ℤ, pos, Bool, true, false, min, is_some, int_lt, nat_abs, if◌then◌else◌}
 use Rattle.kernel_core.specs.FileContent.{FileContent, greatest_size}
 use Rattle.kernel_core.specs.Nodes.{Nodes, file_at}
-use Rattle.kernel_core.specs.declared.error.Errno.TheVariants.{EBADF, EFAULT, EFBIG, EINVAL, ESPIPE}
-use Rattle.kernel_model.specs.Came.{Came, Done, Refused, Did, done, refused, refused_if, with_some}
-use Rattle.kernel_model.specs.ContentRows.{ready_bytes, file_rest}
+use Rattle.kernel_core.specs.declared.error.Errno.TheVariants.{EBADF, EFBIG, EINVAL, ESPIPE}
+use Rattle.kernel_model.specs.Came.{Did, refused, refused_if, with_some}
+use Rattle.kernel_model.specs.ContentRows.{ready_bytes}
 use Rattle.kernel_model.specs.Descriptions.{opened, writable, if_writes, writes, node_of}
 use Rattle.kernel_model.specs.State.{Files}
 use Rattle.kernel_model.specs.Transfers.{at_place, transferring, transfer_limit, write_at, write_content, write_place}
@@ -16,7 +14,7 @@ use Rattle.kernel_model.specs.declared.descriptor.Object.{Object}
 use Rattle.kernel_model.specs.declared.descriptor.Object.TheVariants as objects
 use Rattle.bridge_io.proofs.Limits.{content_far, content_large, content_past, fewer, fewer_bytes, file_is_ready, past_for_node, past_moves, room_for_file}
 use Rattle.bridge_io.specs.inside.Plans.{HasPlace, NodeRoom, SmallPlace}
-use Rattle.bridge_io.specs.inside.Rooms.{ContentRoom, ContentPast, LargeRoom, ObjectPast, BeginsPast, IsPast, past_came}
+use Rattle.bridge_io.specs.inside.Rooms.{ContentRoom, LargeRoom, ObjectPast, IsPast, past_came}
 
 -- the write of so many bytes to a node
 abbrev pub at_node : Files → Option ℕ → ℤ → Description → ℕ → ℕ → List ℕ → ℕ → Did Files ℕ

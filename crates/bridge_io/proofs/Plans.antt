@@ -1,10 +1,9 @@
 -- How bytes are written at a place, by what was found out.
-use Rattle.std.proofs.Common.{◌≡◌, ℕ, ◌+◌, ◌-◌, ◌<◌, ◌≤◌, ◌^◌, ◌⊎◌, Option, Some, None, refl, sym, ap, subst, ◌∙◌, inl, inr, arith, lit<, lit≤, Ok}
+use Rattle.std.proofs.Common.{◌≡◌, ℕ, ◌-◌, ◌<◌, ◌≤◌, ◌^◌, Option, Some, None, refl, sym, ap, subst, ◌∙◌, inl, inr, arith, Ok}
 use Rattle.std.proofs.lemmas.Bool.Decides.{nat_tests}
-use Rattle.std.proofs.lemmas.Int.{ints}
 use Rattle.std.specs.Int.{w64, cast_signed}
 use Rattle.std.specs.Prelude.{ℤ, pos, Bool, true, false, int_lt, min, nat_abs, nat_lt}
-use Rattle.kernel_core.specs.FileContent.{FileContent, greatest_size}
+use Rattle.kernel_core.specs.FileContent.{greatest_size}
 use Rattle.kernel_core.specs.Nodes.{Nodes, file_at}
 use Rattle.kernel_model.specs.Descriptions.{opened}
 use Rattle.kernel_model.specs.State.{Files}
@@ -16,7 +15,7 @@ use Rattle.o32_model.specs.Transfers.{small_file_limit}
 use Rattle.bridge_io.proofs.PlaceLimits.{far_at_place, negative_place, past_at_place, room_at_place}
 use Rattle.bridge_io.proofs.Rooms.{position_room_in, size_none_object, size_past_object, size_room_object, some_is}
 use Rattle.bridge_io.specs.inside.Plans.{HasPlace, IsPlan, NodeRoom}
-use Rattle.bridge_io.specs.inside.Rooms.{ContentRoom, IsPast, ObjectPast, ObjectRoom, flags_there, is_ready, size_there, write_flags}
+use Rattle.bridge_io.specs.inside.Rooms.{IsPast, ObjectPast, ObjectRoom, flags_there, is_ready, size_there, write_flags}
 use Rattle.bridge_io.specs.declared.room.Plan.TheVariants.{Write, Past}
 use Rattle.bridge_io.specs.declared.room.WriteFlags.{WriteFlags}
 

@@ -1,15 +1,15 @@
 -- pwrite(2) as a native call.
-use Rattle.std.proofs.Common.{◌≡◌, ℕ, ◌+◌, ◌-◌, ◌<◌, ◌≤◌, ◌%◌, ◌^◌, List, [], ◌∷◌, length, take, Option, Some, None, refl, sym, ap, subst, ◌∙◌, arith, Ok, lit<, length-take}
+use Rattle.std.proofs.Common.{◌≡◌, ℕ, ◌<◌, ◌≤◌, ◌%◌, ◌^◌, List, [], ◌∷◌, length, take, Option, Some, None, refl, sym, ap, subst, ◌∙◌, arith, Ok, lit<, length-take}
 use Rattle.std.specs.Int.{w64, cast_signed}
 use Rattle.std.specs.Prelude.{ℤ, Bool, true, false, min, nat_abs, ◌==◌, if◌then◌else◌}
 use Rattle.guest_space.specs.Memory.{Memory}
 use Rattle.kernel_core.specs.Nodes.{file_at}
 use Rattle.kernel_core.specs.declared.error.Errno.TheVariants.{EBADF, EFAULT}
-use Rattle.kernel_model.specs.Came.{Came, Did, done, refused_if}
+use Rattle.kernel_model.specs.Came.{Did, done, refused_if}
 use Rattle.kernel_model.specs.Clock.{now}
 use Rattle.kernel_model.specs.Descriptions.{opened, writable}
 use Rattle.kernel_model.specs.State.{Kernel, Files}
-use Rattle.kernel_model.specs.Transfers.{transferring, transfer_limit, write_at, write_content}
+use Rattle.kernel_model.specs.Transfers.{transferring, transfer_limit, write_at}
 use Rattle.kernel_model.specs.Whole.{on_files}
 use Rattle.kernel_model.specs.declared.descriptor.Description.{Description}
 use Rattle.native_calls.specs.HostBytes as host
@@ -29,11 +29,11 @@ use Rattle.bridge_log.specs.Outcomes.{by_reply}
 use Rattle.bridge_io.proofs.DescriptorMirrors.{same_gives}
 use Rattle.bridge_io.proofs.Fitting.{bounded_at_place, bounded_either, bounded_if, bounded_some}
 use Rattle.bridge_io.proofs.Limits.{fewer_bytes, taken_twice, zero_same}
-use Rattle.bridge_io.proofs.PlaceLimits.{at_node, by_description, same_by, write_by}
+use Rattle.bridge_io.proofs.PlaceLimits.{at_node, same_by, write_by}
 use Rattle.bridge_io.proofs.WriteMirrors.{loadable_is, past_value}
 use Rattle.bridge_io.proofs.Writes.{content_fits}
 use Rattle.bridge_io.specs.inside.Plans.{IsPlan}
-use Rattle.bridge_io.specs.inside.Rooms.{past_came, past_outcome}
+use Rattle.bridge_io.specs.inside.Rooms.{past_outcome}
 use Rattle.bridge_io.specs.inside.Written.{place_write_of}
 use Rattle.bridge_io.specs.declared.room.Plan.TheVariants.{Write, Past}
 

@@ -1,14 +1,8 @@
 -- As it was found.
-use Rattle.std.proofs.Common.{◌≡◌, ◌^◌, ◌<◌, ◌≤◌, Some, sym, ap, ◌∙◌, lit<, lit≤, arith}
-use Rattle.std.specs.Int.{w64, cast_signed}
-use Rattle.kernel_model.specs.Descriptions.{opened}
-use Rattle.kernel_model.specs.State.{Kernel}
-use Rattle.o32_model.specs.Transfers.{small_file_limit}
+use Rattle.std.proofs.Common.{◌^◌, lit<, lit≤}
 use Rattle.outside.specs.Streams.{contents}
-use Rattle.bridge_io.proofs.Plans.{closed_plan, far_plan, large_plan, negative_plan, place_plan, size_none_plan, size_past_plan, size_room_plan}
-use Rattle.bridge_io.proofs.Unmoving.{looked_stop, looked_then, still_told, unmoved_none}
-use Rattle.bridge_io.specs.inside.Plans.{IsPlan}
-use Rattle.bridge_io.specs.inside.Rooms.{flags_there, size_there}
+use Rattle.bridge_io.proofs.Plans.{far_plan, large_plan, place_plan}
+use Rattle.bridge_io.proofs.Unmoving.{unmoved_none}
 use Rattle.bridge_io.proofs.placing.plan_under.Goals as goal
 
 pub returns-then-flags-clause-looks : goal.returns-then-flags-clause-looks

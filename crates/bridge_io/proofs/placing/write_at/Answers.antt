@@ -1,5 +1,5 @@
 -- The write that is planned, of the bytes that can be loaded
-use Rattle.std.proofs.Common.{◌≡◌, List, sym, ap, subst, ◌∙◌}
+use Rattle.std.proofs.Common.{sym, subst}
 use Rattle.std.specs.Int.{w64, cast_signed}
 use Rattle.std.specs.Prelude.{OnOk}
 use Rattle.kernel_model.specs.State.{Kernel}

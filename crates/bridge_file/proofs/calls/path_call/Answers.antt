@@ -1,0 +1,45 @@
+-- The native call is made over the path, or none where it can't be read.
+use Rattle.std.proofs.Common.{ℕ, ◌<◌, List, Result, None, ◌≡◌, IfOk, length, position, ap, subst, ◌∙◌}
+use Rattle.guest_space.specs.Memory.{Memory}
+use Rattle.kernel_core.specs.declared.error.Errno.{Errno}
+use Rattle.o32_model.specs.Paths.{is_nul, path_at, path_limit}
+use Rattle.o32_model.specs.declared.outcome.Outcome.TheVariants.{Error}
+use Rattle.outside.specs.Streams.{contents}
+use Rattle.bridge_log.proofs.Ends.{fails_before, still_called, still_keeps}
+use Rattle.bridge_file.proofs.Refusing.{still_of}
+use Rattle.bridge_file.proofs.calls.path_call.Goals as goal
+
+pub put_one-requires : goal.put_one-requires
+put_one-requires g c = record {
+  short = subst (λ (r : Result (List ℕ) Errno). IfOk r (λ p. length p < path_limit)) c.in-Ok.is c.in_ok-error.ensures.short;
+  plain = subst (λ (r : Result (List ℕ) Errno). IfOk r (λ p. position is_nul p ≡ None)) c.in-Ok.is c.in_ok-error.ensures.plain;
+}
+
+pub returns-in_err-error-clause-row : goal.returns-in_err-error-clause-row
+returns-in_err-error-clause-row g c = λ guest step same memory mirrors left told.
+    fails_before (step left) c.from_residual.result _ _ _ _ c.from_residual.ensures.0
+
+pub returns-in_err-put_one-in-Ok-clause-row : goal.returns-in_err-put_one-in-Ok-clause-row
+returns-in_err-put_one-in-Ok-clause-row g c = λ guest step same memory mirrors left told.
+    fails_before (step left) c.from_residual-in_err-put_one-in-Ok.result _ _ _ _ c.from_residual-in_err-put_one-in-Ok.ensures.0
+
+pub returns-in-Err-clause-row : goal.returns-in-Err-clause-row
+returns-in-Err-clause-row g c = λ guest step same memory mirrors left told.
+    let at = contents g.I.Source.left g.O.Sink.written g.E.Sink.written c.args.dev.now in
+    let lost = mirrors.lost c.in-Err.error (ap (λ (m : Memory). path_at m c.args.address) memory ∙ c.in_ok-error.ensures.answer ∙ c.in-Err.is) left in
+    still_called guest c.args.k.now left (Error c.in-Err.error) (step left) at told (still_of guest c.args.k.now c.in-Err.error left (step left) lost)
+
+pub returns-in-Err-clause-kept : goal.returns-in-Err-clause-kept
+returns-in-Err-clause-kept g c = λ guest step same memory mirrors left told.
+    let lost = mirrors.lost c.in-Err.error (ap (λ (m : Memory). path_at m c.args.address) memory ∙ c.in_ok-error.ensures.answer ∙ c.in-Err.is) left in
+    still_keeps guest c.args.k.now left (Error c.in-Err.error) (step left) c.args.log.now (still_of guest c.args.k.now c.in-Err.error left (step left) lost)
+
+pub returns-in_ok-put_one-in-Ok-clause-row : goal.returns-in_ok-put_one-in-Ok-clause-row
+returns-in_ok-put_one-in-Ok-clause-row g c = λ guest step same memory mirrors.
+    let there = ap (λ (m : Memory). path_at m c.args.address) memory ∙ c.in_ok-error.ensures.answer ∙ c.in-Ok.is in
+    c.number_call.ensures.row guest step same (mirrors.found c.in-Ok.path c.put_one.new.mem there c.in_ok-put_one-in-Ok.ensures)
+
+pub returns-in_ok-put_one-in-Ok-clause-kept : goal.returns-in_ok-put_one-in-Ok-clause-kept
+returns-in_ok-put_one-in-Ok-clause-kept g c = λ guest step same memory mirrors.
+    let there = ap (λ (m : Memory). path_at m c.args.address) memory ∙ c.in_ok-error.ensures.answer ∙ c.in-Ok.is in
+    c.number_call.ensures.kept guest step same (mirrors.found c.in-Ok.path c.put_one.new.mem there c.in_ok-put_one-in-Ok.ensures)

@@ -1,0 +1,153 @@
+//! A call by its number.
+ghost use Rattle.std.specs.Prelude.{◌≡◌, IsTrue};
+ghost use Rattle.bridge_file.specs.Found.{found};
+ghost use Rattle.bridge_file.specs.Numbers.{is_call_there, is_name_call, is_node_call};
+ghost use Rattle.bridge_log.specs.Keeping.{KeepsCall};
+ghost use Rattle.kernel_model.specs.Stops.{StopsOnlyIfRose};
+ghost use Rattle.o32_model.specs.Answered.{IsCall};
+ghost use Rattle.o32_model.specs.Table.{o32_call};
+ghost use Rattle.outside.specs.Streams.{NoCountFell, contents};
+
+use crate::names::{link, linkat, mkdir, remove, rename, symlink};
+use crate::nodes::{access, chdir, chmod, fchdir, fchmod, fdatasync, fsync};
+use guest_space::Space;
+use host_mem::HostMem;
+use kernel_core::Stop;
+use mips_exec::Cpu;
+use native_kernel::NativeKernel;
+use o32_model::{CallWords, Log, Outcome, Seen};
+use outside::{Devices, Sink, Source};
+use std::alloc::Global;
+
+/// AT_FDCWD, as an int (Linux `include/uapi/linux/fcntl.h`): a path begins at the working directory.
+const WORKING: u32 = 0xFFFF_FF9C;
+
+/// The flag of unlinkat(2) by which a directory is removed (Linux `include/uapi/linux/fcntl.h`).
+const AT_REMOVEDIR: u32 = 0x200;
+
+/// Makes a call of the program on names or nodes, by its words: link(2), unlink(2), rename(2), mkdir(2),
+/// rmdir(2), symlink(2), chdir(2), chmod(2), access(2), fchmod(2), fsync(2), fchdir(2), fdatasync(2), and their
+/// forms with descriptors of directories. It stops early for want of memory, or by a device.
+pub fn file_call<I: Source, O: Sink, E: Sink>(
+    alloc: Global,
+    args: &CallWords,
+    cpu: &mut Cpu,
+    space: &mut Space,
+    k: &mut NativeKernel,
+    mem: &mut HostMem,
+    dev: &mut Devices<I, O, E>,
+    log: &mut Log,
+    _seen: &Seen,
+) -> Result<Outcome, Stop>
+    requires { IsTrue (is_call_there args.now.nr) }
+    ensures row { IsCall (o32_call k.old (found args.now cpu.old space.old)) result k.new space.new cpu.new
+        (contents I.left O.written E.written dev.old) (contents I.left O.written E.written dev.new) }
+    ensures kept { KeepsCall (o32_call k.old (found args.now cpu.old space.old)) result k.old
+        (found args.now cpu.old space.old) (I.left dev.old.input) log.old log.new }
+    ensures cause { StopsOnlyIfRose I.faults O.faults E.faults result dev.old dev.new }
+    ensures counts { NoCountFell I.faults O.faults E.faults dev.old dev.new }
+{
+    if is_node_call(args.nr) {
+        node_call(alloc, args, cpu, space, k, mem, dev, log)
+    } else {
+        name_call(alloc, args, cpu, space, k, mem, dev, log)
+    }
+}
+
+/// A call on names.
+fn name_call<I: Source, O: Sink, E: Sink>(
+    alloc: Global,
+    args: &CallWords,
+    cpu: &mut Cpu,
+    space: &mut Space,
+    k: &mut NativeKernel,
+    mem: &mut HostMem,
+    dev: &mut Devices<I, O, E>,
+    log: &mut Log,
+) -> Result<Outcome, Stop>
+    requires { IsTrue (is_name_call args.now.nr) }
+    ensures row { IsCall (o32_call k.old (found args.now cpu.old space.old)) result k.new space.new cpu.new
+        (contents I.left O.written E.written dev.old) (contents I.left O.written E.written dev.new) }
+    ensures kept { KeepsCall (o32_call k.old (found args.now cpu.old space.old)) result k.old
+        (found args.now cpu.old space.old) (I.left dev.old.input) log.old log.new }
+    ensures cause { StopsOnlyIfRose I.faults O.faults E.faults result dev.old dev.new }
+    ensures counts { NoCountFell I.faults O.faults E.faults dev.old dev.new }
+{
+    let [a0, a1, a2, a3] = args.reg;
+    match args.nr {
+        4009 => link(
+            alloc, args, WORKING, a0, WORKING, a1, 0, space, k, mem, dev, log,
+        ),
+        4010 => remove(alloc, args, WORKING, a0, 0, space, k, mem, dev, log),
+        4038 => rename(
+            alloc, args, WORKING, a0, WORKING, a1, space, k, mem, dev, log,
+        ),
+        4039 => mkdir(alloc, args, WORKING, a0, a1, space, k, mem, dev, log),
+        4040 => remove(
+            alloc,
+            args,
+            WORKING,
+            a0,
+            AT_REMOVEDIR,
+            space,
+            k,
+            mem,
+            dev,
+            log,
+        ),
+        4083 => symlink(alloc, args, a0, WORKING, a1, space, k, mem, dev, log),
+        4289 => mkdir(alloc, args, a0, a1, a2, space, k, mem, dev, log),
+        4294 => remove(alloc, args, a0, a1, a2, space, k, mem, dev, log),
+        4295 => rename(alloc, args, a0, a1, a2, a3, space, k, mem, dev, log),
+        4296 => linkat(alloc, args, a0, a1, a2, a3, space, k, mem, dev, log),
+        _ => symlink(alloc, args, a0, a1, a2, space, k, mem, dev, log),
+    }
+}
+
+/// A call on nodes.
+fn node_call<I: Source, O: Sink, E: Sink>(
+    alloc: Global,
+    args: &CallWords,
+    cpu: &mut Cpu,
+    space: &mut Space,
+    k: &mut NativeKernel,
+    mem: &mut HostMem,
+    dev: &mut Devices<I, O, E>,
+    log: &mut Log,
+) -> Result<Outcome, Stop>
+    requires { IsTrue (is_node_call args.now.nr) }
+    ensures row { IsCall (o32_call k.old (found args.now cpu.old space.old)) result k.new space.new cpu.new
+        (contents I.left O.written E.written dev.old) (contents I.left O.written E.written dev.new) }
+    ensures kept { KeepsCall (o32_call k.old (found args.now cpu.old space.old)) result k.old
+        (found args.now cpu.old space.old) (I.left dev.old.input) log.old log.new }
+    ensures cause { StopsOnlyIfRose I.faults O.faults E.faults result dev.old dev.new }
+    ensures counts { NoCountFell I.faults O.faults E.faults dev.old dev.new }
+{
+    let [a0, a1, a2, _] = args.reg;
+    match args.nr {
+        4012 => chdir(alloc, args, a0, space, k, mem, dev, log),
+        4015 => chmod(alloc, args, WORKING, a0, a1, space, k, mem, dev, log),
+        4033 => access(alloc, args, WORKING, a0, a1, space, k, mem, dev, log),
+        4094 => fchmod(args, a0, a1, k, mem, dev, log),
+        4118 => fsync(args, a0, k, mem, dev, log),
+        4133 => fchdir(args, a0, k, mem, dev, log),
+        4152 => fdatasync(args, a0, k, mem, dev, log),
+        4299 => chmod(alloc, args, a0, a1, a2, space, k, mem, dev, log),
+        _ => access(alloc, args, a0, a1, a2, space, k, mem, dev, log),
+    }
+}
+
+/// Whether a number is that of a call on nodes.
+fn is_node_call(nr: u32) -> bool
+    ensures { result ≡ is_node_call nr }
+{
+    nr == 4012
+        || nr == 4015
+        || nr == 4033
+        || nr == 4094
+        || nr == 4118
+        || nr == 4133
+        || nr == 4152
+        || nr == 4299
+        || nr == 4300
+}

@@ -1,0 +1,238 @@
+//! The calls on names: mkdir(2), rmdir(2), unlink(2), symlink(2), link(2), rename(2), and their forms with
+//! descriptors of directories. What is wrong with a path is EFAULT or ENAMETOOLONG, and what the walk finds.
+ghost use Rattle.std.specs.Prelude.{◌≡◌, ℕ, List};
+ghost use Rattle.bridge_log.specs.Keeping.{KeepsCall};
+ghost use Rattle.kernel_model.specs.Stops.{StopsOnlyIfRose};
+ghost use Rattle.o32_model.specs.Answered.{IsCall};
+ghost use Rattle.o32_model.specs.Names.{follow_flag, linked, linkat_row, mkdir_row, remove_directory_flag, remove_row, rename_row, symlink_row};
+ghost use Rattle.o32_model.specs.PathArguments.{base, one_flag};
+ghost use Rattle.o32_model.specs.Step.{Guest, O32Step, gives};
+ghost use Rattle.o32_model.specs.Words.{stack_word};
+ghost use Rattle.outside.specs.Streams.{NoCountFell, contents};
+
+use crate::calls::{path_call, paths_call};
+use crate::numbers::{LINKAT, MKDIRAT, RENAMEAT, SYMLINKAT, UNLINKAT};
+use guest_space::Space;
+use host_mem::{FIRST_ADDRESS, HostMem};
+use kernel_core::{Errno, Stop};
+use native_kernel::NativeKernel;
+use o32_model::{CallWords, Log, Outcome};
+use outside::{Devices, Sink, Source};
+use std::alloc::Global;
+
+/// mkdir(2), mkdirat(2): what is wrong with the path; EEXIST, ENOSPC.
+pub(crate) fn mkdir<I: Source, O: Sink, E: Sink>(
+    alloc: Global,
+    words: &CallWords,
+    directory: u32,
+    address: u32,
+    mode: u32,
+    space: &Space,
+    k: &mut NativeKernel,
+    mem: &mut HostMem,
+    dev: &mut Devices<I, O, E>,
+    log: &mut Log,
+) -> Result<Outcome, Stop>
+    ensures row { (guest : Guest) → guest.words ≡ words.now → guest.memory ≡ space.now
+        → IsCall (mkdir_row k.old guest (base directory) address mode) result k.new guest.memory guest.processor
+        (contents I.left O.written E.written dev.old) (contents I.left O.written E.written dev.new) }
+    ensures kept { (guest : Guest) → guest.words ≡ words.now → guest.memory ≡ space.now
+        → KeepsCall (mkdir_row k.old guest (base directory) address mode) result k.old guest (I.left dev.old.input) log.old log.new }
+    ensures cause { StopsOnlyIfRose I.faults O.faults E.faults result dev.old dev.new }
+    ensures counts { NoCountFell I.faults O.faults E.faults dev.old dev.new }
+{
+    let args = [
+        u64::from(directory),
+        FIRST_ADDRESS,
+        u64::from(mode),
+        0,
+        0,
+        0,
+    ];
+    path_call(
+        alloc, words, address, space, k, MKDIRAT, args, mem, dev, log,
+    )
+}
+
+/// unlinkat(2), of which unlink(2) and rmdir(2) are forms: what is wrong with the path; EINVAL for flags other than
+/// AT_REMOVEDIR; EISDIR, EBUSY, EINVAL, ENOTDIR, ENOTEMPTY.
+pub(crate) fn remove<I: Source, O: Sink, E: Sink>(
+    alloc: Global,
+    words: &CallWords,
+    directory: u32,
+    address: u32,
+    flags: u32,
+    space: &Space,
+    k: &mut NativeKernel,
+    mem: &mut HostMem,
+    dev: &mut Devices<I, O, E>,
+    log: &mut Log,
+) -> Result<Outcome, Stop>
+    ensures row { (guest : Guest) → guest.words ≡ words.now → guest.memory ≡ space.now
+        → IsCall (remove_row k.old guest (base directory) address (one_flag remove_directory_flag flags)) result k.new guest.memory guest.processor
+        (contents I.left O.written E.written dev.old) (contents I.left O.written E.written dev.new) }
+    ensures kept { (guest : Guest) → guest.words ≡ words.now → guest.memory ≡ space.now
+        → KeepsCall (remove_row k.old guest (base directory) address (one_flag remove_directory_flag flags)) result k.old guest (I.left dev.old.input) log.old log.new }
+    ensures cause { StopsOnlyIfRose I.faults O.faults E.faults result dev.old dev.new }
+    ensures counts { NoCountFell I.faults O.faults E.faults dev.old dev.new }
+{
+    let args = [
+        u64::from(directory),
+        FIRST_ADDRESS,
+        u64::from(flags),
+        0,
+        0,
+        0,
+    ];
+    path_call(
+        alloc, words, address, space, k, UNLINKAT, args, mem, dev, log,
+    )
+}
+
+/// symlink(2), symlinkat(2): what is wrong with the target and the path; ENOENT for an empty target, EEXIST, ENOSPC.
+pub(crate) fn symlink<I: Source, O: Sink, E: Sink>(
+    alloc: Global,
+    words: &CallWords,
+    target: u32,
+    directory: u32,
+    address: u32,
+    space: &Space,
+    k: &mut NativeKernel,
+    mem: &mut HostMem,
+    dev: &mut Devices<I, O, E>,
+    log: &mut Log,
+) -> Result<Outcome, Stop>
+    ensures row { (guest : Guest) → guest.words ≡ words.now → guest.memory ≡ space.now
+        → IsCall (symlink_row k.old guest target (base directory) address) result k.new guest.memory guest.processor
+        (contents I.left O.written E.written dev.old) (contents I.left O.written E.written dev.new) }
+    ensures kept { (guest : Guest) → guest.words ≡ words.now → guest.memory ≡ space.now
+        → KeepsCall (symlink_row k.old guest target (base directory) address) result k.old guest (I.left dev.old.input) log.old log.new }
+    ensures cause { StopsOnlyIfRose I.faults O.faults E.faults result dev.old dev.new }
+    ensures counts { NoCountFell I.faults O.faults E.faults dev.old dev.new }
+{
+    let args = [FIRST_ADDRESS, u64::from(directory), 0, 0, 0, 0];
+    paths_call(
+        alloc, words, target, address, 2, space, k, SYMLINKAT, args, mem, dev, log,
+    )
+}
+
+/// rename(2), renameat(2): what is wrong with the paths; EBUSY, EINVAL, EISDIR, ENOTDIR, ENOTEMPTY, ENOSPC.
+pub(crate) fn rename<I: Source, O: Sink, E: Sink>(
+    alloc: Global,
+    words: &CallWords,
+    old_directory: u32,
+    old: u32,
+    new_directory: u32,
+    new: u32,
+    space: &Space,
+    k: &mut NativeKernel,
+    mem: &mut HostMem,
+    dev: &mut Devices<I, O, E>,
+    log: &mut Log,
+) -> Result<Outcome, Stop>
+    ensures row { (guest : Guest) → guest.words ≡ words.now → guest.memory ≡ space.now
+        → IsCall (rename_row k.old guest (base old_directory) old (base new_directory) new) result k.new guest.memory guest.processor
+        (contents I.left O.written E.written dev.old) (contents I.left O.written E.written dev.new) }
+    ensures kept { (guest : Guest) → guest.words ≡ words.now → guest.memory ≡ space.now
+        → KeepsCall (rename_row k.old guest (base old_directory) old (base new_directory) new) result k.old guest (I.left dev.old.input) log.old log.new }
+    ensures cause { StopsOnlyIfRose I.faults O.faults E.faults result dev.old dev.new }
+    ensures counts { NoCountFell I.faults O.faults E.faults dev.old dev.new }
+{
+    let args = [
+        u64::from(old_directory),
+        FIRST_ADDRESS,
+        u64::from(new_directory),
+        0,
+        0,
+        0,
+    ];
+    paths_call(
+        alloc, words, old, new, 3, space, k, RENAMEAT, args, mem, dev, log,
+    )
+}
+
+/// linkat(2), of which link(2) is a form: what is wrong with the paths; EINVAL for flags other than AT_SYMLINK_FOLLOW;
+/// EPERM, EEXIST, ENOSPC.
+pub(crate) fn link<I: Source, O: Sink, E: Sink>(
+    alloc: Global,
+    words: &CallWords,
+    old_directory: u32,
+    old: u32,
+    new_directory: u32,
+    new: u32,
+    flags: u32,
+    space: &Space,
+    k: &mut NativeKernel,
+    mem: &mut HostMem,
+    dev: &mut Devices<I, O, E>,
+    log: &mut Log,
+) -> Result<Outcome, Stop>
+    ensures row { (guest : Guest) → guest.words ≡ words.now → guest.memory ≡ space.now
+        → IsCall (λ left. gives guest (linked k.old guest (base old_directory) old (base new_directory) new (one_flag follow_flag flags)) left) result k.new guest.memory guest.processor
+        (contents I.left O.written E.written dev.old) (contents I.left O.written E.written dev.new) }
+    ensures kept { (guest : Guest) → guest.words ≡ words.now → guest.memory ≡ space.now
+        → KeepsCall (λ left. gives guest (linked k.old guest (base old_directory) old (base new_directory) new (one_flag follow_flag flags)) left) result k.old guest (I.left dev.old.input) log.old log.new }
+    ensures cause { StopsOnlyIfRose I.faults O.faults E.faults result dev.old dev.new }
+    ensures counts { NoCountFell I.faults O.faults E.faults dev.old dev.new }
+{
+    let args = [
+        u64::from(old_directory),
+        FIRST_ADDRESS,
+        u64::from(new_directory),
+        0,
+        u64::from(flags),
+        0,
+    ];
+    paths_call(
+        alloc, words, old, new, 3, space, k, LINKAT, args, mem, dev, log,
+    )
+}
+
+/// linkat(2), whose flags are the fifth argument: EFAULT before all else where they can't be read (this
+/// project's own), and what linkat(2) has.
+pub(crate) fn linkat<I: Source, O: Sink, E: Sink>(
+    alloc: Global,
+    words: &CallWords,
+    old_directory: u32,
+    old: u32,
+    new_directory: u32,
+    new: u32,
+    space: &Space,
+    k: &mut NativeKernel,
+    mem: &mut HostMem,
+    dev: &mut Devices<I, O, E>,
+    log: &mut Log,
+) -> Result<Outcome, Stop>
+    ensures row { (guest : Guest) → guest.words ≡ words.now → guest.memory ≡ space.now
+        → IsCall (linkat_row k.old guest (base old_directory) old (base new_directory) new (stack_word words.now 0)) result k.new guest.memory guest.processor
+        (contents I.left O.written E.written dev.old) (contents I.left O.written E.written dev.new) }
+    ensures kept { (guest : Guest) → guest.words ≡ words.now → guest.memory ≡ space.now
+        → KeepsCall (linkat_row k.old guest (base old_directory) old (base new_directory) new (stack_word words.now 0)) result k.old guest (I.left dev.old.input) log.old log.new }
+    ensures cause { StopsOnlyIfRose I.faults O.faults E.faults result dev.old dev.new }
+    ensures counts { NoCountFell I.faults O.faults E.faults dev.old dev.new }
+{
+    match fifth(words) {
+        None => Ok(Outcome::Error(Errno::EFAULT)),
+        Some(flags) => link(
+            alloc,
+            words,
+            old_directory,
+            old,
+            new_directory,
+            new,
+            flags,
+            space,
+            k,
+            mem,
+            dev,
+            log,
+        ),
+    }
+}
+
+/// The fifth argument, which is None where it can't be read.
+fn fifth(words: &CallWords) -> Option<u32>
+    ensures { result ≡ stack_word words.now 0 }
+{
+    words.stack[0]
+}

@@ -1,0 +1,25 @@
+//! The numbers of the native calls that are made (Linux `include/uapi/asm-generic/unistd.h`).
+
+pub(crate) const MKDIRAT: u64 = 34;
+
+pub(crate) const UNLINKAT: u64 = 35;
+
+pub(crate) const SYMLINKAT: u64 = 36;
+
+pub(crate) const LINKAT: u64 = 37;
+
+pub(crate) const RENAMEAT: u64 = 38;
+
+pub(crate) const FACCESSAT: u64 = 48;
+
+pub(crate) const CHDIR: u64 = 49;
+
+pub(crate) const FCHDIR: u64 = 50;
+
+pub(crate) const FCHMOD: u64 = 52;
+
+pub(crate) const FCHMODAT: u64 = 53;
+
+pub(crate) const FSYNC: u64 = 82;
+
+pub(crate) const FDATASYNC: u64 = 83;

@@ -1,0 +1,104 @@
+//! Calls of an o32 program in rows: a number and arguments, and what comes of them.
+ghost use Rattle.std.specs.Prelude.{IsTrue};
+ghost use Rattle.o32_model.specs.Table.{is_io_call};
+
+use kernel_core::Errno;
+use o32_model::CallWords;
+
+/// A call by its name; one at a place with the two words of that, the high one first, of which each may be one
+/// that can't be read.
+#[derive(Clone, Copy)]
+pub(crate) enum Call {
+    Read,
+    Write,
+    Close,
+    Dup,
+    Pipe,
+    Ioctl,
+    Fcntl,
+    Dup2,
+    Readv,
+    Writev,
+    Pread64(Option<u32>, Option<u32>),
+    Pwrite64(Option<u32>, Option<u32>),
+    Fcntl64,
+    Dup3,
+    Pipe2,
+}
+
+impl Call {
+    /// Its number (Linux `arch/mips/include/uapi/asm/unistd.h`, the o32 table).
+    fn number(self) -> u32
+        ensures { IsTrue (is_io_call result) }
+    {
+        match self {
+            Call::Read => 4003,
+            Call::Write => 4004,
+            Call::Close => 4006,
+            Call::Dup => 4041,
+            Call::Pipe => 4042,
+            Call::Ioctl => 4054,
+            Call::Fcntl => 4055,
+            Call::Dup2 => 4063,
+            Call::Readv => 4145,
+            Call::Writev => 4146,
+            Call::Pread64(_, _) => 4200,
+            Call::Pwrite64(_, _) => 4201,
+            Call::Fcntl64 => 4220,
+            Call::Dup3 => 4327,
+            Call::Pipe2 => 4328,
+        }
+    }
+
+    /// Its words on the stack.
+    fn stack(self) -> [Option<u32>; 4] {
+        match self {
+            Call::Pread64(high, low) | Call::Pwrite64(high, low) => [high, low, None, None],
+            _ => [None; 4],
+        }
+    }
+
+    /// Its words, with these arguments in registers.
+    pub(crate) fn words(self, arguments: [u32; 3]) -> CallWords
+        ensures { IsTrue (is_io_call result.nr) }
+    {
+        let [first, second, third] = arguments;
+        CallWords {
+            nr: self.number(),
+            reg: [first, second, third, 0],
+            stack: self.stack(),
+        }
+    }
+}
+
+/// What is done, or looked at.
+#[derive(Clone, Copy)]
+pub(crate) enum Row {
+    /// A call by its first three arguments, and its result.
+    Gives(Call, [u32; 3], u32),
+    /// One, and its two results.
+    GivesTwo(Call, [u32; 3], u32, u32),
+    /// One, and its error.
+    Fails(Call, [u32; 3], Errno),
+    /// One that waits, and how many bytes it has written already.
+    Waits(Call, [u32; 3], u32),
+    /// dup(2) of standard input gives each descriptor from 3 on.
+    OpensAll,
+    /// The program stores these bytes.
+    Puts(u32, &'static [u8]),
+    /// The program's memory has these bytes.
+    Holds(u32, &'static [u8]),
+    /// These bytes were written to standard output, and these to standard error.
+    Written(&'static [u8], &'static [u8]),
+    /// Whether a signal pends that is not blocked.
+    Signalled(bool),
+    /// The next effect that is kept: these bytes are written from an address on.
+    Stores(u32, &'static [u8]),
+    /// The next effect that is kept: these bytes go out on stream 1 or 2.
+    Sends(u8, &'static [u8]),
+    /// No other effect is kept.
+    NoEffect,
+    /// A call of the 64-bit kernel itself, by its number and its first four arguments, with these bytes in host
+    /// memory; and its result.
+    Native(u64, [u64; 4], &'static [u8], i64),
+}

@@ -1,0 +1,11 @@
+-- The call at the machine's time.
+use Rattle.o32_machine.proofs.Turning.{call_stopped_here, call_went}
+use Rattle.o32_machine.proofs.emulator.Emulator.call.Goals as goal
+
+pub returns-in_err-turn-clause-turn : goal.returns-in_err-turn-clause-turn
+returns-in_err-turn-clause-turn g c = λ left told.
+    call_stopped_here c.args.self.now c.self.inside.clock c.self.inside.quantum c.self.inside.turns c.self.inside.over c.self.inside.process c.advance.new.self c.self.view_is c.in_ok-advance.ensures c.requires.timer left c.from_residual-in_err-turn.result _ _ _ c.from_residual-in_err-turn.ensures.0 (c.in_err-turn.ensures.turn left told)
+
+pub returns-clause-turn : goal.returns-clause-turn
+returns-clause-turn g c = λ left told.
+    call_went c.args.self.now c.self.inside.clock c.self.inside.quantum c.self.inside.turns c.self.inside.over c.self.inside.process c.advance.new.self c.self.view_is c.in_ok-advance.ensures c.requires.timer left c.in_ok-turn.turn c.call.new.self _ _ (c.in_ok-turn.ensures.turn left told)

@@ -1,0 +1,4 @@
+pub mod Finishing
+pub mod Limits
+pub mod Plain
+pub mod Tells

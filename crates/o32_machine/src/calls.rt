@@ -1,0 +1,48 @@
+//! A call of the program by its number.
+ghost use Rattle.std.specs.Prelude.{◌≡◌};
+ghost use Rattle.bridge_log.specs.Keeping.{KeepsCall};
+ghost use Rattle.kernel_model.specs.Stops.{StopsOnlyIfRose};
+ghost use Rattle.o32_machine.specs.inside.Plain.{found};
+ghost use Rattle.o32_model.specs.Answered.{IsCall};
+ghost use Rattle.o32_model.specs.Built.{built_call};
+ghost use Rattle.outside.specs.Streams.{NoCountFell, contents};
+
+use crate::numbers::{is_io_call, is_map_call};
+use crate::small::small_call;
+use bridge_io::io_call;
+use bridge_map::map_call;
+use guest_space::Space;
+use host_mem::HostMem;
+use kernel_core::Stop;
+use mips_exec::Cpu;
+use native_kernel::NativeKernel;
+use o32_model::{CallWords, Log, Outcome, Seen};
+use outside::{Devices, Sink, Source};
+
+/// Makes a call of the program, by its words, of those that there are so far. Any other number is ENOSYS. The
+/// native clock stands at the machine's.
+pub(crate) fn make_call<I: Source, O: Sink, E: Sink>(
+    args: &CallWords,
+    cpu: &mut Cpu,
+    space: &mut Space,
+    k: &mut NativeKernel,
+    mem: &mut HostMem,
+    dev: &mut Devices<I, O, E>,
+    log: &mut Log,
+    seen: &Seen,
+) -> Result<Outcome, Stop>
+    ensures row { IsCall (built_call k.old (found args.now cpu.old space.old)) result k.new space.new cpu.new
+        (contents I.left O.written E.written dev.old) (contents I.left O.written E.written dev.new) }
+    ensures kept { KeepsCall (built_call k.old (found args.now cpu.old space.old)) result k.old
+        (found args.now cpu.old space.old) (I.left dev.old.input) log.old log.new }
+    ensures cause { StopsOnlyIfRose I.faults O.faults E.faults result dev.old dev.new }
+    ensures counts { NoCountFell I.faults O.faults E.faults dev.old dev.new }
+{
+    if is_io_call(args.nr) {
+        return io_call(args, cpu, space, k, mem, dev, log, seen);
+    }
+    if is_map_call(args.nr) {
+        return map_call(args, cpu, space, k, mem, dev, log, seen);
+    }
+    small_call(args, cpu, space, k, mem, dev, log)
+}

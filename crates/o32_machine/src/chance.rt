@@ -1,0 +1,44 @@
+//! Chance: getrandom(2).
+ghost use Rattle.std.specs.Prelude.{◌≡◌};
+ghost use Rattle.bridge_log.specs.Keeping.{KeepsCall};
+ghost use Rattle.kernel_model.specs.Stops.{StopsOnlyIfRose};
+ghost use Rattle.o32_model.specs.Answered.{IsCall};
+ghost use Rattle.o32_model.specs.Small.{getrandom_row};
+ghost use Rattle.o32_model.specs.Step.{Guest};
+ghost use Rattle.outside.specs.Streams.{NoCountFell, contents};
+
+use crate::numbers::GETRANDOM;
+use bridge_log::fill_call;
+use guest_space::Space;
+use host_mem::{FIRST_ADDRESS, HostMem};
+use kernel_core::Stop;
+use native_kernel::NativeKernel;
+use o32_model::{CallWords, Log, Outcome};
+use outside::{Devices, Sink, Source};
+
+/// getrandom(2): EINVAL for flags that are none or not both, EFAULT. The longest prefix of the buffer that may be
+/// stored to is filled.
+pub(crate) fn getrandom<I: Source, O: Sink, E: Sink>(
+    words: &CallWords,
+    buffer: u32,
+    count: u32,
+    flags: u32,
+    space: &mut Space,
+    k: &mut NativeKernel,
+    mem: &mut HostMem,
+    dev: &mut Devices<I, O, E>,
+    log: &mut Log,
+) -> Result<Outcome, Stop>
+    ensures row { (guest : Guest) → guest.words ≡ words.now → guest.memory ≡ space.old
+        → IsCall (getrandom_row k.old guest buffer count flags) result k.new space.new guest.processor
+        (contents I.left O.written E.written dev.old) (contents I.left O.written E.written dev.new) }
+    ensures kept { (guest : Guest) → guest.words ≡ words.now → guest.memory ≡ space.old
+        → KeepsCall (getrandom_row k.old guest buffer count flags) result k.old guest (I.left dev.old.input) log.old log.new }
+    ensures cause { StopsOnlyIfRose I.faults O.faults E.faults result dev.old dev.new }
+    ensures counts { NoCountFell I.faults O.faults E.faults dev.old dev.new }
+{
+    let args = [FIRST_ADDRESS, u64::from(count), u64::from(flags), 0, 0, 0];
+    fill_call(
+        words, buffer, count, space, k, GETRANDOM, args, mem, dev, log,
+    )
+}

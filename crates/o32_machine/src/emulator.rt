@@ -1,0 +1,198 @@
+//! An emulator: a process, its clock and the turns that it took.
+ghost use Rattle.std.specs.Prelude.{◌≡◌, ◌↔◌, ◌+◌, ◌<◌, ℕ, Contains, false, true, IfOk, None, OnErr};
+ghost use Rattle.kernel_core.specs.LoadedTree.{saved};
+ghost use Rattle.kernel_core.specs.ValidTree.{IsReached, IsValidTree, numbers};
+ghost use Rattle.kernel_model.specs.Begin.{first_state};
+ghost use Rattle.kernel_model.specs.Clock.{gone_off};
+ghost use Rattle.kernel_model.specs.Stops.{StopsOnlyIfRose};
+ghost use Rattle.native_kernel.specs.Settings.{settings_of};
+ghost use Rattle.o32_machine.specs.Answered.{IsTurn, attempt_of, is_last, turns_done};
+ghost use Rattle.o32_machine.specs.Emulator.{first_emulated, first_machine, runs};
+ghost use Rattle.o32_model.specs.Turn.{at_time, called, is_blocked};
+ghost use Rattle.outside.specs.Streams.{NoCountFell, contents};
+ghost use Rattle.schedule.specs.Ranges.{IsGivenSchedule};
+
+use crate::process::Process;
+use crate::turn::Turn;
+use kernel_core::{Finish, NoMemory, Stop, Tree};
+use native_kernel::NativeKernel;
+use number_tables::O32Number;
+use outside::{Devices, Sink, Source};
+use schedule::Schedule;
+use start_stack::Start;
+use std::alloc::Global;
+use std::marker::Model;
+
+/// An emulator of one o32 program. Contracts see it as `Emulated`: its machine, the nanoseconds of a turn with
+/// an instruction, the turns so far, and whether there is no further one. (Turns are this project's own.)
+///
+/// The kernel's own clock is moved at the beginning of a turn, so that between two turns it stands behind the
+/// machine's: the machine's kernel is the native one at the machine's time.
+#[derive(Drop)]
+pub struct Emulator {
+    process: Process,
+    /// The machine's time, in nanoseconds from 0.
+    clock: u64,
+    /// The nanoseconds of a turn with an instruction, 1 to 1,000,000.
+    quantum: u64,
+    turns: u64,
+    over: bool,
+}
+
+impl Model for Emulator {
+    ghost use Rattle.std.specs.Prelude.{◌≤◌, ◌*◌};
+    ghost use Rattle.guest_space.specs.Memory.{memory_code};
+    ghost use Rattle.kernel_core.specs.Nodes.{nodes_code};
+    ghost use Rattle.o32_machine.specs.Emulator.{Emulated, machine_at};
+    ghost use Rattle.std.specs.Coded.{codes};
+
+    ghost Value = { Emulated };
+
+    ghost coded = { Prim.hlevel (codes, memory_code, nodes_code) };
+
+    ghost view = { λ e. record { machine = machine_at e.clock e.process; quantum = e.quantum; turns = e.turns; over = e.over } };
+
+    ghost invariant = { λ e. (e.quantum ≤ 1_000_000) × (e.clock ≤ 1_000_000 * e.turns) };
+}
+
+impl Emulator {
+    /// The emulator of a program at its first instruction, over the nodes of a file tree, with what a schedule
+    /// says of the clock, the terminal and chance. It takes its memory from `alloc`.
+    #[tactic(auto, unfolding(kernel_model::specs::Begin::first_state))]
+    pub fn new(
+        alloc: Global,
+        start: Start,
+        tree: Tree,
+        schedule: Schedule,
+    ) -> Result<Emulator, NoMemory>
+        requires tree { IsValidTree tree }
+        requires schedule { IsGivenSchedule schedule }
+        ensures first { IfOk result (λ emulator. emulator
+            ≡ first_emulated schedule.quantum (first_machine start.cpu start.space (first_state tree (settings_of schedule)))) }
+    {
+        let kernel = NativeKernel::new(alloc, tree, &schedule)?;
+        Ok(Emulator {
+            process: Process::new(alloc, start, kernel),
+            clock: 0,
+            quantum: schedule.quantum,
+            turns: 0,
+            over: false,
+        })
+    }
+
+    /// Takes one turn: the timer that is due goes off; then the fault of the turn before kills the process, or one
+    /// instruction is carried out with its call, and the clock gains a quantum. Where a call waits nothing can come
+    /// that would end its wait: the process is blocked, and that attempt is no turn.
+    ///
+    /// # Errors
+    ///
+    /// `ReadFault` and `WriteFault` only where that device's count rose in this turn; `NoMemory`. The turn isn't
+    /// finished then and doesn't count, and no further one follows.
+    pub fn turn<I: Source, O: Sink, E: Sink>(
+        &mut self,
+        dev: &mut Devices<I, O, E>,
+    ) -> Result<Turn, Stop>
+        requires on { self.old.over ≡ false }
+        requires few { self.old.turns < 1_000_000_000_000 }
+        ensures turn { IsTurn (attempt_of self.old.quantum self.old.machine) result self.new.machine
+            (contents I.left O.written E.written dev.old) (contents I.left O.written E.written dev.new) }
+        ensures quantum { self.new.quantum ≡ self.old.quantum }
+        ensures turns { self.new.turns ≡ self.old.turns + turns_done result }
+        ensures over { self.new.over ≡ is_last result }
+        ensures awake { OnErr result (is_blocked self.old.machine ≡ false) }
+        ensures cause { StopsOnlyIfRose I.faults O.faults E.faults result dev.old dev.new }
+        ensures counts { NoCountFell I.faults O.faults E.faults dev.old dev.new }
+    {
+        self.over = true;
+        let turn = self.attempt(dev)?;
+        self.over = turn.is_end();
+        Ok(turn)
+    }
+
+    /// The same, but for whether a further turn follows.
+    fn attempt<I: Source, O: Sink, E: Sink>(
+        &mut self,
+        dev: &mut Devices<I, O, E>,
+    ) -> Result<Turn, Stop>
+        requires few { self.old.turns < 1_000_000_000_000 }
+        ensures turn { IsTurn (attempt_of self.old.quantum self.old.machine) result self.new.machine
+            (contents I.left O.written E.written dev.old) (contents I.left O.written E.written dev.new) }
+        ensures quantum { self.new.quantum ≡ self.old.quantum }
+        ensures turns { self.new.turns ≡ self.old.turns + turns_done result }
+        ensures over { self.new.over ≡ self.old.over }
+        ensures awake { OnErr result (is_blocked self.old.machine ≡ false) }
+        ensures cause { StopsOnlyIfRose I.faults O.faults E.faults result dev.old dev.new }
+        ensures counts { NoCountFell I.faults O.faults E.faults dev.old dev.new }
+    {
+        if self.process.waits() {
+            return Ok(Turn::Ended(Finish::Blocked));
+        }
+        self.process.advance(self.clock)?;
+        if let Some(signal) = self.process.take_fault() {
+            self.turns += 1;
+            return Ok(Turn::Ended(Finish::Killed(signal.to_o32() as u8)));
+        }
+        let turn = self.process.execute(dev)?;
+        self.clock += self.quantum;
+        self.turns += 1;
+        Ok(turn)
+    }
+
+    /// Makes the call of the SYSCALL that was just executed, whose address is pc - 4. It counts no turn, and the
+    /// clock stands.
+    ///
+    /// # Errors
+    ///
+    /// As those of a turn.
+    pub fn call<I: Source, O: Sink, E: Sink>(
+        &mut self,
+        dev: &mut Devices<I, O, E>,
+    ) -> Result<Turn, Stop>
+        requires running { runs self.old ≡ true }
+        requires timer { gone_off self.old.machine.kernel.clock self.old.machine.kernel.timer ≡ None }
+        ensures turn { IsTurn (λ left. at_time self.old.machine.kernel.clock (called self.old.machine left)) result self.new.machine
+            (contents I.left O.written E.written dev.old) (contents I.left O.written E.written dev.new) }
+        ensures quantum { self.new.quantum ≡ self.old.quantum }
+        ensures turns { self.new.turns ≡ self.old.turns }
+        ensures over { self.new.over ≡ is_last result }
+        ensures cause { StopsOnlyIfRose I.faults O.faults E.faults result dev.old dev.new }
+        ensures counts { NoCountFell I.faults O.faults E.faults dev.old dev.new }
+    {
+        self.over = true;
+        self.process.advance(self.clock)?;
+        let turn = self.process.call(dev)?;
+        self.over = turn.is_end();
+        Ok(turn)
+    }
+
+    /// Whether there is no further turn: the process has ended or is blocked, or a turn stopped early.
+    pub fn is_over(&self) -> bool
+        ensures { result ≡ self.now.over }
+    {
+        self.over
+    }
+
+    /// How many turns there were.
+    pub fn turns(&self) -> u64
+        ensures { result ≡ self.now.turns }
+    {
+        self.turns
+    }
+
+    /// Whether the process runs: it is not over, and no call waits.
+    pub fn is_running(&self) -> bool
+        ensures { result ≡ runs self.now }
+    {
+        !self.over && !self.process.waits()
+    }
+
+    /// The nodes as a file tree: those that names lead to from the root, by rising number, each with the time of
+    /// its last modification in whole seconds. It copies every byte once. (The form is this project's own.)
+    pub fn tree(&self) -> Result<Tree, NoMemory>
+        ensures saved { IfOk result (λ tree. tree ≡ saved self.now.machine.kernel.files.nodes) }
+        ensures valid { IfOk result IsValidTree }
+        ensures reached { IfOk result (λ tree. (number : ℕ) → Contains (numbers tree.nodes) number ↔ IsReached tree.nodes number) }
+    {
+        self.process.tree()
+    }
+}

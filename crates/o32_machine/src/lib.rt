@@ -1,0 +1,19 @@
+//! The machine of an o32 program over the 64-bit kernel, and one turn of it.
+#![tactic(auto)]
+
+mod calls;
+mod chance;
+mod emulator;
+mod limits;
+mod names;
+mod numbers;
+mod plain;
+mod process;
+mod rlimit;
+mod small;
+mod telling;
+mod turn;
+
+pub use emulator::Emulator;
+pub use kernel_core::{Finish, NoMemory, Stop};
+pub use turn::Turn;

@@ -1,0 +1,201 @@
+//! The process of an o32 program: its processor and memory, and the kernel that it calls.
+ghost use Rattle.std.specs.Prelude.{◌≡◌, ◌↔◌, ℕ, Contains, false, if◌then◌else◌, IfOk, None, OnOk};
+ghost use Rattle.kernel_core.specs.LoadedTree.{saved};
+ghost use Rattle.kernel_core.specs.ValidTree.{IsReached, IsValidTree, numbers};
+ghost use Rattle.kernel_model.specs.SignalRows as signals;
+ghost use Rattle.kernel_model.specs.Stops.{StopsOnlyIfRose};
+ghost use Rattle.o32_machine.specs.Answered.{IsTurn, over_of, turns_of};
+ghost use Rattle.o32_machine.specs.Emulator.{first_machine};
+ghost use Rattle.o32_machine.specs.inside.Finishing.{finished};
+ghost use Rattle.o32_model.specs.Turn.{called, executed, is_blocked};
+ghost use Rattle.o32_model.specs.Words.{with_result};
+ghost use Rattle.outside.specs.Streams.{NoCountFell, contents};
+
+use crate::calls::make_call;
+use crate::turn::Turn;
+use bridge_mem::args;
+use guest_space::Space;
+use host_mem::HostMem;
+use kernel_core::{Finish, NoMemory, Sig, Stop, Tree};
+use mips_exec::{Cpu, Stepped, step};
+use native_kernel::NativeKernel;
+use number_tables::O32Number;
+use o32_model::{Log, Outcome, Seen, Wait};
+use outside::{Devices, Sink, Source};
+use start_stack::Start;
+use std::alloc::Global;
+use std::marker::Model;
+
+// The registers of a call's results (System V ABI, MIPS supplement; syscall(2)).
+
+/// The result of a call, or its error's number.
+const V0: u8 = 2;
+
+/// The second result of a call that has two.
+const V1: u8 = 3;
+
+/// Whether a call failed: 0, or 1 where it did.
+const A3: u8 = 7;
+
+/// A process. Contracts see it as the `Machine` of `o32_model`, whose kernel is the native one as it stands.
+#[derive(Drop)]
+pub(crate) struct Process {
+    cpu: Cpu,
+    space: Space,
+    kernel: NativeKernel,
+    /// The memory of the host in which native calls find their buffers.
+    mem: HostMem,
+    /// The call that waits.
+    wait: Option<Wait>,
+    /// The signal of the fault that the last turn met.
+    fault: Option<Sig>,
+}
+
+impl Model for Process {
+    ghost use Rattle.guest_space.specs.Memory.{memory_code};
+    ghost use Rattle.kernel_core.specs.Nodes.{nodes_code};
+    ghost use Rattle.o32_model.specs.Turn.{Machine};
+    ghost use Rattle.std.specs.Coded.{codes};
+
+    ghost Value = { Machine };
+
+    ghost coded = { Prim.hlevel (codes, memory_code, nodes_code) };
+
+    ghost view = { λ p. record { processor = p.cpu; memory = p.space; kernel = p.kernel; wait = p.wait; fault = p.fault } };
+}
+
+impl Process {
+    /// A process at its first instruction.
+    pub(crate) fn new(alloc: Global, start: Start, kernel: NativeKernel) -> Process
+        ensures { result ≡ first_machine start.cpu start.space kernel }
+    {
+        Process {
+            cpu: start.cpu,
+            space: start.space,
+            kernel,
+            mem: HostMem::new(alloc),
+            wait: None,
+            fault: None,
+        }
+    }
+
+    /// Whether a call waits.
+    pub(crate) fn waits(&self) -> bool
+        ensures { result ≡ is_blocked self.now }
+    {
+        self.wait.is_some()
+    }
+
+    /// The nodes as a file tree, as the kernel tells it. It copies every byte once.
+    pub(crate) fn tree(&self) -> Result<Tree, NoMemory>
+        ensures saved { IfOk result (λ tree. tree ≡ saved self.now.kernel.files.nodes) }
+        ensures valid { IfOk result IsValidTree }
+        ensures reached { IfOk result (λ tree. (number : ℕ) → Contains (numbers tree.nodes) number ↔ IsReached tree.nodes number) }
+    {
+        self.kernel.tree()
+    }
+
+    /// Moves the kernel's clock to a time, in nanoseconds. No call waits.
+    pub(crate) fn advance(&mut self, clock: u64) -> Result<(), NoMemory>
+        ensures { OnOk result (self.new ≡ record self.old { kernel = signals.advance self.old.kernel clock false }) }
+    {
+        self.kernel.advance(clock, false)?;
+        Ok(())
+    }
+
+    /// The signal of the fault that the last turn met, which is used up by that.
+    pub(crate) fn take_fault(&mut self) -> Option<Sig>
+        ensures fault { result ≡ self.old.fault }
+        ensures used { self.new ≡ record self.old { fault = None } }
+    {
+        let fault = self.fault;
+        self.fault = None;
+        fault
+    }
+
+    /// Carries out one instruction, with its call.
+    pub(crate) fn execute<I: Source, O: Sink, E: Sink>(
+        &mut self,
+        dev: &mut Devices<I, O, E>,
+    ) -> Result<Turn, Stop>
+        requires wait { self.old.wait ≡ None }
+        requires fault { self.old.fault ≡ None }
+        ensures turn { IsTurn (executed self.old) result self.new
+            (contents I.left O.written E.written dev.old) (contents I.left O.written E.written dev.new) }
+        ensures counted { IfOk result (λ turn. turns_of turn ≡ 1) }
+        ensures cause { StopsOnlyIfRose I.faults O.faults E.faults result dev.old dev.new }
+        ensures counts { NoCountFell I.faults O.faults E.faults dev.old dev.new }
+    {
+        match step(&mut self.cpu, &mut self.space)? {
+            Stepped::Next => Ok(Turn::Went),
+            Stepped::Syscall => self.call(dev),
+            Stepped::Fault { sig, .. } => {
+                self.fault = Some(sig);
+                Ok(Turn::Went)
+            }
+        }
+    }
+
+    /// Makes the call of the SYSCALL that was just executed.
+    pub(crate) fn call<I: Source, O: Sink, E: Sink>(
+        &mut self,
+        dev: &mut Devices<I, O, E>,
+    ) -> Result<Turn, Stop>
+        ensures turn { IsTurn (called self.old) result self.new
+            (contents I.left O.written E.written dev.old) (contents I.left O.written E.written dev.new) }
+        ensures counted { IfOk result (λ turn. turns_of turn ≡ 1) }
+        ensures cause { StopsOnlyIfRose I.faults O.faults E.faults result dev.old dev.new }
+        ensures counts { NoCountFell I.faults O.faults E.faults dev.old dev.new }
+    {
+        let words = args(&self.space, &self.cpu);
+        let mut log = Log {
+            native: None,
+            effects: None,
+        };
+        let seen = Seen {
+            quanta: 0,
+            restart: None,
+        };
+        let outcome = make_call(
+            &words,
+            &mut self.cpu,
+            &mut self.space,
+            &mut self.kernel,
+            &mut self.mem,
+            dev,
+            &mut log,
+            &seen,
+        )?;
+        Ok(self.finish(outcome))
+    }
+
+    /// Puts the outcome of a call into the registers, or keeps its wait, or ends the process.
+    fn finish(&mut self, outcome: Outcome) -> Turn
+        ensures machine { self.new ≡ (finished self.old outcome).machine }
+        ensures over { over_of result ≡ (finished self.old outcome).over }
+        ensures counted { turns_of result ≡ 1 }
+    {
+        self.wait = None;
+        self.fault = None;
+        match outcome {
+            Outcome::Value(value) => self.set_result(value, false),
+            Outcome::Pair(first, second) => {
+                self.set_result(first, false);
+                self.cpu.set_register(V1, second);
+            }
+            Outcome::Error(error) => self.set_result(error.to_o32(), true),
+            Outcome::Sleep(wait) => self.wait = Some(wait),
+            Outcome::Frame => {}
+            Outcome::Exit(status) => return Turn::Ended(Finish::Exited(status)),
+        }
+        Turn::Went
+    }
+
+    /// Puts what a call gives, its result or its error's number, into the registers.
+    fn set_result(&mut self, value: u32, failed: bool)
+        ensures { self.new ≡ record self.old { processor = with_result self.old.processor value (if failed then 1 else 0) } }
+    {
+        self.cpu.set_register(V0, value);
+        self.cpu.set_register(A3, u32::from(failed));
+    }
+}
