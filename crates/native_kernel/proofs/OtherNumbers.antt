@@ -1,5 +1,5 @@
 -- A number that no call of a group has is one of the groups after it.
-use Rattle.std.proofs.Common.{◌≡◌, ℕ, List, [], ◌∷◌, Option, Some, None, Result, refl, sym, ap, subst, ◌∙◌, ne_eqb}
+use Rattle.std.proofs.Common.{◌≡◌, ℕ, List, [], ◌∷◌, Option, Some, Result, refl, sym, ap, subst, ◌∙◌, ne_eqb}
 use Rattle.std.specs.Prelude.{⊤, if◌then◌else◌, IfOk}
 use Rattle.kernel_core.specs.declared.error.Errno.TheVariants.{ENOSYS}
 use Rattle.kernel_core.specs.declared.core_error.NoMemory.{NoMemory}

@@ -1,10 +1,10 @@
 -- A path ends before the first NUL.
-use Rattle.std.proofs.Common.{◌≡◌, ℕ, zero, suc, ◌<◌, ◌≤◌, Bool, true, false, List, [], ◌∷◌, length, take, get_or, Option, Some, refl, ap, ◌∙◌, arith}
+use Rattle.std.proofs.Common.{◌≡◌, ℕ, zero, suc, ◌<◌, ◌≤◌, false, List, [], ◌∷◌, length, take, get_or, Some, refl, ap, ◌∙◌, arith}
 use Rattle.std.specs.Prelude.{◌||◌, position}
 use Rattle.std.specs.List.{list_any}
 use Rattle.std.proofs.lemmas.List.{length-take, length-take-le}
 use Rattle.std.proofs.lemmas.List.Quantifiers.{position-Some}
-use Rattle.native_calls.specs.HostBytes.{accessible, loadable}
+use Rattle.native_calls.specs.HostBytes.{loadable}
 use Rattle.native_calls.specs.Paths.{is_nul}
 use Rattle.native_files.specs.Answers.{IsPlain, IsShortPlain}
 

@@ -1,5 +1,5 @@
 -- The fields of signals' structures are in their ranges.
-use Rattle.std.proofs.Common.{◌≡◌, ℕ, zero, suc, ◌+◌, ◌-◌, ◌<◌, ◌≤◌, ◌^◌, Bool, true, false, ◌&&◌, List, [], ◌∷◌, length, get_or, All, map, ℤ, pos, negsuc, nat_lt, refl, sym, ap, ◌∙◌, arith, lit<, if◌then◌else◌}
+use Rattle.std.proofs.Common.{◌≡◌, ℕ, ◌<◌, ◌≤◌, ◌^◌, Bool, true, false, ◌&&◌, List, [], ◌∷◌, length, get_or, map, ℤ, pos, negsuc, nat_lt, refl, ap, ◌∙◌, arith, lit<, if◌then◌else◌}
 use Rattle.std.specs.Prelude.{FitsSigned, nat_le}
 use Rattle.std.specs.Int.{w32}
 use Rattle.std.specs.Ordering.{int_eq}

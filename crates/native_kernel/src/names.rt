@@ -17,8 +17,9 @@ use crate::descriptors::has;
 use crate::kernel::NativeKernel;
 use crate::paths::{base_of, path_at};
 use crate::replies::failure;
+use crate::structures::store_counted;
 use host_mem::HostMem;
-use kernel_core::{CoreError, Errno, NoMemory, OpenFlags, Reply};
+use kernel_core::{CoreError, NoMemory, OpenFlags, Reply};
 use number_tables::NativeNumber;
 
 /// The flag of unlinkat(2) by which a directory is removed (Linux `include/uapi/linux/fcntl.h`).
@@ -188,13 +189,7 @@ impl NativeKernel {
             .files
             .read_link(base_of(directory), path_at(mem, path), i64::from(size))
         {
-            Ok(text) => {
-                if mem.write(buffer, text) {
-                    Ok(Reply::Done(text.len() as i64))
-                } else {
-                    Ok(failure(Errno::EFAULT))
-                }
-            }
+            Ok(text) => Ok(store_counted(mem, buffer, text)),
             Err(CoreError::Refused(error)) => Ok(failure(error)),
             Err(CoreError::Stop(_)) => Err(NoMemory),
         }

@@ -1,4 +1,4 @@
-use Rattle.std.proofs.Common.{◌≤◌, length, ap, subst, sym, ◌∙◌}
+use Rattle.std.proofs.Common.{◌≤◌, length, subst, sym}
 use Rattle.native_kernel.proofs.PathTexts.{loadable-few, path-plain, path-short}
 use Rattle.native_kernel.proofs.paths.path_at.Goals as goal
 

@@ -1,4 +1,4 @@
-use Rattle.std.proofs.Common.{◌&&◌, List, Option, refl, ap, subst, arith}
+use Rattle.std.proofs.Common.{List, Option, refl, ap, subst, arith}
 use Rattle.std.specs.Prelude.{find}
 use Rattle.kernel_core.specs.declared.signal.Sig.{Sig}
 use Rattle.kernel_model.specs.Shared.{Info}

@@ -1,4 +1,4 @@
-use Rattle.std.proofs.Common.{◌≡◌, Option, Some, None, sym, ap, subst, ◌∙◌}
+use Rattle.std.proofs.Common.{◌≡◌, Some, None, sym, ap, subst, ◌∙◌}
 use Rattle.kernel_core.specs.declared.error.Errno.TheVariants.{EAGAIN}
 use Rattle.kernel_model.specs.Came.{refused}
 use Rattle.kernel_model.specs.Clock.{waits_until}
