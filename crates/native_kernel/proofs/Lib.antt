@@ -1,6 +1,7 @@
 pub mod EntryLemmas
 pub mod ErrorNumbers
 pub mod Expiry
+pub mod MaskLemmas
 pub mod OpenNumbers
 pub mod OtherNumbers
 pub mod Pairs
@@ -8,8 +9,14 @@ pub mod Parts
 pub mod PathTexts
 pub mod Quietly
 pub mod Read
+pub mod Rounds
 pub mod Sending
+pub mod SignalFields
+pub mod SignalLemmas
+pub mod SignalOrder
+pub mod SignalTaking
 pub mod Storing
+pub mod SystemLemmas
 pub mod Taking
 pub mod TerminalLemmas
 pub mod Unblocked

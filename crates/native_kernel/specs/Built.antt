@@ -1,11 +1,15 @@
 -- The calls of the table that there are so far. (That they come in steps is this project's own.)
-use Rattle.std.specs.Prelude.{ℕ, List, [], ◌∷◌, Option, None}
+use Rattle.std.specs.Prelude.{ℕ, List, [], ◌∷◌, drop, Option, None}
 use Rattle.kernel_model.specs.State.{Kernel}
+use Rattle.native_calls.specs.Clocks.{clock_calls}
 use Rattle.native_calls.specs.Descriptors.{descriptor_calls}
 use Rattle.native_calls.specs.Ids.{id_calls}
 use Rattle.native_calls.specs.Names.{name_calls}
+use Rattle.native_calls.specs.Nodes.{node_calls}
+use Rattle.native_calls.specs.Signals.{signal_calls}
 use Rattle.native_calls.specs.Status.{status_calls}
 use Rattle.native_calls.specs.Step.{NativeStep, NativeCall}
+use Rattle.native_calls.specs.System.{system_calls}
 use Rattle.native_calls.specs.Table.{call_in, step_of}
 use Rattle.native_calls.specs.Terminal.{terminal_calls}
 use Rattle.native_calls.specs.Transfers.{transfer_calls}
@@ -17,8 +21,18 @@ call_among (calls ∷ groups) number = call_in calls (call_among groups number) 
 
 -- The groups that there are. Each list begins with groups of its own, and goes on with the list before it.
 
+abbrev pub signal_groups : List (List NativeCall)
+signal_groups = signal_calls ∷ []
+
+abbrev pub system_groups : List (List NativeCall)
+system_groups = system_calls ∷ clock_calls ∷ signal_groups
+
+-- of the calls on nodes those after the first, which is getcwd(2)
+abbrev pub node_groups : List (List NativeCall)
+node_groups = drop 1 node_calls ∷ system_groups
+
 abbrev pub name_groups : List (List NativeCall)
-name_groups = name_calls ∷ []
+name_groups = name_calls ∷ node_groups
 
 abbrev pub status_groups : List (List NativeCall)
 status_groups = status_calls ∷ id_calls ∷ name_groups

@@ -1,4 +1,5 @@
 pub mod Counted
 pub mod Moving
 pub mod Quiet
+pub mod Signals
 pub mod Vectors

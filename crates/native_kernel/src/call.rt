@@ -2,19 +2,24 @@
 ghost use Rattle.std.specs.Prelude.{◌≡◌, ◌<◌, ◌⊎◌, IfOk};
 ghost use Rattle.kernel_model.specs.Stops.{StopsOnlyIfRose};
 ghost use Rattle.native_calls.specs.Answered.{IsCall};
-ghost use Rattle.native_kernel.specs.Built.{built_call, call_of_groups, descriptor_groups, name_groups, status_groups};
+ghost use Rattle.native_kernel.specs.Built.{built_call, call_of_groups, descriptor_groups, name_groups, node_groups, signal_groups, status_groups, system_groups};
 ghost use Rattle.native_kernel.specs.inside.Quiet.{IsQuiet};
 ghost use Rattle.outside.specs.Streams.{NoCountFell, contents};
 
 use crate::arguments::low_word;
 use crate::ids;
 use crate::kernel::NativeKernel;
+use crate::names::only_flag;
 use crate::numbers::{
-    CLOSE, DUP, DUP3, FCNTL, FDATASYNC, FSTAT, FSYNC, GETDENTS64, GETPID, GETPPID, IOCTL, LINKAT,
-    LSEEK, MKDIRAT, OPENAT, PIPE2, PREAD64, PWRITE64, READ, READLINKAT, READV, RENAMEAT, SYMLINKAT,
-    UNLINKAT, WRITE, WRITEV,
+    CHDIR, CLOCK_GETRES, CLOCK_GETTIME, CLOCK_NANOSLEEP, CLOSE, DUP, DUP3, FACCESSAT, FCHDIR,
+    FCHMOD, FCHMODAT, FCNTL, FDATASYNC, FSTAT, FSYNC, FTRUNCATE, GETDENTS64, GETITIMER, GETPID,
+    GETPPID, GETRANDOM, IOCTL, KILL, LINKAT, LSEEK, MKDIRAT, NANOSLEEP, NEWFSTATAT, OPENAT, PIPE2,
+    PREAD64, PRLIMIT64, PWRITE64, READ, READLINKAT, READV, RENAMEAT, RT_SIGACTION, RT_SIGPENDING,
+    RT_SIGPROCMASK, RT_SIGQUEUEINFO, RT_SIGSUSPEND, RT_SIGTIMEDWAIT, SETITIMER, SIGALTSTACK,
+    SYMLINKAT, TGKILL, TKILL, TRUNCATE, UMASK, UNAME, UNLINKAT, UTIMENSAT, WRITE, WRITEV,
 };
 use crate::replies::failure;
+use crate::sleeping::{CLOCK_MONOTONIC, TIMER_ABSTIME};
 use host_mem::HostMem;
 use kernel_core::{Errno, NoMemory, Reply, Stop};
 use outside::{Devices, Sink, Source};
@@ -25,8 +30,8 @@ impl NativeKernel {
     ///
     /// `Done` has the result, or below 0 the native number of an error with its sign turned; a number
     /// that no call has is ENOSYS. `Sleep` comes where the call waits. A call that waits holds no wait:
-    /// made again, it is tried again. After a `Stop` the kernel is not used again. The calls on
-    /// nodes, the system, clocks, signals and readiness are still to come, and are ENOSYS for now.
+    /// made again, it is tried again. After a `Stop` the kernel is not used again. getcwd(2) and the
+    /// calls on readiness are still to come, and are ENOSYS for now.
     #[tactic(auto, using(crate::proofs::Quietly::over_devices))]
     pub fn call<I: Source, O: Sink, E: Sink>(
         &mut self,
@@ -114,12 +119,7 @@ impl NativeKernel {
 
     /// A call on what is open, on ids, or of a later group.
     #[tactic(auto, unfolding(native_calls::specs::Status::getdents_row, native_calls::specs::Status::lseek_row, native_calls::specs::Status::fstat_row, native_calls::specs::Status::sync_row, native_calls::specs::Ids::getpid_row, native_calls::specs::Ids::getppid_row))]
-    fn status_call(
-        &mut self,
-        nr: u64,
-        args: [u64; 6],
-        mem: &mut HostMem,
-    ) -> Result<Reply, NoMemory>
+    fn status_call(&mut self, nr: u64, args: [u64; 6], mem: &mut HostMem) -> Result<Reply, NoMemory>
         ensures { IfOk result (λ reply. IsQuiet (call_of_groups status_groups nr args self.old mem.old) reply self.new mem.new) }
     {
         match nr {
@@ -134,7 +134,7 @@ impl NativeKernel {
         }
     }
 
-    /// A call on names.
+    /// A call on names, or of a later group.
     #[tactic(auto, unfolding(native_calls::specs::Names::openat_row, native_calls::specs::Names::mkdirat_row, native_calls::specs::Names::symlinkat_row, native_calls::specs::Names::unlinkat_row, native_calls::specs::Names::linkat_row, native_calls::specs::Names::renameat_row, native_calls::specs::Names::readlinkat_row))]
     fn name_call(&mut self, nr: u64, args: [u64; 6], mem: &mut HostMem) -> Result<Reply, NoMemory>
         ensures { IfOk result (λ reply. IsQuiet (call_of_groups name_groups nr args self.old mem.old) reply self.new mem.new) }
@@ -164,6 +164,89 @@ impl NativeKernel {
                 args[1],
                 args[2],
                 low_word(args[3]).cast_signed(),
+                mem,
+            ),
+            _ => self.node_call(nr, args, mem),
+        }
+    }
+
+    /// A call on nodes, or of a later group.
+    #[tactic(auto, unfolding(native_calls::specs::Nodes::truncate_row, native_calls::specs::Nodes::ftruncate_row, native_calls::specs::Nodes::faccessat_row, native_calls::specs::Nodes::chdir_row, native_calls::specs::Nodes::fchdir_row, native_calls::specs::Nodes::fchmod_row, native_calls::specs::Nodes::fchmodat_row, native_calls::specs::Nodes::newfstatat_row, native_calls::specs::Nodes::utimensat_row, native_calls::specs::Nodes::umask_row))]
+    fn node_call(&mut self, nr: u64, args: [u64; 6], mem: &mut HostMem) -> Result<Reply, NoMemory>
+        ensures { IfOk result (λ reply. IsQuiet (call_of_groups node_groups nr args self.old mem.old) reply self.new mem.new) }
+    {
+        match nr {
+            TRUNCATE => self.truncate(args[0], args[1].cast_signed(), mem),
+            FTRUNCATE => Ok(self.ftruncate(low_word(args[0]), args[1].cast_signed())),
+            FACCESSAT => self.faccessat(low_word(args[0]), args[1], low_word(args[2]), mem),
+            CHDIR => self.chdir(args[0], mem),
+            FCHDIR => Ok(self.fchdir(low_word(args[0]))),
+            FCHMOD => Ok(self.fchmod(low_word(args[0]), low_word(args[1]))),
+            FCHMODAT => self.fchmodat(low_word(args[0]), args[1], low_word(args[2]), mem),
+            NEWFSTATAT => {
+                self.newfstatat(low_word(args[0]), args[1], args[2], low_word(args[3]), mem)
+            }
+            UTIMENSAT => {
+                self.utimensat(low_word(args[0]), args[1], args[2], low_word(args[3]), mem)
+            }
+            UMASK => Ok(self.umask(low_word(args[0]))),
+            _ => self.system_call(nr, args, mem),
+        }
+    }
+
+    /// A call on the system, on clocks, or of a later group.
+    #[tactic(auto, unfolding(native_calls::specs::System::uname_row, native_calls::specs::System::getrandom_row, native_calls::specs::Clocks::nanosleep_row, native_calls::specs::Clocks::getitimer_row, native_calls::specs::Clocks::setitimer_row, native_calls::specs::Clocks::clock_gettime_row, native_calls::specs::Clocks::clock_getres_row, native_calls::specs::Clocks::clock_nanosleep_row))]
+    fn system_call(&mut self, nr: u64, args: [u64; 6], mem: &mut HostMem) -> Result<Reply, NoMemory>
+        ensures { IfOk result (λ reply. IsQuiet (call_of_groups system_groups nr args self.old mem.old) reply self.new mem.new) }
+    {
+        match nr {
+            UNAME => Ok(self.uname(args[0], mem)),
+            PRLIMIT64 => Ok(self.prlimit(
+                low_word(args[0]).cast_signed(),
+                low_word(args[1]),
+                args[2],
+                args[3],
+                mem,
+            )),
+            GETRANDOM => Ok(self.getrandom(args[0], args[1], low_word(args[2]), mem)),
+            NANOSLEEP => Ok(self.sleep(CLOCK_MONOTONIC, Some(false), args[0], mem)),
+            GETITIMER => Ok(self.read_timer(low_word(args[0]), args[1], mem)),
+            SETITIMER => Ok(self.set_timer(low_word(args[0]), args[1], args[2], mem)),
+            CLOCK_GETTIME => Ok(self.read_clock(low_word(args[0]), args[1], mem)),
+            CLOCK_GETRES => Ok(self.clock_resolution(low_word(args[0]), args[1], mem)),
+            CLOCK_NANOSLEEP => {
+                let absolute = only_flag(TIMER_ABSTIME, low_word(args[1]));
+                Ok(self.sleep(low_word(args[0]), absolute, args[2], mem))
+            }
+            _ => self.signal_call(nr, args, mem),
+        }
+    }
+
+    /// A call on signals.
+    #[tactic(auto, unfolding(native_calls::specs::Signals::kill_row, native_calls::specs::Signals::tkill_row, native_calls::specs::Signals::tgkill_row, native_calls::specs::Signals::rt_sigqueueinfo_row, native_calls::specs::Signals::rt_sigaction_row, native_calls::specs::Signals::rt_sigprocmask_row, native_calls::specs::Signals::rt_sigpending_row, native_calls::specs::Signals::rt_sigtimedwait_row, native_calls::specs::Signals::rt_sigsuspend_row, native_calls::specs::Signals::sigaltstack_row))]
+    fn signal_call(&mut self, nr: u64, args: [u64; 6], mem: &mut HostMem) -> Result<Reply, NoMemory>
+        ensures { IfOk result (λ reply. IsQuiet (call_of_groups signal_groups nr args self.old mem.old) reply self.new mem.new) }
+    {
+        match nr {
+            KILL => self.kill(low_word(args[0]).cast_signed(), low_word(args[1])),
+            TKILL => self.kill_thread(low_word(args[0]).cast_signed(), low_word(args[1])),
+            TGKILL => self.kill_thread_of(
+                low_word(args[0]).cast_signed(),
+                low_word(args[1]).cast_signed(),
+                low_word(args[2]),
+            ),
+            SIGALTSTACK => Ok(self.set_signal_stack(args[0], args[1], mem)),
+            RT_SIGSUSPEND => Ok(self.suspend(args[0], args[1], mem)),
+            RT_SIGACTION => {
+                Ok(self.set_action(low_word(args[0]), args[1], args[2], args[3], mem))
+            }
+            RT_SIGPROCMASK => Ok(self.set_mask(low_word(args[0]), args[1], args[2], args[3], mem)),
+            RT_SIGPENDING => Ok(self.pending_signals(args[0], args[1], mem)),
+            RT_SIGTIMEDWAIT => Ok(self.accept_signal(args[0], args[1], args[2], args[3], mem)),
+            RT_SIGQUEUEINFO => self.queue_signal(
+                low_word(args[0]).cast_signed(),
+                low_word(args[1]),
+                args[2],
                 mem,
             ),
             _ => Ok(failure(Errno::ENOSYS)),

@@ -79,7 +79,7 @@ fn has_any(set: &[u32]) -> bool
 
 /// The signals of a set that a mask does not block.
 #[tactic(auto, using(crate::proofs::Unblocked::without_words))]
-fn unblocked(set: [u32; 4], mask: [u32; 4]) -> [u32; 4]
+pub(crate) fn unblocked(set: [u32; 4], mask: [u32; 4]) -> [u32; 4]
     ensures { result ≡ without set mask }
 {
     [

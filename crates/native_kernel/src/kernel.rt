@@ -1,8 +1,11 @@
 //! The kernel's state.
-ghost use Rattle.std.specs.Prelude.{◌≡◌, length};
+ghost use Rattle.std.specs.Prelude.{◌≡◌, ◌<◌, ◌^◌, All, length};
 ghost use Rattle.kernel_model.specs.Descriptions.{output_of};
 ghost use Rattle.kernel_model.specs.Table.{descriptor_limit};
+ghost use Rattle.kernel_model.specs.declared.limit.Limit.{Limit as Bounds};
 
+use crate::chance::Chance;
+use crate::system::all_fit;
 use kernel_model::Limit;
 use native_files::Files;
 use native_signal::Signals;
@@ -25,9 +28,7 @@ pub struct NativeKernel {
     pub(crate) timers: Timers,
     pub(crate) signals: Signals,
     pub(crate) limits: [Limit; RESOURCES],
-    /// The bytes that stand for chance, used round and round, and the place of the next one.
-    pub(crate) chance: Vec<u8>,
-    pub(crate) next_chance: usize,
+    pub(crate) chance: Chance,
     pub(crate) alloc: Global,
 }
 
@@ -48,7 +49,7 @@ impl Model for NativeKernel {
       timer = k.timers;
       signals = k.signals;
       limits = k.limits;
-      chance = record { bytes = k.chance.items; at = k.next_chance };
+      chance = k.chance;
     } };
 
     ghost invariant = { λ k. k.epoch < 2 ^ 72 };
@@ -68,5 +69,12 @@ impl NativeKernel {
         ensures { length self.now.files.table.fds ≡ descriptor_limit }
     {
         self.files.whole();
+    }
+
+    /// Each limit fits 64 bits: it changes nothing, and tells its caller this.
+    pub fn limits_fit(&self)
+        ensures { All (λ (limit : Bounds). (limit.soft < 2 ^ 64) × (limit.hard < 2 ^ 64)) self.now.limits }
+    {
+        all_fit(&self.limits);
     }
 }

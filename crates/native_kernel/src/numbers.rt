@@ -18,6 +18,20 @@ pub(crate) const LINKAT: u64 = 37;
 
 pub(crate) const RENAMEAT: u64 = 38;
 
+pub(crate) const TRUNCATE: u64 = 45;
+
+pub(crate) const FTRUNCATE: u64 = 46;
+
+pub(crate) const FACCESSAT: u64 = 48;
+
+pub(crate) const CHDIR: u64 = 49;
+
+pub(crate) const FCHDIR: u64 = 50;
+
+pub(crate) const FCHMOD: u64 = 52;
+
+pub(crate) const FCHMODAT: u64 = 53;
+
 pub(crate) const OPENAT: u64 = 56;
 
 pub(crate) const CLOSE: u64 = 57;
@@ -42,12 +56,56 @@ pub(crate) const PWRITE64: u64 = 68;
 
 pub(crate) const READLINKAT: u64 = 78;
 
+pub(crate) const NEWFSTATAT: u64 = 79;
+
 pub(crate) const FSTAT: u64 = 80;
 
 pub(crate) const FSYNC: u64 = 82;
 
 pub(crate) const FDATASYNC: u64 = 83;
 
+pub(crate) const UTIMENSAT: u64 = 88;
+
+pub(crate) const NANOSLEEP: u64 = 101;
+
+pub(crate) const GETITIMER: u64 = 102;
+
+pub(crate) const SETITIMER: u64 = 103;
+
+pub(crate) const CLOCK_GETTIME: u64 = 113;
+
+pub(crate) const CLOCK_GETRES: u64 = 114;
+
+pub(crate) const CLOCK_NANOSLEEP: u64 = 115;
+
+pub(crate) const KILL: u64 = 129;
+
+pub(crate) const TKILL: u64 = 130;
+
+pub(crate) const TGKILL: u64 = 131;
+
+pub(crate) const SIGALTSTACK: u64 = 132;
+
+pub(crate) const RT_SIGSUSPEND: u64 = 133;
+
+pub(crate) const RT_SIGACTION: u64 = 134;
+
+pub(crate) const RT_SIGPROCMASK: u64 = 135;
+
+pub(crate) const RT_SIGPENDING: u64 = 136;
+
+pub(crate) const RT_SIGTIMEDWAIT: u64 = 137;
+
+pub(crate) const RT_SIGQUEUEINFO: u64 = 138;
+
+pub(crate) const UNAME: u64 = 160;
+
+pub(crate) const UMASK: u64 = 166;
+
 pub(crate) const GETPID: u64 = 172;
 
 pub(crate) const GETPPID: u64 = 173;
+
+pub(crate) const PRLIMIT64: u64 = 261;
+
+pub(crate) const GETRANDOM: u64 = 278;

@@ -7,6 +7,7 @@ ghost use Rattle.kernel_model.specs.Clock.{second};
 ghost use Rattle.native_kernel.specs.Settings.{settings_of, size_of};
 ghost use Rattle.schedule.specs.Ranges.{IsGivenSchedule};
 
+use crate::chance::Chance;
 use crate::kernel::{NativeKernel, RESOURCES};
 use kernel_core::{NoMemory, Tree};
 use kernel_model::{Limit, Winsize};
@@ -53,7 +54,6 @@ impl NativeKernel {
         requires schedule { IsGivenSchedule schedule.now }
         ensures first { IfOk result (λ kernel. kernel ≡ first_state tree (settings_of schedule.now)) }
     {
-        let random = schedule.random.as_slice();
         Ok(NativeKernel {
             files: Files::new(alloc, tree, terminal_size(schedule.tty))?,
             clock: 0,
@@ -61,8 +61,7 @@ impl NativeKernel {
             timers: Timers::new(),
             signals: Signals::new(alloc)?,
             limits: first_limits(),
-            chance: random.to_vec(alloc)?,
-            next_chance: STACK_CHANCE % random.len(),
+            chance: Chance::new(alloc, schedule.random.as_slice(), STACK_CHANCE)?,
             alloc,
         })
     }

@@ -5,7 +5,7 @@ ghost use Rattle.layouts.specs.Native.{native_shape};
 ghost use Rattle.layouts.specs.Number.{unsigned};
 ghost use Rattle.layouts.specs.Shape.{are_in_range, record_bytes};
 ghost use Rattle.native_calls.specs.HostBytes.{accessible, loadable};
-ghost use Rattle.native_calls.specs.Step.{stored};
+ghost use Rattle.native_calls.specs.Step.{stored, stored_unless_null};
 ghost use Rattle.native_kernel.specs.inside.Moving.{part_place};
 
 use crate::replies::failure;
@@ -23,6 +23,18 @@ pub(crate) fn store(mem: &mut HostMem, address: u64, bytes: &[u8]) -> Reply
         Reply::Done(0)
     } else {
         failure(Errno::EFAULT)
+    }
+}
+
+/// Stores a structure as [`store`] does, or nothing where the address is null.
+pub(crate) fn store_unless_null(mem: &mut HostMem, address: u64, bytes: &[u8]) -> Reply
+    ensures reply { result ≡ stored_unless_null mem.old address bytes.now }
+    ensures written { mem.new ≡ written mem.old address bytes.now }
+{
+    if address == 0 {
+        Reply::Done(0)
+    } else {
+        store(mem, address, bytes)
     }
 }
 

@@ -1,11 +1,12 @@
-use Rattle.std.proofs.Common.{[], Ok, arith}
+use Rattle.std.proofs.Common.{arith}
 use Rattle.std.proofs.lemmas.Bool.Decides.{nat_tests}
 use Rattle.native_calls.specs.Names.{name_calls}
-use Rattle.native_kernel.proofs.OtherNumbers.{later_call, no_call}
+use Rattle.native_kernel.proofs.OtherNumbers.{later_call}
 use Rattle.native_kernel.proofs.kernel.NativeKernel.name_call.Goals as goal
+use Rattle.native_kernel.specs.Built.{node_groups}
 
 pub returns-in_default : goal.returns-in_default
 returns-in_default c =
-    later_call c.args.nr name_calls [] c.args.args c.args.self.now c.args.self.now c.args.mem.now c.args.mem.now (Ok c.failure.result)
+    later_call c.args.nr name_calls node_groups c.args.args c.args.self.now c.node_call.new.self c.args.mem.now c.node_call.new.mem c.node_call.result
     (λ e. grind (arith, nat_tests), (λ e. grind (arith, nat_tests), (λ e. grind (arith, nat_tests), (λ e. grind (arith, nat_tests), (λ e. grind (arith, nat_tests), (λ e. grind (arith, nat_tests), (λ e. grind (arith, nat_tests), tt)))))))
-    (no_call c.args.nr c.args.args c.args.self.now c.args.mem.now c.failure.result c.failure.ensures)
+    c.node_call.ensures

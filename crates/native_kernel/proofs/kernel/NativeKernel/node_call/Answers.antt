@@ -1,0 +1,12 @@
+use Rattle.std.proofs.Common.{arith, drop}
+use Rattle.std.proofs.lemmas.Bool.Decides.{nat_tests}
+use Rattle.native_calls.specs.Nodes.{node_calls}
+use Rattle.native_kernel.proofs.OtherNumbers.{later_call}
+use Rattle.native_kernel.proofs.kernel.NativeKernel.node_call.Goals as goal
+use Rattle.native_kernel.specs.Built.{system_groups}
+
+pub returns-in_default : goal.returns-in_default
+returns-in_default c =
+    later_call c.args.nr (drop 1 node_calls) system_groups c.args.args c.args.self.now c.system_call.new.self c.args.mem.now c.system_call.new.mem c.system_call.result
+    (λ e. grind (arith, nat_tests), (λ e. grind (arith, nat_tests), (λ e. grind (arith, nat_tests), (λ e. grind (arith, nat_tests), (λ e. grind (arith, nat_tests), (λ e. grind (arith, nat_tests), (λ e. grind (arith, nat_tests), (λ e. grind (arith, nat_tests), (λ e. grind (arith, nat_tests), (λ e. grind (arith, nat_tests), tt))))))))))
+    c.system_call.ensures
