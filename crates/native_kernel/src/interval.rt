@@ -11,9 +11,8 @@ ghost use Rattle.native_kernel.specs.inside.Signals.{Comes, StoresUnlessNull, se
 
 use crate::kernel::NativeKernel;
 use crate::replies::failure;
-use crate::signal_bytes::store_unless_null;
 use crate::sleeping::{is_below, time_after};
-use crate::structures::{double_at, put, store};
+use crate::structures::{double_at, put, store, store_unless_null};
 use host_mem::HostMem;
 use kernel_core::{Errno, Reply};
 use kernel_model::{TimeVal, TimerValue};

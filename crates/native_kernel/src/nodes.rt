@@ -35,6 +35,9 @@ const AT_NO_AUTOMOUNT: u64 = 0x800;
 /// The flag of fstatat(2) by which an empty path means the descriptor itself.
 const AT_EMPTY_PATH: u64 = 0x1000;
 
+/// The address that stands for none (a null pointer).
+const NULL: u64 = 0;
+
 /// The size of two times one behind the other.
 const TIMES_SIZE: u64 = 32;
 
@@ -229,7 +232,7 @@ fn path_unless_null(mem: &HostMem, address: u64) -> Option<Result<&[u8], Errno>>
     ensures path { path_of result ≡ unless_null address (path_at mem.now address) }
     ensures plain { IfSome (path_of result) (WhereRead IsPlain) }
 {
-    if address == 0 {
+    if address == NULL {
         None
     } else {
         Some(path_at(mem, address))
@@ -240,7 +243,7 @@ fn path_unless_null(mem: &HostMem, address: u64) -> Option<Result<&[u8], Errno>>
 fn times_unless_null(mem: &HostMem, address: u64) -> Option<Result<Times, Errno>>
     ensures { times_given result ≡ unless_null address (times_at mem.now address) }
 {
-    if address == 0 {
+    if address == NULL {
         None
     } else {
         Some(times_at(mem, address))

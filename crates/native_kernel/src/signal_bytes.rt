@@ -1,11 +1,9 @@
 //! Signals in host memory: sets, actions, the alternate stack, and what is known of a signal (sigaction(2)).
 ghost use Rattle.std.specs.Prelude.{◌≡◌, ◌+◌, ◌≤◌, [], ◌∷◌, drop, false, length, map, pos, true};
 ghost use Rattle.std.specs.List.{flat_map};
-ghost use Rattle.host_mem.specs.Memory.{written};
 ghost use Rattle.layouts.specs.Number.{bytes_of, unsigned, value_of};
 ghost use Rattle.native_calls.specs.HostBytes.{read_as};
 ghost use Rattle.native_calls.specs.SignalBytes.{action_at, action_bytes, action_in, info_bytes, named_by, sent_at, sent_in, set_at, set_bytes, set_in, stack_at, stack_bytes, stack_in};
-ghost use Rattle.native_calls.specs.Step.{stored_unless_null};
 ghost use Rattle.native_kernel.specs.inside.Signals.{listed, sent_told};
 ghost use Rattle.number_tables.specs.Codes.{native_code};
 ghost use Rattle.number_tables.specs.SaNumbers.{native_sa};
@@ -13,10 +11,10 @@ ghost use Rattle.number_tables.specs.Signals.{native_signal};
 ghost use Rattle.signal_sets.specs.NativeSets.{native_of};
 
 use crate::arguments::low_word;
-use crate::structures::{double_at, put, store, word_at};
+use crate::structures::{double_at, put, word_at};
 use byteorder::{ByteOrder, LittleEndian};
 use host_mem::HostMem;
-use kernel_core::{Errno, Info, Reply, Sig};
+use kernel_core::{Errno, Info, Sig};
 use kernel_model::{Action, SigStack};
 use layouts::NativeStructure;
 use number_tables::{NativeNumber, native_code, o32_code, sa_flags_in_native};
@@ -228,16 +226,4 @@ fn info_values(info: Info) -> [i128; 6]
         i128::from(info.uid),
         i128::from(info.value),
     ]
-}
-
-/// Stores a structure as `store` does, or nothing where the address is null.
-pub(crate) fn store_unless_null(mem: &mut HostMem, address: u64, bytes: &[u8]) -> Reply
-    ensures reply { result ≡ stored_unless_null mem.old address bytes.now }
-    ensures written { mem.new ≡ written mem.old address bytes.now }
-{
-    if address == 0 {
-        Reply::Done(0)
-    } else {
-        store(mem, address, bytes)
-    }
 }

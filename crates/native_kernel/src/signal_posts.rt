@@ -8,6 +8,7 @@ ghost use Rattle.native_calls.specs.SignalBytes.{named_by, sent_at};
 ghost use Rattle.native_kernel.specs.inside.Quiet.{Gives};
 ghost use Rattle.native_kernel.specs.inside.Signals.{named, sent_told};
 
+use crate::ids::OWN_ID;
 use crate::kernel::NativeKernel;
 use crate::replies::failure;
 use crate::signal_bytes::{SentInfo, sent_at, signal_named};
@@ -15,9 +16,6 @@ use host_mem::HostMem;
 use kernel_core::{Errno, Info, NoMemory, Reply, Sig};
 use kernel_model::Post;
 use number_tables::{SI_TKILL, SI_USER};
-
-/// The id of the process and of its thread. (This project's own.)
-const OWN_ID: i32 = 100;
 
 impl NativeKernel {
     /// kill(2): ESRCH for another process or group, EINVAL for a number that is not listed, and EAGAIN where

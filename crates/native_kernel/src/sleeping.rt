@@ -9,8 +9,7 @@ ghost use Rattle.native_kernel.specs.inside.Signals.{StoresUnlessNull};
 
 use crate::kernel::NativeKernel;
 use crate::replies::failure;
-use crate::signal_bytes::store_unless_null;
-use crate::structures::{put, store};
+use crate::structures::{put, store, store_unless_null};
 use crate::times::time_in;
 use host_mem::HostMem;
 use kernel_core::{Errno, Reply, Wake};

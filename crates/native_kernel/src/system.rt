@@ -11,6 +11,7 @@ ghost use Rattle.native_kernel.specs.inside.Quiet.{Fills, IsQuiet, Stores};
 
 use crate::chance::Chance;
 use crate::descriptors::has;
+use crate::ids::OWN_ID;
 use crate::kernel::{NativeKernel, RESOURCES};
 use crate::replies::failure;
 use crate::structures::{accessible, double_at, put, store, store_unless_null};
@@ -22,9 +23,6 @@ use number_tables::NativeNumber;
 
 /// Six texts of 65 bytes (struct new_utsname).
 const NAMES_SIZE: usize = 390;
-
-/// The id of the process. (This project's own.)
-const OWN_ID: i32 = 100;
 
 /// A soft limit and a hard one (struct rlimit64).
 const LIMIT_SIZE: usize = 16;

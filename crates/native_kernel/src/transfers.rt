@@ -14,6 +14,7 @@ ghost use Rattle.native_files.specs.Answers.{MovesWithin, ReadStops, came_of, mo
 ghost use Rattle.native_kernel.specs.inside.Moving.{FillsPart, IsReading, IsWriting, ReadingStops, ReadsInto, WritingStops, after_came, settled};
 ghost use Rattle.native_kernel.specs.inside.Quiet.{Fills, IsQuiet};
 
+use crate::ids::OWN_ID;
 use crate::kernel::NativeKernel;
 use crate::replies::{counted, failure, settled};
 use crate::structures::{accessible, loadable, part_place};
@@ -24,8 +25,6 @@ use outside::{Sink, Source};
 
 /// Who sends SIGPIPE: the process itself, by kill(2) (SI_USER).
 const SENT_BY_KILL: i32 = 0;
-
-const OWN_ID: u32 = 100;
 
 impl NativeKernel {
     /// read(2): EBADF, EFAULT, and the refusals of what is open.
@@ -207,7 +206,7 @@ fn pipe_info() -> Info
         sig: Sig::Pipe,
         code: SENT_BY_KILL,
         errno: 0,
-        pid: OWN_ID,
+        pid: OWN_ID as u32,
         uid: 0,
         value: 0,
         addr: 0,

@@ -128,6 +128,14 @@ struct Call {
     reply: Reply,
 }
 
+fn call_of(number: u64, arguments: [u64; 4], reply: Reply) -> Call {
+    Call {
+        number,
+        arguments,
+        reply,
+    }
+}
+
 /// Whether a call replies so, and leaves host memory as wanted.
 fn is_called(
     kernel: &mut NativeKernel,
@@ -200,40 +208,24 @@ fn is_right(
         Step::IsDeliverable(expected) => Ok(kernel.deliverable() == expected),
         Step::NextTime(expected) => Ok(kernel.next_time() == expected),
         Step::Plain(number, arguments, reply) => {
-            let call = Call {
-                number,
-                arguments,
-                reply,
-            };
+            let call = call_of(number, arguments, reply);
             let (memory, wanted) = (HostMem::new(alloc), HostMem::new(alloc));
             Ok(is_called(kernel, streams, call, memory, wanted))
         }
         Step::Keeps(number, arguments, numbers, reply) => {
-            let call = Call {
-                number,
-                arguments,
-                reply,
-            };
+            let call = call_of(number, arguments, reply);
             let memory = memory_of(alloc, numbers)?;
             let wanted = memory_of(alloc, numbers)?;
             Ok(is_called(kernel, streams, call, memory, wanted))
         }
         Step::Stores(number, arguments, before, after, reply) => {
-            let call = Call {
-                number,
-                arguments,
-                reply,
-            };
+            let call = call_of(number, arguments, reply);
             let memory = memory_of(alloc, before)?;
             let wanted = memory_of(alloc, after)?;
             Ok(is_called(kernel, streams, call, memory, wanted))
         }
         Step::Tells(number, arguments, numbers, info, reply) => {
-            let call = Call {
-                number,
-                arguments,
-                reply,
-            };
+            let call = call_of(number, arguments, reply);
             let memory = memory_with_info(alloc, numbers, &[], OLD)?;
             let wanted = memory_with_info(alloc, numbers, &info, 0)?;
             Ok(is_called(kernel, streams, call, memory, wanted))

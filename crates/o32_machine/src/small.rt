@@ -19,7 +19,7 @@ use outside::{Devices, Sink, Source};
 
 /// Makes a small call of the program, by its words: exit(2), exit_group(2), the ids, uname(2), getrlimit(2),
 /// prlimit(2), getrandom(2), cacheflush(2), sched_yield(2), set_tid_address(2), set_thread_area(2),
-/// get_robust_list(2). Any other number is ENOSYS.
+/// set_robust_list(2). Any other number is ENOSYS.
 pub(crate) fn small_call<I: Source, O: Sink, E: Sink>(
     args: &CallWords,
     cpu: &mut Cpu,
