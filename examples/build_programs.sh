@@ -5,6 +5,6 @@ cd "$(dirname "${BASH_SOURCE[0]}")"
 [ $# -gt 0 ] || set -- *.c
 for name in "$@"; do
   name=${name%.c}
-  clang --target=mips-linux-gnu -mips32r2 -mabi=32 -msoft-float -mno-abicalls -fno-pic -ffreestanding -fno-ident -O2 \
+  clang --target=mips-linux-gnu -mips32r2 -mabi=32 -msoft-float -mno-abicalls -fno-pic -G 0 -ffreestanding -fno-ident -O2 \
     -Wall -Wextra -Werror -nostdlib -static -fuse-ld=lld -Wl,--build-id=none -s -o "$name" "$name.c"
 done
