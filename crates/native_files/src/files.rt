@@ -68,7 +68,9 @@ impl Files {
     pub fn valid(&self)
         ensures nodes { IsFileSystem self.now.nodes }
         ensures umask { self.now.umask < 2 ^ 16 }
-    {}
+    {
+        let (_nodes, _umask) = (&self.vfs, self.umask);
+    }
 
     /// Opens a descriptor that leads to a new description, which has no node open.
     pub(crate) fn insert(
