@@ -74,11 +74,11 @@ start_prepared words line told plan tree NoMemory is image reason = tt
 pub prepared : (words : List (List ℕ)) (line : Line) (told : Option Files) (plan : Plan) (tree : Tree) (args : List (List ℕ)) →
     args ≡ arguments_of words line → IsPlanOf told (names_of words line).program plan →
     IsTree told (names_of words line).image (Ok tree) → (result : Result Ready NotRun) →
-    IfOk result (λ ready. asked_of_tree args line plan tree ≡ Run ready.machine ready.budget ready.tree) →
+    IfOk result (λ ready. asked_of_tree args line plan tree ≡ Run ready.emulator.machine ready.budget) →
     IfOk result (λ ready. ready.save ≡ line.save) →
     IfErr result (IsStartReason (asked_of_tree args line plan tree)) → IsPreparedLine words line told result
 prepared words line told plan tree args same is image (Ok ready) runs save reason = (
-  asks_planned words line told plan (Ok tree) (Run ready.machine ready.budget ready.tree) is image.0
+  asks_planned words line told plan (Ok tree) (Run ready.emulator.machine ready.budget) is image.0
       (ap (λ a. asked_of_tree a line plan tree) (sym same) ∙ runs),
   save,
 )

@@ -28,6 +28,15 @@ const SET_A0_TO_V0: u32 = 0x2444_0000;
 /// `addiu $a0, $a3, 0`.
 const SET_A0_TO_A3: u32 = 0x24E4_0000;
 
+/// `addiu $a0, $v1, 0`.
+const SET_A0_TO_V1: u32 = 0x2464_0000;
+
+/// `addiu $a1, $sp, 0`.
+const SET_A1_TO_SP: u32 = 0x27A5_0000;
+
+/// `lbu $a0, 0($sp)`.
+const LOAD_A0_FROM_SP: u32 = 0x93A4_0000;
+
 /// `addiu $a1, $zero, 0`.
 const SET_A1: u32 = 0x2405_0000;
 
@@ -87,6 +96,24 @@ const SET_THREAD_AREA: u32 = 4283;
 /// set_robust_list(2).
 const SET_ROBUST_LIST: u32 = 4309;
 
+/// read(2).
+const READ: u32 = 4003;
+
+/// pipe(2).
+const PIPE: u32 = 4042;
+
+/// ioctl(2).
+const IOCTL: u32 = 4054;
+
+/// getrlimit(2).
+const GETRLIMIT: u32 = 4076;
+
+/// readv(2).
+const READV: u32 = 4145;
+
+/// exit_group(2).
+const EXIT_GROUP: u32 = 4246;
+
 /// Exit with the result or error of the call before.
 const EXIT_WITH_V0: [u32; 3] = [SET_A0_TO_V0, SET_V0 | EXIT, SYSCALL];
 
@@ -124,6 +151,23 @@ const EMPTY_ROOT: [u8; 35] =
 const ONE_FILE: [u8; 80] = *b"O32IMG1\n\0\0\0\x02\
 \0\0\0\0\0\0\0\x01\x02\x01\xC0\0\0\0\0\0\0\0\x01\0\0\0\x01\0\0\0\x03\x01f\0\0\0\0\0\0\0\x02\
 \0\0\0\0\0\0\0\x02\x01\x01\xA4\0\0\0\0\0\0\0\x01\0\0\0\0\0\0\0\0\0\0\0\0";
+
+/// What an answer says, without its emulator.
+#[derive(Clone, Copy, PartialEq, Eq)]
+struct Told {
+    status: u8,
+    end: End,
+    turns: u64,
+}
+
+/// What an answer says.
+fn told(answer: &Answer) -> Told {
+    Told {
+        status: answer.status,
+        end: answer.end,
+        turns: answer.turns,
+    }
+}
 
 /// What a session did.
 #[derive(Drop)]
@@ -279,12 +323,12 @@ fn numbers_that_are_no_call(rt: HostRuntime) -> Result<(), Fail> {
 
 #[test]
 fn writes_that_move_nothing(rt: HostRuntime) -> Result<(), Fail> {
-    let to_2 = [SET_V0 | WRITE, SET_A0 | 2, SET_A2 | 1, SYSCALL];
+    let to_3 = [SET_V0 | WRITE, SET_A0 | 3, SET_A2 | 1, SYSCALL];
     let mut no_bytes = WRITE_UNMAPPED;
     no_bytes[3] = SET_A2;
     // EBADF is 9, EFAULT 14. Of no bytes none has to be readable.
     let rows: [Exit; 4] = [
-        (&to_2, &EXIT_WITH_V0, 9),
+        (&to_3, &EXIT_WITH_V0, 9),
         (&WRITE_UNMAPPED, &EXIT_WITH_V0, 14),
         (&WRITE_UNMAPPED, &EXIT_WITH_A3, 1),
         (&no_bytes, &EXIT_WITH_V0, 0),
@@ -679,11 +723,12 @@ fn saving_session(alloc: Global, puts: &[u64], store_calls: &[u64]) -> Result<Do
 fn session_left(
     rt: &impl Abort,
     run: &Done,
-    answer: Answer,
+    answer: Told,
     out: &[u8],
     saved: &[u8],
 ) -> Result<(), Fail> {
-    assert!(rt; run.answer == answer);
+    assert!(rt; told(&run.answer) == answer);
+    assert!(rt; run.answer.host.is_none());
     assert_eq!(rt; run.out.as_slice(), out);
     assert_eq!(rt; run.err.len(), 0);
     assert_eq!(rt; run.store.file("s").ok_or("no file")?, saved);
@@ -693,7 +738,7 @@ fn session_left(
 #[test]
 fn stops_where_a_load_fails(rt: HostRuntime) -> Result<(), Fail> {
     let alloc = rt.alloc();
-    let answer = Answer {
+    let answer = Told {
         status: 122,
         end: End::ReadFault,
         turns: 0,
@@ -708,7 +753,7 @@ fn stops_where_a_load_fails(rt: HostRuntime) -> Result<(), Fail> {
 #[test]
 fn stops_where_the_save_fails(rt: HostRuntime) -> Result<(), Fail> {
     let alloc = rt.alloc();
-    let answer = Answer {
+    let answer = Told {
         status: 119,
         end: End::WriteFault,
         turns: 9,
@@ -729,12 +774,12 @@ fn stops_where_standard_error_fails(rt: HostRuntime) -> Result<(), Fail> {
         err: MemSink::new(alloc, [1].to_vec(alloc)?),
     };
     let answer = session(alloc, &[], &mut store, &mut dev);
-    let wanted = Answer {
+    let wanted = Told {
         status: 119,
         end: End::WriteFault,
         turns: 0,
     };
-    assert!(rt; answer == wanted);
+    assert!(rt; told(&answer) == wanted);
     assert_eq!(rt; dev.err.bytes().len(), 0);
     assert_eq!(rt; dev.out.bytes().len(), 0);
     Ok(())
@@ -756,12 +801,12 @@ fn write_of_no_byte_makes_no_put(rt: HostRuntime) -> Result<(), Fail> {
     ];
     let program = executable(alloc, &words, 0x100, b"")?;
     let run = session_of(alloc, &["run", "p"], program, &[1])?;
-    let wanted = Answer {
+    let wanted = Told {
         status: 119,
         end: End::WriteFault,
         turns: 7,
     };
-    assert!(rt; run.answer == wanted);
+    assert!(rt; told(&run.answer) == wanted);
     assert_eq!(rt; run.out.len(), 0);
     Ok(())
 }
@@ -769,10 +814,155 @@ fn write_of_no_byte_makes_no_put(rt: HostRuntime) -> Result<(), Fail> {
 #[test]
 fn stops_where_standard_output_fails(rt: HostRuntime) -> Result<(), Fail> {
     let run = saving_session(rt.alloc(), &[1], &[])?;
-    let answer = Answer {
+    let answer = Told {
         status: 119,
         end: End::WriteFault,
         turns: 5,
     };
     session_left(&rt, &run, answer, b"", b"old")
+}
+
+/// What a program does, its input, and how its session ends: the end, its status, the turns, and what was written to both outputs.
+type Transfer<'a> = (&'a [u32], &'a [u8], End, u8, u64, &'a [u8], &'a [u8]);
+
+/// A session of `run p` with this program and this input.
+fn session_with_input(alloc: Global, code: &[u32], input: &[u8]) -> Result<Done, Fail> {
+    let mut texts = Vec::new(alloc);
+    for word in ["run", "p"] {
+        texts
+            .push(String::from_str(alloc, word)?)
+            .ok()
+            .ok_or("no memory")?;
+    }
+    let program = executable(alloc, code, 0x100, b"ab")?;
+    let mut files = Vec::new(alloc);
+    files
+        .push(named(alloc, "p", &program)?)
+        .ok()
+        .ok_or("no memory")?;
+    let mut store = MemStore::new(alloc, files, Vec::new(alloc));
+    let mut dev = Devices {
+        input: SureSource::new(input.to_vec(alloc)?),
+        out: SureSink::new(alloc),
+        err: SureSink::new(alloc),
+    };
+    let answer = session(alloc, &texts, &mut store, &mut dev);
+    Ok(Done {
+        answer,
+        out: dev.out.bytes().to_vec(alloc)?,
+        err: dev.err.bytes().to_vec(alloc)?,
+        store,
+    })
+}
+
+/// The first row that does not come out so, counted from 0. Its emulator is in the answer, with the turns of the run.
+fn first_wrong(alloc: Global, rows: &[Transfer]) -> Result<Option<usize>, Fail> {
+    for (place, (code, input, end, status, turns, out, err)) in rows.iter().enumerate() {
+        let run = session_with_input(alloc, code, input)?;
+        let wanted = Told {
+            status: *status,
+            end: *end,
+            turns: *turns,
+        };
+        let hosted = match &run.answer.host {
+            Some(host) => host.turns() == *turns,
+            None => false,
+        };
+        if told(&run.answer) != wanted
+            || !hosted
+            || run.out.as_slice() != *out
+            || run.err.as_slice() != *err
+        {
+            return Ok(Some(place));
+        }
+    }
+    Ok(None)
+}
+
+#[test]
+fn transfers(rt: HostRuntime) -> Result<(), Fail> {
+    // pipe(2) gives 3 and 4.
+    let ends = [SET_V0 | PIPE, SYSCALL, SET_A0_TO_V1, SET_V0 | EXIT, SYSCALL];
+    // Two bytes go into the pipe; a read of eight gives two; the next one waits, and the attempt that finds it blocked is no turn.
+    let through = [
+        SET_V0 | PIPE,
+        SYSCALL,
+        SET_A0 | 4,
+        SET_A1_HIGH | 0x40,
+        OR_A1 | 0x100,
+        SET_A2 | 2,
+        SET_V0 | WRITE,
+        SYSCALL,
+        SET_A0 | 3,
+        SET_A1_TO_SP,
+        SET_A2 | 8,
+        SET_V0 | READ,
+        SYSCALL,
+        SET_V0 | READ,
+        SYSCALL,
+    ];
+    let read_twice = [
+        SET_A0,
+        SET_A1_TO_SP,
+        SET_A2 | 8,
+        SET_V0 | READ,
+        SYSCALL,
+        SET_V0 | READ,
+        SYSCALL,
+        SET_A0_TO_V0,
+        SET_V0 | EXIT,
+        SYSCALL,
+    ];
+    // EINVAL is 22, ENOTTY 25.
+    let vector = [
+        SET_A1_TO_SP,
+        SET_A2 | 1025,
+        SET_V0 | READV,
+        SYSCALL,
+        SET_A0_TO_V0,
+        SET_V0 | EXIT,
+        SYSCALL,
+    ];
+    let window = [
+        SET_A0 | 1,
+        SET_A1_HIGH | 0x4008,
+        OR_A1 | 0x7468,
+        SET_V0 | IOCTL,
+        SYSCALL,
+        SET_A0_TO_V0,
+        SET_V0 | EXIT,
+        SYSCALL,
+    ];
+    let to_standard_error = [
+        SET_A0 | 2,
+        SET_A1_HIGH | 0x40,
+        OR_A1 | 0x100,
+        SET_A2 | 1,
+        SET_V0 | WRITE,
+        SYSCALL,
+        SET_A0_TO_V0,
+        SET_V0 | EXIT_GROUP,
+        SYSCALL,
+    ];
+    // No limit is shown as 0x7FFF_FFFF.
+    let limit = [
+        SET_A0,
+        SET_A1_TO_SP,
+        SET_V0 | GETRLIMIT,
+        SYSCALL,
+        LOAD_A0_FROM_SP,
+        SET_V0 | EXIT_GROUP,
+        SYSCALL,
+    ];
+    let rows: [Transfer; 7] = [
+        (&ends, b"", End::Exited(4), 4, 5, b"", b""),
+        (&through, b"", End::Blocked, 123, 15, b"", b""),
+        (&read_twice, b"xy", End::Exited(0), 0, 10, b"", b""),
+        (&vector, b"", End::Exited(22), 22, 7, b"", b""),
+        (&window, b"", End::Exited(25), 25, 8, b"", b""),
+        (&to_standard_error, b"", End::Exited(1), 1, 9, b"", b"a"),
+        (&limit, b"", End::Exited(127), 127, 7, b"", b""),
+    ];
+    assert_eq!(rt; first_wrong(rt.alloc(), &rows)?, None);
+    Ok(())
 }
