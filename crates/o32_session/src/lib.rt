@@ -8,8 +8,6 @@ mod not_run;
 mod prepare;
 mod run;
 mod save;
-#[cfg(test)]
-mod tests;
 mod top_call;
 mod words;
 

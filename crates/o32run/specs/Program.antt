@@ -1,5 +1,6 @@
 -- How the program ends. This project's own.
-use Rattle.std.specs.Prelude.{ℕ, ◌≡◌, List}
+use Rattle.std.specs.Prelude.{ℕ, ◌≡◌, List, Option}
+use Rattle.o32_machine.specs.Emulator.{Emulated}
 use Rattle.o32_session.specs.Answers.{status_of}
 use Rattle.o32_session.specs.Session.{Seen, AnswersWords}
 use Rattle.o32_session.specs.declared.answer.End.{End}
@@ -9,5 +10,6 @@ use Rattle.o32_session.specs.declared.answer.End.{End}
 pub record EndsAs (words : List (List ℕ)) (old new : Seen) (status : ℕ) : Type 0 where
   pub turns : ℕ
   pub end : End
-  pub answered : AnswersWords words old new turns end
+  pub host : Option Emulated
+  pub answered : AnswersWords words old new turns end host
   pub ended : status ≡ status_of end
