@@ -21,6 +21,7 @@ use Rattle.elf_image.specs.declared.load_plan.Plan.{Plan}
 use Rattle.start_stack.specs.Stack.{start_size, start_limit}
 use Rattle.o32_machine.specs.Emulator.{Emulated}
 use Rattle.o32_model.specs.Turn.{Machine}
+use Rattle.o32_session.specs.Answers.{IsRefusal}
 use Rattle.o32_session.specs.Asked.{Asked, Refuse, Run, Names, names_of, Found, Bytes, found_at, IsOpened, IsOpenedBy, AsksOf, AsksUnless, AsksFor, arguments_of, asked_of_plan, asked_of_tree, first_machine, empty_tree, image_limit}
 use Rattle.o32_session.specs.Saved.{SavesTree, SavesTreeInPart, Stored, after_turned, turned_by}
 use Rattle.o32_session.specs.Session.{Seen, DoesNothing, Answers, final_tree, IsEarly, Finishes, IsRun, IsPartOfRun, StopsInRun, StopsAtSave, no_names, AnswersReading, AsksForRun, EndsAsRun, HasImage, IsRunEnd}
@@ -185,6 +186,17 @@ run_answers words (Asks line) ready old new turns end host middle is runs loads 
   subst (λ (s : Stored). Answers (Run ready.emulator.machine ready.budget) (names_of words line) (record old { store = s }) new turns end host) (loads ∙ none_turned old.store)
       (runs (names_of words line) (ap (λ (n : Option ℕ). option_map (word_at words) n) (sym is.1))),
 )
+
+-- a run is not refused
+pub ran_on : (machine : Machine) (budget : ℕ) (names : Names) (old new : Seen) (turns : ℕ) (end : End) (host : Option Emulated) → Answers (Run machine budget) names old new turns end host → IsRefusal end → ⊥
+ran_on machine budget names old new turns (Exited status) host answer refused = refused
+ran_on machine budget names old new turns (Killed signal) host answer refused = refused
+ran_on machine budget names old new turns Budget host answer refused = refused
+ran_on machine budget names old new turns Blocked host answer refused = refused
+ran_on machine budget names old new turns (Refused given) host answer refused = answer
+ran_on machine budget names old new turns ReadFault host answer refused = refused
+ran_on machine budget names old new turns WriteFault host answer refused = refused
+ran_on machine budget names old new turns NoMemory host answer refused = refused
 
 -- A run is asked for
 

@@ -1,5 +1,5 @@
 -- The status of each end, and which of them are ends of a run. This project's own, after the statuses of a shell and of timeout(1).
-use Rattle.std.specs.Prelude.{ℕ, ◌+◌, min, Option, Some, None}
+use Rattle.std.specs.Prelude.{ℕ, ◌+◌, ⊤, min, Option, Some, None}
 use Rattle.kernel_core.specs.declared.finish.Finish.{Finish}
 use Rattle.kernel_core.specs.declared.finish.Finish.TheVariants as finishes
 use Rattle.o32_session.specs.declared.answer.End.{End}
@@ -14,6 +14,17 @@ status_of (ends.Refused refusal) = 125
 status_of ends.ReadFault = 122
 status_of ends.WriteFault = 119
 status_of ends.NoMemory = 121
+
+-- the words, the program or the image were refused
+abbrev pub IsRefusal : End → Type 0
+IsRefusal (ends.Refused refusal) = ⊤
+IsRefusal (ends.Exited status) = ⊥
+IsRefusal (ends.Killed signal) = ⊥
+IsRefusal ends.Budget = ⊥
+IsRefusal ends.Blocked = ⊥
+IsRefusal ends.ReadFault = ⊥
+IsRefusal ends.WriteFault = ⊥
+IsRefusal ends.NoMemory = ⊥
 
 -- how a run ended by itself, where one did
 abbrev pub finish_of : End → Option Finish

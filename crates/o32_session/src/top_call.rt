@@ -4,7 +4,7 @@ ghost use Rattle.outside.specs.Causes.{FailsOnlyIfRose};
 ghost use Rattle.outside.specs.Count.{Rose};
 ghost use Rattle.outside.specs.Output.{GainsText, GainsBetween};
 ghost use Rattle.outside.specs.Streams.{NoCountFell};
-ghost use Rattle.o32_session.specs.Answers.{finish_of, status_of};
+ghost use Rattle.o32_session.specs.Answers.{IsRefusal, finish_of, status_of};
 ghost use Rattle.o32_session.specs.Asked.{Names, Run};
 ghost use Rattle.o32_session.specs.inside.Ends.{end_of, end_of_error, end_of_stop};
 ghost use Rattle.o32_session.specs.Lines.{line_of};
@@ -122,6 +122,9 @@ pub fn session<F: Store, I: Source, O: Sink, E: Sink>(
     ensures status { result.status ≡ status_of result.end }
     ensures no_host { finish_of result.end ≡ None → result.host ≡ None }
 
+    // A refusal leaves the input as it was.
+    ensures input { IsRefusal result.end → dev.new.input ≡ dev.old.input }
+
     // The same of the files alone: after each finish that of `--save` holds the image of a tree, and no other changes.
     ensures saved { SavesWords (texts words.now) result.end (F.files files.old) (F.files files.new) }
 
@@ -159,6 +162,7 @@ fn answer_words<F: Store, I: Source, O: Sink, E: Sink>(
         result.turns result.end result.host }
     ensures status { result.status ≡ status_of result.end }
     ensures no_host { finish_of result.end ≡ None → result.host ≡ None }
+    ensures input { IsRefusal result.end → dev.new.input ≡ dev.old.input }
     ensures read_fault { result.end ≡ End.ReadFault
         → Rose (F.load_faults files.old) (F.load_faults files.new) ⊎ Rose (I.faults dev.old.input) (I.faults dev.new.input) }
     ensures later { NoCountFell I.faults O.faults E.faults dev.old dev.new }

@@ -1,8 +1,9 @@
-use Rattle.std.proofs.Common.{◌≡◌, ap, arith, subst, sym, ◌∙◌, ◌+◌}
+use Rattle.std.proofs.Common.{◌≡◌, ℕ, ap, arith, subst, sym, ◌∙◌, ◌+◌, add-zero}
 use Rattle.outside.specs.Streams.{contents}
 use Rattle.o32_machine.specs.Answered.{is_end, turns_of}
 use Rattle.o32_machine.specs.declared.turn.Turn as code
 use Rattle.o32_machine.specs.declared.turn.Turn.TheVariants.{Ended}
+use Rattle.o32_session.specs.inside.Runs.{IsCut}
 use Rattle.o32_session.proofs.RunLemmas.{at_start, budget_over, is_cut_by, is_over_by, went_on_by}
 use Rattle.o32_session.proofs.run.run.Goals as goal
 
@@ -24,7 +25,11 @@ loop-turn-preserved g c =
       long = c.turn.ensures.quantum ∙ i.long;
       so = λ left told.
           went_on_by c.args.emulator.now.machine left c.loop-turn.turn c.loop-turn.emulator.quantum (contents g.I.Source.left g.O.Sink.written g.E.Sink.written c.args.dev.now) (contents g.I.Source.left g.O.Sink.written g.E.Sink.written c.loop-turn.dev) (contents g.I.Source.left g.O.Sink.written g.E.Sink.written c.turn.new.dev) c.loop-turn.emulator.machine c.turn.new.self.machine c.in-Ok-Went.field-0 i.long c.in-Ok-Went.field-0-is (i.so left told) c.in-Ok-Went.ensures.turn;
-      later = ?;
+      later = record {
+        input_later = omega (arith, i.later.input_later, c.turn.ensures.counts.input_later);
+        out_later = omega (arith, i.later.out_later, c.turn.ensures.counts.out_later);
+        err_later = omega (arith, i.later.err_later, c.turn.ensures.counts.err_later);
+      };
     }
 
 pub returns-in-Ok-Ended-clause-run : goal.returns-in-Ok-Ended-clause-run
@@ -36,4 +41,8 @@ returns-in-Ok-Ended-clause-run g c = λ left told.
 
 pub returns-in-Err-clause-run : goal.returns-in-Err-clause-run
 returns-in-Err-clause-run g c = λ left told.
-    let i = c.loop-turn.invariant in ?
+    let i = c.loop-turn.invariant in
+    let counts : c.turns-in-Err.result ≡ c.loop-turn.turn =
+    c.turns-in-Err.ensures ∙ c.in-Err.ensures.turns ∙ add-zero c.loop-turn.emulator.turns ∙ i.counted in
+    subst (λ (n : ℕ). IsCut c.args.emulator.now.machine left n (contents g.I.Source.left g.O.Sink.written g.E.Sink.written c.args.dev.now) (contents g.I.Source.left g.O.Sink.written g.E.Sink.written c.turn.new.dev)) (sym counts)
+    (is_cut_by c.args.emulator.now.machine left c.loop-turn.turn c.loop-turn.emulator.quantum (contents g.I.Source.left g.O.Sink.written g.E.Sink.written c.args.dev.now) (contents g.I.Source.left g.O.Sink.written g.E.Sink.written c.loop-turn.dev) (contents g.I.Source.left g.O.Sink.written g.E.Sink.written c.turn.new.dev) c.loop-turn.emulator.machine i.long c.in-Err.ensures.awake (i.so left told) c.in-Err.ensures.turn)
