@@ -48,18 +48,18 @@ impl From<DevError> for End {
     }
 }
 
-/// The answer of a session without a run that ended by itself.
-fn answer_without(end: End, turns: u64) -> Answer
+/// The answer of a session that ends so after these turns, and hands this emulator out.
+fn answer_of(end: End, turns: u64, host: Option<Emulator>) -> Answer
     ensures status { result.status ≡ status_of end }
     ensures end { result.end ≡ end }
     ensures turns { result.turns ≡ turns }
-    ensures host { result.host ≡ None }
+    ensures host { result.host ≡ host }
 {
     Answer {
         status: end.status(),
         end,
         turns,
-        host: None,
+        host,
     }
 }
 
@@ -171,7 +171,7 @@ fn answer_words<F: Store, I: Source, O: Sink, E: Sink>(
 {
     match prepare(alloc, words, files) {
         Ok(ready) => run_ready(alloc, words, ready, files, dev),
-        Err(reason) => answer_without(end_without_run(alloc, reason, &mut dev.err), 0),
+        Err(reason) => answer_of(end_without_run(alloc, reason, &mut dev.err), 0, None),
     }
 }
 
@@ -205,7 +205,7 @@ fn run_ready<F: Store, I: Source, O: Sink, E: Sink>(
     let ran = run(&mut emulator, budget, dev);
     match ran.end {
         Ok(finish) => answer_run(alloc, words, save, emulator, finish, files),
-        Err(stop) => answer_without(End::from(stop), ran.turns),
+        Err(stop) => answer_of(End::from(stop), ran.turns, None),
     }
 }
 
@@ -227,23 +227,7 @@ fn answer_run<F: Store>(
 {
     let turns = emulator.turns();
     match save_final(alloc, words, save, &emulator, files) {
-        Ok(()) => answer_with(finish, turns, emulator),
-        Err(error) => answer_without(End::from(error), turns),
-    }
-}
-
-/// The answer of a run that is over so, with its emulator.
-fn answer_with(finish: Finish, turns: u64, emulator: Emulator) -> Answer
-    ensures status { result.status ≡ status_of result.end }
-    ensures end { result.end ≡ end_of finish }
-    ensures turns { result.turns ≡ turns }
-    ensures host { result.host ≡ Some emulator }
-{
-    let end = End::from(finish);
-    Answer {
-        status: end.status(),
-        end,
-        turns,
-        host: Some(emulator),
+        Ok(()) => answer_of(End::from(finish), turns, Some(emulator)),
+        Err(error) => answer_of(End::from(error), turns, None),
     }
 }

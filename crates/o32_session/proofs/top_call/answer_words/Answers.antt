@@ -17,9 +17,9 @@ pub returns-in-Err-clause-answer : goal.returns-in-Err-clause-answer
 returns-in-Err-clause-answer g c =
     let old = seen_of g.I.Source.left g.O.Sink.written g.E.Sink.written g.I.Source.faults g.O.Sink.faults g.E.Sink.faults c.args.dev.now (stored_of g.F.Store.files g.F.Store.created g.F.Store.turned_away g.F.Store.write_faults c.args.files.now) in
     let new = seen_of g.I.Source.left g.O.Sink.written g.E.Sink.written g.I.Source.faults g.O.Sink.faults g.E.Sink.faults (record c.args.dev.now { err = c.end_without_run.new.err }) (stored_of g.F.Store.files g.F.Store.created g.F.Store.turned_away g.F.Store.write_faults c.prepare.new.files) in
-    let answer = c.answer_without.result in
-    subst (λ (n : ℕ). AnswersWords (texts c.args.words.now) old new n answer.end answer.host) (sym c.answer_without.ensures.turns)
-    (subst (λ (e : End). AnswersWords (texts c.args.words.now) old new 0 e answer.host) (sym c.answer_without.ensures.end)
+    let answer = c.answer_of.result in
+    subst (λ (n : ℕ). AnswersWords (texts c.args.words.now) old new n answer.end answer.host) (sym c.answer_of.ensures.turns)
+    (subst (λ (e : End). AnswersWords (texts c.args.words.now) old new 0 e answer.host) (sym c.answer_of.ensures.end)
     (unrun (texts c.args.words.now) (read_words (texts c.args.words.now)) c.in-Err.reason c.end_without_run.result old
     (g.E.Sink.written c.end_without_run.new.err) (g.E.Sink.faults c.end_without_run.new.err)
     (stored_of g.F.Store.files g.F.Store.created g.F.Store.turned_away g.F.Store.write_faults c.prepare.new.files) answer.host

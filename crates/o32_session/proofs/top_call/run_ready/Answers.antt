@@ -28,10 +28,10 @@ returns-in-Err-clause-run g c = λ names named.
     let budget = c.args.ready.budget in
     let old = seen_of g.I.Source.left g.O.Sink.written g.E.Sink.written g.I.Source.faults g.O.Sink.faults g.E.Sink.faults c.args.dev.now (stored_of g.F.Store.files g.F.Store.created g.F.Store.turned_away g.F.Store.write_faults c.args.files.now) in
     let new = seen_of g.I.Source.left g.O.Sink.written g.E.Sink.written g.I.Source.faults g.O.Sink.faults g.E.Sink.faults c.run-ran.new.dev (stored_of g.F.Store.files g.F.Store.created g.F.Store.turned_away g.F.Store.write_faults c.args.files.now) in
-    let answer = c.answer_without.result in
+    let answer = c.answer_of.result in
     let cause = subst (λ (e : Result Finish Stop). StopsOnlyIfRose {T = Finish} g.I.Source.faults g.O.Sink.faults g.E.Sink.faults e c.args.dev.now c.run-ran.new.dev) c.in-Err.is c.run-ran.ensures.cause in
-    subst (λ (n : ℕ). Answers (Run machine budget) names old new n answer.end answer.host) (sym c.answer_without.ensures.turns)
-    (subst (λ (e : End). Answers (Run machine budget) names old new c.run-ran.result.turns e answer.host) (sym (c.answer_without.ensures.end ∙ c.from.ensures))
+    subst (λ (n : ℕ). Answers (Run machine budget) names old new n answer.end answer.host) (sym c.answer_of.ensures.turns)
+    (subst (λ (e : End). Answers (Run machine budget) names old new c.run-ran.result.turns e answer.host) (sym (c.answer_of.ensures.end ∙ c.from.ensures))
     (cut_answer machine budget c.run-ran.result.turns names c.in-Err.stop old new c.run-ran.new.emulator.machine answer.host
     (subst (λ (e : Result Finish Stop). WithinBudget e c.run-ran.result.turns budget) c.in-Err.is c.run-ran.ensures.within) refl
     (subst (λ (e : Result Finish Stop). RunsAs machine budget c.run-ran.result.turns e (contents g.I.Source.left g.O.Sink.written g.E.Sink.written c.args.dev.now) (contents g.I.Source.left g.O.Sink.written g.E.Sink.written c.run-ran.new.dev) c.run-ran.new.emulator.machine) c.in-Err.is c.run-ran.ensures.run)
