@@ -1,5 +1,6 @@
 //! The files of a process.
-ghost use Rattle.std.specs.Prelude.{◌≡◌, ◌<◌, Some, None, IfSome, OnOk, length, option_map};
+ghost use Rattle.std.specs.Prelude.{◌≡◌, ◌<◌, ◌^◌, Some, None, IfSome, OnOk, length, option_map};
+ghost use Rattle.kernel_core.specs.FileSystem.{IsFileSystem};
 ghost use Rattle.kernel_model.specs.Always.{IsTable};
 ghost use Rattle.kernel_model.specs.DescriptorRows.{after_close, after_duplicate};
 ghost use Rattle.kernel_model.specs.Descriptions.{node_of, opened, readable, writable};
@@ -61,6 +62,14 @@ impl Files {
         ensures { length self.now.table.fds ≡ descriptor_limit }
     {
         let _number = self.table.number(0);
+    }
+
+    /// The nodes are a file system, and the umask fits 16 bits: it changes nothing, and tells its caller this.
+    pub fn valid(&self)
+        ensures nodes { IsFileSystem self.now.nodes }
+        ensures umask { self.now.umask < 2 ^ 16 }
+    {
+        let (_nodes, _umask) = (&self.vfs, self.umask);
     }
 
     /// Opens a descriptor that leads to a new description, which has no node open.

@@ -1,5 +1,6 @@
 //! The kernel's state.
 ghost use Rattle.std.specs.Prelude.{◌≡◌, ◌<◌, ◌^◌, All, length};
+ghost use Rattle.kernel_core.specs.FileSystem.{IsFileSystem};
 ghost use Rattle.kernel_model.specs.Descriptions.{output_of};
 ghost use Rattle.kernel_model.specs.Table.{descriptor_limit};
 ghost use Rattle.kernel_model.specs.declared.limit.Limit.{Limit as Bounds};
@@ -69,6 +70,14 @@ impl NativeKernel {
         ensures { length self.now.files.table.fds ≡ descriptor_limit }
     {
         self.files.whole();
+    }
+
+    /// The nodes are a file system, and the umask fits 16 bits: it changes nothing, and tells its caller this.
+    pub fn files_valid(&self)
+        ensures nodes { IsFileSystem self.now.files.nodes }
+        ensures umask { self.now.files.umask < 2 ^ 16 }
+    {
+        self.files.valid();
     }
 
     /// Each limit fits 64 bits: it changes nothing, and tells its caller this.

@@ -14,7 +14,9 @@ ghost use Rattle.number_tables.specs.Signals.{signal_of_native};
 use crate::kernel::NativeKernel;
 use crate::masks::{UNBLOCKABLE, changed_mask, has};
 use crate::replies::failure;
-use crate::signal_bytes::{SET_SIZE, action_at, action_bytes, set_at, set_bytes, stack_at, stack_bytes};
+use crate::signal_bytes::{
+    SET_SIZE, action_at, action_bytes, set_at, set_bytes, stack_at, stack_bytes,
+};
 use crate::structures::{store, store_unless_null};
 use host_mem::HostMem;
 use kernel_core::{Errno, MaskChange, Reply, Sig};
