@@ -1,10 +1,10 @@
 pub mod Guest
 pub mod Numbers
-pub mod Readable
 pub mod RunLemmas
 pub mod Preparing
 pub mod Trees
 pub mod Sessions
 pub mod SavedFiles
 pub mod Reading
-pub mod Writing
+pub mod Budgets
+pub mod Saves

@@ -1,12 +1,20 @@
 -- What the steps before a run come to.
-use Rattle.std.proofs.Common.{◌≡◌, ℕ, List, Option, None, Result, Ok, Err, IfOk, IfErr, ap, ◌∙◌, sym, subst, refl}
+use Rattle.std.proofs.Common.{◌≡◌, ◌<◌, ◌≤◌, ℕ, Bool, cond, List, Option, None, Result, Ok, Err, IfOk, IfErr, ap, ◌∙◌, sym, subst, refl, arith}
+use Rattle.std.proofs.lemmas.Bool.{le-ltb}
+use Rattle.guest_space.specs.Memory.{Memory}
+use Rattle.kernel_model.specs.Begin.{Settings, first_state}
+use Rattle.mips_exec.specs.Processor.{Processor}
+use Rattle.o32_machine.specs.Emulator as emulators
+use Rattle.o32_model.specs.Turn.{Machine}
+use Rattle.start_stack.specs.Stack.{start_size, start_limit}
+use Rattle.start_stack.specs.Start.{start_memory, start_processor}
 use Rattle.outside.specs.Files.{Files}
 use Rattle.kernel_core.specs.declared.tree.Tree.{Tree}
 use Rattle.elf_image.specs.Rules.{first_failure}
 use Rattle.elf_image.specs.Loading.{plan_of, IsValidPlan}
 use Rattle.elf_image.specs.declared.load_plan.Plan.{Plan}
 use Rattle.o32_session.specs.Words.{Line}
-use Rattle.o32_session.specs.Asked.{Asked, Refuse, Run, names_of, Absent, Long, Bytes, IsFound, IsOpened, asked_of_tree, asked_of_plan, AsksUnless, AsksFor, arguments_of, program_limit}
+use Rattle.o32_session.specs.Asked.{Asked, Refuse, Run, names_of, Absent, Long, Bytes, IsFound, IsOpened, asked_of_tree, asked_of_plan, AsksUnless, AsksFor, arguments_of, first_machine, first_settings, program_limit, random_bytes}
 use Rattle.o32_session.specs.inside.Prepared.{IsLoaded, IsElfReason, IsRefusedFor, is_absent, is_long, is_broken, IsPlanOf, IsPlanned, IsTree, IsStartReason, IsPreparedLine}
 use Rattle.o32_session.specs.declared.answer.Refusal.{Refusal}
 use Rattle.o32_session.specs.declared.answer.Refusal.TheVariants.{Usage, Missing, TooLong, Elf, Image, Start}
@@ -74,11 +82,11 @@ start_prepared words line told plan tree NoMemory is image reason = tt
 pub prepared : (words : List (List ℕ)) (line : Line) (told : Option Files) (plan : Plan) (tree : Tree) (args : List (List ℕ)) →
     args ≡ arguments_of words line → IsPlanOf told (names_of words line).program plan →
     IsTree told (names_of words line).image (Ok tree) → (result : Result Ready NotRun) →
-    IfOk result (λ ready. asked_of_tree args line plan tree ≡ Run ready.machine ready.budget ready.tree) →
+    IfOk result (λ ready. asked_of_tree args line plan tree ≡ Run ready.emulator.machine ready.budget) →
     IfOk result (λ ready. ready.save ≡ line.save) →
     IfErr result (IsStartReason (asked_of_tree args line plan tree)) → IsPreparedLine words line told result
 prepared words line told plan tree args same is image (Ok ready) runs save reason = (
-  asks_planned words line told plan (Ok tree) (Run ready.machine ready.budget ready.tree) is image.0
+  asks_planned words line told plan (Ok tree) (Run ready.emulator.machine ready.budget) is image.0
       (ap (λ a. asked_of_tree a line plan tree) (sym same) ∙ runs),
   save,
 )
@@ -102,3 +110,20 @@ pub unplanned_line : (words : List (List ℕ)) (line : Line) (told : Option File
 unplanned_line words line told (Refused refusal) is = refused_prepared words line told refusal is
 unplanned_line words line told ReadFault is = tt
 unplanned_line words line told NoMemory is = tt
+
+-- The machine
+
+-- the emulator of a start that fits, over the kernel of this tree
+pub machine_ready : (args : List (List ℕ)) (line : Line) (plan : Plan) (tree : Tree) (cpu : Processor) (space : Memory) (settings : Settings) (machine : Machine)
+    → (start_limit < start_size args line.environment → ⊥) → cpu ≡ start_processor plan args line.environment → space ≡ start_memory plan args line.environment random_bytes → settings ≡ first_settings
+    → machine ≡ emulators.first_machine cpu space (first_state tree settings) → asked_of_tree args line plan tree ≡ Run machine line.budget
+machine_ready args line plan tree cpu space settings machine fits cpu_is space_is settings_are machine_is =
+    let within : start_size args line.environment ≤ start_limit = omega arith in
+    let same : first_machine plan args line.environment tree ≡ machine =
+    sym (machine_is
+    ∙ ap (λ (p : Processor). emulators.first_machine p space (first_state tree settings)) cpu_is
+    ∙ ap (λ (m : Memory). emulators.first_machine (start_processor plan args line.environment) m (first_state tree settings)) space_is
+    ∙ ap (λ (s : Settings). emulators.first_machine (start_processor plan args line.environment) (start_memory plan args line.environment random_bytes) (first_state tree s)) settings_are) in
+    ap (λ (b : Bool). cond b (Refuse Start) (Run (first_machine plan args line.environment tree) line.budget))
+    (le-ltb start_limit (start_size args line.environment) within)
+    ∙ ap (λ (m : Machine). Run m line.budget) same

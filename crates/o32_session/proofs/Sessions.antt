@@ -1,37 +1,39 @@
 -- What a session answers: where nothing is run, and where there is a run.
-use Rattle.std.proofs.Common.{◌≡◌, ℕ, ◌≤◌, Bool, cond, List, [], Option, Some, None, Result, Ok, Err, ◌⊎◌, inl, inr, refl, sym, ap, ◌∙◌, subst, option_map}
+use Rattle.std.proofs.Common.{◌≡◌, ℕ, ◌≤◌, ◌<◌, Bool, cond, List, [], Option, Some, None, Result, Ok, Err, ◌⊎◌, inl, inr, refl, sym, ap, ◌∙◌, subst, option_map}
 use Rattle.std.proofs.lemmas.Bool.{le-ltb}
 use Rattle.std.proofs.lemmas.List.{append-nil}
 use Rattle.outside.specs.Count.{Rose}
 use Rattle.outside.specs.Files.{Files}
 use Rattle.outside.specs.Output.{GainsText}
-use Rattle.outside.specs.declared.errors.DevError.{DevError}
-use Rattle.outside.specs.declared.errors.DevError.TheVariants as device
+use Rattle.outside.specs.Streams.{Contents}
+use Rattle.outside.specs.declared.devices.Devices.{Devices}
 use Rattle.outside.proofs.OutputLemmas.{GainsText-nothing}
+use Rattle.kernel_core.specs.declared.core_error.Stop.{Stop}
+use Rattle.kernel_core.specs.declared.core_error.Stop.TheVariants as stops
+use Rattle.kernel_core.specs.declared.finish.Finish.{Finish}
+use Rattle.kernel_core.specs.declared.finish.Finish.TheVariants as finishes
 use Rattle.kernel_core.specs.declared.tree.Tree.{Tree}
+use Rattle.kernel_model.specs.Stops.{StopsOnlyIfRose}
 use Rattle.fs_image.specs.Meaning as images
 use Rattle.fs_image.specs.declared.refusal.ImageRefusal.{ImageRefusal}
 use Rattle.elf_image.specs.Loading.{plan_of}
 use Rattle.elf_image.specs.declared.load_plan.Plan.{Plan}
 use Rattle.start_stack.specs.Stack.{start_size, start_limit}
-use Rattle.o32_session.specs.inside.Ends.{end_of_stop}
-use Rattle.o32_session.specs.Machine.{Machine}
-use Rattle.o32_session.specs.Run.{IsOverAt, output_at}
-use Rattle.o32_session.specs.inside.Prepared.{EndsRefused, EndsWithoutRun, IsPrepared, turned_reading}
-use Rattle.o32_session.specs.inside.Runs.{RunsTo, EndsOnlyIfRose, SavesOrStops, end_of_save, EndsWithSave, RanIntoAnswer}
-use Rattle.o32_session.specs.declared.answer.Answer.{Answer}
-use Rattle.o32_session.specs.Words.{Line, Reading, Asks, WrongAt, read_words, word_at}
+use Rattle.o32_machine.specs.Emulator.{Emulated}
+use Rattle.o32_model.specs.Turn.{Machine}
+use Rattle.o32_session.specs.Answers.{IsRefusal}
 use Rattle.o32_session.specs.Asked.{Asked, Refuse, Run, Names, names_of, Found, Bytes, found_at, IsOpened, IsOpenedBy, AsksOf, AsksUnless, AsksFor, arguments_of, asked_of_plan, asked_of_tree, first_machine, empty_tree, image_limit}
-use Rattle.o32_session.specs.Saved.{Stored, after_turned, turned_by}
-use Rattle.o32_session.specs.Session.{Seen, DoesNothing, Answers, IsEarly, no_names, AnswersReading, AsksForRun, HasImage, IsRunEnd}
+use Rattle.o32_session.specs.Saved.{SavesTree, SavesTreeInPart, Stored, after_turned, turned_by}
+use Rattle.o32_session.specs.Session.{Seen, DoesNothing, Answers, final_tree, IsEarly, Finishes, IsRun, IsPartOfRun, StopsInRun, StopsAtSave, no_names, AnswersReading, AsksForRun, EndsAsRun, HasImage, IsRunEnd}
+use Rattle.o32_session.specs.Words.{Line, Reading, Asks, WrongAt, read_words, word_at}
+use Rattle.o32_session.specs.inside.Ends.{end_of, end_of_stop}
+use Rattle.o32_session.specs.inside.Prepared.{EndsRefused, EndsWithoutRun, IsPrepared, turned_reading}
+use Rattle.o32_session.specs.inside.Runs.{AnswersRun, IsCut, IsOver, RunsAs}
+use Rattle.o32_session.specs.declared.answer.Answer.{Answer}
+use Rattle.o32_session.specs.declared.answer.End.{End}
+use Rattle.o32_session.specs.declared.answer.End.TheVariants.{Exited, Killed, Budget, Blocked, Refused, ReadFault, WriteFault, NoMemory}
 use Rattle.o32_session.specs.declared.answer.Refusal.{Refusal}
 use Rattle.o32_session.specs.declared.answer.Refusal.TheVariants.{Usage, Start}
-use Rattle.o32_session.specs.declared.answer.Finish.{Finish}
-use Rattle.o32_session.specs.declared.answer.Finish.TheVariants as finishes
-use Rattle.o32_session.specs.declared.answer.End.{End}
-use Rattle.o32_session.specs.declared.answer.End.TheVariants.{Exited, Killed, Budget, Refused, ReadFault, WriteFault, NoMemory}
-use Rattle.kernel_core.specs.declared.core_error.Stop.{Stop}
-use Rattle.kernel_core.specs.declared.core_error.Stop.TheVariants as stops
 use Rattle.o32_session.specs.declared.not_run.NotRun.{NotRun}
 use Rattle.o32_session.specs.declared.not_run.NotRun.TheVariants as reasons
 use Rattle.o32_session.specs.declared.prepare.Ready.{Ready}
@@ -53,120 +55,148 @@ nothing_done : (old : Seen) (err : Option (List ℕ)) (faults : ℕ) (store : St
     store ≡ after_turned old.store [] → DoesNothing old (beside old err faults store) 0
 nothing_done old err faults store same none = record {
   no_turn = refl;
+  untaken = refl;
   wrote = record { to_out = GainsText-nothing old.out; to_err = unchanged old.err err same };
   stands = none ∙ none_turned old.store;
 }
 
 -- a refusal with its line
 refused : (refusal : Refusal) (names : Names) (end : End) (old : Seen) (err : Option (List ℕ)) (faults : ℕ)
-    (store : Stored) → EndsRefused refusal end old.err err → (end ≡ WriteFault → Rose old.err_faults faults) →
-    store ≡ after_turned old.store (turned_by names refusal) → Answers (Refuse refusal) names old (beside old err faults store) 0 end
-refused refusal names (Refused given) old err faults store so cause loads = record {
+    (store : Stored) (host : Option Emulated) → EndsRefused refusal end old.err err → (end ≡ WriteFault → Rose old.err_faults faults) →
+    store ≡ after_turned old.store (turned_by names refusal) → Answers (Refuse refusal) names old (beside old err faults store) 0 end host
+refused refusal names (Refused given) old err faults store host so cause loads = record {
   same = so.0;
   no_turn = refl;
+  untaken = refl;
   wrote = record { to_out = GainsText-nothing old.out; to_err = so.1 };
   turned = loads;
 }
-refused refusal names WriteFault old err faults store so cause loads =
-    (record { no_turn = refl; to_out = GainsText-nothing old.out; to_err = so; turned = loads }, cause refl)
-refused refusal names NoMemory old err faults store so cause loads =
-    record { no_turn = refl; to_out = GainsText-nothing old.out; to_err = so; turned = loads }
-refused refusal names ReadFault old err faults store so cause loads = absurd so
-refused refusal names (Exited status) old err faults store so cause loads = absurd so
-refused refusal names (Killed signal) old err faults store so cause loads = absurd so
-refused refusal names Budget old err faults store so cause loads = absurd so
+refused refusal names WriteFault old err faults store host so cause loads =
+    (record { no_turn = refl; untaken = refl; to_out = GainsText-nothing old.out; to_err = so; turned = loads }, cause refl)
+refused refusal names NoMemory old err faults store host so cause loads =
+    record { no_turn = refl; untaken = refl; to_out = GainsText-nothing old.out; to_err = so; turned = loads }
+refused refusal names ReadFault old err faults store host so cause loads = absurd so
+refused refusal names (Exited status) old err faults store host so cause loads = absurd so
+refused refusal names (Killed signal) old err faults store host so cause loads = absurd so
+refused refusal names Budget old err faults store host so cause loads = absurd so
+refused refusal names Blocked old err faults store host so cause loads = absurd so
 
 -- Nothing is run, and the answer says so.
 pub unrun : (words : List (List ℕ)) (reading : Reading) (reason : NotRun) (end : End) (old : Seen)
-    (err : Option (List ℕ)) (faults : ℕ) (store : Stored) → IsPrepared words reading old.store.files (Err reason) →
+    (err : Option (List ℕ)) (faults : ℕ) (store : Stored) (host : Option Emulated) → IsPrepared words reading old.store.files (Err reason) →
     EndsWithoutRun reason end old.err err → (end ≡ WriteFault → Rose old.err_faults faults) →
     store ≡ after_turned old.store (turned_reading {T = Ready} words reading (Err reason)) →
-    AnswersReading words reading old (beside old err faults store) 0 end
-unrun words (WrongAt word) (reasons.Refused refusal) end old err faults store is so cause loads =
-    inr (refused (Usage word) no_names end old err faults store (subst (λ r. EndsRefused r end old.err err) is so) cause loads)
-unrun words (WrongAt word) reasons.ReadFault end old err faults store is so cause loads = absurd is
-unrun words (WrongAt word) reasons.NoMemory end old err faults store is so cause loads =
+    AnswersReading words reading old (beside old err faults store) 0 end host
+unrun words (WrongAt word) (reasons.Refused refusal) end old err faults store host is so cause loads =
+    inr (refused (Usage word) no_names end old err faults store host (subst (λ r. EndsRefused r end old.err err) is so) cause loads)
+unrun words (WrongAt word) reasons.ReadFault end old err faults store host is so cause loads = absurd is
+unrun words (WrongAt word) reasons.NoMemory end old err faults store host is so cause loads =
     inl (so.0, nothing_done old err faults store so.1 loads)
-unrun words (Asks line) (reasons.Refused refusal) end old err faults store is so cause loads =
-    inr (Refuse refusal, is, refused refusal (names_of words line) end old err faults store so cause loads)
-unrun words (Asks line) reasons.ReadFault end old err faults store is so cause loads =
+unrun words (Asks line) (reasons.Refused refusal) end old err faults store host is so cause loads =
+    inr (Refuse refusal, is, refused refusal (names_of words line) end old err faults store host so cause loads)
+unrun words (Asks line) reasons.ReadFault end old err faults store host is so cause loads =
     inl (subst (λ e. IsEarly e) (sym so.0) tt, nothing_done old err faults store so.1 loads)
-unrun words (Asks line) reasons.NoMemory end old err faults store is so cause loads =
+unrun words (Asks line) reasons.NoMemory end old err faults store host is so cause loads =
     inl (subst (λ e. IsEarly e) (sym so.0) tt, nothing_done old err faults store so.1 loads)
 
 -- There is a run
 
--- standard error and its count stay as they are
-abbrev above : Seen → Option (List ℕ) → ℕ → Stored → Seen
-above old out out_faults store = record old { out = out; out_faults = out_faults; store = store }
+abbrev contents_of : Seen → Contents
+contents_of seen = record { left = seen.left; out = seen.out; err = seen.err }
 
--- the run is over, and what follows it says the answer
-over_answer : (machine : Machine) (budget : ℕ) (tree : Tree) (names : Names) (old : Seen) (out : Option (List ℕ)) (faults : ℕ)
-    (store : Stored) (turns : ℕ) (finish : Finish) (saved : Result (Unit {0}) DevError) → IsOverAt machine budget turns finish →
-    GainsText old.out out (output_at machine turns) → SavesOrStops names.save tree saved old.store store →
-    Answers (Run machine budget tree) names old (above old out faults store) turns (end_of_save finish saved)
-over_answer machine budget tree names old out faults store turns (finishes.Exited status) (Ok done) over wrote saved =
-    record { over = over; wrote = record { to_out = wrote; to_err = GainsText-nothing old.err }; saved = saved }
-over_answer machine budget tree names old out faults store turns (finishes.Killed signal) (Ok done) over wrote saved =
-    record { over = over; wrote = record { to_out = wrote; to_err = GainsText-nothing old.err }; saved = saved }
-over_answer machine budget tree names old out faults store turns finishes.Budget (Ok done) over wrote saved =
-    record { over = over; wrote = record { to_out = wrote; to_err = GainsText-nothing old.err }; saved = saved }
-over_answer machine budget tree names old out faults store turns finish (Err device.Failed) over wrote saved =
-    inr (
-      record {
-        over = (finish, over);
-        wrote = record { to_out = wrote; to_err = GainsText-nothing old.err };
-        saved = saved.0;
-      },
-      saved.1,
-    )
-over_answer machine budget tree names old out faults store turns finish (Err device.NoMemory) over wrote saved =
-    inr (record {
-      over = (finish, over);
-      wrote = record { to_out = wrote; to_err = GainsText-nothing old.err };
-      saved = saved;
-    })
+run_told : (machine : Machine) (budget turns : ℕ) (finish : Finish) (old new : Seen) (final : Machine) → RunsAs machine budget turns (Ok finish) (contents_of old) (contents_of new) final
+    → (left : List ℕ) → old.left ≡ Some left → IsRun machine left budget old new turns finish final
+run_told machine budget turns finish old new final runs left told =
+    let so = runs left told in
+    record { over = so.over; wrote = record { to_out = so.to_out; to_err = so.to_err }; rest = so.rest; leaves = so.leaves }
+
+cut_told : (machine : Machine) (budget turns : ℕ) (stop : Stop) (old new : Seen) (final : Machine) → RunsAs machine budget turns (Err stop) (contents_of old) (contents_of new) final
+    → (left : List ℕ) → old.left ≡ Some left → IsPartOfRun machine left old new turns
+cut_told machine budget turns stop old new final runs left told =
+    let so = runs left told in record { running = so.running; to_out = so.to_out; to_err = so.to_err; rest = so.rest }
 
 -- the run stopped early
-stopped_answer : (machine : Machine) (budget : ℕ) (tree : Tree) (names : Names) (old : Seen) (out : Option (List ℕ)) (faults : ℕ)
-    (store : Stored) (turns : ℕ) (stop : Stop) → RunsTo machine budget turns (Err stop) old.out out →
-    EndsOnlyIfRose (Err stop) old.out_faults faults → store ≡ old.store →
-    Answers (Run machine budget tree) names old (above old out faults store) turns (end_of_stop stop)
-stopped_answer machine budget tree names old out faults store turns stops.WriteFault so cause stands = inl (
-  record { goes_on = so.0; to_out = so.1.0; to_err = GainsText-nothing old.err; stands = stands },
-  cause,
-  so.1.1,
-)
-stopped_answer machine budget tree names old out faults store turns stops.ReadFault so cause stands = absurd cause
-stopped_answer machine budget tree names old out faults store turns stops.NoMemory so cause stands =
-    inl (record { goes_on = so.0; to_out = so.1.0; to_err = GainsText-nothing old.err; stands = stands })
+pub cut_answer : (machine : Machine) (budget turns : ℕ) (names : Names) (stop : Stop) (old new : Seen) (final : Machine) (host : Option Emulated) → turns < budget → new.store ≡ old.store
+    → RunsAs machine budget turns (Err stop) (contents_of old) (contents_of new) final
+    → (stop ≡ stops.ReadFault → Rose old.read_faults new.read_faults) → (stop ≡ stops.WriteFault → Rose old.out_faults new.out_faults ⊎ Rose old.err_faults new.err_faults)
+    → Answers (Run machine budget) names old new turns (end_of_stop stop) host
+cut_answer machine budget turns names stops.ReadFault old new final host within stands runs read write =
+    (record { within = within; stands = stands; told = cut_told machine budget turns stops.ReadFault old new final runs }, read refl)
+cut_answer machine budget turns names stops.WriteFault old new final host within stands runs read write =
+    inl (record { within = within; stands = stands; told = cut_told machine budget turns stops.WriteFault old new final runs }, write refl)
+cut_answer machine budget turns names stops.NoMemory old new final host within stands runs read write =
+    inl (record { within = within; stands = stands; told = cut_told machine budget turns stops.NoMemory old new final runs })
 
-ran_so : (machine : Machine) (budget : ℕ) (tree : Tree) (names : Names) (old : Seen) (out : Option (List ℕ)) (faults : ℕ)
-    (store : Stored) (turns : ℕ) (run : Result Finish Stop) (end : End) → RunsTo machine budget turns run old.out out →
-    EndsOnlyIfRose run old.out_faults faults → EndsWithSave names.save tree run end old.store store →
-    Answers (Run machine budget tree) names old (above old out faults store) turns end
-ran_so machine budget tree names old out faults store turns (Ok finish) end so cause ends =
-    subst (λ e. Answers (Run machine budget tree) names old (above old out faults store) turns e) (sym ends.1)
-    (over_answer machine budget tree names old out faults store turns finish ends.0 so.0 so.1 ends.2)
-ran_so machine budget tree names old out faults store turns (Err stop) end so cause ends =
-    subst (λ e. Answers (Run machine budget tree) names old (above old out faults store) turns e) (sym ends.0)
-    (stopped_answer machine budget tree names old out faults store turns stop so cause ends.1)
+finish_answers : (machine : Machine) (budget turns : ℕ) (names : Names) (finish : Finish) (old new : Seen) (host : Option Emulated) → Finishes machine budget names old new turns finish host
+    → Answers (Run machine budget) names old new turns (end_of finish) host
+finish_answers machine budget turns names (finishes.Exited status) old new host so = so
+finish_answers machine budget turns names (finishes.Killed signal) old new host so = so
+finish_answers machine budget turns names finishes.Budget old new host so = so
+finish_answers machine budget turns names finishes.Blocked old new host so = so
+
+-- the run is over, and what follows it says the answer
+pub run_answer : (machine : Machine) (budget turns : ℕ) (names : Names) (name : Option (List ℕ)) (finish : Finish) (emulated : Emulated) (answer : Answer) (old new : Seen) → names.save ≡ name → turns ≤ budget → emulated.turns ≡ turns
+    → RunsAs machine budget turns (Ok finish) (contents_of old) (contents_of new) emulated.machine → AnswersRun name emulated finish answer old.store new.store
+    → Answers (Run machine budget) names old new answer.turns answer.end answer.host
+run_answer machine budget turns names name finish emulated answer old new named within counted runs (inl done) =
+    let same : answer.turns ≡ turns = done.turns ∙ counted in
+    let so : Finishes machine budget names old new turns finish answer.host = record {
+      within = within;
+      emulated = emulated;
+      hosted = done.host;
+      turned = counted;
+      saves = subst (λ (n : Option (List ℕ)). SavesTree n (final_tree emulated.machine) old.store new.store) (sym named) done.saves;
+      told = run_told machine budget turns finish old new emulated.machine runs;
+    } in
+    subst (λ (n : ℕ). Answers (Run machine budget) names old new n answer.end answer.host) (sym same)
+    (subst (λ (e : End). Answers (Run machine budget) names old new turns e answer.host) (sym done.end) (finish_answers machine budget turns names finish old new answer.host so))
+run_answer machine budget turns names name finish emulated answer old new named within counted runs (inr failed) =
+    let same : answer.turns ≡ turns = failed.turns ∙ counted in
+    let so : StopsAtSave machine budget names old new turns = record {
+      within = within;
+      finish = finish;
+      final = emulated.machine;
+      saves = subst (λ (n : Option (List ℕ)). SavesTreeInPart n (final_tree emulated.machine) old.store new.store) (sym named) failed.saves;
+      told = run_told machine budget turns finish old new emulated.machine runs;
+    } in
+    subst (λ (n : ℕ). Answers (Run machine budget) names old new n answer.end answer.host) (sym same)
+    (elim failed.end as (λ _. Answers (Run machine budget) names old new turns answer.end answer.host) [
+      | inl fault ↦ subst (λ (e : End). Answers (Run machine budget) names old new turns e answer.host) (sym fault.0) (inr (so, fault.1))
+      | inr memory ↦ subst (λ (e : End). Answers (Run machine budget) names old new turns e answer.host) (sym memory) (inr so)
+    ])
+
+-- a device that stopped the run
+
+pub read_cause : {I O E : Type 0} (input : I → ℕ) (out : O → ℕ) (err : E → ℕ) (stop : Stop) (old new : Devices I O E) → StopsOnlyIfRose {T = Finish} input out err (Err stop) old new → stop ≡ stops.ReadFault
+    → Rose (input old.input) (input new.input)
+read_cause input out err stop old new cause is = subst (λ (s : Stop). StopsOnlyIfRose {T = Finish} input out err (Err s) old new) is cause
+
+pub write_cause : {I O E : Type 0} (input : I → ℕ) (out : O → ℕ) (err : E → ℕ) (stop : Stop) (old new : Devices I O E) → StopsOnlyIfRose {T = Finish} input out err (Err stop) old new → stop ≡ stops.WriteFault
+    → Rose (out old.out) (out new.out) ⊎ Rose (err old.err) (err new.err)
+write_cause input out err stop old new cause is = subst (λ (s : Stop). StopsOnlyIfRose {T = Finish} input out err (Err s) old new) is cause
 
 -- There is a run, and the answer is what it came to.
-pub run_answers : (words : List (List ℕ)) (reading : Reading) (ready : Ready) (answer : Answer) (old : Seen)
-    (out : Option (List ℕ)) (faults : ℕ) (middle store : Stored) → IsPrepared words reading old.store.files (Ok ready) →
-    RanIntoAnswer ready.machine ready.budget ready.tree (option_map (word_at words) ready.save) answer old.out out old.out_faults faults middle store →
-    middle ≡ after_turned old.store (turned_reading {T = Ready} words reading (Ok ready)) →
-    AnswersReading words reading old (above old out faults store) answer.turns answer.end
-run_answers words (WrongAt word) ready answer old out faults middle store is so loads = absurd is
-run_answers words (Asks line) ready answer old out faults middle store is so loads = inr (
-  Run ready.machine ready.budget ready.tree,
+pub run_answers : (words : List (List ℕ)) (reading : Reading) (ready : Ready) (old new : Seen) (turns : ℕ) (end : End) (host : Option Emulated) (middle : Stored) → IsPrepared words reading old.store.files (Ok ready)
+    → ((names : Names) → names.save ≡ option_map (word_at words) ready.save → Answers (Run ready.emulator.machine ready.budget) names (record old { store = middle }) new turns end host)
+    → middle ≡ after_turned old.store (turned_reading {T = Ready} words reading (Ok ready)) → AnswersReading words reading old new turns end host
+run_answers words (WrongAt word) ready old new turns end host middle is runs loads = absurd is
+run_answers words (Asks line) ready old new turns end host middle is runs loads = inr (
+  Run ready.emulator.machine ready.budget,
   is.0,
-  ran_so ready.machine ready.budget ready.tree (names_of words line) old out faults store answer.turns so.end answer.end so.ran
-      so.cause
-      (subst (λ s. EndsWithSave (names_of words line).save ready.tree so.end answer.end s store) (loads ∙ none_turned old.store)
-      (subst (λ n. EndsWithSave (option_map (word_at words) n) ready.tree so.end answer.end middle store) is.1 so.ends)),
+  subst (λ (s : Stored). Answers (Run ready.emulator.machine ready.budget) (names_of words line) (record old { store = s }) new turns end host) (loads ∙ none_turned old.store)
+      (runs (names_of words line) (ap (λ (n : Option ℕ). option_map (word_at words) n) (sym is.1))),
 )
+
+-- a run is not refused
+pub ran_on : (machine : Machine) (budget : ℕ) (names : Names) (old new : Seen) (turns : ℕ) (end : End) (host : Option Emulated) → Answers (Run machine budget) names old new turns end host → IsRefusal end → ⊥
+ran_on machine budget names old new turns (Exited status) host answer refused = refused
+ran_on machine budget names old new turns (Killed signal) host answer refused = refused
+ran_on machine budget names old new turns Budget host answer refused = refused
+ran_on machine budget names old new turns Blocked host answer refused = refused
+ran_on machine budget names old new turns (Refused given) host answer refused = answer
+ran_on machine budget names old new turns ReadFault host answer refused = refused
+ran_on machine budget names old new turns WriteFault host answer refused = refused
+ran_on machine budget names old new turns NoMemory host answer refused = refused
 
 -- A run is asked for
 
@@ -187,68 +217,71 @@ opens files None opened has is = (empty_tree, is)
 opens files (Some name) opened has is = opens_by files name is.0 opened is.1 has is.2
 
 -- where the answer is that of this run
-run_end_of : (machine : Machine) (budget : ℕ) (tree : Tree) (names : Names) (old new : Seen) (turns : ℕ) (end : End) →
-    Answers (Run machine budget tree) names old new turns end → (Rose old.store.write_faults new.store.write_faults → ⊥) →
-    (Rose old.out_faults new.out_faults → ⊥) → (end ≡ NoMemory) ⊎ IsRunEnd machine budget turns end
-run_end_of machine budget tree names old new turns (Exited status) answer file write = inr answer.over
-run_end_of machine budget tree names old new turns (Killed signal) answer file write = inr answer.over
-run_end_of machine budget tree names old new turns Budget answer file write = inr answer.over
-run_end_of machine budget tree names old new turns (Refused given) answer file write = absurd answer
-run_end_of machine budget tree names old new turns ReadFault answer file write = absurd answer
-run_end_of machine budget tree names old new turns WriteFault answer file write =
-    elim answer as (λ _. (WriteFault ≡ NoMemory) ⊎ IsRunEnd machine budget turns WriteFault) [
-      | inl in_run ↦ absurd (write in_run.1)
+run_end_of : (machine : Machine) (budget : ℕ) (names : Names) (old new : Seen) (turns : ℕ) (end : End) (host : Option Emulated) (left : List ℕ) → old.left ≡ Some left →
+    Answers (Run machine budget) names old new turns end host → (end ≡ ReadFault → ⊥) → (Rose old.store.write_faults new.store.write_faults → ⊥) →
+    (Rose old.out_faults new.out_faults → ⊥) → (Rose old.err_faults new.err_faults → ⊥) → (end ≡ NoMemory) ⊎ IsRunEnd machine left budget turns end
+run_end_of machine budget names old new turns (Exited status) host left told answer read file out err = inr (answer.told left told).over
+run_end_of machine budget names old new turns (Killed signal) host left told answer read file out err = inr (answer.told left told).over
+run_end_of machine budget names old new turns Budget host left told answer read file out err = inr (answer.told left told).over
+run_end_of machine budget names old new turns Blocked host left told answer read file out err = inr (answer.told left told).over
+run_end_of machine budget names old new turns (Refused given) host left told answer read file out err = absurd answer
+run_end_of machine budget names old new turns ReadFault host left told answer read file out err = absurd (read refl)
+run_end_of machine budget names old new turns WriteFault host left told answer read file out err =
+    elim answer as (λ _. (WriteFault ≡ NoMemory) ⊎ IsRunEnd machine left budget turns WriteFault) [
+      | inl in_run ↦ absurd (elim in_run.1 [ inl rose ↦ out rose | inr rose ↦ err rose ])
       | inr at_save ↦ absurd (file at_save.1)
     ]
-run_end_of machine budget tree names old new turns NoMemory answer file write = inl refl
+run_end_of machine budget names old new turns NoMemory host left told answer read file out err = inl refl
 
-early_end : (machine : Machine) (budget turns : ℕ) (end : End) → IsEarly end → (end ≡ ReadFault → ⊥) →
-    (end ≡ NoMemory) ⊎ IsRunEnd machine budget turns end
-early_end machine budget turns (Exited status) early read = absurd early
-early_end machine budget turns (Killed signal) early read = absurd early
-early_end machine budget turns Budget early read = absurd early
-early_end machine budget turns (Refused given) early read = absurd early
-early_end machine budget turns ReadFault early read = absurd (read refl)
-early_end machine budget turns WriteFault early read = absurd early
-early_end machine budget turns NoMemory early read = inl refl
+early_end : (P : Type 0) (end : End) → IsEarly end → (end ≡ ReadFault → ⊥) → (end ≡ NoMemory) ⊎ P
+early_end P (Exited status) early read = absurd early
+early_end P (Killed signal) early read = absurd early
+early_end P Budget early read = absurd early
+early_end P Blocked early read = absurd early
+early_end P (Refused given) early read = absurd early
+early_end P ReadFault early read = absurd (read refl)
+early_end P WriteFault early read = absurd early
+early_end P NoMemory early read = inl refl
 
 -- the arguments fit
 fits_run : (args : List (List ℕ)) (line : Line) (plan : Plan) (tree : Tree) → start_size args line.environment ≤ start_limit →
-    asked_of_tree args line plan tree ≡ Run (first_machine plan args line.environment) line.budget tree
+    asked_of_tree args line plan tree ≡ Run (first_machine plan args line.environment tree) line.budget
 fits_run args line plan tree fits =
-    ap (λ (b : Bool). cond b (Refuse Start) (Run (first_machine plan args line.environment) line.budget tree))
+    ap (λ (b : Bool). cond b (Refuse Start) (Run (first_machine plan args line.environment tree) line.budget))
     (le-ltb start_limit (start_size args line.environment) fits)
 
--- what is asked for is the run
-asks_run : (words : List (List ℕ)) (told : Option Files) (machine : Machine) (budget : ℕ) (run : AsksForRun words told machine budget)
-    (asked : Asked) → AsksFor words run.line (Some run.files) asked → (tree : Tree) × (asked ≡ Run machine budget tree)
-asks_run words told machine budget run asked asks =
+-- what is asked for is the run beside the tree that was opened
+asks_run : (words : List (List ℕ)) (told : Option Files) (run : AsksForRun words told) (asked : Asked) → AsksFor words run.line (Some run.files) asked
+    → (tree : Tree) × IsOpened (Some run.files) (names_of words run.line).image (Ok tree)
+    × (asked ≡ Run (first_machine (plan_of run.bytes) (arguments_of words run.line) run.line.environment tree) run.line.budget)
+asks_run words told run asked asks =
     let args = arguments_of words run.line in
     let names = names_of words run.line in
     let plan = plan_of run.bytes in
     let of : AsksUnless args run.line names (Some run.files) run.bytes None asked =
     subst (λ f. AsksUnless args run.line names (Some run.files) run.bytes f asked) run.formed
     (subst (λ f. AsksOf args run.line names (Some run.files) f asked) (asks.1 ∙ run.found) asks.2) in
-    let open_tree = opens run.files names.image of.0 run.image of.1 in
-    let same : Run (first_machine plan args run.line.environment) run.line.budget open_tree.0 ≡ Run machine budget open_tree.0 =
-    ap (λ m. Run m run.line.budget open_tree.0) (sym run.begins) ∙ ap (λ n. Run machine n open_tree.0) (sym run.most) in (
+    let open_tree = opens run.files names.image of.0 run.image of.1 in (
       open_tree.0,
-      of.2 ∙ (ap (λ o. asked_of_plan args run.line plan o) open_tree.1 ∙ (fits_run args run.line plan open_tree.0 run.fits ∙ same)),
+      subst (λ (o : Result Tree Refusal). IsOpened (Some run.files) names.image o) open_tree.1 of.1,
+      of.2 ∙ (ap (λ o. asked_of_plan args run.line plan o) open_tree.1 ∙ fits_run args run.line plan open_tree.0 run.fits),
     )
 
 -- Where a run is asked for and no count rose, the answer is the run's end, unless memory ran out.
-pub complete : (words : List (List ℕ)) (old new : Seen) (turns : ℕ) (end : End) (machine : Machine)
-    (budget : ℕ) → AnswersReading words (read_words words) old new turns end → AsksForRun words old.store.files machine budget →
-    (end ≡ ReadFault → ⊥) → (Rose old.store.write_faults new.store.write_faults → ⊥) → (Rose old.out_faults new.out_faults → ⊥) →
-    (end ≡ NoMemory) ⊎ IsRunEnd machine budget turns end
-complete words old new turns end machine budget answer asks read file write =
-    let known : AnswersReading words (Asks asks.line) old new turns end =
-    subst (λ r. AnswersReading words r old new turns end) asks.in_order answer in
-    elim known as (λ _. (end ≡ NoMemory) ⊎ IsRunEnd machine budget turns end) [
-      | inl early ↦ early_end machine budget turns end early.0 read
+pub complete : (words : List (List ℕ)) (old new : Seen) (turns : ℕ) (end : End) (host : Option Emulated) (run : AsksForRun words old.store.files) (left : List ℕ)
+    → AnswersReading words (read_words words) old new turns end host → old.left ≡ Some left → (end ≡ ReadFault → ⊥) → (Rose old.store.write_faults new.store.write_faults → ⊥)
+    → (Rose old.out_faults new.out_faults → ⊥) → (Rose old.err_faults new.err_faults → ⊥) → (end ≡ NoMemory) ⊎ EndsAsRun words old.store.files run left turns end
+complete words old new turns end host run left answer told read file out err =
+    let known : AnswersReading words (Asks run.line) old new turns end host =
+    subst (λ r. AnswersReading words r old new turns end host) run.in_order answer in
+    elim known as (λ _. (end ≡ NoMemory) ⊎ EndsAsRun words old.store.files run left turns end) [
+      | inl early ↦ early_end (EndsAsRun words old.store.files run left turns end) end early.0 read
       | inr asked ↦
-          let run = asks_run words old.store.files machine budget asks asked.0
-          (subst (λ f. AsksFor words asks.line f asked.0) asks.is_told asked.1) in
-          run_end_of machine budget run.0 (names_of words asks.line) old new turns end
-          (subst (λ a. Answers a (names_of words asks.line) old new turns end) run.1 asked.2) file write
+          let asks = asks_run words old.store.files run asked.0 (subst (λ f. AsksFor words run.line f asked.0) run.is_told asked.1) in
+          elim (run_end_of (first_machine (plan_of run.bytes) (arguments_of words run.line) run.line.environment asks.0) run.line.budget (names_of words run.line) old new turns end host left told
+          (subst (λ a. Answers a (names_of words run.line) old new turns end host) asks.2 asked.2) read file out err)
+          as (λ _. (end ≡ NoMemory) ⊎ EndsAsRun words old.store.files run left turns end) [
+            | inl memory ↦ inl memory
+            | inr is ↦ inr (asks.0, asks.1, is)
+          ]
     ]

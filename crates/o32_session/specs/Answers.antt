@@ -1,5 +1,7 @@
--- The status of each end. This project's own, after the statuses of a shell and of timeout(1).
-use Rattle.std.specs.Prelude.{ℕ, ◌+◌, min}
+-- The status of each end, and which of them are ends of a run. This project's own, after the statuses of a shell and of timeout(1).
+use Rattle.std.specs.Prelude.{ℕ, ◌+◌, ⊤, min, Option, Some, None}
+use Rattle.kernel_core.specs.declared.finish.Finish.{Finish}
+use Rattle.kernel_core.specs.declared.finish.Finish.TheVariants as finishes
 use Rattle.o32_session.specs.declared.answer.End.{End}
 use Rattle.o32_session.specs.declared.answer.End.TheVariants as ends
 
@@ -7,7 +9,30 @@ abbrev pub status_of : End → ℕ
 status_of (ends.Exited status) = status
 status_of (ends.Killed signal) = min (128 + signal) 255
 status_of ends.Budget = 124
+status_of ends.Blocked = 123
 status_of (ends.Refused refusal) = 125
 status_of ends.ReadFault = 122
 status_of ends.WriteFault = 119
 status_of ends.NoMemory = 121
+
+-- the words, the program or the image were refused
+abbrev pub IsRefusal : End → Type 0
+IsRefusal (ends.Refused refusal) = ⊤
+IsRefusal (ends.Exited status) = ⊥
+IsRefusal (ends.Killed signal) = ⊥
+IsRefusal ends.Budget = ⊥
+IsRefusal ends.Blocked = ⊥
+IsRefusal ends.ReadFault = ⊥
+IsRefusal ends.WriteFault = ⊥
+IsRefusal ends.NoMemory = ⊥
+
+-- how a run ended by itself, where one did
+abbrev pub finish_of : End → Option Finish
+finish_of (ends.Exited status) = Some (finishes.Exited status)
+finish_of (ends.Killed signal) = Some (finishes.Killed signal)
+finish_of ends.Budget = Some finishes.Budget
+finish_of ends.Blocked = Some finishes.Blocked
+finish_of (ends.Refused refusal) = None
+finish_of ends.ReadFault = None
+finish_of ends.WriteFault = None
+finish_of ends.NoMemory = None

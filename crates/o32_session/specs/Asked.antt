@@ -15,7 +15,9 @@ use Rattle.elf_image.specs.declared.load_plan.Plan.{Plan}
 use Rattle.start_stack.specs.Stack.{start_size, start_limit}
 use Rattle.start_stack.specs.Start.{start_memory, start_processor}
 use Rattle.o32_session.specs.Words.{Line, word_at}
-use Rattle.o32_session.specs.Machine.{Machine}
+use Rattle.kernel_model.specs.Begin.{Settings, first_state}
+use Rattle.o32_machine.specs.Emulator as emulators
+use Rattle.o32_model.specs.Turn.{Machine}
 use Rattle.o32_session.specs.declared.answer.Refusal.{Refusal}
 use Rattle.o32_session.specs.declared.answer.Refusal.TheVariants.{Missing, TooLong, Elf, Image, Start}
 
@@ -102,25 +104,30 @@ IsOpened files (Some name) opened = (found : Found) × IsFound files image_limit
 abbrev pub random_bytes : List ℕ
 random_bytes = replicate 16 0
 
--- the machine of a plan with these arguments and this environment
-abbrev pub first_machine : Plan → List (List ℕ) → List (List ℕ) → Machine
-first_machine plan args env = record {
-  processor = start_processor plan args env;
-  memory = start_memory plan args env random_bytes;
-  fault = None;
-}
+-- how many nanoseconds of the clock a turn with an instruction takes
+abbrev pub quantum : ℕ
+quantum = 1000
 
--- a refusal, or a run: its machine, its budget, and the tree of files that it begins with
+-- the clock begins at the epoch, the streams are no terminal, and chance is zeros
+abbrev pub first_settings : Settings
+first_settings = record { epoch_seconds = 0; epoch_nanoseconds = 0; terminal = None; random = 0 ∷ [] }
+
+-- the machine of a plan with these arguments and this environment, beside this tree of files
+abbrev pub first_machine : Plan → List (List ℕ) → List (List ℕ) → Tree → Machine
+first_machine plan args env tree =
+    emulators.first_machine (start_processor plan args env) (start_memory plan args env random_bytes) (first_state tree first_settings)
+
+-- a refusal, or a run: its machine, and its budget
 pub data Asked : Type 0 where
   Refuse : Refusal → Asked
-  Run : Machine → ℕ → Tree → Asked
+  Run : Machine → ℕ → Asked
 
 -- what is asked for with this tree
 abbrev pub asked_of_tree : List (List ℕ) → Line → Plan → Tree → Asked
 asked_of_tree args line plan tree =
     if nat_lt start_limit (start_size args line.environment)
     then Refuse Start
-    else Run (first_machine plan args line.environment) line.budget tree
+    else Run (first_machine plan args line.environment tree) line.budget
 
 -- the image is looked at where the program has a plan, and before the start
 abbrev pub asked_of_plan : List (List ℕ) → Line → Plan → Result Tree Refusal → Asked

@@ -1,9 +1,6 @@
 pub mod Words
 pub mod Lines
 pub mod Answers
-pub mod Calls
-pub mod Machine
-pub mod Run
 pub mod Asked
 pub mod Saved
 pub mod Session

@@ -5,6 +5,7 @@ use Rattle.outside.specs.Output.{IsPrefix}
 use Rattle.outside.specs.Turned.{TurnedLoad}
 use Rattle.outside.specs.declared.errors.LoadError.{LoadError}
 use Rattle.outside.specs.declared.errors.LoadError.TheVariants as loads
+use Rattle.kernel_core.specs.ValidTree.{IsValidTree}
 use Rattle.kernel_core.specs.declared.tree.Tree.{Tree}
 use Rattle.fs_image.specs.Text.{text_of}
 use Rattle.o32_session.specs.Asked.{Names, image_file, program_limit, image_limit}
@@ -67,10 +68,10 @@ pub record SavesPart (name text : List ℕ) (old new : Stored) : Type 0 where
   pub created : (new.created ≡ old.created) ⊎ (new.created ≡ old.created ++ name ∷ [])
   pub turned : new.turned ≡ old.turned
 
--- the tree was saved where a file is named for it; else the store stands as it was
+-- the tree, a valid one, was saved where a file is named for it; else the store stands as it was
 abbrev pub SavesTree : Option (List ℕ) → Tree → Stored → Stored → Type 0
 SavesTree None tree old new = new ≡ old
-SavesTree (Some name) tree old new = SavesText name (text_of tree) old new
+SavesTree (Some name) tree old new = IsValidTree tree × SavesText name (text_of tree) old new
 
 -- at most a part of the tree was saved, to the file that is named for it
 abbrev pub SavesTreeInPart : Option (List ℕ) → Tree → Stored → Stored → Type 0

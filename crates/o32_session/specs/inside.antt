@@ -1,6 +1,5 @@
 pub mod Ends
 pub mod Steps
 pub mod Reader
-pub mod Turns
 pub mod Prepared
 pub mod Runs

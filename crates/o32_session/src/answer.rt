@@ -6,18 +6,9 @@ ghost use Rattle.o32_session.specs.inside.Ends.{end_of};
 
 use elf_image::ElfRefusal;
 use fs_image::ImageRefusal;
+use kernel_core::Finish;
+use o32_machine::Emulator;
 use std::fmt;
-
-/// How a run is over: as its process (wait(2)), or by the budget, which is this project's own.
-#[derive(Clone, Copy, PartialEq, Eq)]
-pub enum Finish {
-    /// The guest exited with this status, the low 8 bits of what it gave.
-    Exited(u8),
-    /// A signal killed the guest: its o32 number, 1 to 128.
-    Killed(u8),
-    /// The budget's turns are done and the guest had not ended.
-    Budget,
-}
 
 /// Why nothing was run. The names and their numbers are this project's own.
 #[derive(Clone, Copy, PartialEq, Eq)]
@@ -47,9 +38,11 @@ pub enum End {
     Killed(u8),
     /// The budget's turns are done.
     Budget,
+    /// A call of the guest waits, and nothing can come any more that would end its wait.
+    Blocked,
     /// Nothing was run.
     Refused(Refusal),
-    /// The store's count of faulty loads rose.
+    /// The store's count of faulty loads rose, or the input's count of faults.
     ReadFault,
     /// A count of faults of standard output or standard error, or the store's count of faulty writes, rose.
     WriteFault,
@@ -58,7 +51,7 @@ pub enum End {
 }
 
 /// What a session answers. (Its parts are this project's own.)
-#[derive(Clone, Copy, PartialEq, Eq)]
+#[derive(Drop)]
 pub struct Answer {
     /// The exit status of the emulator, that of [`End::status`].
     pub status: u8,
@@ -66,6 +59,8 @@ pub struct Answer {
     pub end: End,
     /// The number of turns that were finished, at most the budget, and 0 where nothing ran.
     pub turns: u64,
+    /// The emulator that made the run, in the run's last state: Some exactly where the run ended by itself.
+    pub host: Option<Emulator>,
 }
 
 impl fmt::Display for Refusal {
@@ -98,13 +93,14 @@ impl From<Finish> for End {
             Finish::Exited(status) => End::Exited(status),
             Finish::Killed(signal) => End::Killed(signal),
             Finish::Budget => End::Budget,
+            Finish::Blocked => End::Blocked,
         }
     }
 }
 
 impl End {
     /// The exit status of the emulator: that of the guest, the lesser of 128 and the signal's number or 255, 124 where
-    /// the budget is done, 125 where nothing was run, 122 and 119 for faults, and 121 for want of memory. The numbers are
+    /// the budget is done, 123 where the guest is blocked, 125 where nothing was run, 122 and 119 for faults, and 121 for want of memory. The numbers are
     /// this project's own, after those of a shell and of timeout(1).
     pub fn status(self) -> u8
         ensures status { result ≡ status_of self }
@@ -113,6 +109,7 @@ impl End {
             End::Exited(status) => status,
             End::Killed(signal) => signal.saturating_add(128),
             End::Budget => 124,
+            End::Blocked => 123,
             End::Refused(_) => 125,
             End::ReadFault => 122,
             End::WriteFault => 119,

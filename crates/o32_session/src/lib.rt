@@ -4,15 +4,13 @@
 mod answer;
 mod image;
 mod load;
-mod machine;
 mod not_run;
 mod prepare;
 mod run;
 mod save;
-#[cfg(test)]
-mod tests;
 mod top_call;
 mod words;
 
-pub use answer::{Answer, End, Finish, Refusal};
+pub use answer::{Answer, End, Refusal};
+pub use kernel_core::Finish;
 pub use top_call::session;

@@ -6,6 +6,7 @@ use crate::answer::Refusal;
 use crate::words::WordsError;
 use elf_image::ElfError;
 use fs_image::ImageError;
+use kernel_core::NoMemory;
 use outside::LoadError;
 use start_stack::StartError;
 use std::alloc::AllocError;
@@ -41,6 +42,16 @@ impl From<AllocError> for NotRun {
     ghost from_gives = { λ _ reason. reason ≡ NoMemory };
 
     fn from(_error: AllocError) -> NotRun {
+        NotRun::NoMemory
+    }
+}
+
+impl From<NoMemory> for NotRun {
+    ghost use Rattle.o32_session.specs.declared.not_run.NotRun.TheVariants as reasons;
+
+    ghost from_gives = { λ _ reason. reason ≡ reasons.NoMemory };
+
+    fn from(_error: NoMemory) -> NotRun {
         NotRun::NoMemory
     }
 }

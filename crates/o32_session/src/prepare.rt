@@ -6,34 +6,36 @@ ghost use Rattle.elf_image.specs.Loading as plans;
 ghost use Rattle.kernel_core.specs.ValidTree as trees;
 ghost use Rattle.o32_session.specs.Words.{texts, read_words};
 ghost use Rattle.o32_session.specs.inside.Reader.{line_seen};
-ghost use Rattle.o32_session.specs.Asked.{asked_of_tree, names_of, Run};
+ghost use Rattle.native_kernel.specs.Settings.{settings_of};
+ghost use Rattle.schedule.specs.Ranges.{IsGivenSchedule};
+ghost use Rattle.o32_session.specs.Asked.{asked_of_tree, first_settings, names_of, quantum, Run};
+ghost use Rattle.o32_session.specs.inside.Runs.{IsFresh};
 ghost use Rattle.o32_session.specs.inside.Prepared.{IsElfReason, IsPlanned, IsStartReason, IsPrepared, IsPreparedLine, ReasonOnlyIfRose, turned_at, turned_if, turned_reading};
 ghost use Rattle.o32_session.specs.Saved.{stored_of, after_turned, turned_by};
 ghost use Rattle.o32_session.specs.declared.load.SessionFile.TheVariants as which;
 
 use crate::image::first_tree;
 use crate::load::{SessionFile, load_file};
-use crate::machine::Machine;
 use crate::not_run::NotRun;
 use crate::words::{RunLine, read, word_at};
 use elf_image::{Plan, parse};
 use kernel_core::Tree;
+use o32_machine::Emulator;
 use outside::Store;
+use schedule::{Schedule, parse as parse_schedule};
 use start_stack::build;
 use std::alloc::Global;
 
 /// The guest's sixteen random bytes.
 const RANDOM_BYTES: [u8; 16] = [0; 16];
 
-/// A machine that is ready to run.
+/// An emulator that is ready to run.
 #[derive(Drop)]
 pub(crate) struct Ready {
-    /// The machine at its first instruction.
-    pub machine: Machine,
+    /// The emulator of the program at its first instruction.
+    pub emulator: Emulator,
     /// The most turns that it may take.
     pub budget: u64,
-    /// The tree of files that it begins with.
-    pub tree: Tree,
     /// The index of the name of the file that the final tree is saved to, where it is saved.
     pub save: Option<usize>,
 }
@@ -59,7 +61,21 @@ fn load_plan<F: Store>(alloc: Global, name: &str, files: &mut F) -> Result<Plan,
     plan_of_file(alloc, &bytes)
 }
 
-/// The machine of a plan with these arguments, beside this tree of files.
+/// The schedule of every run so far, that of an empty text.
+#[tactic(auto, unfolding(schedule::specs::Grammar::meaning_of))]
+fn first_schedule(alloc: Global) -> Result<Schedule, NotRun>
+    ensures given { IfOk result IsGivenSchedule }
+    ensures quantum { IfOk result (λ schedule. schedule.quantum ≡ quantum) }
+    ensures settings { IfOk result (λ schedule. settings_of schedule ≡ first_settings) }
+    ensures reason { IfErr result (λ reason. reason ≡ NotRun.NoMemory) }
+{
+    match parse_schedule(alloc, b"") {
+        Ok(schedule) => Ok(schedule),
+        Err(_) => Err(NotRun::NoMemory),
+    }
+}
+
+/// The emulator of a plan with these arguments, beside this tree of files.
 fn machine_of_plan(
     alloc: Global,
     args: &[String],
@@ -70,16 +86,18 @@ fn machine_of_plan(
     requires named { 0 < length args.now }
     requires plan { plans.IsValidPlan plan.now }
     requires tree { trees.IsValidTree tree }
-    ensures ready { IfOk result (λ ready. asked_of_tree (texts args.now) (line_seen line) plan.now tree ≡ Run ready.machine ready.budget ready.tree) }
-    ensures tree { IfOk result (λ ready. trees.IsValidTree ready.tree) }
+    requires bounded { line.budget ≤ 1_000_000_000_000 }
+    ensures ready { IfOk result (λ ready. asked_of_tree (texts args.now) (line_seen line) plan.now tree ≡ Run ready.emulator.machine ready.budget) }
+    ensures fresh { IfOk result (λ ready. IsFresh ready.emulator) }
+    ensures bounded { IfOk result (λ ready. ready.budget ≤ 1_000_000_000_000) }
     ensures save { IfOk result (λ ready. ready.save ≡ line.save) }
     ensures reason { IfErr result (IsStartReason (asked_of_tree (texts args.now) (line_seen line) plan.now tree)) }
 {
     let start = build(alloc, plan, args, line.environment.as_slice(), RANDOM_BYTES)?;
+    let schedule = first_schedule(alloc)?;
     Ok(Ready {
-        machine: Machine::new(start.cpu, start.space),
+        emulator: Emulator::new(alloc, start, tree, schedule)?,
         budget: line.budget,
-        tree,
         save: line.save,
     })
 }
@@ -91,7 +109,8 @@ pub(crate) fn prepare<F: Store>(
     files: &mut F,
 ) -> Result<Ready, NotRun>
     ensures prepared { IsPrepared (texts words.now) (read_words (texts words.now)) (F.files files.old) result }
-    ensures tree { IfOk result (λ ready. trees.IsValidTree ready.tree) }
+    ensures fresh { IfOk result (λ ready. IsFresh ready.emulator) }
+    ensures bounded { IfOk result (λ ready. ready.budget ≤ 1_000_000_000_000) }
     ensures turned { stored_of F.files F.created F.turned_away F.write_faults files.new
         ≡ after_turned (stored_of F.files F.created F.turned_away F.write_faults files.old)
         (turned_reading (texts words.now) (read_words (texts words.now)) result) }
@@ -109,9 +128,11 @@ fn prepare_line<F: Store>(
     line: RunLine,
     files: &mut F,
 ) -> Result<Ready, NotRun>
-    requires { line.program < length words.now }
+    requires program { line.program < length words.now }
+    requires bounded { line.budget ≤ 1_000_000_000_000 }
     ensures prepared { IsPreparedLine (texts words.now) (line_seen line) (F.files files.old) result }
-    ensures tree { IfOk result (λ ready. trees.IsValidTree ready.tree) }
+    ensures fresh { IfOk result (λ ready. IsFresh ready.emulator) }
+    ensures bounded { IfOk result (λ ready. ready.budget ≤ 1_000_000_000_000) }
     ensures turned { stored_of F.files F.created F.turned_away F.write_faults files.new
         ≡ after_turned (stored_of F.files F.created F.turned_away F.write_faults files.old)
         (turned_if (turned_by (names_of (texts words.now) (line_seen line))) result) }

@@ -1,12 +1,12 @@
 //! A whole run, turn by turn.
-ghost use Rattle.std.specs.Prelude.{◌≤◌};
-ghost use Rattle.o32_session.specs.inside.Runs.{RunsTo, EndsOnlyIfRose};
+ghost use Rattle.std.specs.Prelude.{◌≡◌, ◌≤◌};
+ghost use Rattle.kernel_model.specs.Stops.{StopsOnlyIfRose};
+ghost use Rattle.o32_session.specs.inside.Runs.{IsFresh, RunsAs, WithinBudget};
+ghost use Rattle.outside.specs.Streams.{NoCountFell, contents};
 
-use crate::answer::Finish;
-use crate::machine::{Machine, Turn};
-use kernel_core::Stop;
-use outside::Sink;
-use std::alloc::Global;
+use kernel_core::{Finish, Stop};
+use o32_machine::{Emulator, Turn};
+use outside::{Devices, Sink, Source};
 
 /// What a run came to.
 #[derive(Clone, Copy)]
@@ -17,31 +17,40 @@ pub(crate) struct Ran {
     pub turns: u64,
 }
 
-/// Runs the machine for at most `budget` turns.
-pub(crate) fn run<O: Sink>(alloc: Global, mut machine: Machine, budget: u64, out: &mut O) -> Ran
-    ensures run { RunsTo machine budget result.turns result.end (O.written out.old) (O.written out.new) }
-    ensures cause { EndsOnlyIfRose result.end (O.faults out.old) (O.faults out.new) }
-    ensures later { O.faults out.old ≤ O.faults out.new }
+/// Runs a fresh emulator for at most `budget` turns.
+pub(crate) fn run<I: Source, O: Sink, E: Sink>(
+    emulator: &mut Emulator,
+    budget: u64,
+    dev: &mut Devices<I, O, E>,
+) -> Ran
+    requires fresh { IsFresh emulator.old }
+    requires budget { budget ≤ 1_000_000_000_000 }
+    ensures run { RunsAs emulator.old.machine budget result.turns result.end
+        (contents I.left O.written E.written dev.old) (contents I.left O.written E.written dev.new) emulator.new.machine }
+    ensures within { WithinBudget result.end result.turns budget }
+    ensures turns { emulator.new.turns ≡ result.turns }
+    ensures cause { StopsOnlyIfRose I.faults O.faults E.faults result.end dev.old dev.new }
+    ensures counts { NoCountFell I.faults O.faults E.faults dev.old dev.new }
 {
-    for turns in 0..budget {
-        match machine.turn(alloc, out) {
+    for turn in 0..budget {
+        match emulator.turn(dev) {
             Ok(Turn::Went) => {}
-            Ok(Turn::Ended(end)) => {
+            Ok(Turn::Ended(finish)) => {
                 return Ran {
-                    end: Ok(end),
-                    turns: turns + 1,
+                    end: Ok(finish),
+                    turns: emulator.turns(),
                 };
             }
             Err(stop) => {
                 return Ran {
                     end: Err(stop),
-                    turns,
+                    turns: emulator.turns(),
                 };
             }
         }
     }
     Ran {
         end: Ok(Finish::Budget),
-        turns: budget,
+        turns: emulator.turns(),
     }
 }

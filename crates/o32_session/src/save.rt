@@ -1,15 +1,17 @@
 //! The final tree of a run, saved to a file.
-ghost use Rattle.std.specs.Prelude.{◌≡◌, ◌≤◌, OnOk, OnErr, option_map};
+ghost use Rattle.std.specs.Prelude.{◌≡◌, ◌≤◌, OnOk, OnErr, Some, option_map};
 ghost use Rattle.kernel_core.specs.ValidTree.{IsValidTree};
 ghost use Rattle.fs_image.specs.Text.{text_of};
 ghost use Rattle.outside.specs.Causes.{FailsOnlyIfRose};
 ghost use Rattle.o32_session.specs.inside.Runs.{SavesOrStops};
 ghost use Rattle.o32_session.specs.Saved.{stored_of, SavesText, SavesPart};
+ghost use Rattle.o32_session.specs.Session.{final_tree};
 ghost use Rattle.o32_session.specs.Words.{texts, word_at};
 
 use crate::words::word_at;
 use fs_image::encode;
-use kernel_core::Tree;
+use kernel_core::{NoMemory, Tree};
+use o32_machine::Emulator;
 use outside::{DevError, Store};
 use std::alloc::Global;
 
@@ -53,23 +55,41 @@ fn write_image<F: Store>(name: &str, image: &[u8], files: &mut F) -> Result<(), 
     files.append(name, image)
 }
 
+/// Saves the tree of the files that a run leaves to the file of this name.
+fn save_run<F: Store>(
+    alloc: Global,
+    name: &str,
+    emulator: &Emulator,
+    files: &mut F,
+) -> Result<(), DevError>
+    ensures saved { SavesOrStops (Some name.now) (final_tree emulator.now.machine) result
+        (stored_of F.files F.created F.turned_away F.write_faults files.old)
+        (stored_of F.files F.created F.turned_away F.write_faults files.new) }
+    ensures later { F.write_faults files.old ≤ F.write_faults files.new }
+    ensures loads { F.load_faults files.new ≡ F.load_faults files.old }
+{
+    match emulator.tree() {
+        Ok(tree) => save_tree(alloc, name, &tree, files),
+        Err(NoMemory) => Err(DevError::NoMemory),
+    }
+}
+
 /// Saves the final tree to the file whose name is at index `save` of the words, where it is saved.
 pub(crate) fn save_final<F: Store>(
     alloc: Global,
     words: &[String],
     save: Option<usize>,
-    tree: &Tree,
+    emulator: &Emulator,
     files: &mut F,
 ) -> Result<(), DevError>
-    requires { IsValidTree tree.now }
-    ensures saved { SavesOrStops (option_map (word_at (texts words.now)) save) tree.now result
+    ensures saved { SavesOrStops (option_map (word_at (texts words.now)) save) (final_tree emulator.now.machine) result
         (stored_of F.files F.created F.turned_away F.write_faults files.old)
         (stored_of F.files F.created F.turned_away F.write_faults files.new) }
     ensures later { F.write_faults files.old ≤ F.write_faults files.new }
     ensures loads { F.load_faults files.new ≡ F.load_faults files.old }
 {
     match save {
-        Some(at) => save_tree(alloc, word_at(words, at), tree, files),
+        Some(at) => save_run(alloc, word_at(words, at), emulator, files),
         None => Ok(()),
     }
 }

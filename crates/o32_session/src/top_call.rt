@@ -1,27 +1,27 @@
 //! The top call: from words and devices to an answer.
-ghost use Rattle.std.specs.Prelude.{ℕ, ◌≡◌, ◌≤◌, ◌⊎◌, [], OnOk, OnErr, option_map};
+ghost use Rattle.std.specs.Prelude.{ℕ, List, ◌≡◌, ◌≤◌, ◌⊎◌, [], OnOk, OnErr, Some, None, option_map};
 ghost use Rattle.outside.specs.Causes.{FailsOnlyIfRose};
 ghost use Rattle.outside.specs.Count.{Rose};
 ghost use Rattle.outside.specs.Output.{GainsText, GainsBetween};
 ghost use Rattle.outside.specs.Streams.{NoCountFell};
-ghost use Rattle.o32_session.specs.Answers.{status_of};
-ghost use Rattle.o32_session.specs.inside.Ends.{end_of_stop};
+ghost use Rattle.o32_session.specs.Answers.{IsRefusal, finish_of, status_of};
+ghost use Rattle.o32_session.specs.Asked.{Names, Run};
+ghost use Rattle.o32_session.specs.inside.Ends.{end_of, end_of_error, end_of_stop};
 ghost use Rattle.o32_session.specs.Lines.{line_of};
-ghost use Rattle.o32_session.specs.Machine.{Machine};
 ghost use Rattle.o32_session.specs.inside.Prepared.{EndsRefused, EndsWithoutRun};
-ghost use Rattle.o32_session.specs.inside.Runs.{RanIntoAnswer, end_of_save};
-ghost use Rattle.o32_session.specs.Session.{AnswersWords, AsksForRun, IsRunEnd, seen_of};
+ghost use Rattle.o32_session.specs.inside.Runs.{AnswersRun, IsFresh};
+ghost use Rattle.o32_session.specs.Session.{Answers, AnswersWords, AsksForRun, EndsAsRun, seen_of};
 ghost use Rattle.o32_session.specs.Saved.{stored_of};
 ghost use Rattle.o32_session.specs.SavedFile.{SavesWords};
 ghost use Rattle.o32_session.specs.Words.{texts, word_at};
-ghost use Rattle.kernel_core.specs.ValidTree.{IsValidTree};
 
-use crate::answer::{Answer, End, Finish, Refusal};
+use crate::answer::{Answer, End, Refusal};
 use crate::not_run::NotRun;
 use crate::prepare::{Ready, prepare};
 use crate::run::run;
 use crate::save::save_final;
-use kernel_core::Stop;
+use kernel_core::{Finish, Stop};
+use o32_machine::Emulator;
 use outside::{DevError, Devices, Sink, Source, Store};
 use std::alloc::Global;
 
@@ -37,15 +37,29 @@ impl From<Stop> for End {
     }
 }
 
-impl Answer {
-    fn new(end: End, turns: u64) -> Answer
-        ensures { result ≡ record { status = status_of end; end = end; turns = turns } }
-    {
-        Answer {
-            status: end.status(),
-            end,
-            turns,
+impl From<DevError> for End {
+    ghost from_gives = { λ error end. end ≡ end_of_error error };
+
+    fn from(error: DevError) -> End {
+        match error {
+            DevError::Failed => End::WriteFault,
+            DevError::NoMemory => End::NoMemory,
         }
+    }
+}
+
+/// The answer of a session that ends so after these turns, and hands this emulator out.
+fn answer_of(end: End, turns: u64, host: Option<Emulator>) -> Answer
+    ensures status { result.status ≡ status_of end }
+    ensures end { result.end ≡ end }
+    ensures turns { result.turns ≡ turns }
+    ensures host { result.host ≡ host }
+{
+    Answer {
+        status: end.status(),
+        end,
+        turns,
+        host,
     }
 }
 
@@ -98,30 +112,36 @@ pub fn session<F: Store, I: Source, O: Sink, E: Sink>(
     files: &mut F,
     dev: &mut Devices<I, O, E>,
 ) -> Answer
-    // What the words, the files and the machine say: each refusal and its line, the run's end, turns and output, the file
-    // of the final tree, and the moment of the run at an early stop. Each says what became of the whole store.
+    // What the words, the files, the input and the machine say: each refusal and its line; the run's end, turns, outputs and what it leaves of the
+    // input, the file of the final tree, and the emulator in its last state; the moment of the run at an early stop. Each says what became of the
+    // whole store.
     ensures answer { AnswersWords (texts words.now)
-        (seen_of O.written E.written O.faults E.faults dev.old (stored_of F.files F.created F.turned_away F.write_faults files.old))
-        (seen_of O.written E.written O.faults E.faults dev.new (stored_of F.files F.created F.turned_away F.write_faults files.new))
-        result.turns result.end }
+        (seen_of I.left O.written E.written I.faults O.faults E.faults dev.old (stored_of F.files F.created F.turned_away F.write_faults files.old))
+        (seen_of I.left O.written E.written I.faults O.faults E.faults dev.new (stored_of F.files F.created F.turned_away F.write_faults files.new))
+        result.turns result.end result.host }
     ensures status { result.status ≡ status_of result.end }
+    ensures no_host { finish_of result.end ≡ None → result.host ≡ None }
 
-    // The same of the files alone: after each finish that of `--save` holds the image of the final tree, and no other
-    // changes.
+    // A refusal leaves the input as it was.
+    ensures input { IsRefusal result.end → dev.new.input ≡ dev.old.input }
+
+    // The same of the files alone: after each finish that of `--save` holds the image of a tree, and no other changes.
     ensures saved { SavesWords (texts words.now) result.end (F.files files.old) (F.files files.new) }
 
-    // Where a run is asked for and no device failed, the answer is the run's end, unless memory ran out.
-    ensures complete { (machine : Machine) (budget : ℕ) → AsksForRun (texts words.now) (F.files files.old) machine budget
+    // Where a run is asked for, the input tells what is left of it, and no device failed, the answer is the run's end, unless memory ran out.
+    ensures complete { (run : AsksForRun (texts words.now) (F.files files.old)) (left : List ℕ) → I.left dev.old.input ≡ Some left
         → (Rose (F.load_faults files.old) (F.load_faults files.new) → ⊥)
+        → (Rose (I.faults dev.old.input) (I.faults dev.new.input) → ⊥)
         → (Rose (F.write_faults files.old) (F.write_faults files.new) → ⊥)
         → (Rose (O.faults dev.old.out) (O.faults dev.new.out) → ⊥)
-        → (result.end ≡ End.NoMemory) ⊎ IsRunEnd machine budget result.turns result.end }
+        → (Rose (E.faults dev.old.err) (E.faults dev.new.err) → ⊥)
+        → (result.end ≡ End.NoMemory) ⊎ EndsAsRun (texts words.now) (F.files files.old) run left result.turns result.end }
 
-    // A read fault has its cause in the count of faulty loads; a write fault's cause stands in the answer.
-    ensures read_fault { result.end ≡ End.ReadFault → Rose (F.load_faults files.old) (F.load_faults files.new) }
+    // A read fault has its cause in the count of faulty loads or in that of the input; a write fault's cause stands in the answer.
+    ensures read_fault { result.end ≡ End.ReadFault
+        → Rose (F.load_faults files.old) (F.load_faults files.new) ⊎ Rose (I.faults dev.old.input) (I.faults dev.new.input) }
 
-    // What stays, and that no count falls.
-    ensures input { dev.new.input ≡ dev.old.input }
+    // No count falls.
     ensures later { NoCountFell I.faults O.faults E.faults dev.old dev.new }
     ensures loads_later { F.load_faults files.old ≤ F.load_faults files.new }
     ensures writes_later { F.write_faults files.old ≤ F.write_faults files.new }
@@ -137,56 +157,77 @@ fn answer_words<F: Store, I: Source, O: Sink, E: Sink>(
     dev: &mut Devices<I, O, E>,
 ) -> Answer
     ensures answer { AnswersWords (texts words.now)
-        (seen_of O.written E.written O.faults E.faults dev.old (stored_of F.files F.created F.turned_away F.write_faults files.old))
-        (seen_of O.written E.written O.faults E.faults dev.new (stored_of F.files F.created F.turned_away F.write_faults files.new))
-        result.turns result.end }
+        (seen_of I.left O.written E.written I.faults O.faults E.faults dev.old (stored_of F.files F.created F.turned_away F.write_faults files.old))
+        (seen_of I.left O.written E.written I.faults O.faults E.faults dev.new (stored_of F.files F.created F.turned_away F.write_faults files.new))
+        result.turns result.end result.host }
     ensures status { result.status ≡ status_of result.end }
-    ensures read_fault { result.end ≡ End.ReadFault → Rose (F.load_faults files.old) (F.load_faults files.new) }
-    ensures input { dev.new.input ≡ dev.old.input }
+    ensures no_host { finish_of result.end ≡ None → result.host ≡ None }
+    ensures input { IsRefusal result.end → dev.new.input ≡ dev.old.input }
+    ensures read_fault { result.end ≡ End.ReadFault
+        → Rose (F.load_faults files.old) (F.load_faults files.new) ⊎ Rose (I.faults dev.old.input) (I.faults dev.new.input) }
     ensures later { NoCountFell I.faults O.faults E.faults dev.old dev.new }
     ensures loads_later { F.load_faults files.old ≤ F.load_faults files.new }
     ensures writes_later { F.write_faults files.old ≤ F.write_faults files.new }
 {
     match prepare(alloc, words, files) {
-        Ok(ready) => run_ready(alloc, words, ready, files, &mut dev.out),
-        Err(reason) => Answer::new(end_without_run(alloc, reason, &mut dev.err), 0),
+        Ok(ready) => run_ready(alloc, words, ready, files, dev),
+        Err(reason) => answer_of(end_without_run(alloc, reason, &mut dev.err), 0, None),
     }
 }
 
-/// Runs a machine that is ready, and saves the final tree. The guest has no call on files yet, so that is the first one.
-fn run_ready<F: Store, O: Sink>(
+/// Runs an emulator that is ready, and saves the final tree.
+fn run_ready<F: Store, I: Source, O: Sink, E: Sink>(
     alloc: Global,
     words: &[String],
     ready: Ready,
     files: &mut F,
-    out: &mut O,
+    dev: &mut Devices<I, O, E>,
 ) -> Answer
-    requires { IsValidTree ready.tree }
-    ensures run { RanIntoAnswer ready.machine ready.budget ready.tree (option_map (word_at (texts words.now)) ready.save) result
-        (O.written out.old) (O.written out.new) (O.faults out.old) (O.faults out.new)
-        (stored_of F.files F.created F.turned_away F.write_faults files.old)
-        (stored_of F.files F.created F.turned_away F.write_faults files.new) }
-    ensures later { O.faults out.old ≤ O.faults out.new }
+    requires fresh { IsFresh ready.emulator }
+    requires bounded { ready.budget ≤ 1_000_000_000_000 }
+    ensures run { (names : Names) → names.save ≡ option_map (word_at (texts words.now)) ready.save
+        → Answers (Run ready.emulator.machine ready.budget) names
+        (seen_of I.left O.written E.written I.faults O.faults E.faults dev.old (stored_of F.files F.created F.turned_away F.write_faults files.old))
+        (seen_of I.left O.written E.written I.faults O.faults E.faults dev.new (stored_of F.files F.created F.turned_away F.write_faults files.new))
+        result.turns result.end result.host }
+    ensures status { result.status ≡ status_of result.end }
+    ensures no_host { finish_of result.end ≡ None → result.host ≡ None }
+    ensures read_fault { result.end ≡ End.ReadFault → Rose (I.faults dev.old.input) (I.faults dev.new.input) }
+    ensures later { NoCountFell I.faults O.faults E.faults dev.old dev.new }
     ensures loads { F.load_faults files.new ≡ F.load_faults files.old }
     ensures writes_later { F.write_faults files.old ≤ F.write_faults files.new }
 {
-    let ran = run(alloc, ready.machine, ready.budget, out);
+    let Ready {
+        mut emulator,
+        budget,
+        save,
+    } = ready;
+    let ran = run(&mut emulator, budget, dev);
     match ran.end {
-        Ok(finish) => {
-            let saved = save_final(alloc, words, ready.save, &ready.tree, files);
-            Answer::new(end_after_save(finish, saved), ran.turns)
-        }
-        Err(stop) => Answer::new(End::from(stop), ran.turns),
+        Ok(finish) => answer_run(alloc, words, save, emulator, finish, files),
+        Err(stop) => answer_of(End::from(stop), ran.turns, None),
     }
 }
 
-/// The end of a run that is over so, by what came of the save.
-fn end_after_save(finish: Finish, saved: Result<(), DevError>) -> End
-    ensures { result ≡ end_of_save finish saved }
+/// The answer of a run that is over so, once its final tree is saved.
+fn answer_run<F: Store>(
+    alloc: Global,
+    words: &[String],
+    save: Option<usize>,
+    emulator: Emulator,
+    finish: Finish,
+    files: &mut F,
+) -> Answer
+    ensures answer { AnswersRun (option_map (word_at (texts words.now)) save) emulator finish result
+        (stored_of F.files F.created F.turned_away F.write_faults files.old)
+        (stored_of F.files F.created F.turned_away F.write_faults files.new) }
+    ensures status { result.status ≡ status_of result.end }
+    ensures loads { F.load_faults files.new ≡ F.load_faults files.old }
+    ensures writes_later { F.write_faults files.old ≤ F.write_faults files.new }
 {
-    match saved {
-        Ok(()) => End::from(finish),
-        Err(DevError::Failed) => End::WriteFault,
-        Err(DevError::NoMemory) => End::NoMemory,
+    let turns = emulator.turns();
+    match save_final(alloc, words, save, &emulator, files) {
+        Ok(()) => answer_of(End::from(finish), turns, Some(emulator)),
+        Err(error) => answer_of(End::from(error), turns, None),
     }
 }

@@ -1,13 +1,15 @@
 -- How the program ends. This project's own.
-use Rattle.std.specs.Prelude.{ℕ, ◌≡◌, List}
+use Rattle.std.specs.Prelude.{ℕ, ◌≡◌, List, Option}
+use Rattle.o32_machine.specs.Emulator.{Emulated}
 use Rattle.o32_session.specs.Answers.{status_of}
 use Rattle.o32_session.specs.Session.{Seen, AnswersWords}
 use Rattle.o32_session.specs.declared.answer.End.{End}
 
--- A session of these words was carried out, with what its answer says of outputs and files, and the status is that of its
--- end.
+-- A session of these words was carried out, with what its answer says of the input, outputs and files, and the status is
+-- that of its end.
 pub record EndsAs (words : List (List ℕ)) (old new : Seen) (status : ℕ) : Type 0 where
   pub turns : ℕ
   pub end : End
-  pub answered : AnswersWords words old new turns end
+  pub host : Option Emulated
+  pub answered : AnswersWords words old new turns end host
   pub ended : status ≡ status_of end

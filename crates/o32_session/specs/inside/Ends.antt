@@ -1,19 +1,27 @@
 -- Which end of a session the values of its steps stand for.
+use Rattle.outside.specs.declared.errors.DevError.{DevError}
+use Rattle.outside.specs.declared.errors.DevError.TheVariants as device
 use Rattle.kernel_core.specs.declared.core_error.Stop.{Stop}
 use Rattle.kernel_core.specs.declared.core_error.Stop.TheVariants as stops
 use Rattle.o32_session.specs.declared.answer.End.{End}
 use Rattle.o32_session.specs.declared.answer.End.TheVariants as ends
-use Rattle.o32_session.specs.declared.answer.Finish.{Finish}
-use Rattle.o32_session.specs.declared.answer.Finish.TheVariants.{Exited, Killed, Budget}
+use Rattle.kernel_core.specs.declared.finish.Finish.{Finish}
+use Rattle.kernel_core.specs.declared.finish.Finish.TheVariants.{Exited, Killed, Budget, Blocked}
 
 -- the end of a run that is over so
 abbrev pub end_of : Finish → End
 end_of (Exited status) = ends.Exited status
 end_of (Killed signal) = ends.Killed signal
 end_of Budget = ends.Budget
+end_of Blocked = ends.Blocked
 
 -- the end of a session whose run stopped early
 abbrev pub end_of_stop : Stop → End
 end_of_stop stops.WriteFault = ends.WriteFault
 end_of_stop stops.ReadFault = ends.ReadFault
 end_of_stop stops.NoMemory = ends.NoMemory
+
+-- the end of a session whose final tree was not saved
+abbrev pub end_of_error : DevError → End
+end_of_error device.Failed = ends.WriteFault
+end_of_error device.NoMemory = ends.NoMemory

@@ -166,7 +166,7 @@ IsStartReason asked NoMemory = ⊤
 -- what is asked for by a line is ready, with the index of the file that its tree is saved to
 abbrev pub IsPreparedLine : List (List ℕ) → Line → Option Files → Result Ready NotRun → Type 0
 IsPreparedLine words line told (Ok ready) =
-    AsksFor words line told (Run ready.machine ready.budget ready.tree) × (ready.save ≡ line.save)
+    AsksFor words line told (Run ready.emulator.machine ready.budget) × (ready.save ≡ line.save)
 IsPreparedLine words line told (Err (Refused refusal)) = AsksFor words line told (Refuse refusal)
 IsPreparedLine words line told (Err ReadFault) = ⊤
 IsPreparedLine words line told (Err NoMemory) = ⊤
@@ -194,6 +194,7 @@ EndsRefused refusal ends.ReadFault old new = ⊥
 EndsRefused refusal (ends.Exited status) old new = ⊥
 EndsRefused refusal (ends.Killed signal) old new = ⊥
 EndsRefused refusal ends.Budget old new = ⊥
+EndsRefused refusal ends.Blocked old new = ⊥
 
 -- where nothing is run, a refusal writes its line, and a fault or want of memory nothing
 abbrev pub EndsWithoutRun : NotRun → End → Option (List ℕ) → Option (List ℕ) → Type 0

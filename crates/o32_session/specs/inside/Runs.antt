@@ -1,44 +1,69 @@
--- How the answer of the loop over the turns stands for the run.
-use Rattle.std.specs.Prelude.{ℕ, ◌≡◌, ◌≢◌, ◌+◌, List, [], Option, Result, Ok, Err, ⊤}
+-- How the answer of the loop over the turns stands for the run, and what follows it.
+use Rattle.std.specs.Prelude.{ℕ, ◌≡◌, ◌+◌, ◌<◌, ◌≤◌, ◌⊎◌, false, List, Option, Some, None, Result, Ok, Err}
 use Rattle.outside.specs.Output.{GainsText, GainsBetween}
 use Rattle.outside.specs.Count.{Rose}
+use Rattle.outside.specs.Streams.{Contents}
 use Rattle.outside.specs.declared.errors.DevError.{DevError}
 use Rattle.outside.specs.declared.errors.DevError.TheVariants as device
-use Rattle.kernel_core.specs.declared.tree.Tree.{Tree}
-use Rattle.o32_session.specs.Machine.{Machine, turn_of}
-use Rattle.o32_session.specs.Run.{IsOverAt, GoesOnAt, output_at, state_at}
-use Rattle.o32_session.specs.Saved.{Stored, SavesTree, SavesTreeInPart}
 use Rattle.kernel_core.specs.declared.core_error.Stop.{Stop}
-use Rattle.kernel_core.specs.declared.core_error.Stop.TheVariants.{WriteFault, ReadFault, NoMemory}
+use Rattle.kernel_core.specs.declared.finish.Finish.{Finish}
+use Rattle.kernel_core.specs.declared.tree.Tree.{Tree}
+use Rattle.o32_machine.specs.Emulator.{Emulated}
+use Rattle.o32_model.specs.Runs.{IsOverAt, IsRunningAt, reached}
+use Rattle.o32_model.specs.Turn.{Machine}
 use Rattle.o32_session.specs.Answers.{status_of}
-use Rattle.o32_session.specs.inside.Ends.{end_of, end_of_stop}
+use Rattle.o32_session.specs.Asked.{quantum}
+use Rattle.o32_session.specs.Saved.{Stored, SavesTree, SavesTreeInPart}
+use Rattle.o32_session.specs.Session.{final_tree}
+use Rattle.o32_session.specs.inside.Ends.{end_of}
 use Rattle.o32_session.specs.declared.answer.Answer.{Answer}
-use Rattle.o32_session.specs.declared.answer.End.{End}
 use Rattle.o32_session.specs.declared.answer.End.TheVariants as ends
-use Rattle.o32_session.specs.declared.answer.Finish.{Finish}
 
--- a run stops so only in a turn that writes, where it stops for a write fault
-abbrev pub StopsWriting : Machine → Stop → Type 0
-StopsWriting machine WriteFault = (turn_of machine).output ≢ []
-StopsWriting machine ReadFault = ⊥
-StopsWriting machine NoMemory = ⊤
+-- an emulator that has taken no turn
+pub record IsFresh (emulated : Emulated) : Type 0 where
+  pub long : emulated.quantum ≡ quantum
+  pub none : emulated.turns ≡ 0
+  pub on : emulated.over ≡ false
 
--- A run that is over wrote its whole output; one that stopped early wrote that of the turns finished, and a part of
--- the next turn's.
-abbrev pub RunsTo : Machine → ℕ → ℕ → Result Finish Stop → Option (List ℕ) → Option (List ℕ) → Type 0
-RunsTo machine budget turns (Ok finish) old new =
-    IsOverAt machine budget turns finish × GainsText old new (output_at machine turns)
-RunsTo machine budget turns (Err stop) old new =
-    GoesOnAt machine budget turns
-    × (GainsBetween old new (output_at machine turns) (output_at machine (turns + 1))
-    × StopsWriting (state_at machine turns).machine stop)
+-- after these turns the run goes on so, or waits: what was taken and written since the start, and the machine
+pub record IsSoFar (machine : Machine) (left : List ℕ) (turns : ℕ) (before after : Contents) (now : Machine) : Type 0 where
+  pub same : (reached quantum machine left turns).machine ≡ now
+  pub alive : (reached quantum machine left turns).over ≡ None
+  pub first : (j : ℕ) → j < turns → IsRunningAt quantum machine left j
+  pub rest : after.left ≡ Some (reached quantum machine left turns).left
+  pub to_out : GainsText before.out after.out (reached quantum machine left turns).sent.out
+  pub to_err : GainsText before.err after.err (reached quantum machine left turns).sent.err
 
--- a write fault comes only where the count rose
-abbrev pub EndsOnlyIfRose : Result Finish Stop → ℕ → ℕ → Type 0
-EndsOnlyIfRose (Ok finish) before now = ⊤
-EndsOnlyIfRose (Err WriteFault) before now = Rose before now
-EndsOnlyIfRose (Err ReadFault) before now = ⊥
-EndsOnlyIfRose (Err NoMemory) before now = ⊤
+abbrev pub GoesSo : Machine → ℕ → Contents → Contents → Machine → Type 0
+GoesSo machine turns before after now = (left : List ℕ) → before.left ≡ Some left → IsSoFar machine left turns before after now
+
+-- the run is over so
+pub record IsOver (machine : Machine) (left : List ℕ) (budget turns : ℕ) (finish : Finish) (before after : Contents) (final : Machine) : Type 0 where
+  pub over : IsOverAt quantum machine left budget turns finish
+  pub leaves : final ≡ (reached quantum machine left turns).machine
+  pub rest : after.left ≡ Some (reached quantum machine left turns).left
+  pub to_out : GainsText before.out after.out (reached quantum machine left turns).sent.out
+  pub to_err : GainsText before.err after.err (reached quantum machine left turns).sent.err
+
+-- the run stopped in the turn after these
+pub record IsCut (machine : Machine) (left : List ℕ) (turns : ℕ) (before after : Contents) : Type 0 where
+  pub running : IsRunningAt quantum machine left turns
+  pub rest : (after.left ≡ Some (reached quantum machine left turns).left) ⊎ (after.left ≡ Some (reached quantum machine left (turns + 1)).left)
+  pub to_out : GainsBetween before.out after.out (reached quantum machine left turns).sent.out (reached quantum machine left (turns + 1)).sent.out
+  pub to_err : GainsBetween before.err after.err (reached quantum machine left turns).sent.err (reached quantum machine left (turns + 1)).sent.err
+
+abbrev pub RunsTo : Machine → List ℕ → ℕ → ℕ → Result Finish Stop → Contents → Contents → Machine → Type 0
+RunsTo machine left budget turns (Ok finish) before after final = IsOver machine left budget turns finish before after final
+RunsTo machine left budget turns (Err stop) before after final = IsCut machine left turns before after
+
+abbrev pub RunsAs : Machine → ℕ → ℕ → Result Finish Stop → Contents → Contents → Machine → Type 0
+RunsAs machine budget turns end before after final =
+    (left : List ℕ) → before.left ≡ Some left → RunsTo machine left budget turns end before after final
+
+-- a run that stopped early has turns left
+abbrev pub WithinBudget : Result Finish Stop → ℕ → ℕ → Type 0
+WithinBudget (Ok finish) turns budget = turns ≤ budget
+WithinBudget (Err stop) turns budget = turns < budget
 
 -- the final tree was saved where a file is named for it, or at most a part of it, with the cause of a fault
 abbrev pub SavesOrStops : Option (List ℕ) → Tree → Result (Unit {0}) DevError → Stored → Stored → Type 0
@@ -46,23 +71,19 @@ SavesOrStops name tree (Ok done) old new = SavesTree name tree old new
 SavesOrStops name tree (Err device.Failed) old new = SavesTreeInPart name tree old new × Rose old.write_faults new.write_faults
 SavesOrStops name tree (Err device.NoMemory) old new = SavesTreeInPart name tree old new
 
--- the end of a run that is over so, by what came of the final tree
-abbrev pub end_of_save : Finish → Result (Unit {0}) DevError → End
-end_of_save finish (Ok done) = end_of finish
-end_of_save finish (Err device.Failed) = ends.WriteFault
-end_of_save finish (Err device.NoMemory) = ends.NoMemory
+-- the answer of a run that is over so: the emulator is handed out, and its final tree was saved
+pub record HasFinished (name : Option (List ℕ)) (emulated : Emulated) (finish : Finish) (answer : Answer) (old new : Stored) : Type 0 where
+  pub end : answer.end ≡ end_of finish
+  pub turns : answer.turns ≡ emulated.turns
+  pub host : answer.host ≡ Some emulated
+  pub saves : SavesTree name (final_tree emulated.machine) old new
 
--- what follows the end of a run: a save, or nothing
-abbrev pub EndsWithSave : Option (List ℕ) → Tree → Result Finish Stop → End → Stored → Stored → Type 0
-EndsWithSave name tree (Ok finish) end old new =
-    (saved : Result (Unit {0}) DevError) × (end ≡ end_of_save finish saved) × SavesOrStops name tree saved old new
-EndsWithSave name tree (Err stop) end old new = (end ≡ end_of_stop stop) × (new ≡ old)
+-- or it could not be saved whole
+pub record HasFailed (name : Option (List ℕ)) (emulated : Emulated) (answer : Answer) (old new : Stored) : Type 0 where
+  pub end : ((answer.end ≡ ends.WriteFault) × Rose old.write_faults new.write_faults) ⊎ (answer.end ≡ ends.NoMemory)
+  pub turns : answer.turns ≡ emulated.turns
+  pub host : answer.host ≡ None
+  pub saves : SavesTreeInPart name (final_tree emulated.machine) old new
 
--- the answer of a run, with its output before and after, and the count of faults of that
-pub record RanIntoAnswer (machine : Machine) (budget : ℕ) (tree : Tree) (name : Option (List ℕ)) (answer : Answer)
-    (old_out new_out : Option (List ℕ)) (old_faults new_faults : ℕ) (old new : Stored) : Type 0 where
-  pub end : Result Finish Stop
-  pub ran : RunsTo machine budget answer.turns end old_out new_out
-  pub cause : EndsOnlyIfRose end old_faults new_faults
-  pub ends : EndsWithSave name tree end answer.end old new
-  pub status : answer.status ≡ status_of answer.end
+abbrev pub AnswersRun : Option (List ℕ) → Emulated → Finish → Answer → Stored → Stored → Type 0
+AnswersRun name emulated finish answer old new = HasFinished name emulated finish answer old new ⊎ HasFailed name emulated answer old new

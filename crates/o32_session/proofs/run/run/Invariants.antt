@@ -1,12 +1,14 @@
-use Rattle.std.proofs.Common.{◌≡◌, ◌≤◌, None}
-use Rattle.outside.specs.Output.{GainsText}
-use Rattle.o32_session.specs.Run.{state_at, output_at}
+use Rattle.std.proofs.Common.{◌≡◌, false}
+use Rattle.outside.specs.Streams.{NoCountFell, contents}
+use Rattle.o32_session.specs.Asked.{quantum}
+use Rattle.o32_session.specs.inside.Runs.{GoesSo}
 use Rattle.o32_session.proofs.run.run.Given as goal
 
-abbrev pub invariant-loop-turns : goal.invariant-loop-turns
-invariant-loop-turns g l = record {
-  same : (state_at l.fn.machine l.turns).machine ≡ l.machine;
-  running : (state_at l.fn.machine l.turns).over ≡ None;
-  gained : GainsText (g.O.Sink.written l.fn.out) (g.O.Sink.written l.out) (output_at l.fn.machine l.turns);
-  later : g.O.Sink.faults l.fn.out ≤ g.O.Sink.faults l.out;
+abbrev pub invariant-loop-turn : goal.invariant-loop-turn
+invariant-loop-turn g l = record {
+  counted : l.emulator.turns ≡ l.turn;
+  on : l.emulator.over ≡ false;
+  long : l.emulator.quantum ≡ quantum;
+  so : GoesSo l.fn.emulator.machine l.turn (contents g.I.Source.left g.O.Sink.written g.E.Sink.written l.fn.dev) (contents g.I.Source.left g.O.Sink.written g.E.Sink.written l.dev) l.emulator.machine;
+  later : NoCountFell g.I.Source.faults g.O.Sink.faults g.E.Sink.faults l.fn.dev l.dev;
 }

@@ -1,0 +1,7 @@
+use Rattle.o32_session.specs.Words.{texts}
+use Rattle.o32_session.specs.inside.Reader.{line_seen}
+use Rattle.o32_session.proofs.Budgets.{budget_within}
+use Rattle.o32_session.proofs.prepare.prepare.Goals as goal
+
+pub prepare_line-requires-clause-bounded : goal.prepare_line-requires-clause-bounded
+prepare_line-requires-clause-bounded g c = budget_within (texts c.args.words.now) (line_seen c.in_ok-line.line) c.in_ok-line.ensures.line

@@ -1,0 +1,17 @@
+//! The tests of `o32_session`, and nothing else.
+#![tactic(auto)]
+
+#[cfg(test)]
+mod code;
+#[cfg(test)]
+mod files;
+#[cfg(test)]
+mod images;
+#[cfg(test)]
+mod programs;
+#[cfg(test)]
+mod saves;
+#[cfg(test)]
+mod sessions;
+#[cfg(test)]
+mod words;

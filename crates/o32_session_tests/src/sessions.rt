@@ -1,0 +1,124 @@
+//! A session, and what it comes to.
+use o32_session::{Answer, End, session};
+use outside::{Devices, MemSink, MemSource, MemStore, NamedFile};
+use std::alloc::Global;
+use std::test::Fail;
+
+/// The numbers of the calls that fail, counted from 1: of the takes of standard input, the puts of standard output and of
+/// standard error, and the calls on the store.
+pub(crate) type Failing<'a> = [&'a [u64]; 4];
+
+/// No call fails.
+pub(crate) const NO_FAILURE: Failing<'static> = [&[], &[], &[], &[]];
+
+/// What a session is given.
+#[derive(Clone, Copy)]
+pub(crate) struct Given<'a> {
+    /// Its words.
+    pub words: &'a [&'a str],
+    /// The files of its store, by their names.
+    pub files: &'a [(&'a str, &'a [u8])],
+    /// Its standard input.
+    pub input: &'a [u8],
+    /// The calls that fail.
+    pub failing: Failing<'a>,
+}
+
+/// What a session comes to.
+#[derive(Clone, Copy)]
+pub(crate) struct Wanted<'a> {
+    /// How it ends.
+    pub end: End,
+    /// The status of its answer.
+    pub status: u8,
+    /// The turns of its answer.
+    pub turns: u64,
+    /// What it wrote to standard output.
+    pub out: &'a [u8],
+    /// What it wrote to standard error.
+    pub err: &'a [u8],
+    /// What it left in the file `s`, where there is one.
+    pub saved: Option<&'a [u8]>,
+}
+
+/// What a session did.
+#[derive(Drop)]
+struct Done {
+    answer: Answer,
+    out: Vec<u8>,
+    err: Vec<u8>,
+    store: MemStore,
+}
+
+/// The words of a session.
+fn texts(alloc: Global, words: &[&str]) -> Result<Vec<String>, Fail> {
+    let mut texts = Vec::new(alloc);
+    for word in words {
+        texts
+            .push(String::from_str(alloc, word)?)
+            .ok()
+            .ok_or("no memory")?;
+    }
+    Ok(texts)
+}
+
+/// The files of a store.
+fn named_files(alloc: Global, files: &[(&str, &[u8])]) -> Result<Vec<NamedFile>, Fail> {
+    let mut named = Vec::new(alloc);
+    for (name, bytes) in files {
+        let file = NamedFile {
+            name: String::from_str(alloc, name)?,
+            bytes: bytes.to_vec(alloc)?,
+        };
+        named.push(file).ok().ok_or("no memory")?;
+    }
+    Ok(named)
+}
+
+/// Carries out a session.
+fn carry_out(alloc: Global, given: &Given) -> Result<Done, Fail> {
+    let texts = texts(alloc, given.words)?;
+    let files = named_files(alloc, given.files)?;
+    let [takes, puts, lines, calls] = given.failing;
+    let mut store = MemStore::new(alloc, files, calls.to_vec(alloc)?);
+    let mut dev = Devices {
+        input: MemSource::new(given.input.to_vec(alloc)?, takes.to_vec(alloc)?),
+        out: MemSink::new(alloc, puts.to_vec(alloc)?),
+        err: MemSink::new(alloc, lines.to_vec(alloc)?),
+    };
+    let answer = session(alloc, &texts, &mut store, &mut dev);
+    Ok(Done {
+        answer,
+        out: dev.out.bytes().to_vec(alloc)?,
+        err: dev.err.bytes().to_vec(alloc)?,
+        store,
+    })
+}
+
+/// Whether an answer hands out an emulator that took its turns, exactly where the run ended by itself.
+fn is_hosted(answer: &Answer) -> bool {
+    let finished = matches!(
+        answer.end,
+        End::Exited(_) | End::Killed(_) | End::Budget | End::Blocked
+    );
+    match &answer.host {
+        Some(host) => finished && host.turns() == answer.turns,
+        None => !finished,
+    }
+}
+
+/// Whether a session answers and writes so.
+fn is_right(done: &Done, wanted: &Wanted) -> bool {
+    done.answer.end == wanted.end
+        && done.answer.status == wanted.status
+        && done.answer.turns == wanted.turns
+        && is_hosted(&done.answer)
+        && done.out.as_slice() == wanted.out
+        && done.err.as_slice() == wanted.err
+        && done.store.file("s") == wanted.saved
+}
+
+/// Whether a session comes out so.
+pub(crate) fn comes_out(alloc: Global, given: &Given, wanted: &Wanted) -> Result<bool, Fail> {
+    Ok(is_right(&carry_out(alloc, given)?, wanted))
+}

@@ -1,0 +1,250 @@
+//! The words of a session: those that are wrong, and budgets and arguments.
+use crate::code::*;
+use crate::sessions::{Given, NO_FAILURE, Wanted, comes_out};
+use o32_session::{End, Refusal};
+use std::alloc::Global;
+use std::test::Fail;
+
+/// The first list of words that is not refused at the word of its index, over a store whose file `p` writes `Hi`.
+fn first_accepted(alloc: Global, rows: &[(&[&str], usize)]) -> Result<Option<usize>, Fail> {
+    let program = hello(alloc)?;
+    for (place, (words, word)) in rows.iter().enumerate() {
+        let line = format!(in alloc; "o32run: usage at word {word}\n")?;
+        let given = Given {
+            words,
+            files: &[("p", program.as_slice())],
+            input: &[],
+            failing: NO_FAILURE,
+        };
+        let wanted = Wanted {
+            end: End::Refused(Refusal::Usage { word: *word }),
+            status: 125,
+            turns: 0,
+            out: &[],
+            err: line.as_bytes(),
+            saved: None,
+        };
+        if !comes_out(alloc, &given, &wanted)? {
+            return Ok(Some(place));
+        }
+    }
+    Ok(None)
+}
+
+#[test]
+fn refused_words(rt: HostRuntime) -> Result<(), Fail> {
+    let rows: [(&[&str], usize); 13] = [
+        (&[], 0),
+        (&["walk"], 0),
+        (&["run"], 1),
+        (&["run", "--budget", "0", "p"], 2),
+        (&["run", "--budget", "01", "p"], 2),
+        (&["run", "--budget", "+1", "p"], 2),
+        (&["run", "--budget", "1000000000001", "p"], 2),
+        (&["run", "--budget"], 2),
+        (&["run", "--budget", "1", "--budget", "1", "p"], 3),
+        (&["run", "--env", "=b", "p"], 2),
+        (&["run", "--trace", "t", "p"], 1),
+        (&["run", ""], 1),
+        (&["run", "p", "a\0"], 2),
+    ];
+    assert_eq!(rt; first_accepted(rt.alloc(), &rows)?, None);
+    Ok(())
+}
+
+#[test]
+fn refused_names(rt: HostRuntime) -> Result<(), Fail> {
+    let rows: [(&[&str], usize); 14] = [
+        (&["run", "--image"], 2),
+        (&["run", "--save"], 2),
+        (&["run", "--image", "", "p"], 2),
+        (&["run", "--save", "", "p"], 2),
+        (&["run", "--image", "a\0", "p"], 2),
+        (&["run", "--save", "a\0", "p"], 2),
+        (&["run", "--image", "i", "--image", "j", "p"], 3),
+        (&["run", "--save", "s", "--save", "t", "p"], 3),
+        (&["run", "--image", "x", "--save", "x", "p"], 4),
+        (
+            &["run", "--save", "x", "--budget", "1", "--image", "x", "p"],
+            6,
+        ),
+        (&["run", "--save", "p", "p"], 3),
+        (&["run", "--save", "p", "--image", "i", "p"], 5),
+        (&["run", "--image", "p", "--save", "p", "p"], 4),
+        // The names are looked at last.
+        (&["run", "--save", "p", "p", "a\0"], 4),
+    ];
+    assert_eq!(rt; first_accepted(rt.alloc(), &rows)?, None);
+    Ok(())
+}
+
+/// The words of a session and its program, and how it ends: the end, its status, the turns, and what was written.
+type Run<'a> = (&'a [&'a str], &'a [u8], End, u8, u64, &'a [u8], &'a [u8]);
+
+/// The first session over a store whose file `p` is its program that does not come out so, counted from 0.
+fn first_wrong(alloc: Global, rows: &[Run]) -> Result<Option<usize>, Fail> {
+    for (place, (words, program, end, status, turns, out, err)) in rows.iter().enumerate() {
+        let given = Given {
+            words,
+            files: &[("p", *program)],
+            input: &[],
+            failing: NO_FAILURE,
+        };
+        let wanted = Wanted {
+            end: *end,
+            status: *status,
+            turns: *turns,
+            out,
+            err,
+            saved: None,
+        };
+        if !comes_out(alloc, &given, &wanted)? {
+            return Ok(Some(place));
+        }
+    }
+    Ok(None)
+}
+
+#[test]
+fn budgets(rt: HostRuntime) -> Result<(), Fail> {
+    let alloc = rt.alloc();
+    let hello = hello(alloc)?;
+    let faults = one_page(alloc, &[BREAK])?;
+    let blocks = one_page(
+        alloc,
+        &[
+            SET_V0 | PIPE,
+            SYSCALL,
+            SET_A0 | 3,
+            SET_A1_TO_SP,
+            SET_A2 | 8,
+            SET_V0 | READ,
+            SYSCALL,
+        ],
+    )?;
+    let rows: [Run; 9] = [
+        (&["run", "p"], &hello, End::Exited(7), 7, 9, b"Hi\n", b""),
+        (
+            &["run", "--budget", "5", "p"],
+            &hello,
+            End::Budget,
+            124,
+            5,
+            b"",
+            b"",
+        ),
+        (
+            &["run", "--budget", "8", "p"],
+            &hello,
+            End::Budget,
+            124,
+            8,
+            b"Hi\n",
+            b"",
+        ),
+        (
+            &["run", "--env", "A=b", "--budget", "9", "p", "-x"],
+            &hello,
+            End::Exited(7),
+            7,
+            9,
+            b"Hi\n",
+            b"",
+        ),
+        (
+            &["run", "--budget", "1000000000000", "p"],
+            &hello,
+            End::Exited(7),
+            7,
+            9,
+            b"Hi\n",
+            b"",
+        ),
+        // The fault of the last turn kills in no further one, and no further attempt finds that the process is blocked.
+        (
+            &["run", "--budget", "1", "p"],
+            &faults,
+            End::Budget,
+            124,
+            1,
+            b"",
+            b"",
+        ),
+        (
+            &["run", "--budget", "2", "p"],
+            &faults,
+            End::Killed(5),
+            133,
+            2,
+            b"",
+            b"",
+        ),
+        (
+            &["run", "--budget", "7", "p"],
+            &blocks,
+            End::Budget,
+            124,
+            7,
+            b"",
+            b"",
+        ),
+        (
+            &["run", "--budget", "8", "p"],
+            &blocks,
+            End::Blocked,
+            123,
+            7,
+            b"",
+            b"",
+        ),
+    ];
+    assert_eq!(rt; first_wrong(alloc, &rows)?, None);
+    Ok(())
+}
+
+#[test]
+fn arguments_and_their_limit(rt: HostRuntime) -> Result<(), Fail> {
+    let alloc = rt.alloc();
+    // The count of arguments is at $sp.
+    let counts = one_page(
+        alloc,
+        &[LOAD_V0_FROM_SP, SET_A0_TO_V0, SET_V0 | EXIT, SYSCALL],
+    )?;
+    let fits = String::from_utf8(vec![in alloc; b'a'; 130_911]?)
+        .ok()
+        .ok_or("no text")?;
+    let passes = String::from_utf8(vec![in alloc; b'a'; 130_912]?)
+        .ok()
+        .ok_or("no text")?;
+    let rows: [Run; 3] = [
+        (
+            &["run", "p", "-a", "b", ""],
+            &counts,
+            End::Exited(4),
+            4,
+            4,
+            b"",
+            b"",
+        ),
+        (
+            &["run", "p", fits.as_str()],
+            &counts,
+            End::Exited(2),
+            2,
+            4,
+            b"",
+            b"",
+        ),
+        (
+            &["run", "p", passes.as_str()],
+            &counts,
+            End::Refused(Refusal::Start),
+            125,
+            0,
+            b"",
+            b"o32run: arguments too long\n",
+        ),
+    ];
+    assert_eq!(rt; first_wrong(alloc, &rows)?, None);
+    Ok(())
+}
