@@ -15,12 +15,14 @@ WRITE = 2
 EXECUTE = 1
 
 # The registers that the loops use.
-ZERO, V0, A0 = 0, 2, 4
+ZERO, V0, V1 = 0, 2, 3
+A0, A1, A2, A3 = range(4, 8)
 T0, T1, T2, T3, T4, T5, T6, T7 = range(8, 16)
-RA = 31
+S0, S1, S2, S3 = range(16, 20)
+SP, RA = 29, 31
 
-# The round's counter, which every loop counts down.
-COUNTER = T5
+# The round's counter, which every loop counts down. A system call keeps it.
+COUNTER = S0
 
 EXIT_CALL = 4001
 
@@ -35,6 +37,10 @@ def immediate_word(opcode, rs, rt, immediate):
 
 def addu(rd, rs, rt):
     return register_word(rs, rt, rd, 0x21)
+
+
+def bitwise_or(rd, rs, rt):
+    return register_word(rs, rt, rd, 0x25)
 
 
 def xor(rd, rs, rt):

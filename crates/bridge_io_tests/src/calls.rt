@@ -101,4 +101,6 @@ pub(crate) enum Row {
     /// A call of the 64-bit kernel itself, by its number and its first four arguments, with these bytes in host
     /// memory; and its result.
     Native(u64, [u64; 4], &'static [u8], i64),
+    /// The 64-bit kernel itself writes one byte to each of so many first blocks of an open file.
+    Fills(u64, u32),
 }

@@ -58,7 +58,7 @@ fn duplicates(rt: HostRuntime) -> Result<(), Fail> {
 }
 
 /// The streams are open with O_LARGEFILE. F_SETFL sets O_APPEND and O_NONBLOCK alone.
-static COMMANDS: [Row; 28] = [
+static COMMANDS: [Row; 29] = [
     Row::Gives(Call::Fcntl, [0, F_DUPFD, 10], 10),
     Row::Gives(Call::Fcntl64, [0, F_DUPFD_CLOEXEC, 10], 11),
     Row::Gives(Call::Fcntl, [10, F_GETFD, 0], 0),
@@ -66,6 +66,7 @@ static COMMANDS: [Row; 28] = [
     Row::Fails(Call::Fcntl, [0, F_DUPFD, 1024], Errno::EINVAL),
     Row::Fails(Call::Fcntl64, [0, F_DUPFD, u32::MAX], Errno::EINVAL),
     Row::Fails(Call::Fcntl, [0, F_DUPFD_CLOEXEC, 1024], Errno::EINVAL),
+    Row::Fails(Call::Fcntl, [9, F_DUPFD_CLOEXEC, 0], Errno::EBADF),
     Row::Fails(Call::Fcntl, [9, F_DUPFD, 1024], Errno::EBADF),
     Row::Gives(Call::Fcntl, [11, F_SETFD, 0], 0),
     Row::Gives(Call::Fcntl, [11, F_GETFD, 0], 0),

@@ -10,6 +10,8 @@ mod effects;
 #[cfg(test)]
 mod files;
 #[cfg(test)]
+mod fullness;
+#[cfg(test)]
 mod machine;
 #[cfg(test)]
 mod numbers;

@@ -5,7 +5,7 @@ ghost use Rattle.kernel_core.specs.ValidTree.{IsValidTree};
 use crate::calls::{Call, Row};
 use bridge_io::io_call;
 use guest_space::Space;
-use host_mem::HostMem;
+use host_mem::{FIRST_ADDRESS, HostMem};
 use kernel_core::{Effect, Items, Kind, Node, Reply, Tree};
 use mips_exec::Cpu;
 use native_kernel::NativeKernel;
@@ -17,6 +17,9 @@ use std::test::Fail;
 
 /// The streams of a test.
 type Streams = Devices<MemSource, MemSink, MemSink>;
+
+/// A call of the 64-bit kernel (Linux `include/uapi/asm-generic/unistd.h`).
+const NATIVE_PWRITE64: u64 = 68;
 
 /// The address of two pages that the program can store to.
 pub(crate) const AT: u32 = 0x1_0000;
@@ -174,6 +177,18 @@ impl Machine {
             .ok()
     }
 
+    /// Whether one byte can be written to each of so many first blocks of an open file, by pwrite64(2) of the 64-bit
+    /// kernel itself.
+    fn fills(&mut self, descriptor: u64, count: u32) -> bool {
+        for block in 0..count {
+            let arguments = [descriptor, FIRST_ADDRESS, 1, u64::from(block) * 4096];
+            if self.reply(NATIVE_PWRITE64, arguments, b"x") != Some(Reply::Done(1)) {
+                return false;
+            }
+        }
+        true
+    }
+
     /// Whether a call gives this result.
     fn gives(&mut self, call: Call, arguments: [u32; 3], number: u32) -> bool {
         matches!(self.native_call(call, arguments), Some(Outcome::Value(there)) if there == number)
@@ -218,6 +233,7 @@ impl Machine {
             Row::Native(number, arguments, bytes, result) => {
                 self.reply(number, arguments, bytes) == Some(Reply::Done(result))
             }
+            Row::Fills(descriptor, count) => self.fills(descriptor, count),
             _ => self.is_so(row),
         }
     }

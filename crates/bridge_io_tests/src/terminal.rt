@@ -12,7 +12,7 @@ use std::test::Fail;
 /// A terminal of 24 rows and 80 columns, whose settings are zeros at first. Of the 23 characters of settings
 /// the 64-bit kernel has no place for the one at 11 and those from 18 on, so they are 0 when the settings are
 /// read again.
-static TERMINAL: [Row; 24] = [
+static TERMINAL: [Row; 26] = [
     Row::Gives(Call::Ioctl, [0, TIOCGWINSZ, AT], 0),
     Row::Holds(AT, b"\0\x18\0\x50\0\0\0\0"),
     Row::Gives(Call::Ioctl, [0, TCGETS, AT], 0),
@@ -40,6 +40,8 @@ static TERMINAL: [Row; 24] = [
     Row::Fails(Call::Ioctl, [0, TIOCGWINSZ, TAIL_END - 7], Errno::EFAULT),
     Row::Holds(TAIL_END - 7, b"\0\0\0\0\0\0\0"),
     Row::Fails(Call::Ioctl, [0, TCSETS, CONST_END - 39], Errno::EFAULT),
+    Row::Fails(Call::Ioctl, [0, TCSETSW, CONST_END - 39], Errno::EFAULT),
+    Row::Fails(Call::Ioctl, [0, TCSETSF, CONST_END - 39], Errno::EFAULT),
     Row::Gives(Call::Ioctl, [0, TCGETS, AT + 128], 0),
     Row::Holds(
         AT + 128,
@@ -49,12 +51,20 @@ static TERMINAL: [Row; 24] = [
 ];
 
 /// Without a terminal; and a pipe, with three bytes in it.
-static NO_TERMINAL: [Row; 29] = [
+static NO_TERMINAL: [Row; 37] = [
     Row::Fails(Call::Ioctl, [1, TIOCGWINSZ, AT], Errno::ENOTTY),
     Row::Fails(Call::Ioctl, [0, TCGETS, TAIL_END], Errno::ENOTTY),
     Row::Fails(Call::Ioctl, [0, TCSETS, CONST_END], Errno::ENOTTY),
+    Row::Fails(Call::Ioctl, [0, TCSETSW, CONST_END], Errno::ENOTTY),
+    Row::Fails(Call::Ioctl, [0, TCSETSF, CONST_END], Errno::ENOTTY),
     Row::Fails(Call::Ioctl, [9, TIOCGWINSZ, TAIL_END], Errno::EBADF),
     Row::Fails(Call::Ioctl, [9, TCSETS, CONST_END], Errno::EBADF),
+    Row::Fails(Call::Ioctl, [9, TCSETSW, CONST_END], Errno::EBADF),
+    Row::Fails(Call::Ioctl, [9, TCSETSF, CONST_END], Errno::EBADF),
+    Row::Fails(Call::Ioctl, [9, TCGETS, TAIL_END], Errno::EBADF),
+    Row::Fails(Call::Ioctl, [9, FIONREAD, TAIL_END], Errno::EBADF),
+    Row::Fails(Call::Ioctl, [9, FIONBIO, CONST_END], Errno::EBADF),
+    Row::Fails(Call::Ioctl, [9, FIONCLEX, CONST_END], Errno::EBADF),
     Row::Fails(Call::Ioctl, [0, OTHER_TCGETS, AT], Errno::ENOTTY),
     Row::Fails(Call::Ioctl, [9, OTHER_TCGETS, AT], Errno::EBADF),
     Row::GivesTwo(Call::Pipe, [0, 0, 0], 3, 4),

@@ -94,10 +94,12 @@ fn writes(rt: HostRuntime) -> Result<(), Fail> {
 
 /// A pipe has room for 65,536 bytes. A write of at most 4096 goes whole or waits, and one of more goes as far as
 /// there is room.
-static FULL_PIPE: [Row; 15] = [
+static FULL_PIPE: [Row; 18] = [
     Row::GivesTwo(Call::Pipe, [0, 0, 0], 3, 4),
     Row::Waits(Call::Write, [4, LARGE, 70_000], 65_536),
     Row::Waits(Call::Write, [4, LARGE, 1], 0),
+    Row::Puts(AT, b"\0\x02\0\0\0\0\0\x01"),
+    Row::Waits(Call::Writev, [4, AT, 1], 0),
     Row::Gives(Call::Read, [3, LARGE, 4095], 4095),
     Row::Waits(Call::Write, [4, LARGE, 4096], 0),
     Row::Waits(Call::Write, [4, LARGE, 4097], 4095),
@@ -105,6 +107,7 @@ static FULL_PIPE: [Row; 15] = [
     Row::Gives(Call::Write, [4, LARGE, 4095], 4095),
     Row::Gives(Call::Fcntl, [4, F_SETFL, O_NONBLOCK], 0),
     Row::Fails(Call::Write, [4, LARGE, 1], Errno::EAGAIN),
+    Row::Fails(Call::Writev, [4, AT, 1], Errno::EAGAIN),
     Row::Fails(Call::Write, [4, LARGE, 4097], Errno::EAGAIN),
     Row::Gives(Call::Read, [3, LARGE, 100], 100),
     Row::Fails(Call::Write, [4, LARGE, 4096], Errno::EAGAIN),

@@ -19,7 +19,7 @@ const MINUS_TWO: u64 = u64::MAX - 1;
 
 /// A file that is written from its beginning and behind its end. The descriptor 4 writes alone, and at the end, 5
 /// reads alone, and 6 is a directory.
-static FILE: [Row; 51] = [
+static FILE: [Row; 52] = [
     Row::Keeps(
         OPENAT,
         [CWD, AT, O_CREAT | O_RDWR, 0o600],
@@ -110,6 +110,12 @@ static FILE: [Row; 51] = [
     Row::Plain(FDATASYNC, [5, 0, 0, 0], DONE),
     Row::Plain(LSEEK, [3, GREATEST, 0, 0], Reply::Done(1 << 44)),
     Row::Leaves(WRITE, [3, AT, 1, 0], 1, EFBIG),
+    Row::Keeps(
+        WRITEV,
+        [3, AT, 1, 0],
+        b"\x10\0\x01\0\0\0\0\0\x01\0\0\0\0\0\0\0z",
+        EFBIG,
+    ),
     Row::Leaves(PWRITE64, [3, AT, 1, GREATEST], 1, EFBIG),
     Row::Leaves(PWRITE64, [3, AT, 2, GREATEST - 1], 2, EFBIG),
     Row::Plain(LSEEK, [5, 0, 2, 0], Reply::Done(14)),

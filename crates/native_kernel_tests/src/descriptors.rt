@@ -10,7 +10,7 @@ use crate::numbers::{
 use kernel_core::Reply;
 use std::test::Fail;
 
-static DESCRIPTORS: [Row; 41] = [
+static DESCRIPTORS: [Row; 47] = [
     Row::Plain(DUP, [1, 0, 0, 0], Reply::Done(3)),
     Row::Plain(DUP, [9, 0, 0, 0], EBADF),
     Row::Plain(DUP3, [1, 5, O_CLOEXEC, 0], Reply::Done(5)),
@@ -26,11 +26,17 @@ static DESCRIPTORS: [Row; 41] = [
     Row::Plain(FCNTL, [9, F_SETFD, 1, 0], EBADF),
     Row::Plain(FCNTL, [0, F_DUPFD, 10, 0], Reply::Done(10)),
     Row::Plain(FCNTL, [0, F_DUPFD, 1024, 0], EINVAL),
+    Row::Plain(FCNTL, [0, F_DUPFD, u64::MAX, 0], EINVAL),
+    Row::Plain(FCNTL, [9, F_DUPFD, 0, 0], EBADF),
+    Row::Plain(FCNTL, [0, F_DUPFD_CLOEXEC, 1024, 0], EINVAL),
+    Row::Plain(FCNTL, [9, F_DUPFD_CLOEXEC, 0, 0], EBADF),
     Row::Plain(FCNTL, [0, F_DUPFD_CLOEXEC, 10, 0], Reply::Done(11)),
     Row::Plain(FCNTL, [11, F_GETFD, 0, 0], Reply::Done(1)),
     Row::Plain(FCNTL, [1, F_GETFL, 0, 0], Reply::Done(0x8001)),
     Row::Plain(FCNTL, [1, F_SETFL, 0xC00, 0], DONE),
     Row::Plain(FCNTL, [5, F_GETFL, 0, 0], Reply::Done(0x8C01)),
+    Row::Plain(FCNTL, [9, F_GETFL, 0, 0], EBADF),
+    Row::Plain(FCNTL, [9, F_SETFL, 0, 0], EBADF),
     Row::Plain(FCNTL, [1, F_SETFL, 0x88, 0], DONE),
     Row::Plain(FCNTL, [5, F_GETFL, 0, 0], Reply::Done(0x8001)),
     Row::Plain(FCNTL, [1, 99, 0, 0], EINVAL),

@@ -11,7 +11,7 @@ use std::test::Fail;
 
 /// The directories `/d` and `/e`, the file `/d/a`, the link `/l` to it, and `/s`, which leads to itself. A link's
 /// target comes first in memory.
-static MAKING: [Row; 32] = [
+static MAKING: [Row; 39] = [
     Row::Keeps(MKDIRAT, [CWD, AT, 0o777, 0], b"/d\0", DONE),
     Row::Keeps(MKDIRAT, [CWD, AT, 0o777, 0], b"/d\0", EEXIST),
     Row::Keeps(MKDIRAT, [CWD, AT, 0o777, 0], b"/\0", EEXIST),
@@ -35,6 +35,9 @@ static MAKING: [Row; 32] = [
     Row::Keeps(SYMLINKAT, [AT, 9, AT + 2, 0], b"x\0m\0", EBADF),
     Row::Keeps(SYMLINKAT, [AT, CWD, AT + 2, 0], b"s\0/s\0", DONE),
     Row::Keeps(MKDIRAT, [CWD, AT, 0o777, 0], b"/s/d\0", ELOOP),
+    Row::Keeps(SYMLINKAT, [AT, CWD, AT + 2, 0], b"x\0/s/d\0", ELOOP),
+    Row::Named(SYMLINKAT, [AT, CWD, AT, 0], 256, ENAMETOOLONG),
+    Row::Leaves(SYMLINKAT, [AT, CWD, AT, 0], 4096, ENAMETOOLONG),
     Row::Stores(
         READLINKAT,
         [CWD, AT, AT + 3, 8],
@@ -53,13 +56,17 @@ static MAKING: [Row; 32] = [
     Row::Keeps(READLINKAT, [CWD, AT, AT + 3, u64::MAX], b"/l\0zz", EINVAL),
     Row::Keeps(READLINKAT, [CWD, AT, AT + 5, 8], b"/d/a\0zz", EINVAL),
     Row::Keeps(READLINKAT, [CWD, AT, AT + 3, 8], b"/x\0zz", ENOENT),
+    Row::Keeps(READLINKAT, [CWD, AT, AT + 5, 8], b"/l/x\0zz", ENOTDIR),
+    Row::Keeps(READLINKAT, [CWD, AT, AT + 5, 8], b"/s/x\0zz", ELOOP),
+    Row::Keeps(READLINKAT, [9, AT, AT + 2, 8], b"l\0zz", EBADF),
+    Row::Named(READLINKAT, [CWD, AT, AT, 8], 256, ENAMETOOLONG),
     Row::Keeps(READLINKAT, [CWD, AT, AT + 3, 8], b"/l\0zzz", EFAULT),
     Row::Keeps(READLINKAT, [CWD, AT, NOWHERE, 8], b"/l\0zzz", EFAULT),
     Row::Plain(READLINKAT, [CWD, NOWHERE, AT, 8], EFAULT),
 ];
 
 /// A second name for the file `/d/a`, one for a link and one for what that leads to; and names that go.
-static LINKING_AND_REMOVING: [Row; 34] = [
+static LINKING_AND_REMOVING: [Row; 39] = [
     Row::Keeps(MKDIRAT, [CWD, AT, 0o777, 0], b"/d\0", DONE),
     Row::Keeps(OPENAT, [CWD, AT, O_CREAT, 0o600], b"/d/a\0", Reply::Done(3)),
     Row::Keeps(SYMLINKAT, [AT, CWD, AT + 5, 0], b"/d/a\0/l\0", DONE),
@@ -74,6 +81,9 @@ static LINKING_AND_REMOVING: [Row; 34] = [
     Row::Five(LINKAT, [CWD, NOWHERE, CWD, AT, 0], b"/c\0", EFAULT),
     Row::Five(LINKAT, [CWD, AT, CWD, NOWHERE, 0], b"/b\0", EFAULT),
     Row::Five(LINKAT, [CWD, AT, CWD, AT + 3, 1], b"/b\0/c\0", EINVAL),
+    Row::Keeps(SYMLINKAT, [AT, CWD, AT + 2, 0], b"s\0/s\0", DONE),
+    Row::Five(LINKAT, [CWD, AT, CWD, AT + 5, 0], b"/s/x\0/c\0", ELOOP),
+    Row::Named(LINKAT, [CWD, AT, CWD, AT], 256, ENAMETOOLONG),
     Row::Five(
         LINKAT,
         [CWD, AT, CWD, AT + 3, AT_SYMLINK_FOLLOW],
@@ -92,6 +102,8 @@ static LINKING_AND_REMOVING: [Row; 34] = [
     Row::Plain(UNLINKAT, [CWD, NOWHERE, 0, 0], EFAULT),
     Row::Keeps(UNLINKAT, [CWD, AT, 1, 0], b"/c\0", EINVAL),
     Row::Keeps(UNLINKAT, [9, AT, 0, 0], b"c\0", EBADF),
+    Row::Keeps(UNLINKAT, [CWD, AT, 0, 0], b"/s/x\0", ELOOP),
+    Row::Named(UNLINKAT, [CWD, AT, 0, 0], 256, ENAMETOOLONG),
     Row::Keeps(UNLINKAT, [CWD, AT, 0, 0], b"/c\0", DONE),
     Row::Keeps(UNLINKAT, [CWD, AT, 0, 0], b"/c\0", ENOENT),
     Row::Keeps(UNLINKAT, [CWD, AT, 0, 0], b"/b/\0", ENOTDIR),
@@ -108,7 +120,7 @@ static LINKING_AND_REMOVING: [Row; 34] = [
 ];
 
 /// The file `/d/a` with a second name `/b`, the link `/l` and the empty directory `/e`.
-static RENAMING: [Row; 30] = [
+static RENAMING: [Row; 32] = [
     Row::Keeps(MKDIRAT, [CWD, AT, 0o777, 0], b"/d\0", DONE),
     Row::Keeps(MKDIRAT, [CWD, AT, 0o777, 0], b"/e\0", DONE),
     Row::Keeps(OPENAT, [CWD, AT, O_CREAT, 0o600], b"/d/a\0", Reply::Done(3)),
@@ -133,6 +145,8 @@ static RENAMING: [Row; 30] = [
     Row::Keeps(RENAMEAT, [9, AT, CWD, AT + 2], b"c\0/q\0", EBADF),
     Row::Keeps(RENAMEAT, [CWD, AT, 9, AT + 3], b"/c\0q\0", EBADF),
     Row::Named(RENAMEAT, [CWD, AT, CWD, AT], 256, ENAMETOOLONG),
+    Row::Keeps(SYMLINKAT, [AT, CWD, AT + 2, 0], b"s\0/s\0", DONE),
+    Row::Keeps(RENAMEAT, [CWD, AT, CWD, AT + 5], b"/s/x\0/c\0", ELOOP),
     Row::Keeps(RENAMEAT, [CWD, AT, CWD, AT + 3], b"/d\0/e\0", DONE),
     Row::Keeps(OPENAT, [CWD, AT, 0, 0], b"/e/a\0", Reply::Done(5)),
     Row::Keeps(RENAMEAT, [CWD, AT, CWD, AT + 3], b"/e\0/q/\0", DONE),

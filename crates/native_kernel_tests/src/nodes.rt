@@ -50,7 +50,7 @@ static DIRECTORIES: [Row; 28] = [
 
 /// The file `/f`, which 3 has open for reading and writing and 4 for reading alone, the link `/l` to it, and the
 /// directory `/d`.
-static SIZES_AND_ACCESS: [Row; 40] = [
+static SIZES_AND_ACCESS: [Row; 44] = [
     Row::Keeps(
         OPENAT,
         [CWD, AT, O_CREAT | O_RDWR, 0o666],
@@ -95,9 +95,13 @@ static SIZES_AND_ACCESS: [Row; 40] = [
     Row::Keeps(FACCESSAT, [CWD, AT, 0, 0], b"/s\0", ELOOP),
     Row::Keeps(FACCESSAT, [9, AT, 0, 0], b"f\0", EBADF),
     Row::Plain(FACCESSAT, [CWD, NOWHERE, 0, 0], EFAULT),
+    Row::Named(FACCESSAT, [CWD, AT, 0, 0], 256, ENAMETOOLONG),
     Row::Keeps(FCHMODAT, [CWD, AT, 0o100, 0], b"/l\0", DONE),
     Row::Keeps(FACCESSAT, [CWD, AT, 1, 0], b"/f\0", DONE),
     Row::Keeps(FCHMODAT, [CWD, AT, 0, 0], b"/x\0", ENOENT),
+    Row::Keeps(FCHMODAT, [CWD, AT, 0, 0], b"/f/x\0", ENOTDIR),
+    Row::Keeps(FCHMODAT, [CWD, AT, 0, 0], b"/s\0", ELOOP),
+    Row::Named(FCHMODAT, [CWD, AT, 0, 0], 256, ENAMETOOLONG),
     Row::Keeps(FCHMODAT, [9, AT, 0, 0], b"f\0", EBADF),
     Row::Plain(FCHMODAT, [CWD, NOWHERE, 0, 0], EFAULT),
     Row::Plain(FCHMOD, [9, 0, 0, 0], EBADF),
@@ -108,7 +112,7 @@ static SIZES_AND_ACCESS: [Row; 40] = [
 /// a terminal, nothing, the size, the size of a block, the blocks of 512 bytes, three times with their nanoseconds
 /// (access, modification, change), and nothing. Regular files have the type bits 0x8000, directories 0x4000, links 0xA000.
 /// The clock begins at 1,000 s and 5 ns.
-static STATUS: [Row; 31] = [
+static STATUS: [Row; 36] = [
     Row::Keeps(
         OPENAT,
         [CWD, AT, O_CREAT | O_RDWR, 0o2666],
@@ -337,6 +341,11 @@ static STATUS: [Row; 31] = [
     Row::Plain(NEWFSTATAT, [CWD, NOWHERE, AT, 0], EFAULT),
     Row::Plain(CLOSE, [3, 0, 0, 0], DONE),
     Row::Keeps(NEWFSTATAT, [CWD, AT, AT, 0], b"/d/l\0", ENOENT),
+    Row::Keeps(OPENAT, [CWD, AT, O_CREAT, 0o600], b"/f\0", Reply::Done(3)),
+    Row::Keeps(NEWFSTATAT, [CWD, AT, AT, 0], b"/f/x\0", ENOTDIR),
+    Row::Keeps(SYMLINKAT, [AT, CWD, AT + 2, 0], b"s\0/s\0", DONE),
+    Row::Keeps(NEWFSTATAT, [CWD, AT, AT, 0], b"/s\0", ELOOP),
+    Row::Named(NEWFSTATAT, [CWD, AT, AT, 0], 256, ENAMETOOLONG),
 ];
 
 /// Nanoseconds that mean now, that leave a time, and that are none (UTIME_NOW, UTIME_OMIT).
@@ -348,7 +357,7 @@ const NO_NANOSECONDS: u64 = 1_000_000_000;
 
 /// Times of the file `/f` and of the link `/l` to it, where the clock begins at 1,000 s and 5 ns: set, now, left, and
 /// wrong ones. With a path the times of access and modification come first in memory.
-static TIMES: [Row; 24] = [
+static TIMES: [Row; 28] = [
     Row::Keeps(
         OPENAT,
         [CWD, AT, O_CREAT | O_WRONLY, 0o600],
@@ -504,6 +513,10 @@ static TIMES: [Row; 24] = [
     Row::Keeps(UTIMENSAT, [CWD, AT, NOWHERE, 0], b"/f\0", EFAULT),
     Row::Plain(UTIMENSAT, [CWD, NOWHERE, 0, 0], EFAULT),
     Row::Keeps(UTIMENSAT, [CWD, AT, 0, 0], b"/x\0", ENOENT),
+    Row::Keeps(UTIMENSAT, [CWD, AT, 0, 0], b"/f/x\0", ENOTDIR),
+    Row::Keeps(SYMLINKAT, [AT, CWD, AT + 2, 0], b"s\0/s\0", DONE),
+    Row::Keeps(UTIMENSAT, [CWD, AT, 0, 0], b"/s\0", ELOOP),
+    Row::Named(UTIMENSAT, [CWD, AT, 0, 0], 256, ENAMETOOLONG),
     Row::Tells(
         FSTAT,
         [3, AT, 0, 0],

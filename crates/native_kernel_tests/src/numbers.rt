@@ -148,6 +148,8 @@ pub(crate) const TCGETS: u64 = 0x5401;
 
 pub(crate) const TCSETS: u64 = 0x5402;
 
+pub(crate) const TCSETSW: u64 = 0x5403;
+
 pub(crate) const TCSETSF: u64 = 0x5404;
 
 pub(crate) const TIOCGWINSZ: u64 = 0x5413;

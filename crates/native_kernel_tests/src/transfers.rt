@@ -67,7 +67,7 @@ static TRANSFERS: [Row; 34] = [
 
 /// A vector has 16 bytes a buffer: the address, and the length. Too many, unreadable ones, too long ones; bytes
 /// of two buffers, which are read into two others; buffers that are not there, or of no length.
-static VECTORS: [Row; 17] = [
+static VECTORS: [Row; 18] = [
     Row::Fills(PIPE2, [AT, 0, 0, 0], 8, b"\x03\0\0\0\x04", DONE),
     Row::Leaves(READV, [3, AT, 1025, 0], 1, EINVAL),
     Row::Leaves(WRITEV, [4, AT, 1025, 0], 1, EINVAL),
@@ -78,6 +78,12 @@ static VECTORS: [Row; 17] = [
     Row::Keeps(
         WRITEV,
         [4, AT, 2, 0],
+        b"\0\0\x01\0\0\0\0\0\xff\xff\xff\xff\xff\xff\xff\x7f\0\0\x01\0\0\0\0\0\x01\0\0\0\0\0\0\0",
+        EINVAL,
+    ),
+    Row::Keeps(
+        READV,
+        [3, AT, 2, 0],
         b"\0\0\x01\0\0\0\0\0\xff\xff\xff\xff\xff\xff\xff\x7f\0\0\x01\0\0\0\0\0\x01\0\0\0\0\0\0\0",
         EINVAL,
     ),
@@ -125,7 +131,7 @@ static VECTORS: [Row; 17] = [
 
 /// A pipe has room for 65,536 bytes. A write of at most 4096 goes whole or waits, and one of more goes as far as
 /// there is room.
-static FULL_PIPE: [Row; 13] = [
+static FULL_PIPE: [Row; 15] = [
     Row::Fills(PIPE2, [AT, 0, 0, 0], 8, b"\x03\0\0\0\x04", DONE),
     Row::Leaves(
         WRITE,
@@ -137,11 +143,23 @@ static FULL_PIPE: [Row; 13] = [
         }),
     ),
     Row::Leaves(WRITE, [4, AT, 1, 0], 1, WAITS),
+    Row::Keeps(
+        WRITEV,
+        [4, AT, 1, 0],
+        b"\x10\0\x01\0\0\0\0\0\x01\0\0\0\0\0\0\0z",
+        WAITS,
+    ),
     Row::Leaves(READ, [3, AT, 4095, 0], 4095, Reply::Done(4095)),
     Row::Leaves(WRITE, [4, AT, 4096, 0], 4096, WAITS),
     Row::Leaves(WRITE, [4, AT, 4095, 0], 4095, Reply::Done(4095)),
     Row::Plain(FCNTL, [4, F_SETFL, O_NONBLOCK, 0], DONE),
     Row::Leaves(WRITE, [4, AT, 1, 0], 1, EAGAIN),
+    Row::Keeps(
+        WRITEV,
+        [4, AT, 1, 0],
+        b"\x10\0\x01\0\0\0\0\0\x01\0\0\0\0\0\0\0z",
+        EAGAIN,
+    ),
     Row::Leaves(WRITE, [4, AT, 4097, 0], 4097, EAGAIN),
     Row::Leaves(READ, [3, AT, 100, 0], 100, Reply::Done(100)),
     Row::Leaves(WRITE, [4, AT, 4096, 0], 4096, EAGAIN),

@@ -1,0 +1,11 @@
+//! The tests of `o32_machine`, and nothing else.
+#![tactic(auto)]
+
+#[cfg(test)]
+mod calls;
+#[cfg(test)]
+mod emulators;
+#[cfg(test)]
+mod runs;
+#[cfg(test)]
+mod words;

@@ -1,0 +1,98 @@
+//! Instruction words (MIPS32 Architecture for Programmers, Volume II) and the numbers of calls (Linux
+//! `arch/mips/include/uapi/asm/unistd.h`, the o32 table). Where an instruction takes a number, `|` puts it in.
+
+/// The page of a program's code.
+pub(crate) const CODE: u32 = 0x40_0000;
+
+/// The page of its data, in the high half of a word.
+pub(crate) const DATA_HIGH: u32 = 0x41;
+
+pub(crate) const DATA: u32 = DATA_HIGH << 16;
+
+/// `addiu $v0, $zero, 0`.
+pub(crate) const SET_V0: u32 = 0x2402_0000;
+
+/// `addiu $a0, $zero, 0`.
+pub(crate) const SET_A0: u32 = 0x2404_0000;
+
+/// `addiu $a1, $zero, 0`.
+pub(crate) const SET_A1: u32 = 0x2405_0000;
+
+/// `addiu $a2, $zero, 0`.
+pub(crate) const SET_A2: u32 = 0x2406_0000;
+
+/// `addiu $a3, $zero, 0`.
+pub(crate) const SET_A3: u32 = 0x2407_0000;
+
+/// `lui $a0, 0`.
+pub(crate) const SET_A0_HIGH: u32 = 0x3C04_0000;
+
+/// `lui $a1, 0`.
+pub(crate) const SET_A1_HIGH: u32 = 0x3C05_0000;
+
+/// `lui $a3, 0`.
+pub(crate) const SET_A3_HIGH: u32 = 0x3C07_0000;
+
+/// `lui $sp, 0`.
+pub(crate) const SET_SP_HIGH: u32 = 0x3C1D_0000;
+
+/// `addiu $a0, $v0, 0`.
+pub(crate) const SET_A0_TO_V0: u32 = 0x2444_0000;
+
+/// `addiu $a0, $v1, 0`.
+pub(crate) const SET_A0_TO_V1: u32 = 0x2464_0000;
+
+/// `addiu $a0, $a3, 0`.
+pub(crate) const SET_A0_TO_A3: u32 = 0x24E4_0000;
+
+/// `lui $t0, 0`.
+pub(crate) const SET_T0_HIGH: u32 = 0x3C08_0000;
+
+/// `lbu $a0, 0($t0)`.
+pub(crate) const LOAD_A0_FROM_T0: u32 = 0x9104_0000;
+
+/// `lw $t0, 0($zero)`.
+pub(crate) const LOAD_T0_FROM_ZERO: u32 = 0x8C08_0000;
+
+/// `sb $v0, 0($v0)`.
+pub(crate) const STORE_V0_AT_V0: u32 = 0xA042_0000;
+
+/// `rdhwr $v0, $29`.
+pub(crate) const READ_THREAD_POINTER: u32 = 0x7C02_E83B;
+
+/// `syscall`.
+pub(crate) const SYSCALL: u32 = 0x0000_000C;
+
+pub(crate) const EXIT: u32 = 4001;
+
+pub(crate) const READ: u32 = 4003;
+
+pub(crate) const WRITE: u32 = 4004;
+
+pub(crate) const GETPID: u32 = 4020;
+
+pub(crate) const GETUID: u32 = 4024;
+
+pub(crate) const PIPE: u32 = 4042;
+
+pub(crate) const IOCTL: u32 = 4054;
+
+pub(crate) const GETPPID: u32 = 4064;
+
+pub(crate) const GETRLIMIT: u32 = 4076;
+
+pub(crate) const UNAME: u32 = 4122;
+
+pub(crate) const READV: u32 = 4145;
+
+pub(crate) const MMAP2: u32 = 4210;
+
+pub(crate) const EXIT_GROUP: u32 = 4246;
+
+pub(crate) const SET_THREAD_AREA: u32 = 4283;
+
+pub(crate) const SET_ROBUST_LIST: u32 = 4309;
+
+pub(crate) const PRLIMIT64: u32 = 4338;
+
+pub(crate) const GETRANDOM: u32 = 4353;
