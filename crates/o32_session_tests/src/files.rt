@@ -1,38 +1,37 @@
 //! The files that a session loads, where one is missing or is refused.
 use crate::code::*;
 use crate::images::EMPTY_ROOT;
-use crate::sessions::{Given, NO_FAILURE, Wanted, comes_out};
+use crate::sessions::{Given, NO_FAILURE, Wanted, add_file, comes_out, program_alone, texts};
 use elf_image::ElfRefusal;
 use fs_image::ImageRefusal;
 use o32_session::{End, Refusal};
+use outside::NamedFile;
 use std::alloc::Global;
 use std::test::Fail;
 
-/// The words of a session, its store, and why it is refused, with its line.
-type Refused<'a> = (&'a [&'a str], &'a [(&'a str, &'a [u8])], Refusal, &'a [u8]);
-
-/// The first session that is not refused so, counted from 0.
-fn first_wrong(alloc: Global, rows: &[Refused]) -> Result<Option<usize>, Fail> {
-    for (place, (words, files, refusal, line)) in rows.iter().enumerate() {
-        let given = Given {
-            words,
-            files,
-            input: &[],
-            failing: NO_FAILURE,
-        };
-        let wanted = Wanted {
-            end: End::Refused(*refusal),
-            status: 125,
-            turns: 0,
-            out: &[],
-            err: line,
-            saved: None,
-        };
-        if !comes_out(alloc, &given, &wanted)? {
-            return Ok(Some(place));
-        }
-    }
-    Ok(None)
+/// Whether a session is refused so, with this line.
+fn is_refused(
+    alloc: Global,
+    words: &[&str],
+    files: Vec<NamedFile>,
+    refusal: Refusal,
+    line: &[u8],
+) -> Result<bool, Fail> {
+    let given = Given {
+        words: texts(alloc, words)?,
+        files,
+        input: &[],
+        failing: NO_FAILURE,
+    };
+    let wanted = Wanted {
+        end: End::Refused(refusal),
+        status: 125,
+        turns: 0,
+        out: &[],
+        err: line,
+        saved: None,
+    };
+    comes_out(alloc, given, &wanted)
 }
 
 /// Writes bytes over those at a place, as many as are there.
@@ -40,6 +39,43 @@ fn write_at(file: &mut [u8], place: usize, bytes: &[u8]) {
     for (old, new) in file.iter_mut().skip(place).zip(bytes) {
         *old = *new;
     }
+}
+
+/// The words of a session whose store has the program that writes `Hi` as `p`, why it is refused, and its line.
+type Missing<'a> = (&'a [&'a str], Refusal, &'a [u8]);
+
+/// The first session that is not refused so, counted from 0.
+fn first_not_missing(alloc: Global, rows: &[Missing]) -> Result<Option<usize>, Fail> {
+    let hello = hello(alloc)?;
+    for (place, (words, refusal, line)) in rows.iter().enumerate() {
+        let files = program_alone(alloc, &hello)?;
+        if !is_refused(alloc, words, files, *refusal, line)? {
+            return Ok(Some(place));
+        }
+    }
+    Ok(None)
+}
+
+#[test]
+fn missing_files(rt: HostRuntime) -> Result<(), Fail> {
+    let program = Refusal::Missing { file: 1 };
+    let image = Refusal::Missing { file: 2 };
+    let rows: [Missing; 3] = [
+        (&["run", "q"], program, b"o32run: file 1 missing\n"),
+        (
+            &["run", "--image", "i", "p"],
+            image,
+            b"o32run: file 2 missing\n",
+        ),
+        // A value is the next word, whatever it is.
+        (
+            &["run", "--image", "--save", "p"],
+            image,
+            b"o32run: file 2 missing\n",
+        ),
+    ];
+    assert_eq!(rt; first_not_missing(rt.alloc(), &rows)?, None);
+    Ok(())
 }
 
 /// The program that writes `Hi`, with these bytes at a place. A second header asks for the same segment, which is looked at
@@ -52,36 +88,6 @@ fn changed_hello(alloc: Global, place: usize, bytes: &[u8]) -> Result<Vec<u8>, F
     Ok(file)
 }
 
-#[test]
-fn missing_files(rt: HostRuntime) -> Result<(), Fail> {
-    let alloc = rt.alloc();
-    let hello = hello(alloc)?;
-    let store: [(&str, &[u8]); 1] = [("p", &hello)];
-    let rows: [Refused; 3] = [
-        (
-            &["run", "q"],
-            &store,
-            Refusal::Missing { file: 1 },
-            b"o32run: file 1 missing\n",
-        ),
-        (
-            &["run", "--image", "i", "p"],
-            &store,
-            Refusal::Missing { file: 2 },
-            b"o32run: file 2 missing\n",
-        ),
-        // A value is the next word, whatever it is.
-        (
-            &["run", "--image", "--save", "p"],
-            &store,
-            Refusal::Missing { file: 2 },
-            b"o32run: file 2 missing\n",
-        ),
-    ];
-    assert_eq!(rt; first_wrong(alloc, &rows)?, None);
-    Ok(())
-}
-
 /// A place of the program's file, what is written there, the rule that this breaks, and its number.
 type Broken<'a> = (usize, &'a [u8], ElfRefusal, u8);
 
@@ -89,14 +95,15 @@ type Broken<'a> = (usize, &'a [u8], ElfRefusal, u8);
 fn first_unbroken(alloc: Global, rows: &[Broken]) -> Result<Option<usize>, Fail> {
     for (at, (place, bytes, rule, number)) in rows.iter().enumerate() {
         let program = changed_hello(alloc, *place, bytes)?;
+        let files = program_alone(alloc, &program)?;
         let line = format!(in alloc; "o32run: elf rule {number}\n")?;
-        let row: Refused = (
+        if !is_refused(
+            alloc,
             &["run", "p"],
-            &[("p", program.as_slice())],
+            files,
             Refusal::Elf(*rule),
             line.as_bytes(),
-        );
-        if first_wrong(alloc, &[row])?.is_some() {
+        )? {
             return Ok(Some(at));
         }
     }
@@ -127,6 +134,21 @@ fn refused_programs(rt: HostRuntime) -> Result<(), Fail> {
     Ok(())
 }
 
+/// PROGRAM's file, the image, why the session is refused, and its line.
+type Image<'a> = (&'a [u8], &'a [u8], Refusal, &'a [u8]);
+
+/// The first session that is not refused so, counted from 0.
+fn first_read(alloc: Global, words: &[&str], rows: &[Image]) -> Result<Option<usize>, Fail> {
+    for (place, (program, image, refusal, line)) in rows.iter().enumerate() {
+        let mut files = program_alone(alloc, program)?;
+        add_file(alloc, &mut files, "i", image)?;
+        if !is_refused(alloc, words, files, *refusal, line)? {
+            return Ok(Some(place));
+        }
+    }
+    Ok(None)
+}
+
 #[test]
 fn refused_images(rt: HostRuntime) -> Result<(), Fail> {
     let alloc = rt.alloc();
@@ -135,49 +157,34 @@ fn refused_images(rt: HostRuntime) -> Result<(), Fail> {
     longer.push(0)?;
     let mut file_as_root = EMPTY_ROOT.to_vec(alloc)?;
     write_at(&mut file_as_root, 20, &[1]);
-    // An image is looked at before the arguments are found too long, and a program before its image.
+    let short = Refusal::Image(ImageRefusal { rule: 1, at: 0 });
+    let magic = Refusal::Image(ImageRefusal { rule: 2, at: 0 });
+    let kind = Refusal::Image(ImageRefusal { rule: 5, at: 20 });
+    let rest = Refusal::Image(ImageRefusal { rule: 14, at: 35 });
+    // A program is looked at before its image.
+    let program = Refusal::Elf(ElfRefusal::Short);
+    let rows: [Image; 5] = [
+        (&hello, b"", short, b"o32run: image rule 1 at 0\n"),
+        (&hello, &hello, magic, b"o32run: image rule 2 at 0\n"),
+        (&hello, &file_as_root, kind, b"o32run: image rule 5 at 20\n"),
+        (&hello, &longer, rest, b"o32run: image rule 14 at 35\n"),
+        (b"", b"", program, b"o32run: elf rule 1\n"),
+    ];
+    let words = ["run", "--save", "s", "--image", "i", "p"];
+    assert_eq!(rt; first_read(alloc, &words, &rows)?, None);
+    Ok(())
+}
+
+#[test]
+fn image_before_the_start(rt: HostRuntime) -> Result<(), Fail> {
+    let alloc = rt.alloc();
+    let hello = hello(alloc)?;
     let long = String::from_utf8(vec![in alloc; b'a'; 131_072]?)
         .ok()
         .ok_or("no text")?;
-    let words = ["run", "--save", "s", "--image", "i", "p"];
-    let rows: [Refused; 6] = [
-        (
-            &words,
-            &[("p", &hello), ("i", b"")],
-            Refusal::Image(ImageRefusal { rule: 1, at: 0 }),
-            b"o32run: image rule 1 at 0\n",
-        ),
-        (
-            &words,
-            &[("p", &hello), ("i", &longer)],
-            Refusal::Image(ImageRefusal { rule: 14, at: 35 }),
-            b"o32run: image rule 14 at 35\n",
-        ),
-        (
-            &words,
-            &[("p", &hello), ("i", &file_as_root)],
-            Refusal::Image(ImageRefusal { rule: 5, at: 20 }),
-            b"o32run: image rule 5 at 20\n",
-        ),
-        (
-            &words,
-            &[("p", &hello), ("i", &hello)],
-            Refusal::Image(ImageRefusal { rule: 2, at: 0 }),
-            b"o32run: image rule 2 at 0\n",
-        ),
-        (
-            &["run", "--image", "i", "p", long.as_str()],
-            &[("p", &hello), ("i", b"")],
-            Refusal::Image(ImageRefusal { rule: 1, at: 0 }),
-            b"o32run: image rule 1 at 0\n",
-        ),
-        (
-            &words,
-            &[("p", b""), ("i", b"")],
-            Refusal::Elf(ElfRefusal::Short),
-            b"o32run: elf rule 1\n",
-        ),
-    ];
-    assert_eq!(rt; first_wrong(alloc, &rows)?, None);
+    let refusal = Refusal::Image(ImageRefusal { rule: 1, at: 0 });
+    let rows: [Image; 1] = [(&hello, b"", refusal, b"o32run: image rule 1 at 0\n")];
+    let words = ["run", "--image", "i", "p", long.as_str()];
+    assert_eq!(rt; first_read(alloc, &words, &rows)?, None);
     Ok(())
 }

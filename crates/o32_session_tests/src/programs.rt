@@ -1,6 +1,6 @@
 //! Programs, by what they do with their devices and how they end.
 use crate::code::*;
-use crate::sessions::{Given, NO_FAILURE, Wanted, comes_out};
+use crate::sessions::{Given, NO_FAILURE, Wanted, comes_out, program_alone, texts};
 use o32_session::End;
 use std::alloc::Global;
 use std::test::Fail;
@@ -13,8 +13,8 @@ fn first_wrong(alloc: Global, rows: &[Program]) -> Result<Option<usize>, Fail> {
     for (place, (code, input, end, status, turns, out, err)) in rows.iter().enumerate() {
         let program = one_page(alloc, code)?;
         let given = Given {
-            words: &["run", "p"],
-            files: &[("p", program.as_slice())],
+            words: texts(alloc, &["run", "p"])?,
+            files: program_alone(alloc, &program)?,
             input,
             failing: NO_FAILURE,
         };
@@ -26,7 +26,7 @@ fn first_wrong(alloc: Global, rows: &[Program]) -> Result<Option<usize>, Fail> {
             err,
             saved: None,
         };
-        if !comes_out(alloc, &given, &wanted)? {
+        if !comes_out(alloc, given, &wanted)? {
             return Ok(Some(place));
         }
     }

@@ -1,7 +1,9 @@
 //! The file that a final tree is saved to, and devices that fail.
 use crate::code::*;
 use crate::images::{EMPTY_ROOT, ONE_FILE};
-use crate::sessions::{Failing, Given, NO_FAILURE, Wanted, comes_out};
+use crate::sessions::{
+    Failing, Given, NO_FAILURE, Wanted, add_file, comes_out, program_alone, texts,
+};
 use o32_session::End;
 use std::alloc::Global;
 use std::test::Fail;
@@ -14,9 +16,12 @@ type Run<'a> = (&'a [&'a str], Failing<'a>, End, u8, u64, &'a [u8], &'a [u8]);
 /// `s` there is `old`, and the input is `xy`.
 fn first_wrong(alloc: Global, program: &[u8], rows: &[Run]) -> Result<Option<usize>, Fail> {
     for (place, (words, failing, end, status, turns, out, saved)) in rows.iter().enumerate() {
+        let mut files = program_alone(alloc, program)?;
+        add_file(alloc, &mut files, "i", &ONE_FILE)?;
+        add_file(alloc, &mut files, "s", b"old")?;
         let given = Given {
-            words,
-            files: &[("p", program), ("i", &ONE_FILE), ("s", b"old")],
+            words: texts(alloc, words)?,
+            files,
             input: b"xy",
             failing: *failing,
         };
@@ -28,7 +33,7 @@ fn first_wrong(alloc: Global, program: &[u8], rows: &[Run]) -> Result<Option<usi
             err: &[],
             saved: Some(saved),
         };
-        if !comes_out(alloc, &given, &wanted)? {
+        if !comes_out(alloc, given, &wanted)? {
             return Ok(Some(place));
         }
     }

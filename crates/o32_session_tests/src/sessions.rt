@@ -12,12 +12,12 @@ pub(crate) type Failing<'a> = [&'a [u64]; 4];
 pub(crate) const NO_FAILURE: Failing<'static> = [&[], &[], &[], &[]];
 
 /// What a session is given.
-#[derive(Clone, Copy)]
+#[derive(Drop)]
 pub(crate) struct Given<'a> {
     /// Its words.
-    pub words: &'a [&'a str],
-    /// The files of its store, by their names.
-    pub files: &'a [(&'a str, &'a [u8])],
+    pub words: Vec<String>,
+    /// The files of its store.
+    pub files: Vec<NamedFile>,
     /// Its standard input.
     pub input: &'a [u8],
     /// The calls that fail.
@@ -50,8 +50,8 @@ struct Done {
     store: MemStore,
 }
 
-/// The words of a session.
-fn texts(alloc: Global, words: &[&str]) -> Result<Vec<String>, Fail> {
+/// These texts, as the words of a session.
+pub(crate) fn texts(alloc: Global, words: &[&str]) -> Result<Vec<String>, Fail> {
     let mut texts = Vec::new(alloc);
     for word in words {
         texts
@@ -62,31 +62,38 @@ fn texts(alloc: Global, words: &[&str]) -> Result<Vec<String>, Fail> {
     Ok(texts)
 }
 
-/// The files of a store.
-fn named_files(alloc: Global, files: &[(&str, &[u8])]) -> Result<Vec<NamedFile>, Fail> {
-    let mut named = Vec::new(alloc);
-    for (name, bytes) in files {
-        let file = NamedFile {
-            name: String::from_str(alloc, name)?,
-            bytes: bytes.to_vec(alloc)?,
-        };
-        named.push(file).ok().ok_or("no memory")?;
-    }
-    Ok(named)
+/// Adds a file of this name with these bytes.
+pub(crate) fn add_file(
+    alloc: Global,
+    files: &mut Vec<NamedFile>,
+    name: &str,
+    bytes: &[u8],
+) -> Result<(), Fail> {
+    let file = NamedFile {
+        name: String::from_str(alloc, name)?,
+        bytes: bytes.to_vec(alloc)?,
+    };
+    files.push(file).ok().ok_or("no memory")?;
+    Ok(())
+}
+
+/// A store whose file `p` has these bytes.
+pub(crate) fn program_alone(alloc: Global, program: &[u8]) -> Result<Vec<NamedFile>, Fail> {
+    let mut files = Vec::new(alloc);
+    add_file(alloc, &mut files, "p", program)?;
+    Ok(files)
 }
 
 /// Carries out a session.
-fn carry_out(alloc: Global, given: &Given) -> Result<Done, Fail> {
-    let texts = texts(alloc, given.words)?;
-    let files = named_files(alloc, given.files)?;
+fn carry_out(alloc: Global, given: Given) -> Result<Done, Fail> {
     let [takes, puts, lines, calls] = given.failing;
-    let mut store = MemStore::new(alloc, files, calls.to_vec(alloc)?);
+    let mut store = MemStore::new(alloc, given.files, calls.to_vec(alloc)?);
     let mut dev = Devices {
         input: MemSource::new(given.input.to_vec(alloc)?, takes.to_vec(alloc)?),
         out: MemSink::new(alloc, puts.to_vec(alloc)?),
         err: MemSink::new(alloc, lines.to_vec(alloc)?),
     };
-    let answer = session(alloc, &texts, &mut store, &mut dev);
+    let answer = session(alloc, &given.words, &mut store, &mut dev);
     Ok(Done {
         answer,
         out: dev.out.bytes().to_vec(alloc)?,
@@ -119,6 +126,6 @@ fn is_right(done: &Done, wanted: &Wanted) -> bool {
 }
 
 /// Whether a session comes out so.
-pub(crate) fn comes_out(alloc: Global, given: &Given, wanted: &Wanted) -> Result<bool, Fail> {
+pub(crate) fn comes_out(alloc: Global, given: Given, wanted: &Wanted) -> Result<bool, Fail> {
     Ok(is_right(&carry_out(alloc, given)?, wanted))
 }

@@ -1,6 +1,6 @@
 //! The words of a session: those that are wrong, and budgets and arguments.
 use crate::code::*;
-use crate::sessions::{Given, NO_FAILURE, Wanted, comes_out};
+use crate::sessions::{Given, NO_FAILURE, Wanted, comes_out, program_alone, texts};
 use o32_session::{End, Refusal};
 use std::alloc::Global;
 use std::test::Fail;
@@ -11,8 +11,8 @@ fn first_accepted(alloc: Global, rows: &[(&[&str], usize)]) -> Result<Option<usi
     for (place, (words, word)) in rows.iter().enumerate() {
         let line = format!(in alloc; "o32run: usage at word {word}\n")?;
         let given = Given {
-            words,
-            files: &[("p", program.as_slice())],
+            words: texts(alloc, words)?,
+            files: program_alone(alloc, &program)?,
             input: &[],
             failing: NO_FAILURE,
         };
@@ -24,7 +24,7 @@ fn first_accepted(alloc: Global, rows: &[(&[&str], usize)]) -> Result<Option<usi
             err: line.as_bytes(),
             saved: None,
         };
-        if !comes_out(alloc, &given, &wanted)? {
+        if !comes_out(alloc, given, &wanted)? {
             return Ok(Some(place));
         }
     }
@@ -85,8 +85,8 @@ type Run<'a> = (&'a [&'a str], &'a [u8], End, u8, u64, &'a [u8], &'a [u8]);
 fn first_wrong(alloc: Global, rows: &[Run]) -> Result<Option<usize>, Fail> {
     for (place, (words, program, end, status, turns, out, err)) in rows.iter().enumerate() {
         let given = Given {
-            words,
-            files: &[("p", *program)],
+            words: texts(alloc, words)?,
+            files: program_alone(alloc, program)?,
             input: &[],
             failing: NO_FAILURE,
         };
@@ -98,7 +98,7 @@ fn first_wrong(alloc: Global, rows: &[Run]) -> Result<Option<usize>, Fail> {
             err,
             saved: None,
         };
-        if !comes_out(alloc, &given, &wanted)? {
+        if !comes_out(alloc, given, &wanted)? {
             return Ok(Some(place));
         }
     }
@@ -202,49 +202,57 @@ fn budgets(rt: HostRuntime) -> Result<(), Fail> {
     Ok(())
 }
 
-#[test]
-fn arguments_and_their_limit(rt: HostRuntime) -> Result<(), Fail> {
-    let alloc = rt.alloc();
-    // The count of arguments is at $sp.
+/// How many letters the one argument behind PROGRAM has, how the session ends, its status, the turns, and its line.
+type Argument<'a> = (usize, End, u8, u64, &'a [u8]);
+
+/// The first session of a program that exits with the number of its arguments, which is at $sp, that does not come out so,
+/// counted from 0.
+fn first_wrong_argument(alloc: Global, rows: &[Argument]) -> Result<Option<usize>, Fail> {
     let counts = one_page(
         alloc,
         &[LOAD_V0_FROM_SP, SET_A0_TO_V0, SET_V0 | EXIT, SYSCALL],
     )?;
-    let fits = String::from_utf8(vec![in alloc; b'a'; 130_911]?)
-        .ok()
-        .ok_or("no text")?;
-    let passes = String::from_utf8(vec![in alloc; b'a'; 130_912]?)
-        .ok()
-        .ok_or("no text")?;
-    let rows: [Run; 3] = [
+    for (place, (letters, end, status, turns, err)) in rows.iter().enumerate() {
+        let mut words = texts(alloc, &["run", "p"])?;
+        let long = String::from_utf8(vec![in alloc; b'a'; *letters]?)
+            .ok()
+            .ok_or("no text")?;
+        words.push(long).ok().ok_or("no memory")?;
+        let given = Given {
+            words,
+            files: program_alone(alloc, &counts)?,
+            input: &[],
+            failing: NO_FAILURE,
+        };
+        let wanted = Wanted {
+            end: *end,
+            status: *status,
+            turns: *turns,
+            out: &[],
+            err,
+            saved: None,
+        };
+        if !comes_out(alloc, given, &wanted)? {
+            return Ok(Some(place));
+        }
+    }
+    Ok(None)
+}
+
+#[test]
+fn arguments_and_their_limit(rt: HostRuntime) -> Result<(), Fail> {
+    let rows: [Argument; 4] = [
+        (0, End::Exited(2), 2, 4, b""),
+        (1, End::Exited(2), 2, 4, b""),
+        (130_911, End::Exited(2), 2, 4, b""),
         (
-            &["run", "p", "-a", "b", ""],
-            &counts,
-            End::Exited(4),
-            4,
-            4,
-            b"",
-            b"",
-        ),
-        (
-            &["run", "p", fits.as_str()],
-            &counts,
-            End::Exited(2),
-            2,
-            4,
-            b"",
-            b"",
-        ),
-        (
-            &["run", "p", passes.as_str()],
-            &counts,
+            130_912,
             End::Refused(Refusal::Start),
             125,
             0,
-            b"",
             b"o32run: arguments too long\n",
         ),
     ];
-    assert_eq!(rt; first_wrong(alloc, &rows)?, None);
+    assert_eq!(rt; first_wrong_argument(rt.alloc(), &rows)?, None);
     Ok(())
 }
