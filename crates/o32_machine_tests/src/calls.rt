@@ -3,10 +3,10 @@
 use crate::emulators::{Program, Row, first_wrong};
 use crate::words::{
     DATA_HIGH, EXIT, EXIT_GROUP, GETPID, GETPPID, GETRANDOM, GETRLIMIT, GETUID, IOCTL,
-    LOAD_A0_FROM_A0, LOAD_A0_FROM_T0, LOAD_T0_FROM_ZERO, MMAP2, MUNMAP, PIPE, PRLIMIT64, READ,
-    READ_THREAD_POINTER, READV, SET_A0, SET_A0_HIGH, SET_A0_TO_A3, SET_A0_TO_V0, SET_A0_TO_V1,
-    SET_A1, SET_A1_HIGH, SET_A2, SET_A3, SET_A3_HIGH, SET_ROBUST_LIST, SET_SP_HIGH, SET_T0_HIGH,
-    SET_THREAD_AREA, SET_V0, STORE_V0_AT_V0, SYSCALL, UNAME, WRITE,
+    LOAD_A0_FROM_T0, LOAD_T0_FROM_ZERO, MMAP2, PIPE, PRLIMIT64, READ, READ_THREAD_POINTER, READV,
+    SET_A0, SET_A0_HIGH, SET_A0_TO_A3, SET_A0_TO_V0, SET_A0_TO_V1, SET_A1, SET_A1_HIGH, SET_A2,
+    SET_A3, SET_A3_HIGH, SET_ROBUST_LIST, SET_SP_HIGH, SET_T0_HIGH, SET_THREAD_AREA, SET_V0,
+    STORE_V0_AT_V0, SYSCALL, UNAME, WRITE,
 };
 use kernel_core::Finish;
 use std::test::Fail;
@@ -260,36 +260,16 @@ static TOLD: [Row; 9] = [
     ),
 ];
 
-/// A status keeps its low 8 bits. A load from where nothing is mapped, or where nothing is mapped any more, is found in
-/// one turn and kills in the next, by SIGSEGV, 11. A read of an empty pipe waits, and the attempt that finds it blocked is no turn. What is
+/// A status keeps its low 8 bits. A load from where nothing is mapped is found in one turn and kills in the next,
+/// by SIGSEGV, 11. A read of an empty pipe waits, and the attempt that finds it blocked is no turn. What is
 /// written goes to the two outputs. What is read is counted, and at the end it is nothing.
-static ENDS: [Row; 7] = [
+static ENDS: [Row; 6] = [
     Row::Exits(&[SET_A0 | 263, SET_V0 | EXIT, SYSCALL], 7, 3),
     Row::Runs(Program {
         code: &[LOAD_T0_FROM_ZERO],
         input: b"",
         finish: Finish::Killed(11),
         turns: 2,
-        out: b"",
-        err: b"",
-    }),
-    Row::Runs(Program {
-        code: &[
-            SET_SP_HIGH | DATA_HIGH,
-            SET_A1 | 4096,
-            SET_A2 | 3,
-            SET_A3 | 0x802,
-            SET_V0 | MMAP2,
-            SYSCALL,
-            STORE_V0_AT_V0,
-            SET_A0_TO_V0,
-            SET_V0 | MUNMAP,
-            SYSCALL,
-            LOAD_A0_FROM_A0,
-        ],
-        input: b"",
-        finish: Finish::Killed(11),
-        turns: 12,
         out: b"",
         err: b"",
     }),

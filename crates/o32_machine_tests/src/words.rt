@@ -51,9 +51,6 @@ pub(crate) const SET_T0_HIGH: u32 = 0x3C08_0000;
 /// `lbu $a0, 0($t0)`.
 pub(crate) const LOAD_A0_FROM_T0: u32 = 0x9104_0000;
 
-/// `lbu $a0, 0($a0)`.
-pub(crate) const LOAD_A0_FROM_A0: u32 = 0x9084_0000;
-
 /// `lw $t0, 0($zero)`.
 pub(crate) const LOAD_T0_FROM_ZERO: u32 = 0x8C08_0000;
 
