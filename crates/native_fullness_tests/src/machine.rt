@@ -1,4 +1,5 @@
 //! A kernel with its streams: calls of it in rows, and how its file system gets full.
+ghost use Rattle.std.specs.Prelude.{◌≤◌};
 
 use crate::numbers::{DONE, PWRITE64};
 use fs_image::decode;
