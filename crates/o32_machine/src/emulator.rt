@@ -103,10 +103,11 @@ impl Emulator {
         ensures cause { StopsOnlyIfRose I.faults O.faults E.faults result dev.old dev.new }
         ensures counts { NoCountFell I.faults O.faults E.faults dev.old dev.new }
     {
-        self.over = true;
-        let turn = self.attempt(dev)?;
-        self.over = turn.is_end();
-        Ok(turn)
+        let result = self.attempt(dev);
+        if !matches!(result, Ok(Turn::Went)) {
+            self.over = true;
+        }
+        result
     }
 
     /// The same, but for whether a further turn follows.

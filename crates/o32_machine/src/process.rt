@@ -109,7 +109,9 @@ impl Process {
         ensures used { self.new ≡ record self.old { fault = None } }
     {
         let fault = self.fault;
-        self.fault = None;
+        if fault.is_some() {
+            self.fault = None;
+        }
         fault
     }
 
@@ -136,7 +138,10 @@ impl Process {
         }
     }
 
-    /// Makes the call of the SYSCALL that was just executed.
+    /// Makes the call of the SYSCALL that was just executed. It stands apart from the path of the other instructions,
+    /// which keeps its buffers off their stack.
+    #[cold]
+    #[inline(never)]
     pub(crate) fn call<I: Source, O: Sink, E: Sink>(
         &mut self,
         dev: &mut Devices<I, O, E>,
