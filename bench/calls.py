@@ -22,13 +22,13 @@ from guest_program import (  # noqa: E402
     A0,
     A1,
     A2,
-    A3,
     COUNTER,
     DATA,
-    S1,
+    FAILED,
+    MMAP2_SETUP,
+    PAGE,
     S2,
     S3,
-    SP,
     T0,
     V0,
     V1,
@@ -36,34 +36,24 @@ from guest_program import (  # noqa: E402
     Program,
     addiu,
     addu,
-    bitwise_or,
     bne,
+    call,
     load_constant,
+    mmap2,
     sw,
-    syscall,
 )
 from processes import processor_name, run  # noqa: E402
 from words import a_count, an_executable, default_emulator  # noqa: E402
 
 # asm/unistd.h of MIPS Linux, o32.
-READ_CALL, WRITE_CALL, GETPID_CALL, PIPE_CALL = 4003, 4004, 4020, 4042
-MUNMAP_CALL, MMAP2_CALL = 4091, 4210
-
-# asm/mman.h of MIPS Linux: PROT_READ and PROT_WRITE; MAP_PRIVATE and MAP_ANONYMOUS.
-READ_AND_WRITE, PRIVATE_AND_ANONYMOUS = 0x3, 0x802
+READ_CALL, WRITE_CALL, GETPID_CALL, PIPE_CALL, MUNMAP_CALL = 4003, 4004, 4020, 4042, 4091
 
 STANDARD_OUTPUT = 1
-PAGE = 4096
 BUDGET_STATUS = 124
 FEW_ROUNDS = 100
 
-# Whether any call failed, and the pipe's ends, in registers that a call keeps.
-FAILED, READING_END, WRITING_END = S1, S2, S3
-
-
-def call(number):
-    """A call whose arguments stand in their registers, and what it says of failing."""
-    return [addiu(V0, ZERO, number), syscall(), bitwise_or(FAILED, FAILED, A3)]
+# The pipe's ends, in registers that a call keeps.
+READING_END, WRITING_END = S2, S3
 
 
 def go_round(words):
@@ -104,11 +94,9 @@ def pipe_loop(count):
 
 
 def mapping_loop():
-    # The fifth and sixth arguments, a descriptor that is not looked at and the offset 0, stand on the stack.
-    setup = [addiu(SP, SP, -32), sw(ZERO, 16, SP), sw(ZERO, 20, SP), addiu(A1, ZERO, PAGE), addiu(A2, ZERO, READ_AND_WRITE)]
-    mapped = [addu(A0, ZERO, ZERO), addiu(A3, ZERO, PRIVATE_AND_ANONYMOUS), *call(MMAP2_CALL), sw(V0, 0, V0)]
+    setup = [*MMAP2_SETUP, addiu(A1, ZERO, PAGE)]
     unmapped = [addu(A0, V0, ZERO), *call(MUNMAP_CALL)]
-    return Loop("mmap2, store, munmap", setup, mapped + unmapped, calls=2)
+    return Loop("mmap2, store, munmap", setup, [*mmap2(), sw(V0, 0, V0), *unmapped], calls=2)
 
 
 LOOPS = [Loop("getpid", [], call(GETPID_CALL)), write_loop(1), write_loop(4096), pipe_loop(1), pipe_loop(4096), mapping_loop()]

@@ -24,7 +24,16 @@ SP, RA = 29, 31
 # The round's counter, which every loop counts down. A system call keeps it.
 COUNTER = S0
 
+# asm/unistd.h of MIPS Linux, o32.
 EXIT_CALL = 4001
+MMAP2_CALL = 4210
+
+# asm/mman.h of MIPS Linux: PROT_READ and PROT_WRITE; MAP_PRIVATE and MAP_ANONYMOUS.
+READ_AND_WRITE = 0x3
+PRIVATE_AND_ANONYMOUS = 0x802
+
+# Whether any call failed, in a register that a call keeps.
+FAILED = S1
 
 
 def register_word(rs, rt, rd, function, opcode=0, shift=0):
@@ -119,6 +128,25 @@ def jal(address):
 def load_constant(register, value):
     return [lui(register, value >> 16), ori(register, register, value & 0xFFFF)]
 
+
+def call(number):
+    """A call whose arguments stand in their registers, and what it says of failing."""
+    return [addiu(V0, ZERO, number), syscall(), bitwise_or(FAILED, FAILED, A3)]
+
+
+# Room on the stack for a call's fifth and sixth arguments. Those of mmap2(2), a descriptor that is not looked at and the
+# offset, are 0.
+MMAP2_SETUP = [addiu(SP, SP, -32), sw(ZERO, 16, SP), sw(ZERO, 20, SP)]
+
+
+def mmap2():
+    """A mapping to read and write, of as many bytes as A1 says, at any place, which V0 then has."""
+    return [
+        addu(A0, ZERO, ZERO),
+        addiu(A2, ZERO, READ_AND_WRITE),
+        addiu(A3, ZERO, PRIVATE_AND_ANONYMOUS),
+        *call(MMAP2_CALL),
+    ]
 
 
 # How many words end a program.
@@ -269,10 +297,16 @@ PROGRAMS = [
 ]
 
 
+def count_round(_start, _function):
+    return [addiu(COUNTER, COUNTER, -1), bne(COUNTER, ZERO, -2), addiu(T6, T6, 1)]
+
+
 def untouched(pages):
-    """A program that counts down, with so many pages that it never touches."""
+    """A program that counts down, with so many pages of data that it never touches."""
+    return Program(f"{pages:,} pages of data", [], count_round, ZERO, data_size=pages * PAGE)
 
-    def count_round(_start, _function):
-        return [addiu(COUNTER, COUNTER, -1), bne(COUNTER, ZERO, -2), addiu(T6, T6, 1)]
 
-    return Program(f"{pages:,} pages", [], count_round, ZERO, data_size=pages * PAGE)
+def untouched_mapping(pages):
+    """A program that maps so many pages, counts down, and never touches them; the status is 0 where it could map them."""
+    setup = [*MMAP2_SETUP, *load_constant(A1, pages * PAGE), *mmap2()]
+    return Program(f"{pages:,} pages of a mapping", setup, count_round, FAILED)

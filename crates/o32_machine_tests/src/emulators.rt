@@ -18,7 +18,7 @@ use std::test::Fail;
 pub(crate) type Streams = Devices<MemSource, MemSink, MemSink>;
 
 /// How many turns a test waits for the end.
-const PATIENCE: u64 = 100;
+const PATIENCE: u64 = 2000;
 
 /// A program, and how its run ends.
 #[derive(Clone, Copy)]
@@ -89,10 +89,11 @@ fn empty_schedule(alloc: Global) -> Result<Schedule, Fail>
     }
 }
 
-/// A program's memory: a page of these words, and one of data that begins with a line.
+/// A program's memory: four pages that begin with these words, and one of data that begins with a line, with the break
+/// behind it.
 fn new_space(alloc: Global, code: &[u32]) -> Result<Space, Fail> {
     let mut space = Space::new(alloc).ok().ok_or("no memory")?;
-    space.map(CODE / 4096, 1, 7).ok().ok_or("not mapped")?;
+    space.map(CODE / 4096, 4, 7).ok().ok_or("not mapped")?;
     space.map(DATA / 4096, 1, 3).ok().ok_or("not mapped")?;
     let mut bytes = Vec::new(alloc);
     for word in code {
@@ -100,6 +101,7 @@ fn new_space(alloc: Global, code: &[u32]) -> Result<Space, Fail> {
     }
     space.copy_out(CODE, &bytes).ok().ok_or("not stored")?;
     space.copy_out(DATA, b"Hi\n").ok().ok_or("not stored")?;
+    space.set_break(DATA + 4096);
     Ok(space)
 }
 

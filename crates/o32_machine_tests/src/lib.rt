@@ -6,6 +6,8 @@ mod calls;
 #[cfg(test)]
 mod emulators;
 #[cfg(test)]
+mod mappings;
+#[cfg(test)]
 mod runs;
 #[cfg(test)]
 mod words;
