@@ -1,12 +1,10 @@
 -- How one more turn continues a run.
-use Rattle.std.proofs.Common.{◌≡◌, ℕ, zero, suc, ◌+◌, ◌<◌, ◌≤◌, ◌⊎◌, Bool, true, false, List, [], ◌++◌, Option, Some, None, Result, Ok, Err, inl, inr, arith, refl, sym, ap, ◌∙◌, subst, add-one, add-zero, append-nil}
+use Rattle.std.proofs.Common.{◌≡◌, ℕ, ◌+◌, ◌<◌, ◌≤◌, Bool, true, false, List, Option, Some, None, inl, inr, arith, refl, sym, ap, ◌∙◌, subst, add-one, add-zero, append-nil}
 use Rattle.std.proofs.lemmas.Bool.{cases_eq}
-use Rattle.std.specs.Prelude.{⊤, is_some}
-use Rattle.outside.specs.Count.{Rose}
+use Rattle.std.specs.Prelude.{⊤}
 use Rattle.outside.specs.Output.{GainsText, GainsBetween}
 use Rattle.outside.specs.Streams.{Contents}
 use Rattle.outside.proofs.OutputLemmas.{GainsBetween-part, GainsText-nothing, GainsText-then}
-use Rattle.kernel_core.specs.declared.core_error.Stop.{Stop}
 use Rattle.kernel_core.specs.declared.finish.Finish.{Finish}
 use Rattle.kernel_core.specs.declared.finish.Finish.TheVariants.{Exited, Killed, Budget, Blocked}
 use Rattle.kernel_core.specs.declared.signal.Sig.{Sig}
@@ -201,20 +199,6 @@ module _ (machine : Machine) (left : List ℕ) (k : ℕ) (before middle : Conten
   pub is_over : (budget : ℕ) (finish : Finish) (after : Contents) (then : Machine) → k < budget → Turned (attempt_of quantum now at_k.left) (Ended finish) then middle after
       → IsOver machine left budget (counted finish) finish before after then
   is_over budget finish after then within turned = over_by budget finish after then within (found now at_k.left finish (sym turned.came)) turned
-
-  -- the budget's turns are done
-  pub budget_over : (budget : ℕ) → k ≡ budget → IsOver machine left budget k Budget before middle now
-  budget_over budget same = record {
-    over = (
-      same,
-      λ j below. let less : j < k = omega arith in so.first j less,
-      ap (λ (n : ℕ). (reached quantum machine left n).over) (sym same) ∙ so.alive,
-    );
-    leaves = sym so.same;
-    rest = so.rest;
-    to_out = so.to_out;
-    to_err = so.to_err;
-  }
 
   -- the next turn stopped early
   pub is_cut : (after : Contents) → is_blocked now ≡ false → Stopped (attempt_of quantum now at_k.left) middle after → IsCut machine left k before after

@@ -1,5 +1,5 @@
 -- What an answer says of the files alone.
-use Rattle.std.proofs.Common.{◌≡◌, ℕ, List, Option, Some, None, Result, Ok, Err, inl, inr, refl, sym, ap, subst}
+use Rattle.std.proofs.Common.{◌≡◌, ℕ, List, Option, Some, None, inl, inr, refl, sym, ap, subst}
 use Rattle.outside.specs.Files.{Files, ChangesFile}
 use Rattle.kernel_core.specs.declared.tree.Tree.{Tree}
 use Rattle.fs_image.specs.Text.{text_of}
@@ -9,7 +9,7 @@ use Rattle.o32_session.specs.Asked.{Asked, Refuse, Run, Names, names_of}
 use Rattle.o32_session.specs.Saved.{SavesPart, SavesTree, SavesTreeInPart, StandsOrBegins, Stored}
 use Rattle.o32_session.specs.SavedFile.{HasTreeText, IsFileAfter, SavesReading, SavesTo, StandsOrHasPart}
 use Rattle.o32_session.specs.Session.{Answers, AnswersReading, IsEarly, Seen, final_tree, no_names}
-use Rattle.o32_session.specs.Words.{Line, Reading, Asks, WrongAt}
+use Rattle.o32_session.specs.Words.{Reading, Asks, WrongAt}
 use Rattle.o32_session.specs.declared.answer.Refusal.{Refusal}
 use Rattle.o32_session.specs.declared.answer.Refusal.TheVariants.{Usage}
 use Rattle.o32_session.specs.declared.answer.End.{End}

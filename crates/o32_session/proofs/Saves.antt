@@ -1,14 +1,13 @@
 -- What becomes of the final tree.
-use Rattle.std.proofs.Common.{◌≡◌, ℕ, List, Option, Some, None, Result, Ok, Err, OnOk, OnErr, inl, inr, refl, sym, subst}
+use Rattle.std.proofs.Common.{◌≡◌, ℕ, List, Option, Some, None, Result, Ok, Err, OnOk, OnErr, inl, inr, subst}
 use Rattle.outside.specs.Causes.{FailsOnlyIfRose}
 use Rattle.outside.specs.declared.errors.DevError.{DevError}
 use Rattle.outside.specs.declared.errors.DevError.TheVariants as device
 use Rattle.kernel_core.specs.ValidTree.{IsValidTree}
-use Rattle.kernel_core.specs.declared.finish.Finish.{Finish}
 use Rattle.kernel_core.specs.declared.tree.Tree.{Tree}
 use Rattle.fs_image.specs.Text.{text_of}
 use Rattle.o32_machine.specs.Emulator.{Emulated}
-use Rattle.o32_session.specs.Saved.{SavesPart, SavesText, SavesTree, SavesTreeInPart, Stored}
+use Rattle.o32_session.specs.Saved.{SavesPart, SavesText, Stored}
 use Rattle.o32_session.specs.Session.{final_tree}
 use Rattle.o32_session.specs.inside.Ends.{end_of_error}
 use Rattle.o32_session.specs.inside.Runs.{HasFailed, SavesOrStops}

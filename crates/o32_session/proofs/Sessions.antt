@@ -24,11 +24,11 @@ use Rattle.o32_model.specs.Turn.{Machine}
 use Rattle.o32_session.specs.Answers.{IsRefusal}
 use Rattle.o32_session.specs.Asked.{Asked, Refuse, Run, Names, names_of, Found, Bytes, found_at, IsOpened, IsOpenedBy, AsksOf, AsksUnless, AsksFor, arguments_of, asked_of_plan, asked_of_tree, first_machine, empty_tree, image_limit}
 use Rattle.o32_session.specs.Saved.{SavesTree, SavesTreeInPart, Stored, after_turned, turned_by}
-use Rattle.o32_session.specs.Session.{Seen, DoesNothing, Answers, final_tree, IsEarly, Finishes, IsRun, IsPartOfRun, StopsInRun, StopsAtSave, no_names, AnswersReading, AsksForRun, EndsAsRun, HasImage, IsRunEnd}
+use Rattle.o32_session.specs.Session.{Seen, DoesNothing, Answers, final_tree, IsEarly, Finishes, IsRun, IsPartOfRun, StopsAtSave, no_names, AnswersReading, AsksForRun, EndsAsRun, HasImage, IsRunEnd}
 use Rattle.o32_session.specs.Words.{Line, Reading, Asks, WrongAt, read_words, word_at}
 use Rattle.o32_session.specs.inside.Ends.{end_of, end_of_stop}
 use Rattle.o32_session.specs.inside.Prepared.{EndsRefused, EndsWithoutRun, IsPrepared, turned_reading}
-use Rattle.o32_session.specs.inside.Runs.{AnswersRun, IsCut, IsOver, RunsAs}
+use Rattle.o32_session.specs.inside.Runs.{AnswersRun, RunsAs}
 use Rattle.o32_session.specs.declared.answer.Answer.{Answer}
 use Rattle.o32_session.specs.declared.answer.End.{End}
 use Rattle.o32_session.specs.declared.answer.End.TheVariants.{Exited, Killed, Budget, Blocked, Refused, ReadFault, WriteFault, NoMemory}

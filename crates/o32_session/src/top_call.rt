@@ -6,7 +6,7 @@ ghost use Rattle.outside.specs.Output.{GainsText, GainsBetween};
 ghost use Rattle.outside.specs.Streams.{NoCountFell};
 ghost use Rattle.o32_session.specs.Answers.{IsRefusal, finish_of, status_of};
 ghost use Rattle.o32_session.specs.Asked.{Names, Run};
-ghost use Rattle.o32_session.specs.inside.Ends.{end_of, end_of_error, end_of_stop};
+ghost use Rattle.o32_session.specs.inside.Ends.{end_of_error, end_of_stop};
 ghost use Rattle.o32_session.specs.Lines.{line_of};
 ghost use Rattle.o32_session.specs.inside.Prepared.{EndsRefused, EndsWithoutRun};
 ghost use Rattle.o32_session.specs.inside.Runs.{AnswersRun, IsFresh};

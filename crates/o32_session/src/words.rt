@@ -1,7 +1,7 @@
 //! The words after the emulator's own name: `run [--image F] [--budget N] [--save F]
 //! [--env K=V].. PROGRAM [WORD..]`.
 
-ghost use Rattle.std.specs.Prelude.{ℕ, ◌≡◌, ◌+◌, ◌<◌, ◌^◌, ◌==◌, length, drop, if◌then◌else◌, IfOk, IfErr, IfSome, Some, None};
+ghost use Rattle.std.specs.Prelude.{◌≡◌, ◌+◌, ◌<◌, ◌^◌, ◌==◌, length, drop, if◌then◌else◌, IfOk, IfErr, IfSome, Some, None};
 ghost use Rattle.std.specs.List.{list_any, list_all, position};
 ghost use Rattle.std.specs.String.{string_bytes};
 ghost use Rattle.std.specs.Char.{is_ascii_digit};

@@ -11,7 +11,6 @@ use Rattle.kernel_core.specs.declared.tree.Tree.{Tree}
 use Rattle.o32_machine.specs.Emulator.{Emulated}
 use Rattle.o32_model.specs.Runs.{IsOverAt, IsRunningAt, reached}
 use Rattle.o32_model.specs.Turn.{Machine}
-use Rattle.o32_session.specs.Answers.{status_of}
 use Rattle.o32_session.specs.Asked.{quantum}
 use Rattle.o32_session.specs.Saved.{Stored, SavesTree, SavesTreeInPart}
 use Rattle.o32_session.specs.Session.{final_tree}

@@ -4,7 +4,7 @@ use Rattle.o32_machine.specs.Answered.{is_end, turns_of}
 use Rattle.o32_machine.specs.declared.turn.Turn as code
 use Rattle.o32_machine.specs.declared.turn.Turn.TheVariants.{Ended}
 use Rattle.o32_session.specs.inside.Runs.{IsCut}
-use Rattle.o32_session.proofs.RunLemmas.{at_start, budget_over, is_cut_by, is_over_by, went_on_by}
+use Rattle.o32_session.proofs.RunLemmas.{at_start, is_cut_by, is_over_by, went_on_by}
 use Rattle.o32_session.proofs.run.run.Goals as goal
 
 pub loop-turn-init : goal.loop-turn-init

@@ -1,4 +1,4 @@
-use Rattle.std.proofs.Common.{ℕ, Result, Err, option_map, refl, subst, sym, ◌∙◌}
+use Rattle.std.proofs.Common.{ℕ, Result, option_map, refl, subst, sym, ◌∙◌}
 use Rattle.kernel_core.specs.declared.core_error.Stop.{Stop}
 use Rattle.kernel_core.specs.declared.finish.Finish.{Finish}
 use Rattle.kernel_model.specs.Stops.{StopsOnlyIfRose}
