@@ -1,6 +1,6 @@
 -- What native calls tell of the clocks.
 use Rattle.std.proofs.Common.{◌≡◌, ℕ, ◌+◌, ◌*◌, ◌-◌, ◌/◌, ◌%◌, ◌^◌, ◌<◌, Bool, true, false, List, [], ◌∷◌, replicate, Option, Some, None, Ok, Err, refl, sym, ap, subst, ◌∙◌, arith, if◌then◌else◌}
-use Rattle.std.specs.Prelude.{min, nat_lt, nat_le, ◌==◌, ◌||◌, pos, option_map, Result}
+use Rattle.std.specs.Prelude.{min, nat_lt, nat_le, pos, option_map, Result}
 use Rattle.std.proofs.lemmas.Bool.Decides.{nat_tests}
 use Rattle.host_mem.specs.Memory.{written}
 use Rattle.kernel_core.specs.declared.error.Errno.{Errno}

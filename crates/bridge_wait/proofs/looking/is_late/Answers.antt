@@ -1,5 +1,5 @@
 -- A sleep until second 2^31 tells whether it has come.
-use Rattle.std.proofs.Common.{◌∙◌, ℕ, List, ap, refl}
+use Rattle.std.proofs.Common.{◌∙◌, ap, refl}
 use Rattle.bridge_wait.proofs.ClockLooks.{late_look, late_reply, late_told}
 use Rattle.bridge_wait.proofs.Unmoving.{looked_stop}
 use Rattle.bridge_wait.specs.inside.Shown.{is_over}
