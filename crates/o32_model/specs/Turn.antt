@@ -1,12 +1,13 @@
 -- The machine of an o32 program over the kernel, and one turn of it (MIPS32 Architecture for Programmers, Volume II, Release 2, for a step of
--- the processor; signal(7) for the signal of a fault; setitimer(2) for a timer that is due). What a turn is, that a fault's signal kills in the
--- turn after its own, and how long a turn takes, is this project's own. So far no signal but a fault's is delivered: what a write to a pipe
--- without readers posts (SIGPIPE of pipe(7)), and what a timer posts, stays pending.
-use Rattle.std.specs.Prelude.{ℕ, ◌+◌, Bool, false, List, Option, Some, None, is_some}
+-- the processor; signal(7) for the signal of a fault; setitimer(2) for a timer that is due; nanosleep(2)). What a turn is, that a fault's signal
+-- kills in the turn after its own, how long a turn takes, and that the clock jumps where a call waits, is this project's own. So far no signal
+-- but a fault's is delivered: what a write to a pipe without readers posts (SIGPIPE of pipe(7)), and what a timer posts, stays pending.
+use Rattle.std.specs.Prelude.{ℕ, ◌+◌, min, max, Bool, false, List, Option, Some, None, is_none, if◌then◌else◌}
 use Rattle.guest_space.specs.Memory.{Memory}
 use Rattle.kernel_core.specs.declared.finish.Finish.{Finish}
 use Rattle.kernel_core.specs.declared.finish.Finish.TheVariants.{Exited, Killed}
 use Rattle.kernel_core.specs.declared.signal.Sig.{Sig}
+use Rattle.kernel_model.specs.Clock.{if_comes, is_due, next_time}
 use Rattle.kernel_model.specs.Pipes.{Sent, nothing}
 use Rattle.kernel_model.specs.SignalRows.{advance}
 use Rattle.kernel_model.specs.State.{Kernel}
@@ -17,18 +18,25 @@ use Rattle.mips_exec.specs.declared.Stepped.TheVariants.{Next, Syscall, Fault}
 use Rattle.number_tables.specs.Signals.{o32_signal}
 use Rattle.o32_model.specs.Built.{built_call}
 use Rattle.o32_model.specs.Step.{Guest, O32Step}
+use Rattle.o32_model.specs.WaitEnds.{WaitEnd, wait_ended}
 use Rattle.o32_model.specs.Words.{call_words, returned}
 use Rattle.o32_model.specs.declared.outcome.Outcome.{Outcome}
 use Rattle.o32_model.specs.declared.outcome.Outcome.TheVariants as outcomes
+use Rattle.o32_model.specs.declared.wait.Cause.TheVariants.{Due}
+use Rattle.o32_model.specs.declared.wait.Close.{Close}
+use Rattle.o32_model.specs.declared.wait.Close.TheVariants as closes
+use Rattle.o32_model.specs.declared.wait.Seen.{Seen}
 use Rattle.o32_model.specs.declared.wait.Wait.{Wait}
 
--- The processor with its memory; the kernel; the call that waits; and the signal of the fault that the last turn met
+-- The processor with its memory; the kernel; the call that waits; the signal of the fault that the last turn met; and the nanoseconds of the
+-- turns with an instruction so far, which the clocks of CPU time count (clock_gettime(2))
 pub record Machine : Type 0 where
   pub processor : Processor
   pub memory : Memory
   pub kernel : Kernel
   pub wait : Option Wait
   pub fault : Option Sig
+  pub quanta : ℕ
 
 -- What one turn leaves: the machine, and what is left of the input; what it sends to the outputs; and how it ends the process
 pub record Turn : Type 0 where
@@ -49,47 +57,56 @@ ends machine left sent finish = record { machine = machine; left = left; sent = 
 abbrev pub guest_of : Processor → Memory → Guest
 guest_of processor memory = record { words = call_words processor memory; processor = processor; memory = memory }
 
+-- what it sees of the machine beside that: no wait is there that could go on
+abbrev pub seen_of : Machine → Seen
+seen_of machine = record { quanta = machine.quanta; restart = None }
+
 -- the machine behind a call: its result is in the registers, or it waits
-abbrev pub behind : O32Step → Option Wait → Machine
-behind step wait = record {
+
+abbrev pub behind : ℕ → O32Step → Option Wait → Machine
+behind quanta step wait = record {
   processor = returned step.processor step.outcome;
   memory = step.memory;
   kernel = step.kernel;
   wait = wait;
   fault = None;
+  quanta = quanta;
 }
 
-abbrev pub after_outcome : O32Step → Outcome → Turn
-after_outcome step (outcomes.Value value) = goes_on (behind step None) step.left step.sent
-after_outcome step (outcomes.Pair first second) = goes_on (behind step None) step.left step.sent
-after_outcome step (outcomes.Error error) = goes_on (behind step None) step.left step.sent
-after_outcome step outcomes.Frame = goes_on (behind step None) step.left step.sent
-after_outcome step (outcomes.Sleep wait) = goes_on (behind step (Some wait)) step.left step.sent
-after_outcome step (outcomes.Exit status) = ends (behind step None) step.left step.sent (Exited status)
+abbrev pub after_outcome : ℕ → O32Step → Outcome → Turn
+after_outcome quanta step (outcomes.Value value) = goes_on (behind quanta step None) step.left step.sent
+after_outcome quanta step (outcomes.Pair first second) = goes_on (behind quanta step None) step.left step.sent
+after_outcome quanta step (outcomes.Error error) = goes_on (behind quanta step None) step.left step.sent
+after_outcome quanta step outcomes.Frame = goes_on (behind quanta step None) step.left step.sent
+after_outcome quanta step (outcomes.Sleep wait) = goes_on (behind quanta step (Some wait)) step.left step.sent
+after_outcome quanta step (outcomes.Exit status) = ends (behind quanta step None) step.left step.sent (Exited status)
 
-abbrev pub after_call : O32Step → Turn
-after_call step = after_outcome step step.outcome
+abbrev pub after_call : ℕ → O32Step → Turn
+after_call quanta step = after_outcome quanta step step.outcome
 
 -- the call of the SYSCALL that was just executed
 abbrev pub called : Machine → List ℕ → Turn
-called machine left = after_call (built_call machine.kernel (guest_of machine.processor machine.memory) left)
+called machine left =
+    after_call machine.quanta (built_call (seen_of machine) machine.kernel (guest_of machine.processor machine.memory) left)
 
 -- Instructions
 
-abbrev pub stepped : Processor → Memory → Kernel → Option Sig → Machine
-stepped processor memory kernel fault = record { processor = processor; memory = memory; kernel = kernel; wait = None; fault = fault }
+abbrev pub stepped : ℕ → Processor → Memory → Kernel → Option Sig → Machine
+stepped quanta processor memory kernel fault =
+    record { processor = processor; memory = memory; kernel = kernel; wait = None; fault = fault; quanta = quanta }
 
 -- what one step of the processor comes to, with a call of those that there are so far
-abbrev pub after_step : Processor → Memory → Kernel → List ℕ → Stepped → Turn
-after_step processor memory kernel left Next = goes_on (stepped processor memory kernel None) left nothing
-after_step processor memory kernel left Syscall = called (stepped processor memory kernel None) left
-after_step processor memory kernel left (Fault signal code address) = goes_on (stepped processor memory kernel (Some signal)) left nothing
+abbrev pub after_step : ℕ → Processor → Memory → Kernel → List ℕ → Stepped → Turn
+after_step quanta processor memory kernel left Next = goes_on (stepped quanta processor memory kernel None) left nothing
+after_step quanta processor memory kernel left Syscall = called (stepped quanta processor memory kernel None) left
+after_step quanta processor memory kernel left (Fault signal code address) =
+    goes_on (stepped quanta processor memory kernel (Some signal)) left nothing
 
 -- one instruction, with its call
 abbrev pub executed : Machine → List ℕ → Turn
 executed machine left =
     let step = step_of machine.processor machine.memory in
-    after_step step.processor step.memory machine.kernel left step.came
+    after_step machine.quanta step.processor step.memory machine.kernel left step.came
 
 -- Time
 
@@ -97,21 +114,92 @@ executed machine left =
 abbrev pub at_time : ℕ → Turn → Turn
 at_time time turn = record turn { machine = record turn.machine { kernel = record turn.machine.kernel { clock = time } } }
 
--- A turn begins with the interval timer: where it is due it goes off. No call waits then.
+-- the same after so many nanoseconds of turns with an instruction
+abbrev pub spent : ℕ → Turn → Turn
+spent quanta turn = record turn { machine = record turn.machine { quanta = quanta } }
+
+-- A turn begins with the interval timer: where it is due it goes off. No sigtimedwait waits for its signal then.
 abbrev pub timed : Machine → Machine
 timed machine = record machine { kernel = advance machine.kernel machine.kernel.clock false }
 
+-- Waits
+
+-- What a wait that ends comes to goes into the registers. A call that is carried out again, or goes on, returns nothing; that comes of no wait
+-- whose time is over.
+abbrev pub closed : Processor → Close → Processor
+closed processor (closes.Value value) = returned processor (outcomes.Value value)
+closed processor (closes.Error error) = returned processor (outcomes.Error error)
+closed processor closes.Again = processor
+closed processor closes.Restart = processor
+
+abbrev pub with_end : Machine → WaitEnd → Machine
+with_end machine ended = record machine {
+  processor = closed machine.processor ended.close;
+  memory = ended.memory;
+  kernel = ended.kernel;
+  wait = None;
+}
+
+-- whether a deadline is over; one that is not there, or past 2^61, never is
+abbrev pub is_over_at : ℕ → Option ℕ → Bool
+is_over_at clock None = false
+is_over_at clock (Some deadline) = is_due clock deadline
+
+-- a call whose deadline is over ends
+abbrev pub woken_by : Machine → Option Wait → Machine
+woken_by machine None = machine
+woken_by machine (Some wait) =
+    if is_over_at machine.kernel.clock wait.deadline
+    then with_end machine (wait_ended wait Due machine.kernel.clock machine.kernel machine.memory)
+    else machine
+
+abbrev pub woken : Machine → Machine
+woken machine = woken_by machine machine.wait
+
+-- the lesser of two times that may not be there
+abbrev pub sooner : Option ℕ → Option ℕ → Option ℕ
+sooner None other = other
+sooner (Some time) None = Some time
+sooner (Some time) (Some other) = Some (min time other)
+
+-- the time of the next thing that can come to a call that waits: its deadline, or the timer; none past 2^61
+abbrev pub next_for : Machine → Wait → Option ℕ
+next_for machine wait = sooner (if_comes wait.deadline) (next_time machine.kernel.timer)
+
+-- the clock goes to that time, and never back
+abbrev pub jump_to : ℕ → Option ℕ → ℕ
+jump_to clock None = clock
+jump_to clock (Some time) = max clock time
+
+abbrev pub jumped : Machine → Wait → Machine
+jumped machine wait =
+    record machine { kernel = record machine.kernel { clock = jump_to machine.kernel.clock (next_for machine wait) } }
+
 -- Turns
 
--- The fault of the turn before kills the process, and is used up by that. Else an instruction is carried out, and the clock stands at `later`.
-abbrev pub after_fault : ℕ → Machine → List ℕ → Option Sig → Turn
-after_fault later machine left (Some signal) = ends (record machine { fault = None }) left nothing (Killed (o32_signal signal))
-after_fault later machine left None = at_time later (executed machine left)
+-- The fault of the turn before kills the process, and is used up by that. Else an instruction is carried out; the clock stands at `later` then,
+-- and turns with an instruction have taken `quanta`.
+abbrev pub after_fault : ℕ → ℕ → Machine → List ℕ → Option Sig → Turn
+after_fault later quanta machine left (Some signal) = ends (record machine { fault = None }) left nothing (Killed (o32_signal signal))
+after_fault later quanta machine left None = spent quanta (at_time later (executed machine left))
 
--- One turn of a machine that does not wait. One with an instruction takes a quantum, in nanoseconds of the clock.
+-- A call that still waits leaves its turn without an instruction.
+abbrev pub unless_asleep : ℕ → ℕ → Machine → List ℕ → Option Wait → Turn
+unless_asleep later quanta machine left (Some wait) = goes_on (jumped machine wait) left nothing
+unless_asleep later quanta machine left None = after_fault later quanta machine left machine.fault
+
+-- One turn: the timer that is due goes off, and a call whose deadline is over ends. Where a call still waits the clock jumps. Else the fault of
+-- the turn before kills, or an instruction is carried out with its call. One with an instruction takes a quantum, in nanoseconds of the clock.
 unfoldable pub turn_of : ℕ → Machine → List ℕ → Turn
-turn_of quantum machine left = after_fault (machine.kernel.clock + quantum) (timed machine) left machine.fault
+turn_of quantum machine left =
+    let begun = woken (timed machine) in
+    unless_asleep (machine.kernel.clock + quantum) (machine.quanta + quantum) begun left begun.wait
 
--- A call waits, and nothing can come that would end its wait: no turn follows. So far nothing ends a wait, neither time nor a signal.
+-- A call waits, and neither its deadline nor a timer is there that can come: no turn follows. So far no signal ends a wait.
+
+abbrev pub is_stuck : Machine → Option Wait → Bool
+is_stuck machine None = false
+is_stuck machine (Some wait) = is_none (next_for machine wait)
+
 abbrev pub is_blocked : Machine → Bool
-is_blocked machine = is_some machine.wait
+is_blocked machine = is_stuck machine machine.wait

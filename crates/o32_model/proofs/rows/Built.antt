@@ -6,15 +6,17 @@ use Rattle.kernel_model.specs.Pipes.{nothing}
 use Rattle.kernel_model.specs.State.{Kernel}
 use Rattle.mips_exec.specs.Processor.{Processor}
 use Rattle.o32_model.proofs.rows.Small.{words, guest}
-use Rattle.o32_model.specs.Built.{built_of, built_call}
+use Rattle.o32_model.specs.Built.{built_of, built_call, built_seeing_of, time_numbers}
 use Rattle.o32_model.specs.Descriptors.{descriptor_calls}
 use Rattle.o32_model.specs.Mappings.{map_calls}
 use Rattle.o32_model.specs.Small.{small_calls}
 use Rattle.o32_model.specs.Step.{O32Step, O32Call}
-use Rattle.o32_model.specs.Table.{call_of, o32_call}
+use Rattle.o32_model.specs.Seeing.{SeeingCall, seeing_clock_calls}
+use Rattle.o32_model.specs.Table.{call_of, machine_call, seeing_call_of}
 use Rattle.o32_model.specs.Terminal.{terminal_calls}
 use Rattle.o32_model.specs.Transfers.{transfer_calls}
 use Rattle.o32_model.specs.declared.outcome.Outcome.TheVariants.{Error}
+use Rattle.o32_model.specs.declared.wait.Seen.{Seen}
 
 -- what the numbers of these calls are in the whole table, and here
 
@@ -41,12 +43,36 @@ small = refl
 mappings : in_built map_calls ≡ in_table map_calls
 mappings = refl
 
-module _ (kernel : Kernel) (processor : Processor) (memory : Memory) (left : List ℕ) where
+-- and of the calls on time
+
+abbrev numbers_in_table : List ℕ → List (Option O32Call)
+numbers_in_table [] = []
+numbers_in_table (number ∷ more) = call_of number ∷ numbers_in_table more
+
+abbrev numbers_in_built : List ℕ → List (Option O32Call)
+numbers_in_built [] = []
+numbers_in_built (number ∷ more) = built_of number ∷ numbers_in_built more
+
+times : numbers_in_built time_numbers ≡ numbers_in_table time_numbers
+times = refl
+
+abbrev seeing_in_table : List SeeingCall → List (Option SeeingCall)
+seeing_in_table [] = []
+seeing_in_table (call ∷ more) = seeing_call_of call.number ∷ seeing_in_table more
+
+abbrev seeing_in_built : List SeeingCall → List (Option SeeingCall)
+seeing_in_built [] = []
+seeing_in_built (call ∷ more) = built_seeing_of call.number ∷ seeing_in_built more
+
+clocks : seeing_in_built seeing_clock_calls ≡ seeing_in_table seeing_clock_calls
+clocks = refl
+
+module _ (seen : Seen) (kernel : Kernel) (processor : Processor) (memory : Memory) (left : List ℕ) where
   abbrev built : ℕ → O32Step
-  built number = built_call kernel (guest (words number 1 2 3 4) processor memory) left
+  built number = built_call seen kernel (guest (words number 1 2 3 4) processor memory) left
 
   abbrev in_full : ℕ → O32Step
-  in_full number = o32_call kernel (guest (words number 1 2 3 4) processor memory) left
+  in_full number = machine_call seen kernel (guest (words number 1 2 3 4) processor memory) left
 
   abbrev not_built : O32Step
   not_built = record { kernel = kernel; left = left; memory = memory; processor = processor; sent = nothing; outcome = Error ENOSYS }
@@ -61,18 +87,25 @@ module _ (kernel : Kernel) (processor : Processor) (memory : Memory) (left : Lis
   unmaps : built 4091 ≡ in_full 4091
   unmaps = refl
 
-  -- open, nanosleep, kill and clock_gettime
+  -- nanosleep and clock_gettime
+  sleeps : built 4166 ≡ in_full 4166
+  sleeps = refl
+
+  tells_time : built 4263 ≡ in_full 4263
+  tells_time = refl
+
+  -- open, alarm, kill and restart_syscall
   opens : built 4005 ≡ not_built
   opens = refl
 
-  sleeps : built 4166 ≡ not_built
-  sleeps = refl
+  sets_no_timer : built 4027 ≡ not_built
+  sets_no_timer = refl
 
   kills : built 4037 ≡ not_built
   kills = refl
 
-  tells_time : built 4263 ≡ not_built
-  tells_time = refl
+  goes_on_with_nothing : built 4253 ≡ not_built
+  goes_on_with_nothing = refl
 
   -- a number that no call has
   no_such_call : built 4999 ≡ not_built
