@@ -39,12 +39,8 @@ module _ (whole : Kernel) (nodes : Nodes) (memory : Memory) (left : List ℕ) wh
     kernel = kernel;
     wait = None;
     fault = None;
-    quanta = 0;
+    idle = 0;
   }
-
-  -- behind a turn with an instruction, which the clocks of CPU time count
-  abbrev worked : Machine → Machine
-  worked machine = record machine { quanta = 1000 }
 
   -- no timer is armed
   abbrev quiet : Kernel
@@ -63,18 +59,18 @@ module _ (whole : Kernel) (nodes : Nodes) (memory : Memory) (left : List ℕ) wh
   -- SYSCALL stands at 65536
   module _ (syscall : loaded memory 65536 4 ≡ Ok 12) where
     -- $v0 becomes the error's number, and $a3 says that it is one
-    no_such_call : turn_of 1000 (at first 65536 (registers 4999 5 6 7 8 9)) left ≡ goes_on (worked (at (a_turn_later first) 65540 (registers 89 5 6 7 8 1))) left nothing
+    no_such_call : turn_of 1000 (at first 65536 (registers 4999 5 6 7 8 9)) left ≡ goes_on (at (a_turn_later first) 65540 (registers 89 5 6 7 8 1)) left nothing
     unfolding turn_of advance step_of effect_at special_rows call_words
     no_such_call = simp syscall refl
 
     -- both ends are told, in $v0 and $v1
-    two_results : turn_of 1000 (at first 65536 (registers 4042 5 6 7 8 9)) left ≡ goes_on (worked (at (a_turn_later with_pipe) 65540 (registers 3 4 6 7 8 0))) left nothing
+    two_results : turn_of 1000 (at first 65536 (registers 4042 5 6 7 8 9)) left ≡ goes_on (at (a_turn_later with_pipe) 65540 (registers 3 4 6 7 8 0)) left nothing
     unfolding turn_of advance step_of effect_at special_rows call_words pipe_row make_pipe
     two_results = simp syscall refl
 
     -- the turn that ends the process takes its time and counts
 
-    exits : turn_of 1000 (at first 65536 (registers 4001 5 7 0 0 9)) left ≡ ends (worked (at (a_turn_later first) 65540 (registers 4001 5 7 0 0 9))) left nothing (Exited 7)
+    exits : turn_of 1000 (at first 65536 (registers 4001 5 7 0 0 9)) left ≡ ends (at (a_turn_later first) 65540 (registers 4001 5 7 0 0 9)) left nothing (Exited 7)
     unfolding turn_of advance step_of effect_at special_rows call_words exit_row
     exits = simp syscall refl
 
@@ -112,37 +108,37 @@ module _ (whole : Kernel) (nodes : Nodes) (memory : Memory) (left : List ℕ) wh
 
     -- Sleeping: a second from 65792 on, whose call began at 5000
 
-    abbrev sleeping : ℕ → Option ℕ → Machine
-    sleeping clock deadline = record (at (record first { clock = clock }) 65540 (registers 4166 5 65792 0 8 9)) {
+    abbrev sleeping : ℕ → Option ℕ → ℕ → Machine
+    sleeping clock deadline idle = record (at (record first { clock = clock }) 65540 (registers 4166 5 65792 0 8 9)) {
       wait = Some (record { nr = 4166; words = 65792 ∷ 0 ∷ 8 ∷ 9 ∷ 0 ∷ 0 ∷ []; deadline = deadline; done = 0; mask = None });
-      quanta = 3000;
+      idle = idle;
     }
 
-    -- the clock jumps to the deadline in a turn of its own, which no clock of CPU time counts
-    jumps : turn_of 1000 (sleeping 6000 (Some 1_000_005_000)) left ≡ goes_on (sleeping 1_000_005_000 (Some 1_000_005_000)) left nothing
+    -- the clock jumps to the deadline in a turn of its own, and no clock of CPU time counts that
+    jumps : turn_of 1000 (sleeping 6000 (Some 1_000_005_000) 300) left ≡ goes_on (sleeping 1_000_005_000 (Some 1_000_005_000) 999_999_300) left nothing
     unfolding turn_of advance
     jumps = refl
 
     -- a deadline that never comes is none: the process is blocked, and so it is without one
-    never_comes : is_blocked (sleeping 6000 (Some (2 ^ 61 + 1))) ≡ true
+    never_comes : is_blocked (sleeping 6000 (Some (2 ^ 61 + 1)) 0) ≡ true
     never_comes = refl
 
-    without_end : is_blocked (sleeping 6000 None) ≡ true
+    without_end : is_blocked (sleeping 6000 None 0) ≡ true
     without_end = refl
 
-    comes_at_last : is_blocked (sleeping 6000 (Some (2 ^ 61))) ≡ false
+    comes_at_last : is_blocked (sleeping 6000 (Some (2 ^ 61)) 0) ≡ false
     comes_at_last = refl
 
     -- at its deadline the call ends with 0, and the turn goes on with the next instruction, an SLL of nothing
     wakes : loaded memory 65540 4 ≡ Ok 0
-        → turn_of 1000 (sleeping 1_000_005_000 (Some 1_000_005_000)) left
-        ≡ goes_on (record (at (record first { clock = 1_000_006_000 }) 65544 (registers 0 5 65792 0 8 0)) { quanta = 4000 }) left nothing
+        → turn_of 1000 (sleeping 1_000_005_000 (Some 1_000_005_000) 300) left
+        ≡ goes_on (record (at (record first { clock = 1_000_006_000 }) 65544 (registers 0 5 65792 0 8 0)) { idle = 300 }) left nothing
     unfolding turn_of advance step_of effect_at plain_rows special_rows
     wakes next = simp next refl
 
     -- a timer that is set for an earlier time is where the clock jumps to
-    to_the_timer : turn_of 1000 (record (sleeping 6000 (Some 1_000_005_000)) { kernel = record first { clock = 6000; timer = record { due = Some 7000; period = 0 } } }) left
-        ≡ goes_on (record (sleeping 7000 (Some 1_000_005_000)) { kernel = record first { clock = 7000; timer = record { due = Some 7000; period = 0 } } }) left nothing
+    to_the_timer : turn_of 1000 (record (sleeping 6000 (Some 1_000_005_000) 300) { kernel = record first { clock = 6000; timer = record { due = Some 7000; period = 0 } } }) left
+        ≡ goes_on (record (sleeping 7000 (Some 1_000_005_000) 1300) { kernel = record first { clock = 7000; timer = record { due = Some 7000; period = 0 } } }) left nothing
     unfolding turn_of advance
     to_the_timer = refl
 
@@ -152,7 +148,7 @@ module _ (whole : Kernel) (nodes : Nodes) (memory : Memory) (left : List ℕ) wh
     loading = at first 65536 (registers 5 5 6 7 8 9)
 
     -- the fault is found in a turn that takes its time
-    faults : turn_of 1000 loading left ≡ goes_on (record (worked (at (a_turn_later first) 65536 (registers 5 5 6 7 8 9))) { fault = Some Segv }) left nothing
+    faults : turn_of 1000 loading left ≡ goes_on (record (at (a_turn_later first) 65536 (registers 5 5 6 7 8 9)) { fault = Some Segv }) left nothing
     unfolding turn_of advance step_of effect_at memory_rows immediate_form signed_immediate
     faults = simp (load, absent) refl
 
