@@ -1,15 +1,18 @@
 -- A call's number in the groups that there are, and in the whole table.
-use Rattle.std.proofs.Common.{◌≡◌, ℕ, Bool, true, false, List, [], ◌∷◌, Option, Some, None, refl, sym, ap, subst, ◌∙◌, eqb-true}
-use Rattle.std.specs.Prelude.{⊤, is_some, ◌==◌, if◌then◌else◌}
+use Rattle.std.proofs.Common.{◌≡◌, ℕ, Bool, true, false, List, [], ◌∷◌, Option, Some, None, inl, inr, refl, sym, ap, subst, ◌∙◌, eqb-true}
+use Rattle.std.specs.Prelude.{⊤, ◌⊎◌, is_some, ◌==◌, ◌||◌, if◌then◌else◌}
 use Rattle.kernel_model.specs.State.{Kernel}
-use Rattle.o32_model.specs.Built.{built_call, built_of}
+use Rattle.bridge_wait.specs.Numbers.{is_call_there}
+use Rattle.o32_model.specs.Built.{built_call, built_of, built_seeing_of, built_time_call_or, is_time_call_built}
 use Rattle.o32_model.specs.Descriptors.{descriptor_calls}
 use Rattle.o32_model.specs.Mappings.{map_calls}
+use Rattle.o32_model.specs.Seeing.{SeeingCall}
 use Rattle.o32_model.specs.Small.{small_calls}
 use Rattle.o32_model.specs.Step.{Guest, O32Call}
-use Rattle.o32_model.specs.Table.{call_in, call_of, is_io_call, is_map_call, o32_call, step_of}
+use Rattle.o32_model.specs.Table.{call_in, call_of, is_io_call, is_map_call, machine_call, o32_call, seeing_call_of, seeing_step_of, step_of, wait_call_or}
 use Rattle.o32_model.specs.Terminal.{terminal_calls}
 use Rattle.o32_model.specs.Transfers.{transfer_calls}
+use Rattle.o32_model.specs.declared.wait.Seen.{Seen}
 
 -- what is so of each number of a list
 
@@ -51,47 +54,102 @@ none_of (Some call) none = absurd cc
 
 -- the groups have what the whole table has
 
-abbrev IsSame : ℕ → Type 0
-IsSame number = built_of number ≡ call_of number
+module _ (seen : Seen) (kernel : Kernel) (guest : Guest) (left : List ℕ) where
+  abbrev IsSame : ℕ → Type 0
+  IsSame number = step_of (call_of number) kernel guest left ≡ seeing_step_of (built_of number) (built_seeing_of number) seen kernel guest left
 
-transfers_same : EachIs IsSame transfer_calls
-transfers_same = (refl, (refl, (refl, (refl, (refl, (refl, tt))))))
+  transfers_same : EachIs IsSame transfer_calls
+  transfers_same = (refl, (refl, (refl, (refl, (refl, (refl, tt))))))
 
-descriptors_same : EachIs IsSame descriptor_calls
-descriptors_same = (refl, (refl, (refl, (refl, (refl, (refl, (refl, (refl, tt))))))))
+  descriptors_same : EachIs IsSame descriptor_calls
+  descriptors_same = (refl, (refl, (refl, (refl, (refl, (refl, (refl, (refl, tt))))))))
 
-terminal_same : EachIs IsSame terminal_calls
-terminal_same = (refl, tt)
+  terminal_same : EachIs IsSame terminal_calls
+  terminal_same = (refl, tt)
 
-mappings_same : EachIs IsSame map_calls
-mappings_same = (refl, (refl, (refl, (refl, (refl, (refl, (refl, (refl, tt))))))))
+  mappings_same : EachIs IsSame map_calls
+  mappings_same = (refl, (refl, (refl, (refl, (refl, (refl, (refl, (refl, tt))))))))
 
-io_same : (number : ℕ) → is_io_call number ≡ true → built_of number ≡ call_of number
-io_same number there =
-    in_list transfer_calls (call_in descriptor_calls (call_in terminal_calls None number) number) number IsSame transfers_same (λ behind.
-    in_list descriptor_calls (call_in terminal_calls None number) number IsSame descriptors_same (λ last.
-    in_list terminal_calls None number IsSame terminal_same (λ none. absurd (let wrong : false ≡ true = none in cc)) last) behind) there
+  io_same : (number : ℕ) → is_io_call number ≡ true → IsSame number
+  io_same number there =
+      in_list transfer_calls (call_in descriptor_calls (call_in terminal_calls None number) number) number IsSame transfers_same (λ behind.
+      in_list descriptor_calls (call_in terminal_calls None number) number IsSame descriptors_same (λ last.
+      in_list terminal_calls None number IsSame terminal_same (λ none. absurd (let wrong : false ≡ true = none in cc)) last) behind) there
 
-map_same : (number : ℕ) → is_map_call number ≡ true → built_of number ≡ call_of number
-map_same number there = in_list map_calls None number IsSame mappings_same (λ none. absurd (let wrong : false ≡ true = none in cc)) there
+  map_same : (number : ℕ) → is_map_call number ≡ true → IsSame number
+  map_same number there = in_list map_calls None number IsSame mappings_same (λ none. absurd (let wrong : false ≡ true = none in cc)) there
 
--- what is in neither group is looked for among the small calls alone
-pub small_same : (number : ℕ) → is_io_call number ≡ false → is_map_call number ≡ false → built_of number ≡ call_in small_calls None number
-small_same number no_io no_map =
-    let others = call_in small_calls (call_in map_calls None number) number in
+  -- so have the calls on time
+
+  abbrev IsSameTime : ℕ → Type 0
+  IsSameTime number = seeing_step_of (call_of number) (seeing_call_of number) seen kernel guest left ≡ seeing_step_of (built_of number) (built_seeing_of number) seen kernel guest left
+
+  at_number : (number one : ℕ) → IsSameTime one → (number == one) ≡ true → IsSameTime number
+  at_number number one same there = subst IsSameTime (sym (eqb-true number one there)) same
+
+  either : (one other : Bool) → (one || other) ≡ true → (one ≡ true) ⊎ (other ≡ true)
+  either true other there = inl refl
+  either false other there = inr there
+
+  or_last : (front : Bool) (number one : ℕ) → (front ≡ true → IsSameTime number) → IsSameTime one → (front || number == one) ≡ true → IsSameTime number
+  or_last front number one before same there = elim (either front (number == one) there) [ inl first ↦ before first | inr last ↦ at_number number one same last ]
+
+  time_same : (number : ℕ) → is_call_there number ≡ true → IsSameTime number
+  time_same number there =
+      or_last (number == 4013 || number == 4078 || number == 4166 || number == 4263 || number == 4264) number 4265
+      (or_last (number == 4013 || number == 4078 || number == 4166 || number == 4263) number 4264
+      (or_last (number == 4013 || number == 4078 || number == 4166) number 4263
+      (or_last (number == 4013 || number == 4078) number 4166
+      (or_last (number == 4013) number 4078
+      (at_number number 4013 refl) refl) refl) refl) refl) refl there
+
+  pub io_call_same : is_io_call guest.words.nr ≡ true → o32_call kernel guest left ≡ built_call seen kernel guest left
+  io_call_same there = io_same guest.words.nr there
+
+  pub map_call_same : is_map_call guest.words.nr ≡ true → o32_call kernel guest left ≡ built_call seen kernel guest left
+  map_call_same there = map_same guest.words.nr there
+
+  pub time_call_same : is_call_there guest.words.nr ≡ true → machine_call seen kernel guest left ≡ built_call seen kernel guest left
+  time_call_same there = time_same guest.words.nr there
+
+-- a number that none of the calls on time has
+
+no_time : (a b c d e f : Bool) → (a || b || c || d || e || f) ≡ false → ((a || (b || (c || (e || (f || false))))) ≡ false) × (d ≡ false)
+no_time true b c d e f none = absurd cc
+no_time false true c d e f none = absurd cc
+no_time false false true d e f none = absurd cc
+no_time false false false true e f none = absurd cc
+no_time false false false false true f none = absurd cc
+no_time false false false false false true none = absurd cc
+no_time false false false false false false none = (refl, refl)
+
+not_time : (number : ℕ) → is_call_there number ≡ false → (is_time_call_built number ≡ false) × ((number == 4263) ≡ false)
+not_time number none = no_time (number == 4013) (number == 4078) (number == 4166) (number == 4263) (number == 4264) (number == 4265) none
+
+-- what is in none of these groups is looked for among the small calls alone
+
+small_of : (number : ℕ) → is_io_call number ≡ false → is_map_call number ≡ false → is_call_there number ≡ false → built_of number ≡ call_in small_calls None number
+small_of number no_io no_map no_time =
+    let last = call_in map_calls None number in
+    let others = call_in small_calls (built_time_call_or last number) number in
     let first = not_in transfer_calls (call_in descriptor_calls (call_in terminal_calls None number) number)
     (call_in descriptor_calls (call_in terminal_calls others number) number) number no_io in
     let second = not_in descriptor_calls (call_in terminal_calls None number) (call_in terminal_calls others number) number first.1 in
     let third = not_in terminal_calls None others number second.1 in
-    first.0 ∙ second.0 ∙ third.0 ∙ ap (λ (o : Option O32Call). call_in small_calls o number) (none_of (call_in map_calls None number) no_map)
+    first.0 ∙ second.0 ∙ third.0
+    ∙ ap (λ (b : Bool). call_in small_calls (if b then wait_call_or last number else last) number) (not_time number no_time).0
+    ∙ ap (λ (o : Option O32Call). call_in small_calls o number) (none_of last no_map)
 
-module _ (kernel : Kernel) (guest : Guest) (left : List ℕ) where
-  pub io_call_same : is_io_call guest.words.nr ≡ true → o32_call kernel guest left ≡ built_call kernel guest left
-  io_call_same there = ap (λ (o : Option O32Call). step_of o kernel guest left) (sym (io_same guest.words.nr there))
+none_seeing : (number : ℕ) → is_call_there number ≡ false → built_seeing_of number ≡ None
+none_seeing number no_time = rw (not_time number no_time).1 refl
 
-  pub map_call_same : is_map_call guest.words.nr ≡ true → o32_call kernel guest left ≡ built_call kernel guest left
-  map_call_same there = ap (λ (o : Option O32Call). step_of o kernel guest left) (sym (map_same guest.words.nr there))
+found_small : (seen : Seen) (kernel : Kernel) (guest : Guest) (left : List ℕ) (found : Option O32Call) → step_of found kernel guest left ≡ seeing_step_of found None seen kernel guest left
+found_small seen kernel guest left None = refl
+found_small seen kernel guest left (Some call) = refl
 
-  pub small_call_same : is_io_call guest.words.nr ≡ false → is_map_call guest.words.nr ≡ false
-      → step_of (call_in small_calls None guest.words.nr) kernel guest left ≡ built_call kernel guest left
-  small_call_same no_io no_map = ap (λ (o : Option O32Call). step_of o kernel guest left) (sym (small_same guest.words.nr no_io no_map))
+pub small_call_same : (seen : Seen) (kernel : Kernel) (guest : Guest) (left : List ℕ) → is_io_call guest.words.nr ≡ false → is_map_call guest.words.nr ≡ false → is_call_there guest.words.nr ≡ false
+    → step_of (call_in small_calls None guest.words.nr) kernel guest left ≡ built_call seen kernel guest left
+small_call_same seen kernel guest left no_io no_map no_time =
+    found_small seen kernel guest left (call_in small_calls None guest.words.nr)
+    ∙ ap (λ (o : Option O32Call). seeing_step_of o None seen kernel guest left) (sym (small_of guest.words.nr no_io no_map no_time))
+    ∙ ap (λ (o : Option SeeingCall). seeing_step_of (built_of guest.words.nr) o seen kernel guest left) (sym (none_seeing guest.words.nr no_time))

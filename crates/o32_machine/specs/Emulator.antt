@@ -1,9 +1,9 @@
 -- What an emulator is seen as, and the one that a program begins in. (Turns, quanta and the form are this project's own.)
-use Rattle.std.specs.Prelude.{ℕ, Bool, false, ◌&&◌, not, None}
+use Rattle.std.specs.Prelude.{ℕ, Bool, false, ◌&&◌, not, None, is_some}
 use Rattle.guest_space.specs.Memory.{Memory}
 use Rattle.kernel_model.specs.State.{Kernel}
 use Rattle.mips_exec.specs.Processor.{Processor}
-use Rattle.o32_model.specs.Turn.{Machine, is_blocked}
+use Rattle.o32_model.specs.Turn.{Machine}
 
 -- The machine; how many nanoseconds of its clock a turn with an instruction takes; how many turns there were; and whether there is no further
 -- one, because the process has ended or is blocked, or a turn stopped early
@@ -24,11 +24,11 @@ machine_at clock machine = record machine { kernel = at_clock clock machine.kern
 -- a machine at its first instruction
 abbrev pub first_machine : Processor → Memory → Kernel → Machine
 first_machine processor memory kernel =
-    record { processor = processor; memory = memory; kernel = kernel; wait = None; fault = None }
+    record { processor = processor; memory = memory; kernel = kernel; wait = None; fault = None; idle = 0 }
 
 abbrev pub first_emulated : ℕ → Machine → Emulated
 first_emulated quantum machine = record { machine = machine; quantum = quantum; turns = 0; over = false }
 
 -- the process runs: it is not over, and no call waits
 abbrev pub runs : Emulated → Bool
-runs emulated = not emulated.over && not (is_blocked emulated.machine)
+runs emulated = not emulated.over && not (is_some emulated.machine.wait)

@@ -7,10 +7,11 @@ ghost use Rattle.o32_model.specs.Answered.{IsCall};
 ghost use Rattle.o32_model.specs.Built.{built_call};
 ghost use Rattle.outside.specs.Streams.{NoCountFell, contents};
 
-use crate::numbers::{is_io_call, is_map_call};
+use crate::numbers::{is_io_call, is_map_call, is_time_call};
 use crate::small::small_call;
 use bridge_io::io_call;
 use bridge_map::map_call;
+use bridge_wait::wait_call;
 use guest_space::Space;
 use host_mem::HostMem;
 use kernel_core::Stop;
@@ -31,9 +32,9 @@ pub(crate) fn make_call<I: Source, O: Sink, E: Sink>(
     log: &mut Log,
     seen: &Seen,
 ) -> Result<Outcome, Stop>
-    ensures row { IsCall (built_call k.old (found args.now cpu.old space.old)) result k.new space.new cpu.new
+    ensures row { IsCall (built_call seen.now k.old (found args.now cpu.old space.old)) result k.new space.new cpu.new
         (contents I.left O.written E.written dev.old) (contents I.left O.written E.written dev.new) }
-    ensures kept { KeepsCall (built_call k.old (found args.now cpu.old space.old)) result k.old
+    ensures kept { KeepsCall (built_call seen.now k.old (found args.now cpu.old space.old)) result k.old
         (found args.now cpu.old space.old) (I.left dev.old.input) log.old log.new }
     ensures cause { StopsOnlyIfRose I.faults O.faults E.faults result dev.old dev.new }
     ensures counts { NoCountFell I.faults O.faults E.faults dev.old dev.new }
@@ -43,6 +44,9 @@ pub(crate) fn make_call<I: Source, O: Sink, E: Sink>(
     }
     if is_map_call(args.nr) {
         return map_call(args, cpu, space, k, mem, dev, log, seen);
+    }
+    if is_time_call(args.nr) {
+        return wait_call(args, cpu, space, k, mem, dev, log, seen);
     }
     small_call(args, cpu, space, k, mem, dev, log)
 }

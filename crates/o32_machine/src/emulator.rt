@@ -1,5 +1,5 @@
 //! An emulator: a process, its clock and the turns that it took.
-ghost use Rattle.std.specs.Prelude.{◌≡◌, ◌↔◌, ◌+◌, ◌*◌, ◌^◌, ◌<◌, ◌≤◌, ℕ, Contains, false, true, IfOk, None, OnErr};
+ghost use Rattle.std.specs.Prelude.{◌≡◌, ◌↔◌, ◌⊎◌, ◌+◌, ◌*◌, ◌^◌, ◌<◌, ◌≤◌, ℕ, Contains, false, true, IfOk, ForSome, None, OnErr, is_some, max};
 ghost use Rattle.kernel_core.specs.LoadedTree.{saved};
 ghost use Rattle.kernel_core.specs.ValidTree.{IsReached, IsValidTree, numbers};
 ghost use Rattle.kernel_model.specs.Begin.{first_state};
@@ -9,7 +9,7 @@ ghost use Rattle.native_kernel.specs.Settings.{settings_of};
 ghost use Rattle.o32_machine.specs.Answered.{IsTurn, attempt_of, is_last, turns_done};
 ghost use Rattle.o32_machine.specs.Emulator.{first_emulated, first_machine, runs};
 ghost use Rattle.o32_machine.specs.Quiet.{IsTurnAfter};
-ghost use Rattle.o32_model.specs.Turn.{at_time, called, is_blocked};
+ghost use Rattle.o32_model.specs.Turn.{at_time, called, is_blocked, jump_to, jumped};
 ghost use Rattle.outside.specs.Streams.{NoCountFell, contents};
 ghost use Rattle.schedule.specs.Ranges.{IsGivenSchedule};
 
@@ -41,7 +41,7 @@ pub struct Emulator {
 }
 
 impl Model for Emulator {
-    ghost use Rattle.std.specs.Prelude.{◌≤◌, ◌*◌};
+    ghost use Rattle.std.specs.Prelude.{◌≤◌, ◌*◌, ◌+◌, ◌^◌};
     ghost use Rattle.guest_space.specs.Memory.{memory_code};
     ghost use Rattle.kernel_core.specs.Nodes.{nodes_code};
     ghost use Rattle.o32_machine.specs.Emulator.{Emulated, machine_at};
@@ -53,7 +53,7 @@ impl Model for Emulator {
 
     ghost view = { λ e. record { machine = machine_at e.clock e.process; quantum = e.quantum; turns = e.turns; over = e.over } };
 
-    ghost invariant = { λ e. (e.quantum ≤ 1_000_000) × (e.clock ≤ 1_000_000 * e.turns) };
+    ghost invariant = { λ e. (e.quantum ≤ 1_000_000) × (e.clock ≤ 2 ^ 61 + 1_000_000 * e.turns) × (e.process.idle ≤ e.clock) };
 }
 
 impl Emulator {
@@ -81,9 +81,10 @@ impl Emulator {
         })
     }
 
-    /// Takes one turn: the timer that is due goes off; then the fault of the turn before kills the process, or one
-    /// instruction is carried out with its call, and the clock gains a quantum. Where a call waits nothing can come
-    /// that would end its wait: the process is blocked, and that attempt is no turn.
+    /// Takes one turn: the timer that is due goes off, and a call whose deadline is over ends. Where a call still waits
+    /// the clock jumps to its deadline or to the timer. Else the fault of the turn before kills the process, or one
+    /// instruction is carried out with its call, and the clock gains a quantum. Where a call waits and neither a deadline
+    /// nor a timer can come, the process is blocked, and that attempt is no turn.
     ///
     /// # Errors
     ///
@@ -107,8 +108,8 @@ impl Emulator {
         self.next_turns(1, dev)
     }
 
-    /// Takes turns, at least one and at most `limit`, up to the first that makes a call, meets a fault or ends the
-    /// process. It answers for the last of them, as `turn` does; those before it are quiet: they take nothing of the
+    /// Takes turns, at least one and at most `limit`, up to the first that makes a call, meets a fault, ends the
+    /// process, or begins while a call waits. It answers for the last of them, as `turn` does; those before it are quiet: they take nothing of the
     /// input and send nothing.
     ///
     /// # Errors
@@ -153,22 +154,74 @@ impl Emulator {
         ensures counts { NoCountFell I.faults O.faults E.faults dev.old dev.new }
     {
         if self.process.waits() {
-            return Ok(Turn::Ended(Finish::Blocked));
+            return self.turn_asleep(dev);
         }
         if let Some(signal) = self.process.take_fault() {
             self.process.advance(self.clock)?;
             self.turns += 1;
             return Ok(Turn::Ended(Finish::Killed(signal.to_o32() as u8)));
         }
-        let ran = self.process.run(limit - 1);
+        let ran = self.process.run(most_quiet(self.clock, limit));
         self.clock = later(self.clock, self.quantum, ran.quiet);
         self.turns += ran.quiet;
         let came = ran.came?;
         self.process.advance(self.clock)?;
-        let turn = self.process.end_turn(came, dev)?;
+        let turn = self.process.end_turn(came, self.clock, dev)?;
         self.clock += self.quantum;
         self.turns += 1;
         Ok(turn)
+    }
+
+    /// A turn that begins while a call waits: the call ends and the turn goes on, or the clock jumps, or the process is
+    /// blocked.
+    fn turn_asleep<I: Source, O: Sink, E: Sink>(
+        &mut self,
+        dev: &mut Devices<I, O, E>,
+    ) -> Result<Turn, Stop>
+        requires asleep { is_some self.old.machine.wait ≡ true }
+        requires few { self.old.turns < 1_000_000_000_000 }
+        ensures turn { IsTurn (attempt_of self.old.quantum self.old.machine) result self.new.machine
+            (contents I.left O.written E.written dev.old) (contents I.left O.written E.written dev.new) }
+        ensures quantum { self.new.quantum ≡ self.old.quantum }
+        ensures turns { self.new.turns ≡ self.old.turns + turns_done result }
+        ensures over { self.new.over ≡ self.old.over }
+        ensures awake { OnErr result (is_blocked self.old.machine ≡ false) }
+        ensures cause { StopsOnlyIfRose I.faults O.faults E.faults result dev.old dev.new }
+        ensures counts { NoCountFell I.faults O.faults E.faults dev.old dev.new }
+    {
+        if self.process.next_time().is_none() {
+            return Ok(Turn::Ended(Finish::Blocked));
+        }
+        self.process.advance(self.clock)?;
+        self.process.wake(self.clock);
+        if self.process.waits() {
+            self.jump();
+            return Ok(Turn::Went);
+        }
+        if let Some(signal) = self.process.take_fault() {
+            self.turns += 1;
+            return Ok(Turn::Ended(Finish::Killed(signal.to_o32() as u8)));
+        }
+        let came = self.process.run(0).came?;
+        let turn = self.process.end_turn(came, self.clock, dev)?;
+        self.clock += self.quantum;
+        self.turns += 1;
+        Ok(turn)
+    }
+
+    /// The clock goes to the time at which the call that waits can go on, and never back. It is a turn without an
+    /// instruction.
+    fn jump(&mut self)
+        requires few { self.old.turns < 1_000_000_000_000 }
+        ensures machine { self.new.machine ≡ jumped self.old.machine }
+        ensures quantum { self.new.quantum ≡ self.old.quantum }
+        ensures turns { self.new.turns ≡ self.old.turns + 1 }
+        ensures over { self.new.over ≡ self.old.over }
+    {
+        let to = jump_to(self.clock, self.process.next_time());
+        self.process.idle(to - self.clock);
+        self.clock = to;
+        self.turns += 1;
     }
 
     /// Makes the call of the SYSCALL that was just executed, whose address is pc - 4. It counts no turn, and the
@@ -193,7 +246,7 @@ impl Emulator {
     {
         self.over = true;
         self.process.advance(self.clock)?;
-        let turn = self.process.call(dev)?;
+        let turn = self.process.call(self.clock, dev)?;
         self.over = turn.is_end();
         Ok(turn)
     }
@@ -239,4 +292,36 @@ fn later(clock: u64, quantum: u64, turns: u64) -> u64
     ensures bound { result ≤ clock + 1_000_000 * turns }
 {
     clock + turns * quantum
+}
+
+/// The clock's time after a jump.
+fn jump_to(clock: u64, time: Option<u64>) -> u64
+    requires { ForSome time (λ t. t ≤ 2 ^ 61) }
+    ensures time { result ≡ jump_to clock time }
+    ensures late { clock ≤ result }
+    ensures early { result ≤ max clock (2 ^ 61) }
+{
+    match time {
+        None => clock,
+        Some(time) => clock.max(time),
+    }
+}
+
+/// The last time of the clock that comes, in nanoseconds. (This project's own.)
+const LAST_TIME: u64 = 1 << 61;
+
+/// How many quiet turns are taken at once, of at most `limit` turns. Past the last time at which a timer goes off it is
+/// one turn at a time, since the timer's next time then depends on when it is looked at.
+#[inline]
+fn most_quiet(clock: u64, limit: u64) -> u64
+    requires some { 0 < limit }
+    requires few { limit ≤ 1_000_000_000_000 }
+    ensures within { result < limit }
+    ensures early { (result ≡ 0) ⊎ (clock + 1_000_000 * result ≤ 2 ^ 61) }
+{
+    if clock < LAST_TIME && limit - 1 <= (LAST_TIME - clock) / 1_000_000 {
+        limit - 1
+    } else {
+        0
+    }
 }

@@ -2,6 +2,7 @@
 //! `arch/mips/include/uapi/asm/unistd.h`, the o32 table), and native ones (Linux
 //! `include/uapi/asm-generic/unistd.h`).
 ghost use Rattle.std.specs.Prelude.{◌≡◌};
+ghost use Rattle.bridge_wait.specs.Numbers.{is_call_there};
 ghost use Rattle.o32_model.specs.Table as table;
 
 pub(crate) const UNAME: u64 = 160;
@@ -47,6 +48,21 @@ pub(crate) fn is_map_call(nr: u32) -> bool
         4167 => true,
         4210 => true,
         4218 => true,
+        _ => false,
+    }
+}
+
+/// Whether a number is that of a call on time, of those that are made so far.
+pub(crate) fn is_time_call(nr: u32) -> bool
+    ensures { result ≡ is_call_there nr }
+{
+    match nr {
+        4013 => true,
+        4078 => true,
+        4166 => true,
+        4263 => true,
+        4264 => true,
+        4265 => true,
         _ => false,
     }
 }

@@ -1,14 +1,15 @@
 //! The process of an o32 program: its processor and memory, and the kernel that it calls.
-ghost use Rattle.std.specs.Prelude.{◌≡◌, ◌≤◌, ◌↔◌, ℕ, Contains, false, if◌then◌else◌, IfOk, None, OnOk};
+ghost use Rattle.std.specs.Prelude.{◌≡◌, ◌+◌, ◌<◌, ◌^◌, ◌≤◌, ◌↔◌, ℕ, Contains, false, if◌then◌else◌, IfOk, IfSome, None, OnOk, is_some};
 ghost use Rattle.kernel_core.specs.LoadedTree.{saved};
 ghost use Rattle.kernel_core.specs.ValidTree.{IsReached, IsValidTree, numbers};
+ghost use Rattle.kernel_model.specs.Clock.{if_comes};
 ghost use Rattle.kernel_model.specs.SignalRows as signals;
 ghost use Rattle.kernel_model.specs.Stops.{StopsOnlyIfRose};
 ghost use Rattle.o32_machine.specs.Answered.{IsTurn, over_of, turns_of};
 ghost use Rattle.o32_machine.specs.Emulator.{first_machine};
 ghost use Rattle.o32_machine.specs.inside.Finishing.{finished};
 ghost use Rattle.o32_machine.specs.inside.Stepping.{GoesThen};
-ghost use Rattle.o32_model.specs.Turn.{after_step, called, is_blocked};
+ghost use Rattle.o32_model.specs.Turn.{after_step, called, is_over_at, next_by, sooner, wakes, woken};
 ghost use Rattle.o32_model.specs.Words.{with_result};
 ghost use Rattle.outside.specs.Streams.{NoCountFell, contents};
 
@@ -39,6 +40,9 @@ const V1: u8 = 3;
 /// Whether a call failed: 0, or 1 where it did.
 const A3: u8 = 7;
 
+/// The last time of the clock that comes, in nanoseconds. (This project's own.)
+const LAST_TIME: u64 = 1 << 61;
+
 /// A process. Contracts see it as the `Machine` of `o32_model`, whose kernel is the native one as it stands.
 #[derive(Drop)]
 pub(crate) struct Process {
@@ -51,6 +55,8 @@ pub(crate) struct Process {
     wait: Option<Wait>,
     /// The signal of the fault that the last turn met.
     fault: Option<Sig>,
+    /// The nanoseconds that the clock has jumped while calls waited.
+    idle: u64,
 }
 
 impl Model for Process {
@@ -63,7 +69,7 @@ impl Model for Process {
 
     ghost coded = { Prim.hlevel (codes, memory_code, nodes_code) };
 
-    ghost view = { λ p. record { processor = p.cpu; memory = p.space; kernel = p.kernel; wait = p.wait; fault = p.fault } };
+    ghost view = { λ p. record { processor = p.cpu; memory = p.space; kernel = p.kernel; wait = p.wait; fault = p.fault; idle = p.idle } };
 }
 
 impl Process {
@@ -78,14 +84,61 @@ impl Process {
             mem: HostMem::new(alloc),
             wait: None,
             fault: None,
+            idle: 0,
         }
     }
 
     /// Whether a call waits.
     pub(crate) fn waits(&self) -> bool
-        ensures { result ≡ is_blocked self.now }
+        ensures { result ≡ is_some self.now.wait }
     {
         self.wait.is_some()
+    }
+
+    /// The time at which a call that waits can go on, by its deadline or by the timer, in nanoseconds of the clock; None
+    /// where neither can come, and where no call waits.
+    pub(crate) fn next_time(&self) -> Option<u64>
+        ensures time { result ≡ next_by self.now self.now.wait }
+        ensures early { IfSome result (λ time. time ≤ 2 ^ 61) }
+    {
+        match self.wait {
+            None => None,
+            Some(wait) => sooner(if_comes(wait.deadline), self.kernel.next_time()),
+        }
+    }
+
+    /// Ends the call that waits where its deadline is over, at the kernel's time `clock`, in nanoseconds.
+    pub(crate) fn wake(&mut self, clock: u64)
+        requires { self.old.kernel.clock ≡ clock }
+        ensures { self.new ≡ woken self.old }
+    {
+        if let Some(wait) = self.wait {
+            if is_over_at(clock, wait.deadline) {
+                self.end_wait();
+            }
+        }
+    }
+
+    fn end_wait(&mut self)
+        ensures { self.new ≡ wakes self.old }
+    {
+        self.wait = None;
+        self.set_result(0, false);
+    }
+
+    /// Counts a jump of the clock by so many nanoseconds.
+    pub(crate) fn idle(&mut self, by: u64)
+        requires { self.old.idle + by < 2 ^ 64 }
+        ensures { self.new ≡ record self.old { idle = self.old.idle + by } }
+    {
+        self.idle += by;
+    }
+
+    /// The nanoseconds that the clock has jumped.
+    pub(crate) fn idle_time(&self) -> u64
+        ensures { result ≡ self.now.idle }
+    {
+        self.idle
     }
 
     /// The nodes as a file tree, as the kernel tells it. It copies every byte once.
@@ -127,23 +180,27 @@ impl Process {
         run(&mut self.cpu, &mut self.space, most)
     }
 
-    /// Ends a turn whose instruction was just executed and came to this: makes its call, or keeps its fault.
+    /// Ends a turn whose instruction was just executed and came to this: makes its call, or keeps its fault. `clock` is the
+    /// kernel's time, in nanoseconds.
     pub(crate) fn end_turn<I: Source, O: Sink, E: Sink>(
         &mut self,
         came: Stepped,
+        clock: u64,
         dev: &mut Devices<I, O, E>,
     ) -> Result<Turn, Stop>
         requires wait { self.old.wait ≡ None }
         requires fault { self.old.fault ≡ None }
-        ensures turn { IsTurn (λ left. after_step self.old.processor self.old.memory self.old.kernel left came) result self.new
+        requires clock { self.old.kernel.clock ≡ clock }
+        ensures turn { IsTurn (λ left. after_step self.old.idle self.old.processor self.old.memory self.old.kernel left came) result self.new
             (contents I.left O.written E.written dev.old) (contents I.left O.written E.written dev.new) }
         ensures counted { IfOk result (λ turn. turns_of turn ≡ 1) }
+        ensures idle { self.new.idle ≡ self.old.idle }
         ensures cause { StopsOnlyIfRose I.faults O.faults E.faults result dev.old dev.new }
         ensures counts { NoCountFell I.faults O.faults E.faults dev.old dev.new }
     {
         match came {
             Stepped::Next => Ok(Turn::Went),
-            Stepped::Syscall => self.call(dev),
+            Stepped::Syscall => self.call(clock, dev),
             Stepped::Fault { sig, .. } => {
                 self.fault = Some(sig);
                 Ok(Turn::Went)
@@ -151,17 +208,20 @@ impl Process {
         }
     }
 
-    /// Makes the call of the SYSCALL that was just executed. It stands apart from the path of the other instructions,
+    /// Makes the call of the SYSCALL that was just executed, at the kernel's time `clock`, in nanoseconds. It stands apart from the path of the other instructions,
     /// which keeps its buffers off their stack.
     #[cold]
     #[inline(never)]
     pub(crate) fn call<I: Source, O: Sink, E: Sink>(
         &mut self,
+        clock: u64,
         dev: &mut Devices<I, O, E>,
     ) -> Result<Turn, Stop>
+        requires { self.old.kernel.clock ≡ clock }
         ensures turn { IsTurn (called self.old) result self.new
             (contents I.left O.written E.written dev.old) (contents I.left O.written E.written dev.new) }
         ensures counted { IfOk result (λ turn. turns_of turn ≡ 1) }
+        ensures idle { self.new.idle ≡ self.old.idle }
         ensures cause { StopsOnlyIfRose I.faults O.faults E.faults result dev.old dev.new }
         ensures counts { NoCountFell I.faults O.faults E.faults dev.old dev.new }
     {
@@ -171,7 +231,7 @@ impl Process {
             effects: None,
         };
         let seen = Seen {
-            quanta: 0,
+            quanta: clock.saturating_sub(self.idle),
             restart: None,
         };
         let outcome = make_call(
@@ -215,5 +275,38 @@ impl Process {
     {
         self.cpu.set_register(V0, value);
         self.cpu.set_register(A3, u32::from(failed));
+    }
+}
+
+/// A time that can come: one past 2^61 never does.
+fn if_comes(time: Option<u64>) -> Option<u64>
+    ensures { result ≡ if_comes time }
+{
+    match time {
+        Some(time) if time <= LAST_TIME => Some(time),
+        _ => None,
+    }
+}
+
+/// Whether a deadline is over.
+fn is_over_at(clock: u64, deadline: Option<u64>) -> bool
+    ensures { result ≡ is_over_at clock deadline }
+{
+    match deadline {
+        None => false,
+        Some(deadline) => deadline <= clock && deadline <= LAST_TIME,
+    }
+}
+
+/// The lesser of two times that may not be there.
+fn sooner(one: Option<u64>, other: Option<u64>) -> Option<u64>
+    ensures { result ≡ sooner one other }
+{
+    match one {
+        None => other,
+        Some(time) => match other {
+            None => Some(time),
+            Some(other) => Some(time.min(other)),
+        },
     }
 }

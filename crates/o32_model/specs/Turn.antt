@@ -2,7 +2,7 @@
 -- the processor; signal(7) for the signal of a fault; setitimer(2) for a timer that is due; nanosleep(2)). What a turn is, that a fault's signal
 -- kills in the turn after its own, how long a turn takes, and that the clock jumps where a call waits, is this project's own. So far no signal
 -- but a fault's is delivered: what a write to a pipe without readers posts (SIGPIPE of pipe(7)), and what a timer posts, stays pending.
-use Rattle.std.specs.Prelude.{ℕ, ◌+◌, ◌-◌, min, max, Bool, false, List, Option, Some, None, is_none, if◌then◌else◌}
+use Rattle.std.specs.Prelude.{ℕ, ◌+◌, ◌-◌, min, max, Bool, false, ◌&&◌, List, Option, Some, None, is_some, is_none, if◌then◌else◌}
 use Rattle.guest_space.specs.Memory.{Memory}
 use Rattle.kernel_core.specs.declared.finish.Finish.{Finish}
 use Rattle.kernel_core.specs.declared.finish.Finish.TheVariants.{Exited, Killed}
@@ -18,13 +18,9 @@ use Rattle.mips_exec.specs.declared.Stepped.TheVariants.{Next, Syscall, Fault}
 use Rattle.number_tables.specs.Signals.{o32_signal}
 use Rattle.o32_model.specs.Built.{built_call}
 use Rattle.o32_model.specs.Step.{Guest, O32Step}
-use Rattle.o32_model.specs.WaitEnds.{WaitEnd, wait_ended}
 use Rattle.o32_model.specs.Words.{call_words, returned}
 use Rattle.o32_model.specs.declared.outcome.Outcome.{Outcome}
 use Rattle.o32_model.specs.declared.outcome.Outcome.TheVariants as outcomes
-use Rattle.o32_model.specs.declared.wait.Cause.TheVariants.{Due}
-use Rattle.o32_model.specs.declared.wait.Close.{Close}
-use Rattle.o32_model.specs.declared.wait.Close.TheVariants as closes
 use Rattle.o32_model.specs.declared.wait.Seen.{Seen}
 use Rattle.o32_model.specs.declared.wait.Wait.{Wait}
 
@@ -121,34 +117,19 @@ timed machine = record machine { kernel = advance machine.kernel machine.kernel.
 
 -- Waits
 
--- What a wait that ends comes to goes into the registers. A call that is carried out again, or goes on, returns nothing; that comes of no wait
--- whose time is over.
-abbrev pub closed : Processor → Close → Processor
-closed processor (closes.Value value) = returned processor (outcomes.Value value)
-closed processor (closes.Error error) = returned processor (outcomes.Error error)
-closed processor closes.Again = processor
-closed processor closes.Restart = processor
-
-abbrev pub with_end : Machine → WaitEnd → Machine
-with_end machine ended = record machine {
-  processor = closed machine.processor ended.close;
-  memory = ended.memory;
-  kernel = ended.kernel;
-  wait = None;
-}
-
 -- whether a deadline is over; one that is not there, or past 2^61, never is
 abbrev pub is_over_at : ℕ → Option ℕ → Bool
 is_over_at clock None = false
 is_over_at clock (Some deadline) = is_due clock deadline
 
--- a call whose deadline is over ends
+-- A call whose deadline is over returns 0. (So far only those that sleep have a deadline: nanosleep(2), clock_nanosleep(2).)
+
+abbrev pub wakes : Machine → Machine
+wakes machine = record machine { processor = returned machine.processor (outcomes.Value 0); wait = None }
+
 abbrev pub woken_by : Machine → Option Wait → Machine
 woken_by machine None = machine
-woken_by machine (Some wait) =
-    if is_over_at machine.kernel.clock wait.deadline
-    then with_end machine (wait_ended wait Due machine.kernel.clock machine.kernel machine.memory)
-    else machine
+woken_by machine (Some wait) = if is_over_at machine.kernel.clock wait.deadline then wakes machine else machine
 
 abbrev pub woken : Machine → Machine
 woken machine = woken_by machine machine.wait
@@ -163,6 +144,10 @@ sooner (Some time) (Some other) = Some (min time other)
 abbrev pub next_for : Machine → Wait → Option ℕ
 next_for machine wait = sooner (if_comes wait.deadline) (next_time machine.kernel.timer)
 
+abbrev pub next_by : Machine → Option Wait → Option ℕ
+next_by machine None = None
+next_by machine (Some wait) = next_for machine wait
+
 -- the clock goes to that time, and never back
 abbrev pub jump_to : ℕ → Option ℕ → ℕ
 jump_to clock None = clock
@@ -172,8 +157,8 @@ abbrev pub jumped_at : Machine → ℕ → Machine
 jumped_at machine time =
     record machine { kernel = record machine.kernel { clock = time }; idle = machine.idle + (time - machine.kernel.clock) }
 
-abbrev pub jumped : Machine → Wait → Machine
-jumped machine wait = jumped_at machine (jump_to machine.kernel.clock (next_for machine wait))
+abbrev pub jumped : Machine → Machine
+jumped machine = jumped_at machine (jump_to machine.kernel.clock (next_by machine machine.wait))
 
 -- Turns
 
@@ -184,7 +169,7 @@ after_fault later machine left None = at_time later (executed machine left)
 
 -- A call that still waits leaves its turn without an instruction.
 abbrev pub unless_asleep : ℕ → Machine → List ℕ → Option Wait → Turn
-unless_asleep later machine left (Some wait) = goes_on (jumped machine wait) left nothing
+unless_asleep later machine left (Some wait) = goes_on (jumped machine) left nothing
 unless_asleep later machine left None = after_fault later machine left machine.fault
 
 -- One turn: the timer that is due goes off, and a call whose deadline is over ends. Where a call still waits the clock jumps. Else the fault of
@@ -196,9 +181,5 @@ turn_of quantum machine left =
 
 -- A call waits, and neither its deadline nor a timer is there that can come: no turn follows. So far no signal ends a wait.
 
-abbrev pub is_stuck : Machine → Option Wait → Bool
-is_stuck machine None = false
-is_stuck machine (Some wait) = is_none (next_for machine wait)
-
 abbrev pub is_blocked : Machine → Bool
-is_blocked machine = is_stuck machine machine.wait
+is_blocked machine = is_some machine.wait && is_none (next_by machine machine.wait)

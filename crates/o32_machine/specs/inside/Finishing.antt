@@ -18,4 +18,4 @@ step_left machine outcome left sent = record {
 
 -- what the machine comes to behind it, whatever was taken and sent
 abbrev pub finished : Machine → Outcome → Turn
-finished machine outcome = after_call (step_left machine outcome [] nothing)
+finished machine outcome = after_call machine.idle (step_left machine outcome [] nothing)

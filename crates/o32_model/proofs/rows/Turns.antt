@@ -25,7 +25,11 @@ use Rattle.o32_model.specs.Runs.{reached, IsRunningAt, IsOverAt}
 use Rattle.o32_model.specs.Small.{exit_row}
 use Rattle.o32_model.specs.Transfers.{read_row}
 use Rattle.o32_model.specs.Turn.{Machine, turn_of, goes_on, ends, is_blocked}
+use Rattle.o32_model.specs.WaitEnds.{ends_with, wait_ended}
 use Rattle.o32_model.specs.Words.{call_words}
+use Rattle.o32_model.specs.declared.wait.Cause.TheVariants.{Due}
+use Rattle.o32_model.specs.declared.wait.Close.TheVariants as closes
+use Rattle.o32_model.specs.declared.wait.Wait.{Wait}
 
 -- what the registers hold: $v0, $v1, $a0, $a1, $a2, $a3
 abbrev registers : ℕ → ℕ → ℕ → ℕ → ℕ → ℕ → List ℕ
@@ -135,6 +139,13 @@ module _ (whole : Kernel) (nodes : Nodes) (memory : Memory) (left : List ℕ) wh
         ≡ goes_on (record (at (record first { clock = 1_000_006_000 }) 65544 (registers 0 5 65792 0 8 0)) { idle = 300 }) left nothing
     unfolding turn_of advance step_of effect_at plain_rows special_rows
     wakes next = simp next refl
+
+    -- so do both calls that sleep, by how waits end
+    ends_so : (wait : Wait) (clock : ℕ) (kernel : Kernel) → wait_ended (record wait { nr = 4166 }) Due clock kernel memory ≡ ends_with (closes.Value 0) kernel memory
+    ends_so wait clock kernel = refl
+
+    ends_by_its_clock : (wait : Wait) (clock : ℕ) (kernel : Kernel) → wait_ended (record wait { nr = 4265 }) Due clock kernel memory ≡ ends_with (closes.Value 0) kernel memory
+    ends_by_its_clock wait clock kernel = refl
 
     -- a timer that is set for an earlier time is where the clock jumps to
     to_the_timer : turn_of 1000 (record (sleeping 6000 (Some 1_000_005_000) 300) { kernel = record first { clock = 6000; timer = record { due = Some 7000; period = 0 } } }) left

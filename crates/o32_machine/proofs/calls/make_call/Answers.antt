@@ -2,7 +2,7 @@
 use Rattle.std.proofs.Common.{OnOk, sym, subst, ◌∙◌}
 use Rattle.outside.specs.Streams.{contents}
 use Rattle.bridge_log.specs.Keeping.{Keeps}
-use Rattle.o32_machine.proofs.Numbering.{io_call_same, map_call_same}
+use Rattle.o32_machine.proofs.Numbering.{io_call_same, map_call_same, time_call_same}
 use Rattle.o32_machine.specs.inside.Plain.{found}
 use Rattle.o32_model.specs.Answered.{Answers}
 use Rattle.o32_model.specs.Step.{O32Step}
@@ -13,23 +13,36 @@ returns-then-is_io_call-clause-row g c = λ left told.
     let guest = found c.args.args.now c.args.cpu.now c.args.space.now in
     subst (λ (s : O32Step). Answers s c.io_call.result c.io_call.new.k c.io_call.new.space c.io_call.new.cpu
     (contents g.I.Source.left g.O.Sink.written g.E.Sink.written c.args.dev.now) (contents g.I.Source.left g.O.Sink.written g.E.Sink.written c.io_call.new.dev))
-    (io_call_same c.args.k.now guest left (sym c.is_io_call.ensures ∙ c.if-is_io_call.true)) (c.io_call.ensures.row left told)
+    (io_call_same c.args.seen.now c.args.k.now guest left (sym c.is_io_call.ensures ∙ c.if-is_io_call.true)) (c.io_call.ensures.row left told)
 
 pub returns-then-is_io_call-clause-kept : goal.returns-then-is_io_call-clause-kept
 returns-then-is_io_call-clause-kept g c = λ left told.
     let guest = found c.args.args.now c.args.cpu.now c.args.space.now in
     subst (λ (s : O32Step). OnOk c.io_call.result (Keeps s c.args.k.now left guest c.args.log.now c.io_call.new.log))
-    (io_call_same c.args.k.now guest left (sym c.is_io_call.ensures ∙ c.if-is_io_call.true)) (c.io_call.ensures.kept left told)
+    (io_call_same c.args.seen.now c.args.k.now guest left (sym c.is_io_call.ensures ∙ c.if-is_io_call.true)) (c.io_call.ensures.kept left told)
 
 pub returns-then-is_map_call-clause-row : goal.returns-then-is_map_call-clause-row
 returns-then-is_map_call-clause-row g c = λ left told.
     let guest = found c.args.args.now c.args.cpu.now c.args.space.now in
     subst (λ (s : O32Step). Answers s c.map_call.result c.map_call.new.k c.map_call.new.space c.map_call.new.cpu
     (contents g.I.Source.left g.O.Sink.written g.E.Sink.written c.args.dev.now) (contents g.I.Source.left g.O.Sink.written g.E.Sink.written c.map_call.new.dev))
-    (map_call_same c.args.k.now guest left (sym c.is_map_call.ensures ∙ c.if-is_map_call.true)) (c.map_call.ensures.row left told)
+    (map_call_same c.args.seen.now c.args.k.now guest left (sym c.is_map_call.ensures ∙ c.if-is_map_call.true)) (c.map_call.ensures.row left told)
 
 pub returns-then-is_map_call-clause-kept : goal.returns-then-is_map_call-clause-kept
 returns-then-is_map_call-clause-kept g c = λ left told.
     let guest = found c.args.args.now c.args.cpu.now c.args.space.now in
     subst (λ (s : O32Step). OnOk c.map_call.result (Keeps s c.args.k.now left guest c.args.log.now c.map_call.new.log))
-    (map_call_same c.args.k.now guest left (sym c.is_map_call.ensures ∙ c.if-is_map_call.true)) (c.map_call.ensures.kept left told)
+    (map_call_same c.args.seen.now c.args.k.now guest left (sym c.is_map_call.ensures ∙ c.if-is_map_call.true)) (c.map_call.ensures.kept left told)
+
+pub returns-then-is_time_call-clause-row : goal.returns-then-is_time_call-clause-row
+returns-then-is_time_call-clause-row g c = λ left told.
+    let guest = found c.args.args.now c.args.cpu.now c.args.space.now in
+    subst (λ (s : O32Step). Answers s c.wait_call.result c.wait_call.new.k c.wait_call.new.space c.wait_call.new.cpu
+    (contents g.I.Source.left g.O.Sink.written g.E.Sink.written c.args.dev.now) (contents g.I.Source.left g.O.Sink.written g.E.Sink.written c.wait_call.new.dev))
+    (time_call_same c.args.seen.now c.args.k.now guest left (sym c.is_time_call.ensures ∙ c.if-is_time_call.true)) (c.wait_call.ensures.row left told)
+
+pub returns-then-is_time_call-clause-kept : goal.returns-then-is_time_call-clause-kept
+returns-then-is_time_call-clause-kept g c = λ left told.
+    let guest = found c.args.args.now c.args.cpu.now c.args.space.now in
+    subst (λ (s : O32Step). OnOk c.wait_call.result (Keeps s c.args.k.now left guest c.args.log.now c.wait_call.new.log))
+    (time_call_same c.args.seen.now c.args.k.now guest left (sym c.is_time_call.ensures ∙ c.if-is_time_call.true)) (c.wait_call.ensures.kept left told)
