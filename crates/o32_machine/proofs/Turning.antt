@@ -199,10 +199,10 @@ module _ (now machine : Machine) (seen : Seen) (words : CallWords) (left : List 
   pub call_goes : (left_by : Machine) (outcome : Outcome) (turn : code.Turn) (became : Machine) (before after : Contents) → left_by.idle ≡ machine.idle
       → o32.Called its_step outcome left_by.kernel left_by.memory left_by.processor before after → over_of turn ≡ (finished left_by outcome).over → became ≡ (finished left_by outcome).machine
       → Turned (called now left) turn became before after
-  call_goes left_by outcome turn became before after rested called over same =
+  call_goes left_by outcome turn became before after rested carried over same =
       subst (λ (m : Machine). Turned (called m left) turn became before after) is
       (subst (λ (t : Turn). Turned t turn became before after) (sym (called_is machine seen words left sees read))
-      (subst (λ (n : ℕ). Turned (after_call n its_step) turn became before after) rested (call_turned its_step left_by outcome turn became before after called over same)))
+      (subst (λ (n : ℕ). Turned (after_call n its_step) turn became before after) rested (call_turned its_step left_by outcome turn became before after carried over same)))
 
 module _ (emulated : Emulated) (clock quantum turns : ℕ) (over : Bool) (machine advanced : Machine)
     (is : record { machine = machine_at clock machine; quantum = quantum; turns = turns; over = over } ≡ emulated)
