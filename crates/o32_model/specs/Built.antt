@@ -1,7 +1,8 @@
 -- The calls that a machine makes so far: those on descriptors and what they have open, the small ones, of those on files the ones whose numbers
 -- stand here, and those on mappings. Any other number is ENOSYS to it until its group is built. (That the groups come in steps is this
 -- project's own.)
-use Rattle.std.specs.Prelude.{ℕ, Bool, List, [], ◌∷◌, Option, None, list_any, ◌==◌, if◌then◌else◌}
+use Rattle.std.specs.Prelude.{ℕ, Bool, List, [], ◌∷◌, Option, None, ◌==◌, if◌then◌else◌}
+use Rattle.std.specs.List.{list_any}
 use Rattle.kernel_model.specs.State.{Kernel}
 use Rattle.o32_model.specs.Mappings.{map_calls}
 use Rattle.o32_model.specs.Small.{small_calls}
