@@ -2,10 +2,8 @@
 use Rattle.std.proofs.Common.{◌≡◌, ℕ, List, [], Option, Some, refl, sym, ap, subst, ◌∙◌, inl, inr, Result, Ok, Err, IsErr}
 use Rattle.guest_space.specs.Memory.{Memory}
 use Rattle.kernel_core.specs.declared.core_error.Stop.{Stop}
-use Rattle.kernel_core.specs.declared.error.Errno.{Errno}
 use Rattle.kernel_core.specs.declared.record.Effect.{Effect}
 use Rattle.kernel_core.specs.declared.reply.Reply.{Reply}
-use Rattle.kernel_model.specs.Came.{refused}
 use Rattle.kernel_model.specs.Pipes.{Sent, nothing}
 use Rattle.kernel_model.specs.State.{Kernel}
 use Rattle.mips_exec.specs.Processor.{Processor}
@@ -15,7 +13,7 @@ use Rattle.native_calls.specs.Step.{NativeStep}
 use Rattle.o32_model.specs.Answered as o32
 use Rattle.o32_model.specs.Effects.{Target, Effected}
 use Rattle.o32_model.specs.Logs.{Kept}
-use Rattle.o32_model.specs.Step.{Guest, O32Step, failure, gives}
+use Rattle.o32_model.specs.Step.{Guest, O32Step}
 use Rattle.o32_model.specs.declared.outcome.Outcome.{Outcome}
 use Rattle.outside.proofs.OutputLemmas.{IsPrefix-empty, GainsBetween-exact, GainsBetween-lower, GainsBetween-nothing, GainsText-nothing}
 use Rattle.outside.specs.Output.{GainsText, GainsBetween}
@@ -140,9 +138,3 @@ still_keeps guest kernel left outcome step kept s = record {
   native = subst (λ (to : Moment). Logged kept.native kept.native (opening kernel left) to) (still_moment kernel left step s.kernel_stays s.left_stays s.sends) (logged_none kept.native (opening kernel left));
   effects = effected_quietly kept kept guest.processor guest.memory step.memory step.sent refl s.stored s.sends;
 }
-
--- a call that is refused for what it was given
-pub still_refused : (guest : Guest) (kernel : Kernel) (error : Errno) (left : List ℕ) (step : O32Step) → step ≡ gives guest (refused kernel error) left → Still guest kernel left (failure error) step
-still_refused guest kernel error left step is =
-    subst (λ (s : O32Step). Still guest kernel left (failure error) s) (sym is)
-    (record { kernel_stays = refl; left_stays = refl; sends = refl; stored = refl; set = refl; came = refl })

@@ -1,5 +1,3 @@
-pub mod ByNumber
-pub mod Checks
 pub mod Ends
 pub mod Filling
 pub mod Histories

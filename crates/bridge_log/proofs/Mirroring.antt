@@ -1,5 +1,5 @@
 -- What is said of a native call, said of the o32 call that it mirrors.
-use Rattle.std.proofs.Common.{◌≡◌, ℕ, List, refl, sym, ap, subst, ◌∙◌}
+use Rattle.std.proofs.Common.{◌≡◌, ℕ, List, refl, sym, ap, ◌∙◌}
 use Rattle.kernel_core.specs.declared.reply.Reply.{Reply}
 use Rattle.kernel_model.specs.Came.{Did}
 use Rattle.kernel_model.specs.State.{Kernel}
@@ -44,11 +44,3 @@ mirrors_gives guest memory did left fits = record {
   set = refl;
   came = sym (outcome_of_given guest.words did.came fits);
 }
-
--- both calls give what a row came to
-pub same_gives : (guest : Guest) (memory left : List ℕ) (native_did did given : Did Kernel ℕ) → native_did ≡ given → did ≡ given → Fits given.came
-    → Mirrors guest (by_reply guest.words) (native_step.gives memory native_did left) (o32_step.gives guest did left)
-same_gives guest memory left native_did did given there here fits =
-    subst (λ (d : Did Kernel ℕ). Mirrors guest (by_reply guest.words) (native_step.gives memory native_did left) (o32_step.gives guest d left)) (sym here)
-    (subst (λ (d : Did Kernel ℕ). Mirrors guest (by_reply guest.words) (native_step.gives memory d left) (o32_step.gives guest given left)) (sym there)
-    (mirrors_gives guest memory given left fits))

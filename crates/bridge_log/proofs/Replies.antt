@@ -21,10 +21,6 @@ outcome_of_failure words _ = refl
 pub word_stays : (number : ℕ) → number < 2 ^ 32 → number % 2 ^ 32 ≡ number
 word_stays number fits = omega arith
 
--- an argument of a native call that is a word of the program
-pub word_given : (given number : ℕ) → given ≡ number → number < 2 ^ 32 → given % 2 ^ 32 ≡ number
-word_given given number same fits = omega arith
-
 pub outcome_of_value : (words : CallWords) (number : ℕ) → number < 2 ^ 32 → outcome_of words (native.value number) ≡ o32.value number
 outcome_of_value words number fits = ap outcomes.Value (word_stays number fits)
 
