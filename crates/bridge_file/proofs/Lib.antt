@@ -1,5 +1,3 @@
-pub mod ByNumber
-pub mod HostPaths
+pub mod Numbers
 pub mod NodeRows
-pub mod Refusing
 pub mod Rows

@@ -23,7 +23,8 @@ use Rattle.bridge_log.proofs.Replies.{Fits}
 use Rattle.bridge_log.specs.Bounds.{Bounded}
 use Rattle.bridge_log.specs.Mirrors.{Mirrors}
 use Rattle.bridge_log.specs.Outcomes.{by_reply}
-use Rattle.bridge_file.proofs.Rows.{Anything, bounded_given, bounded_if, bounded_some, fits_zero, one_path, same_gives, word}
+use Rattle.bridge_paths.proofs.Rows.{Anything, bounded_given, bounded_if, bounded_some, fits_zero, same_gives, word}
+use Rattle.bridge_file.proofs.Rows.{one_path}
 use Rattle.bridge_file.specs.inside.Paths.{MirrorsPath}
 
 -- Access

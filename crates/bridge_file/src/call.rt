@@ -1,6 +1,6 @@
 //! A call by its number.
 ghost use Rattle.std.specs.Prelude.{◌≡◌, IsTrue};
-ghost use Rattle.bridge_file.specs.Found.{found};
+ghost use Rattle.bridge_paths.specs.Found.{found};
 ghost use Rattle.bridge_file.specs.Numbers.{is_call_there, is_name_call, is_node_call};
 ghost use Rattle.bridge_log.specs.Keeping.{KeepsCall};
 ghost use Rattle.kernel_model.specs.Stops.{StopsOnlyIfRose};

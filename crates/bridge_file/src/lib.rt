@@ -6,6 +6,5 @@ mod calls;
 mod names;
 mod nodes;
 mod numbers;
-mod paths;
 
 pub use call::file_call;

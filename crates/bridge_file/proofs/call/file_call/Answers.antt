@@ -1,6 +1,6 @@
 -- A number that is no node call's is a name call's.
 use Rattle.std.proofs.Common.{sym, ◌∙◌}
-use Rattle.bridge_file.proofs.ByNumber.{the_first}
+use Rattle.bridge_file.proofs.Numbers.{the_first}
 use Rattle.bridge_file.specs.Numbers.{is_name_call, is_node_call}
 use Rattle.bridge_file.proofs.call.file_call.Goals as goal
 

@@ -1,8 +1,8 @@
 -- Each arm makes the row of its number.
 use Rattle.std.proofs.Common.{◌≡◌, refl, rules}
-use Rattle.bridge_file.specs.Found.{found}
+use Rattle.bridge_paths.specs.Found.{found}
 use Rattle.outside.specs.Streams.{contents}
-use Rattle.bridge_file.proofs.ByNumber.{by_number}
+use Rattle.bridge_paths.proofs.ByNumber.{by_number}
 use Rattle.bridge_file.proofs.call.node_call.Goals as goal
 
 pub returns-in-4012-clause-row : goal.returns-in-4012-clause-row
