@@ -116,14 +116,15 @@ of_four values = record {
   modified = record { seconds = slice_index_or values 2 (pos 0); nanoseconds = slice_index_or values 3 (pos 0) };
 }
 
+abbrev native_time : List ℕ → TimeSpec
+native_time bytes = record { seconds = value_of true 8 (little_number 8 bytes); nanoseconds = value_of true 8 (little_number 8 (drop 8 bytes)) }
+
 pub four_apart : (bytes : List ℕ) → native.times_in bytes ≡ of_four (record_values native_layouts.itimerval bytes)
 four_apart bytes =
     ap (λ (rest : List ℕ). record {
       access = native_time bytes;
       modified = record { seconds = value_of true 8 (little_number 8 (drop 16 bytes)); nanoseconds = value_of true 8 (little_number 8 rest) };
-    }) (drop-drop 8 16 bytes) where
-      abbrev native_time : List ℕ → TimeSpec
-      native_time list = record { seconds = value_of true 8 (little_number 8 list); nanoseconds = value_of true 8 (little_number 8 (drop 8 list)) }
+    }) (drop-drop 8 16 bytes)
 
 -- bytes that stand at the end
 pub bytes_end : (front bytes : List ℕ) (at size : ℕ) → at ≡ end_address front → length bytes ≡ size → bytes_at (front ++ bytes) at size ≡ Some bytes
