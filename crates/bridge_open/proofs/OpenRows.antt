@@ -1,5 +1,5 @@
 -- The opening of files: what limits it, and as native calls.
-use Rattle.std.proofs.Common.{◌≡◌, ℕ, ◌+◌, ◌-◌, ◌≤◌, ◌<◌, ◌^◌, ◌%◌, ◌⊎◌, List, [], ◌∷◌, ◌++◌, length, drop, replicate, Option, Some, None, Ok, Err, refl, sym, ap, subst, ◌∙◌, inl, inr, arith, length-drop, Result, IsErr}
+use Rattle.std.proofs.Common.{◌≡◌, ℕ, ◌+◌, ◌≤◌, ◌<◌, ◌^◌, ◌%◌, ◌⊎◌, List, [], ◌∷◌, length, drop, Option, Some, None, Ok, Err, refl, sym, ap, subst, ◌∙◌, inl, inr, arith, length-drop, Result, IsErr}
 use Rattle.std.proofs.lemmas.Bool.Decides.{nat_tests}
 use Rattle.std.proofs.lemmas.List.Quantifiers.{position-Some}
 use Rattle.std.specs.FinMap.{get}
@@ -18,9 +18,9 @@ use Rattle.kernel_core.specs.declared.error.Errno.{Errno}
 use Rattle.kernel_core.specs.declared.error.Errno.TheVariants.{EEXIST, EINVAL, EMFILE, ENOENT, ENOTDIR, EOVERFLOW}
 use Rattle.kernel_core.specs.declared.open_flags.Access.{Access}
 use Rattle.kernel_core.specs.declared.open_flags.Access.TheVariants.{Read, Write, ReadWrite}
-use Rattle.kernel_model.specs.Came.{Came, Did, Given, done, refused, refused_by, refused_if, with_given, with_some}
+use Rattle.kernel_model.specs.Came.{Did, Given, done, refused, refused_by, refused_if, with_given, with_some}
 use Rattle.kernel_model.specs.Clock.{now}
-use Rattle.kernel_model.specs.Opening.{after_open, follows, is_larger, kind_refusal, open_file, open_missing, open_node, open_place, truncated}
+use Rattle.kernel_model.specs.Opening.{after_open, follows, is_larger, kind_refusal, open_file, open_node, open_place, truncated}
 use Rattle.kernel_model.specs.Paths.{Base, node_found, walk, is_missing_before_slash}
 use Rattle.kernel_model.specs.State.{Kernel, Files}
 use Rattle.kernel_model.specs.Table.{lowest_free}
@@ -38,12 +38,10 @@ use Rattle.o32_model.specs.Opening as o32
 use Rattle.o32_model.specs.PathArguments.{base}
 use Rattle.o32_model.specs.Paths as guest_paths
 use Rattle.o32_model.specs.Step as o32_step
-use Rattle.o32_model.specs.Step.{Guest, failure}
+use Rattle.o32_model.specs.Step.{Guest}
 use Rattle.o32_model.specs.Transfers.{small_file_limit}
 use Rattle.o32_model.specs.declared.outcome.Outcome.{Outcome}
 use Rattle.outside.specs.Streams.{Contents}
-use Rattle.bridge_log.proofs.Ends.{Still}
-use Rattle.bridge_log.proofs.Replies.{Fits}
 use Rattle.bridge_log.specs.Bounds.{Bounded}
 use Rattle.bridge_log.specs.Mirrors.{Mirrors}
 use Rattle.bridge_log.specs.Outcomes.{by_reply}
@@ -240,8 +238,22 @@ access-le ReadWrite = omega arith
 
 flags_short : (flags : OpenSet) → native_open flags < 2 ^ 32
 flags_short flags =
-    omega (arith, access-le flags.access, one_if-le flags.append, one_if-le flags.dsync, one_if-le flags.nonblock, one_if-le flags.creat, one_if-le flags.trunc, one_if-le flags.excl, one_if-le flags.noctty,
-    one_if-le flags.largefile, one_if-le flags.sync, one_if-le flags.directory, one_if-le flags.nofollow, one_if-le flags.cloexec)
+    omega (
+      arith,
+      access-le flags.access,
+      one_if-le flags.append,
+      one_if-le flags.dsync,
+      one_if-le flags.nonblock,
+      one_if-le flags.creat,
+      one_if-le flags.trunc,
+      one_if-le flags.excl,
+      one_if-le flags.noctty,
+      one_if-le flags.largefile,
+      one_if-le flags.sync,
+      one_if-le flags.directory,
+      one_if-le flags.nofollow,
+      one_if-le flags.cloexec,
+    )
 
 abbrev open_as : Kernel → Option ℕ → ℕ → Given (List ℕ) → Option OpenSet → ℕ → Did Kernel ℕ
 open_as kernel limit from path flags mode = marked kernel (λ files now. open_file files limit now (base from) path flags mode)

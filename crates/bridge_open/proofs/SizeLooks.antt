@@ -1,7 +1,7 @@
 -- What a look at the size of what a path leads to finds.
 use Rattle.std.proofs.Common.{◌≡◌, ℕ, ◌+◌, ◌-◌, ◌/◌, ◌≤◌, ◌<◌, ◌^◌, ◌%◌, List, [], ◌∷◌, ◌++◌, length, take, drop, replicate, Option, Some, None, Ok, Err, refl, sym, ap, subst, ◌∙◌, arith, append-nil, length-take, length-drop}
 use Rattle.std.proofs.lemmas.Bool.Decides.{nat_tests}
-use Rattle.std.proofs.lemmas.List.{length-append, length-replicate}
+use Rattle.std.proofs.lemmas.List.{length-append}
 use Rattle.std.specs.FinMap.{get}
 use Rattle.std.specs.Prelude.{Bool, true, false, option_map, if◌then◌else◌}
 use Rattle.byteorder.specs.Endian.{little_number}
@@ -15,7 +15,7 @@ use Rattle.kernel_core.specs.declared.error.Errno.TheVariants.{EFAULT, ENOENT, E
 use Rattle.kernel_core.specs.declared.reply.Reply.{Reply}
 use Rattle.kernel_model.specs.Came.{Came, Done, Refused, Did, Given, came_as, done, told_as, with_given, with_some}
 use Rattle.kernel_model.specs.ContentRows.{Status, node_status, status_at}
-use Rattle.kernel_model.specs.NodeRows.{StatusFlags, status_at_path}
+use Rattle.kernel_model.specs.NodeRows.{status_at_path}
 use Rattle.kernel_model.specs.Paths.{Base, walk_to_node}
 use Rattle.kernel_model.specs.State.{Kernel, Files}
 use Rattle.kernel_model.specs.Whole.{on_files}

@@ -1,5 +1,5 @@
 -- Flags that are none are refused without a native call.
-use Rattle.std.proofs.Common.{None, Option, Some, sym, ap, subst, ◌∙◌}
+use Rattle.std.proofs.Common.{Option, sym, subst, ◌∙◌}
 use Rattle.kernel_core.specs.OpenSet.{OpenSet}
 use Rattle.kernel_core.specs.declared.error.Errno.TheVariants.{EINVAL}
 use Rattle.number_tables.specs.OpenNumbers.{open_of_o32}
