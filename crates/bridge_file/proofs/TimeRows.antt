@@ -1,10 +1,11 @@
 -- utimensat(2), as a native call.
-use Rattle.std.proofs.Common.{◌≡◌, ℕ, ◌+◌, ◌-◌, ◌<◌, ◌^◌, ◌%◌, List, [], ◌∷◌, ◌++◌, length, take, drop, Option, Some, None, Ok, Err, refl, sym, ap, subst, ◌∙◌, arith, lit<}
+use Rattle.std.proofs.Common.{◌≡◌, ℕ, suc, ◌+◌, ◌-◌, ◌<◌, ◌≤◌, ◌^◌, ◌%◌, List, [], ◌∷◌, ◌++◌, length, take, drop, replicate, Option, Some, None, Ok, Err, refl, sym, ap, subst, ◌∙◌, arith, lit<}
 use Rattle.std.proofs.Math.Seq.{drop-append_seam}
 use Rattle.std.proofs.lemmas.Bool.Decides.{nat_tests}
 use Rattle.std.proofs.lemmas.List.{drop-drop, length-append, take_all}
-use Rattle.std.specs.Int.{w64}
-use Rattle.std.specs.Prelude.{ℤ, Bool, true, false, not, ◌==◌, ◌&&◌, ◌||◌, ◌/◌, pos, negsuc, FitsSigned, option_map, slice_index_or, if◌then◌else◌}
+use Rattle.std.proofs.lemmas.Int.{ints}
+use Rattle.std.specs.Int.{cast_signed, w32, w64}
+use Rattle.std.specs.Prelude.{ℤ, Bool, true, false, not, ◌==◌, ◌&&◌, ◌||◌, ◌/◌, pos, negsuc, ◌-ℤ◌, FitsSigned, nat_lt, option_map, slice_index_or, if◌then◌else◌}
 use Rattle.byteorder.specs.Endian.{little_number}
 use Rattle.host_mem.specs.Memory.{bytes_at, end_address, first_address, is_inside}
 use Rattle.kernel_core.specs.declared.error.Errno.{Errno}
@@ -21,8 +22,9 @@ use Rattle.layouts.specs.Native as native_layouts
 use Rattle.layouts.proofs.RecordLaws.{record_bytes-read_back}
 use Rattle.layouts.proofs.SoundTables.{sound_from_test}
 use Rattle.layouts.specs.Number.{is_in_range, value_of}
-use Rattle.layouts.specs.Shape.{are_in_range, record_values}
+use Rattle.layouts.specs.Shape.{after_put_record, are_in_range, record_values}
 use Rattle.native_calls.specs.Flags.{only_flag}
+use Rattle.native_calls.specs.HostBytes as host
 use Rattle.native_calls.specs.Nodes as native
 use Rattle.native_calls.specs.Table.{native_call}
 use Rattle.o32_model.specs.NodeCalls as o32
@@ -134,6 +136,14 @@ bytes_end front bytes at size from long =
     let place : at - first_address ≡ length front = omega (arith, from) in
     rw inside (ap Some (ap (λ (n : ℕ). take size (drop n (front ++ bytes))) place ∙ ap (take size) (drop-append_seam front bytes) ∙ take_all size bytes (omega (arith, long))))
 
+-- so times that stand at the end are read there
+pub times_stand : (front bytes : List ℕ) (at : ℕ) (times : BothTimes) → at ≡ end_address front → length bytes ≡ 32 → native.times_in bytes ≡ times_of times → host_times_or_none (front ++ bytes) at ≡ Ok (Some (times_of times))
+times_stand front bytes at times from long is =
+    let some : (at == 0) ≡ false = grind (arith, nat_tests) in
+    ap (λ (null : Bool). given_or_none (if null then None else Some (native.times_at (front ++ bytes) at))) some
+    ∙ ap (λ (o : Option (List ℕ)). given_or_none (Some (host.read_as native.times_in (host.given o)))) (bytes_end front bytes at 32 from long)
+    ∙ ap (λ (t : Times). Ok (Some t)) is
+
 -- times that a program can give
 
 fits_range : (value : ℤ) → FitsSigned w64 value → is_in_range true 8 value ≡ true
@@ -154,3 +164,21 @@ times_again times first second third fourth =
     four_apart (both_bytes times)
     ∙ ap of_four (record_bytes-read_back native_layouts.itimerval (times.access.seconds ∷ times.access.nanoseconds ∷ times.modified.seconds ∷ times.modified.nanoseconds ∷ [])
     (sound_from_test native_layouts.itimerval refl) refl (in_range times.access.seconds times.access.nanoseconds times.modified.seconds times.modified.nanoseconds first second third fourth))
+
+-- what a put of a record leaves, where its values are in range
+pub both_written : (times : BothTimes) (a b c d : ℤ) (bytes : List ℕ) → FitsSigned w64 times.access.seconds → FitsSigned w64 times.access.nanoseconds → FitsSigned w64 times.modified.seconds → FitsSigned w64 times.modified.nanoseconds
+    → a ≡ times.access.seconds → b ≡ times.access.nanoseconds → c ≡ times.modified.seconds → d ≡ times.modified.nanoseconds
+    → bytes ≡ after_put_record native_layouts.itimerval (a ∷ b ∷ c ∷ d ∷ []) (replicate 32 0) → bytes ≡ both_bytes times
+both_written times a b c d bytes first second third fourth one two three four is =
+    let t = times in
+    let range = in_range t.access.seconds t.access.nanoseconds t.modified.seconds t.modified.nanoseconds first second third fourth in
+    is
+    ∙ (λ i. after_put_record native_layouts.itimerval (one i ∷ two i ∷ three i ∷ four i ∷ []) (replicate 32 0))
+    ∙ ap (λ (fits : Bool). if fits then both_bytes times else replicate 32 0) range
+
+-- a signed number of four bytes
+pub signed_number : (number : ℕ) → number < 2 ^ 32 → value_of true 4 number ≡ cast_signed w32 number
+signed_number number fits = by (nat_lt number 2147483648) refl where
+  by : (low : Bool) → nat_lt number 2147483648 ≡ low → (if low then pos number else pos number -ℤ pos 4294967296) ≡ (if low then pos number else negsuc (4294967296 - suc number))
+  by true is = refl
+  by false is = let high : 2147483648 ≤ number = grind (arith, nat_tests) in omega (arith, ints)
