@@ -1,16 +1,16 @@
 -- utimensat(2), as a native call.
-use Rattle.std.proofs.Common.{◌≡◌, ℕ, suc, ◌+◌, ◌-◌, ◌<◌, ◌≤◌, ◌^◌, ◌%◌, List, [], ◌∷◌, ◌++◌, length, take, drop, replicate, Option, Some, None, Ok, Err, refl, sym, ap, subst, ◌∙◌, arith, lit<}
+use Rattle.std.proofs.Common.{◌≡◌, ℕ, ◌+◌, ◌-◌, ◌<◌, ◌^◌, ◌%◌, List, [], ◌∷◌, ◌++◌, length, take, drop, replicate, Option, Some, None, Ok, Err, refl, ap, ◌∙◌, arith, lit<}
 use Rattle.std.proofs.Math.Seq.{drop-append_seam}
 use Rattle.std.proofs.lemmas.Bool.Decides.{nat_tests}
 use Rattle.std.proofs.lemmas.List.{drop-drop, length-append, take_all}
 use Rattle.std.proofs.lemmas.Int.{ints, to_z-of_z}
 use Rattle.std.specs.Int.{cast_signed, cast_unsigned, w32, w64, w128}
-use Rattle.std.specs.Prelude.{ℤ, Bool, true, false, not, ◌==◌, ◌&&◌, ◌||◌, ◌/◌, pos, negsuc, ◌-ℤ◌, FitsSigned, nat_lt, option_map, slice_index_or, if◌then◌else◌}
+use Rattle.std.specs.Prelude.{ℤ, Bool, true, false, not, ◌==◌, ◌&&◌, ◌||◌, ◌/◌, pos, negsuc, FitsSigned, nat_lt, option_map, slice_index_or, if◌then◌else◌}
 use Rattle.byteorder.specs.Endian.{little_number}
 use Rattle.host_mem.specs.Memory.{bytes_at, end_address, first_address, is_inside}
 use Rattle.kernel_core.specs.declared.error.Errno.{Errno}
 use Rattle.kernel_core.specs.declared.error.Errno.TheVariants.{EBADF, EINVAL}
-use Rattle.kernel_model.specs.Came.{Did, Given, given_or_none, refused, refused_if, told_zero, with_given, with_some}
+use Rattle.kernel_model.specs.Came.{Did, Given, given_or_none, refused_if, told_zero, with_given, with_some}
 use Rattle.kernel_model.specs.Clock.{now}
 use Rattle.kernel_model.specs.Descriptions.{node_of, opened}
 use Rattle.kernel_model.specs.NodeRows.{Times, TimeChanges, after_times, is_wrong, set_times, time_changes, times_on}
@@ -192,7 +192,7 @@ value_by number false is fits = let under : nat_lt number 4294967296 ≡ true = 
 pub signed_same : (number read : ℕ) (signed wide : ℤ) → read ≡ number → read < 2 ^ 32 → signed ≡ cast_signed w32 read → wide ≡ cast_signed w32 (cast_unsigned w32 signed) → FitsSigned w32 signed → FitsSigned w64 wide
     → cast_signed w64 (cast_unsigned w64 wide) ≡ value_of true 4 number
 signed_same number read signed wide one fits two three short long =
-    to_z-of_z long ∙ three ∙ to_z-of_z short ∙ two ∙ value_by read (nat_lt read 2147483648) refl fits ∙ ap (value_of true 4) one
+    to_z-of_z w64 wide long ∙ three ∙ to_z-of_z w32 signed short ∙ two ∙ value_by read (nat_lt read 2147483648) refl fits ∙ ap (value_of true 4) one
 
 pub both_long : (times : BothTimes) → length (both_bytes times) ≡ 32
 both_long times = refl

@@ -1,5 +1,5 @@
 -- The native call tells the place, or none is made where the origin can't be read.
-use Rattle.std.proofs.Common.{rules, ◌<◌, ◌^◌, ℕ, List, [], ◌∷◌, Option, sym, subst, ◌∙◌}
+use Rattle.std.proofs.Common.{rules, ◌<◌, ◌^◌, ℕ, [], ◌∷◌, Option, sym, subst, ◌∙◌}
 use Rattle.guest_space.specs.Memory.{Memory}
 use Rattle.kernel_core.specs.declared.error.Errno.TheVariants.{EFAULT}
 use Rattle.native_calls.specs.Table.{native_call}

@@ -1,5 +1,5 @@
 -- Each time is in the range of its field, and is read back.
-use Rattle.std.specs.Prelude.{FitsSigned, ℤ, List, [], ◌∷◌, ◌≡◌}
+use Rattle.std.specs.Prelude.{FitsSigned, ℤ, List, [], ◌∷◌}
 use Rattle.std.specs.Int.{w64}
 use Rattle.std.proofs.Common.{rules, ◌∙◌, ap, replicate}
 use Rattle.layouts.specs.Shape.{Shape, after_put_record}
