@@ -1,8 +1,8 @@
+pub mod ByGroup
 pub mod NodeRows
-pub mod Numbers
 pub mod OptionalPaths
 pub mod Rows
 pub mod SizeRows
-pub mod Telling
+pub mod Tellings
 pub mod TextTells
 pub mod TimeRows

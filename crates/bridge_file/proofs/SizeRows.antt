@@ -1,5 +1,5 @@
 -- The calls on sizes and places, as native calls.
-use Rattle.std.proofs.Common.{◌≡◌, ℕ, ◌+◌, ◌≤◌, ◌<◌, ◌^◌, ◌%◌, List, [], ◌∷◌, Option, Some, None, Ok, Err, refl, sym, ap, subst, ◌∙◌, arith}
+use Rattle.std.proofs.Common.{◌≡◌, ℕ, ◌+◌, ◌≤◌, ◌<◌, ◌^◌, ◌%◌, List, [], ◌∷◌, Option, Some, None, Ok, Err, refl, sym, ap, subst, arith}
 use Rattle.std.proofs.lemmas.Bool.Decides.{nat_tests}
 use Rattle.std.specs.Int.{cast_signed, w32, w64}
 use Rattle.std.specs.Prelude.{ℤ, Bool, true, false, not, pos, negsuc, ◌+ℤ◌, int_lt, nat_abs, nat_lt, if◌then◌else◌}
@@ -35,7 +35,7 @@ use Rattle.bridge_log.specs.Mirrors.{Mirrors}
 use Rattle.bridge_log.specs.Outcomes.{by_reply, outcome_of}
 use Rattle.bridge_paths.proofs.Rows.{Anything, bounded_by, bounded_given, bounded_if, bounded_some, fits_zero, same_gives, word}
 use Rattle.bridge_file.proofs.Rows.{one_path}
-use Rattle.bridge_file.proofs.Telling.{told_of_failure, outcome_told_of_failure}
+use Rattle.bridge_file.proofs.Tellings.{told_of_failure, outcome_told_of_failure}
 use Rattle.bridge_file.specs.declared.telling.Told.TheVariants.{Place}
 use Rattle.bridge_file.specs.inside.Paths.{MirrorsPath}
 use Rattle.bridge_file.specs.inside.Places.{outcome_of_place, told_place}

@@ -1,5 +1,5 @@
 -- The calls that tell a text, as native calls.
-use Rattle.std.proofs.Common.{◌≡◌, ℕ, zero, suc, ◌+◌, ◌-◌, ◌<◌, ◌≤◌, ◌%◌, ◌^◌, List, [], ◌∷◌, ◌++◌, length, take, drop, replicate, Option, Some, None, Ok, Err, refl, sym, ap, subst, ◌∙◌, inl, inr, arith, length-take, lit<}
+use Rattle.std.proofs.Common.{◌≡◌, ℕ, ◌+◌, ◌-◌, ◌<◌, ◌≤◌, ◌%◌, ◌^◌, List, [], ◌∷◌, ◌++◌, length, take, drop, replicate, Option, Some, None, Ok, Err, refl, sym, ap, subst, ◌∙◌, inl, inr, append_assoc, arith, length-take, lit<}
 use Rattle.std.proofs.Math.Seq.{take-append_seam, drop-append_seam}
 use Rattle.std.proofs.lemmas.Bool.{cases_lt}
 use Rattle.std.proofs.lemmas.Bool.Decides.{nat_tests}
@@ -42,7 +42,7 @@ use Rattle.o32_model.specs.Step.{Guest}
 use Rattle.bridge_log.proofs.Replies.{outcome_of_wake, word_stays}
 use Rattle.bridge_log.specs.Bounds.{Bounded}
 use Rattle.bridge_paths.proofs.Rows.{bounded_given, bounded_some, word}
-use Rattle.bridge_file.proofs.Telling.{told_of_failure, outcome_told_of_failure}
+use Rattle.bridge_file.proofs.Tellings.{told_of_failure, outcome_told_of_failure}
 use Rattle.bridge_file.specs.declared.telling.Told.TheVariants.{Text}
 use Rattle.bridge_paths.specs.Refusals.{Refuses}
 use Rattle.bridge_paths.specs.HostPaths.{HasRoom}
@@ -95,7 +95,8 @@ drop_front n front rest is = rw (← is) (drop-append_seam front rest)
 
 replaced_back : (place : ℕ) (memory bytes : List ℕ) → place ≤ length memory → take (length bytes) (drop place (replaced memory place bytes)) ≡ bytes
 replaced_back place memory bytes within =
-    ap (take (length bytes)) (drop_front place (take place memory) (bytes ++ drop (place + length bytes) memory) (length-take-le place memory within))
+    ap (λ (m : List ℕ). take (length bytes) (drop place m)) (append_assoc (take place memory) bytes (drop (place + length bytes) memory))
+    ∙ ap (take (length bytes)) (drop_front place (take place memory) (bytes ++ drop (place + length bytes) memory) (length-take-le place memory within))
     ∙ take-append_seam bytes (drop (place + length bytes) memory)
 
 written_back : (memory bytes : List ℕ) (at room : ℕ) → HasRoom memory at room → is_inside memory at (length bytes) ≡ true → take (length bytes) (drop (at - first_address) (written memory at bytes)) ≡ bytes

@@ -1,8 +1,10 @@
 //! The call that sets the times of a node: utimensat(2).
-ghost use Rattle.std.specs.Prelude.{◌≡◌, ◌<◌, ◌≤◌, List, IfOk, IfSome, None, Ok, OnOk, Option, ℕ, length, option_map, position};
+ghost use Rattle.std.specs.Prelude.{◌≡◌, ◌<◌, ◌≤◌, List, IfOk, IfSome, None, Ok, OnOk, Option, ℕ, length, option_map, position, true};
+ghost use Rattle.byteorder.specs.Endian.{big_number};
 ghost use Rattle.bridge_log.specs.Keeping.{KeepsCall};
 ghost use Rattle.kernel_model.specs.Came.{given_or_none};
 ghost use Rattle.kernel_model.specs.Stops.{StopsOnlyIfRose};
+ghost use Rattle.layouts.specs.Number.{value_of};
 ghost use Rattle.native_calls.specs.Nodes as native_nodes;
 ghost use Rattle.o32_model.specs.Answered.{IsCall};
 ghost use Rattle.o32_model.specs.NodeCalls as rows;
@@ -162,9 +164,17 @@ fn time_in(bytes: &[u8]) -> TimeSpec
     ensures { result ≡ spec_in bytes.now }
 {
     TimeSpec {
-        seconds: i64::from(BigEndian::read_u32(bytes).cast_signed()),
-        nanoseconds: i64::from(BigEndian::read_u32(&bytes[4..]).cast_signed()),
+        seconds: signed_in(bytes),
+        nanoseconds: signed_in(&bytes[4..]),
     }
+}
+
+/// The signed number in four bytes of the program.
+fn signed_in(bytes: &[u8]) -> i64
+    requires { 4 ≤ length bytes.now }
+    ensures { result ≡ value_of true 4 (big_number 4 bytes.now) }
+{
+    i64::from(BigEndian::read_u32(bytes).cast_signed())
 }
 
 /// Two times, one behind the other, as host memory has them.
@@ -205,6 +215,9 @@ fn put_times_or_none(mem: &mut HostMem, times: Option<BothTimes>) -> Result<u64,
 {
     match times {
         None => Ok(0),
-        Some(times) => mem.push(&native_bytes(times)),
+        Some(times) => {
+            let at = mem.push(&native_bytes(times))?;
+            Ok(at)
+        }
     }
 }

@@ -1,6 +1,6 @@
 -- A number that is in none of the other groups is a name call's.
 use Rattle.std.proofs.Common.{sym, ◌∙◌}
-use Rattle.bridge_file.proofs.Numbers.{the_first_of_five}
+use Rattle.bridge_file.proofs.ByGroup.{the_first_of_five}
 use Rattle.bridge_file.specs.Numbers.{is_name_call, is_node_call, is_place_call, is_size_call, is_text_call}
 use Rattle.bridge_file.proofs.call.file_call.Goals as goal
 

@@ -3,6 +3,7 @@ use Rattle.std.proofs.Common.{ℕ, ◌<◌, List, Result, None, ◌≡◌, IfOk,
 use Rattle.std.specs.Int.{cast_signed, w32}
 use Rattle.guest_space.specs.Memory.{Memory}
 use Rattle.kernel_core.specs.declared.error.Errno.{Errno}
+use Rattle.o32_model.specs.Answered.{Called}
 use Rattle.o32_model.specs.Names.{readlink_row}
 use Rattle.o32_model.specs.PathArguments.{base}
 use Rattle.o32_model.specs.Paths.{is_nul, path_at, path_limit}
@@ -29,7 +30,8 @@ returns-in-Err-clause-row g c = λ guest same memory left told.
     let at = contents g.I.Source.left g.O.Sink.written g.E.Sink.written c.args.dev.now in
     let step = readlink_row c.args.k.now guest (base c.args.directory) c.args.address c.args.buffer (cast_signed w32 c.args.size) left in
     let lost = readlink_lost guest c.args.k.now c.args.directory c.args.address c.args.buffer c.args.size c.in-Err.error left (ap (λ (m : Memory). path_at m c.args.address) memory ∙ c.in_ok-error.ensures.answer ∙ c.in-Err.is) in
-    still_called guest c.args.k.now left (Error c.in-Err.error) step at told (still_of guest c.args.k.now c.in-Err.error left step lost)
+    subst (λ (m : Memory). Called step (Error c.in-Err.error) c.args.k.now m guest.processor at at) memory
+    (still_called guest c.args.k.now left (Error c.in-Err.error) step at told (still_of guest c.args.k.now c.in-Err.error left step lost))
 
 pub returns-in-Err-clause-kept : goal.returns-in-Err-clause-kept
 returns-in-Err-clause-kept g c = λ guest same memory left told.
