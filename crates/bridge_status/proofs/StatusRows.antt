@@ -7,6 +7,7 @@ use Rattle.std.specs.Prelude.{pos, Bool, true, false, not, ◌&&◌, ◌||◌, d
 use Rattle.byteorder.specs.Endian.{little_number}
 use Rattle.guest_space.specs.Memory.{Memory}
 use Rattle.host_mem.specs.Memory.{written}
+use Rattle.kernel_core.specs.Bits.{has}
 use Rattle.kernel_core.specs.FileSystem.{IsFileSystem, IsLiveContent, IsTime}
 use Rattle.kernel_core.specs.NameCalls.{is_empty_list}
 use Rattle.kernel_core.specs.NodeCalls.{content_size}
@@ -83,16 +84,16 @@ module _ (guest : Guest) (kernel : Kernel) (address : ℕ) (memory left : List �
 
   there : (s : Status) → status_there (after s) ≡ Some (native_status.status_bytes s)
   unfolding status_there after
-  there s = written_there memory (native_status.status_bytes s) 128 (long s) (omega (arith, long s))
+  there s = written_there memory (native_status.status_bytes s) 128 (long s) (omega (arith, long s, room))
 
   memory_is : (form : Form) (s : Status) → memory_told guest.memory address form (after s) (native_step.stored memory 65536 (native_status.status_bytes s)) ≡ memory_by guest.memory address form (Some (native_status.status_bytes s))
   memory_is form s =
-      ap (λ (b : Bool). memory_told guest.memory address form (after s) (reply_by b)) (first_inside memory (native_status.status_bytes s) (omega (arith, long s)))
+      ap (λ (b : Bool). memory_told guest.memory address form (after s) (reply_by b)) (first_inside memory (native_status.status_bytes s) (omega (arith, long s, room)))
       ∙ ap (memory_by guest.memory address form) (there s)
 
   outcome_is : (form : Form) (s : Status) → outcome_told guest.words guest.memory address form (after s) (native_step.stored memory 65536 (native_status.status_bytes s)) ≡ outcome_by guest.memory address form (Some (native_status.status_bytes s))
   outcome_is form s =
-      ap (λ (b : Bool). outcome_told guest.words guest.memory address form (after s) (reply_by b)) (first_inside memory (native_status.status_bytes s) (omega (arith, long s)))
+      ap (λ (b : Bool). outcome_told guest.words guest.memory address form (after s) (reply_by b)) (first_inside memory (native_status.status_bytes s) (omega (arith, long s, room)))
       ∙ ap (outcome_by guest.memory address form) (there s)
 
   -- what the row does to memory, and its outcome, by whether the status is too wide
@@ -265,11 +266,10 @@ fstat_tells guest kernel form address given fd memory left valid one first room 
 
 -- Flags: both worlds read them alike.
 
-either_flags : (one other : Bool) (meaning : StatusFlags) → one ≡ other → (if one then Some meaning else None) ≡ (if other then Some meaning else None)
-either_flags one other meaning same = ap (λ (b : Bool). if b then Some meaning else None) same
-
 flags_same : (given flags : ℕ) → given % 2 ^ 32 ≡ flags → native.status_flags (given % 2 ^ 32) ≡ status_flags flags
-flags_same given flags same = ap native.status_flags same ∙ either_flags _ _ _ (listed_alike flags)
+flags_same given flags same = 
+    let meaning : StatusFlags = record { follow = not (has flags 0x100); empty = has flags 0x1000 } in
+    ap native.status_flags same ∙ ap (λ (listed : Bool). if listed then Some meaning else None) (listed_alike flags)
 
 abbrev path_as : Kernel → ℕ → Given (List ℕ) → Option StatusFlags → Did Kernel Status
 path_as kernel from path flags = on_files kernel (status_at_path kernel.files (base from) path flags)
@@ -305,13 +305,17 @@ status_unlisted guest kernel form from address buffer flags left none =
     ap (λ (f : Option StatusFlags). stores_in form guest buffer (on_files kernel (status_at_path kernel.files from (guest_paths.path_at guest.memory address) f)) left) (unlisted_none flags none)
     ∙ in_refused form guest kernel buffer EINVAL left
 
-listed_some : (flags : ℕ) → is_listed flags ≡ true → (meaning : StatusFlags) × (status_flags flags ≡ Some meaning)
-listed_some flags listed = (_, rw listed refl)
+meaning_of : ℕ → StatusFlags
+meaning_of flags = record { follow = not (has flags 0x100); empty = has flags 0x1000 }
+
+listed_some : (flags : ℕ) → is_listed flags ≡ true → status_flags flags ≡ Some (meaning_of flags)
+unfolding meaning_of
+listed_some flags listed = ap (λ (b : Bool). if b then Some (meaning_of flags) else None) listed
 
 pub status_lost : (guest : Guest) (kernel : Kernel) (form : Form) (from : Base) (address buffer flags : ℕ) (error : Errno) (left : List ℕ) → is_listed flags ≡ true → guest_paths.path_at guest.memory address ≡ Err error
     → Refuses guest kernel error left (path_status form kernel guest from address buffer flags left)
 unfolding status_at_path
 status_lost guest kernel form from address buffer flags error left listed there =
     let meant = listed_some flags listed in
-    (λ i. stores_in form guest buffer (on_files kernel (status_at_path kernel.files from (there i) (meant.1 i))) left)
+    (λ i. stores_in form guest buffer (on_files kernel (status_at_path kernel.files from (there i) (meant i))) left)
     ∙ in_refused form guest kernel buffer error left

@@ -3,6 +3,7 @@ use Rattle.std.proofs.Common.{ℕ, ◌<◌, List, Result, None, ◌≡◌, IfOk,
 use Rattle.guest_space.specs.Memory.{Memory}
 use Rattle.kernel_core.specs.declared.error.Errno.{Errno}
 use Rattle.kernel_core.specs.declared.error.Errno.TheVariants.{EINVAL}
+use Rattle.o32_model.specs.Answered.{Called}
 use Rattle.o32_model.specs.PathArguments.{base}
 use Rattle.o32_model.specs.Paths.{is_nul, path_at, path_limit}
 use Rattle.o32_model.specs.declared.outcome.Outcome.TheVariants.{Error}
@@ -24,8 +25,9 @@ pub returns-then-not-is_listed-clause-row : goal.returns-then-not-is_listed-clau
 returns-then-not-is_listed-clause-row g c = λ guest same memory left told.
     let at = contents g.I.Source.left g.O.Sink.written g.E.Sink.written c.args.dev.now in
     let step = path_status c.args.form c.args.k.now guest (base c.args.directory) c.args.address c.args.buffer c.args.flags left in
-    still_called guest c.args.k.now left (Error EINVAL) step at told
-    (still_of guest c.args.k.now EINVAL left step (status_unlisted guest c.args.k.now c.args.form (base c.args.directory) c.args.address c.args.buffer c.args.flags left (sym c.is_listed.ensures ∙ c.if-not-is_listed.true)))
+    subst (λ (m : Memory). Called step (Error EINVAL) c.args.k.now m guest.processor at at) memory
+    (still_called guest c.args.k.now left (Error EINVAL) step at told
+    (still_of guest c.args.k.now EINVAL left step (status_unlisted guest c.args.k.now c.args.form (base c.args.directory) c.args.address c.args.buffer c.args.flags left (sym c.is_listed.ensures ∙ c.if-not-is_listed.true))))
 
 pub returns-then-not-is_listed-clause-kept : goal.returns-then-not-is_listed-clause-kept
 returns-then-not-is_listed-clause-kept g c = λ guest same memory left told.
@@ -43,7 +45,8 @@ returns-in-Err-clause-row g c = λ guest same memory left told.
     let step = path_status c.args.form c.args.k.now guest (base c.args.directory) c.args.address c.args.buffer c.args.flags left in
     let lost = status_lost guest c.args.k.now c.args.form (base c.args.directory) c.args.address c.args.buffer c.args.flags c.in-Err.error left (sym c.is_listed.ensures ∙ c.if-not-is_listed.false)
     (ap (λ (m : Memory). path_at m c.args.address) memory ∙ c.in_ok-error.ensures.answer ∙ c.in-Err.is) in
-    still_called guest c.args.k.now left (Error c.in-Err.error) step at told (still_of guest c.args.k.now c.in-Err.error left step lost)
+    subst (λ (m : Memory). Called step (Error c.in-Err.error) c.args.k.now m guest.processor at at) memory
+    (still_called guest c.args.k.now left (Error c.in-Err.error) step at told (still_of guest c.args.k.now c.in-Err.error left step lost))
 
 pub returns-in-Err-clause-kept : goal.returns-in-Err-clause-kept
 returns-in-Err-clause-kept g c = λ guest same memory left told.

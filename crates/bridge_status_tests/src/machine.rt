@@ -1,0 +1,236 @@
+//! A machine of one program, and what comes of its calls.
+ghost use Rattle.std.specs.Prelude.{IfOk};
+ghost use Rattle.kernel_core.specs.ValidTree.{IsValidTree};
+
+use crate::calls::{Call, Row};
+use bridge_status::status_call;
+use guest_space::Space;
+use host_mem::HostMem;
+use kernel_core::{Effect, Items, Kind, Node, Reply, Tree};
+use mips_exec::Cpu;
+use native_kernel::NativeKernel;
+use o32_model::{Log, Outcome, Seen};
+use outside::{Devices, MemSink, MemSource};
+use schedule::parse;
+use std::alloc::{AllocError, Global};
+use std::test::Fail;
+
+/// The streams of a test.
+type Streams = Devices<MemSource, MemSink, MemSink>;
+
+/// The address of two pages that the program can store to.
+pub(crate) const AT: u32 = 0x1_0000;
+
+/// The address of the page behind them, which can only be loaded from, and whose last bytes are `end.`.
+pub(crate) const CONST: u32 = 0x1_2000;
+
+/// The address behind that, where no page is.
+pub(crate) const CONST_END: u32 = 0x1_3000;
+
+/// The address behind another page that the program can store to, where no page is.
+pub(crate) const TAIL_END: u32 = 0x1_5000;
+
+/// The address of 18 pages that the program can store to.
+pub(crate) const LARGE: u32 = 0x2_0000;
+
+/// A machine of one program.
+#[derive(Drop)]
+struct Machine {
+    alloc: Global,
+    cpu: Cpu,
+    space: Space,
+    kernel: NativeKernel,
+    memory: HostMem,
+    streams: Streams,
+    log: Log,
+    /// How many of the effects in it were looked at.
+    effects_seen: usize,
+}
+
+/// The tree of one empty root directory.
+fn empty_tree(alloc: Global) -> Result<Tree, AllocError>
+    ensures { IfOk result IsValidTree }
+{
+    let mut nodes = Vec::new(alloc);
+    let entries = Items::from(Vec::new(alloc));
+    nodes.push(Node {
+        number: 1,
+        mode: 0o755,
+        mtime: 0,
+        kind: Kind::Dir { entries },
+    })?;
+    Ok(Tree {
+        nodes: Items::from(nodes),
+    })
+}
+
+/// The program's memory.
+fn new_space(alloc: Global) -> Result<Space, Fail> {
+    let mut space = Space::new(alloc).ok().ok_or("no memory")?;
+    space.map(0x10, 3, 3).ok().ok_or("not mapped")?;
+    space.map(0x14, 1, 3).ok().ok_or("not mapped")?;
+    space.map(0x20, 18, 3).ok().ok_or("not mapped")?;
+    space
+        .copy_out(CONST_END - 4, b"end.")
+        .ok()
+        .ok_or("not stored")?;
+    space.protect(0x12, 1, 1);
+    Ok(space)
+}
+
+/// A new kernel of an empty tree, whose schedule is this text.
+fn new_kernel(alloc: Global, text: &[u8]) -> Result<NativeKernel, Fail> {
+    let tree = empty_tree(alloc)?;
+    let Ok(schedule) = parse(alloc, text) else {
+        return Err(Fail::from("a schedule"));
+    };
+    Ok(
+        NativeKernel::new(alloc, tree, &schedule)
+            .ok()
+            .ok_or("no memory")?,
+    )
+}
+
+/// A machine with this schedule, none of whose streams fails. What its calls do is kept.
+fn new_machine(alloc: Global, schedule: &[u8]) -> Result<Machine, Fail> {
+    Ok(Machine {
+        alloc,
+        cpu: Cpu::new(0x40_0000),
+        space: new_space(alloc)?,
+        kernel: new_kernel(alloc, schedule)?,
+        memory: HostMem::new(alloc),
+        streams: Devices {
+            input: MemSource::new(Vec::new(alloc), Vec::new(alloc)),
+            out: MemSink::new(alloc, Vec::new(alloc)),
+            err: MemSink::new(alloc, Vec::new(alloc)),
+        },
+        log: Log {
+            native: Some(Vec::new(alloc)),
+            effects: Some(Vec::new(alloc)),
+        },
+        effects_seen: 0,
+    })
+}
+
+impl Machine {
+    /// What a call comes to.
+    fn call(&mut self, call: Call, arguments: [u32; 4]) -> Option<Outcome> {
+        let words = call.words(arguments);
+        let seen = Seen {
+            quanta: 0,
+            restart: None,
+        };
+        status_call(
+            self.alloc,
+            &words,
+            &mut self.cpu,
+            &mut self.space,
+            &mut self.kernel,
+            &mut self.memory,
+            &mut self.streams,
+            &mut self.log,
+            &seen,
+        )
+        .ok()
+    }
+
+    /// What a call comes to for which the native kernel was called, as is kept.
+    fn native_call(&mut self, call: Call, arguments: [u32; 4]) -> Option<Outcome> {
+        let before = self.native_calls();
+        let outcome = self.call(call, arguments);
+        if self.native_calls() > before {
+            outcome
+        } else {
+            None
+        }
+    }
+
+    /// How many native calls are kept.
+    fn native_calls(&self) -> usize {
+        match &self.log.native {
+            Some(entries) => entries.len(),
+            None => 0,
+        }
+    }
+
+    /// Whether the program's memory has these bytes.
+    fn holds(&self, address: u32, bytes: &[u8]) -> bool {
+        let mut buffer = [0; 64];
+        let Some(there) = buffer.get_mut(..bytes.len()) else {
+            return false;
+        };
+        self.space.copy_in(address, there).is_ok() && &*there == bytes
+    }
+
+    /// What a call of the 64-bit kernel itself replies, with these bytes in host memory.
+    fn reply(&mut self, number: u64, arguments: [u64; 4], bytes: &[u8]) -> Option<Reply> {
+        let [first, second, third, fourth] = arguments;
+        self.memory.clear();
+        self.memory.push(bytes).ok()?;
+        self.kernel
+            .call(
+                number,
+                [first, second, third, fourth, 0, 0],
+                &mut self.memory,
+                &mut self.streams,
+            )
+            .ok()
+    }
+
+    /// Whether a call gives 0.
+    fn gives(&mut self, call: Call, arguments: [u32; 4]) -> bool {
+        matches!(self.native_call(call, arguments), Some(Outcome::Value(0)))
+    }
+
+    /// The next effect that is kept.
+    fn next_effect(&mut self) -> Option<&Effect> {
+        let place = self.effects_seen;
+        self.effects_seen = place.saturating_add(1);
+        match &self.log.effects {
+            Some(effects) => effects.get(place),
+            None => None,
+        }
+    }
+
+    /// Whether a row comes out as it says.
+    fn is_right(&mut self, row: &Row) -> bool {
+        match *row {
+            Row::Gives(call, arguments) => self.gives(call, arguments),
+            Row::Fails(call, arguments, error) => {
+                matches!(self.call(call, arguments), Some(Outcome::Error(there)) if there == error)
+            }
+            Row::Puts(address, bytes) => self.space.copy_out(address, bytes).is_ok(),
+            Row::Holds(address, bytes) => self.holds(address, bytes),
+            Row::Stores(address, bytes) => is_write(self.next_effect(), address, bytes),
+            Row::NoEffect => self.next_effect().is_none(),
+            Row::Native(number, arguments, bytes, result) => {
+                self.reply(number, arguments, bytes) == Some(Reply::Done(result))
+            }
+        }
+    }
+
+    /// The first row that does not come out so, counted from 0.
+    fn first_wrong(&mut self, rows: &[Row]) -> Option<usize> {
+        for (place, row) in rows.iter().enumerate() {
+            if !self.is_right(row) {
+                return Some(place);
+            }
+        }
+        None
+    }
+}
+
+/// The first row, counted from 0, that does not come out so in a new machine with this schedule.
+pub(crate) fn first_wrong(
+    alloc: Global,
+    schedule: &[u8],
+    rows: &[Row],
+) -> Result<Option<usize>, Fail> {
+    let mut machine = new_machine(alloc, schedule)?;
+    Ok(machine.first_wrong(rows))
+}
+
+/// Whether an effect is that these bytes are written from an address on.
+fn is_write(effect: Option<&Effect>, at: u32, text: &[u8]) -> bool {
+    matches!(effect, Some(Effect::Write { address, bytes }) if *address == at && bytes.as_slice() == text)
+}
