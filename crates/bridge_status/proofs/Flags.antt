@@ -1,8 +1,8 @@
 -- The flags of fstatat(2): both worlds find the same ones unlisted.
-use Rattle.std.proofs.Common.{◌≡◌, ℕ, zero, suc, ◌+◌, ◌*◌, ◌/◌, ◌%◌, ◌<◌, ◌^◌, min, [], ◌∷◌, refl, sym, ap, ◌∙◌, arith}
+use Rattle.std.proofs.Common.{◌≡◌, ℕ, zero, suc, ◌+◌, ◌*◌, ◌/◌, ◌%◌, ◌<◌, ◌^◌, min, [], ◌∷◌, refl, ap, ◌∙◌, arith}
 use Rattle.std.proofs.lemmas.Nat.{and_block, and_comm}
 use Rattle.std.specs.Int.Bits.{and_step, and_zero_l}
-use Rattle.std.specs.Prelude.{Bool, true, false, ◌==◌, bit_and, sum_by}
+use Rattle.std.specs.Prelude.{◌==◌, bit_and, sum_by}
 use Rattle.kernel_core.specs.Bits.{has, one_if}
 use Rattle.native_calls.specs.Flags.{are_listed}
 use Rattle.bridge_status.specs.inside.StatusCalls.{is_listed}

@@ -1,11 +1,10 @@
 -- The calls on status, as native calls.
-use Rattle.std.proofs.Common.{◌≡◌, ℕ, ◌+◌, ◌≤◌, ◌<◌, ◌^◌, ◌%◌, List, [], ◌∷◌, ◌++◌, length, replicate, Option, Some, None, Ok, Err, refl, sym, ap, subst, ◌∙◌, arith}
+use Rattle.std.proofs.Common.{◌≡◌, ℕ, ◌≤◌, ◌<◌, ◌^◌, ◌%◌, List, [], ◌∷◌, length, replicate, Option, Some, None, Ok, Err, refl, sym, ap, subst, ◌∙◌, arith}
 use Rattle.std.proofs.lemmas.Int.{ints}
 use Rattle.std.proofs.lemmas.List.{length-append}
 use Rattle.std.specs.FinMap.{get}
 use Rattle.std.specs.Prelude.{pos, Bool, true, false, not, ◌&&◌, ◌||◌, drop, nat_lt, option_map, if◌then◌else◌}
 use Rattle.byteorder.specs.Endian.{little_number}
-use Rattle.guest_space.specs.Memory.{Memory}
 use Rattle.host_mem.specs.Memory.{written}
 use Rattle.kernel_core.specs.Bits.{has}
 use Rattle.kernel_core.specs.FileSystem.{IsFileSystem, IsLiveContent, IsTime}
@@ -15,10 +14,10 @@ use Rattle.kernel_core.specs.Nodes.{Inode, NodeContent, Nodes, File, Directory, 
 use Rattle.kernel_core.specs.declared.error.Errno.{Errno}
 use Rattle.kernel_core.specs.declared.error.Errno.TheVariants.{EBADF, EFAULT, EINVAL, ENOENT, EOVERFLOW}
 use Rattle.kernel_core.specs.declared.reply.Reply.{Reply}
-use Rattle.kernel_model.specs.Came.{Came, Done, Refused, Waits, Did, Given, came_as, done, refused, told_as, with_given, with_some}
+use Rattle.kernel_model.specs.Came.{Came, Done, Refused, Waits, Did, Given, came_as, done, refused, told_as, with_some}
 use Rattle.kernel_model.specs.ContentRows.{Status, node_status, object_status, pipe_status, status, status_at, stream_status}
 use Rattle.kernel_model.specs.Descriptions.{opened}
-use Rattle.kernel_model.specs.NodeRows.{StatusFlags, status_at_path, status_by_path, status_of_base}
+use Rattle.kernel_model.specs.NodeRows.{StatusFlags, status_at_path, status_of_base}
 use Rattle.kernel_model.specs.Paths.{Base, Descriptor, Working, walk_to_node}
 use Rattle.kernel_model.specs.State.{Kernel, Files}
 use Rattle.kernel_model.specs.Whole.{on_files}
@@ -39,7 +38,6 @@ use Rattle.o32_model.specs.Status.{greatest_node, status_flags}
 use Rattle.o32_model.specs.Step as o32_step
 use Rattle.o32_model.specs.Step.{Guest}
 use Rattle.o32_model.specs.Transfers.{small_file_limit}
-use Rattle.o32_model.specs.declared.outcome.Outcome.{Outcome}
 use Rattle.bridge_log.proofs.Replies.{outcome_of_wake}
 use Rattle.bridge_log.specs.Bounds.{Bounded}
 use Rattle.bridge_paths.proofs.Rows.{bounded_either, bounded_given, bounded_some, word}
@@ -267,7 +265,7 @@ fstat_tells guest kernel form address given fd memory left valid one first room 
 -- Flags: both worlds read them alike.
 
 flags_same : (given flags : ℕ) → given % 2 ^ 32 ≡ flags → native.status_flags (given % 2 ^ 32) ≡ status_flags flags
-flags_same given flags same = 
+flags_same given flags same =
     let meaning : StatusFlags = record { follow = not (has flags 0x100); empty = has flags 0x1000 } in
     ap native.status_flags same ∙ ap (λ (listed : Bool). if listed then Some meaning else None) (listed_alike flags)
 

@@ -1,7 +1,7 @@
 -- What is said of a native call that tells a status, said of the o32 call that it tells for.
 use Rattle.std.proofs.Common.{◌≡◌, ℕ, ◌+◌, ◌≤◌, List, ◌++◌, length, take, drop, Option, Some, None, refl, sym, ap, subst, ◌∙◌, arith}
 use Rattle.std.proofs.lemmas.Bool.Decides.{nat_tests}
-use Rattle.std.proofs.lemmas.List.{length-append, length-drop, length-take, take-append-le, take_all}
+use Rattle.std.proofs.lemmas.List.{length-append, length-take, take-append-le, take_all}
 use Rattle.std.specs.Prelude.{Bool, true, false, IfSome, option_map, if◌then◌else◌}
 use Rattle.guest_space.specs.Memory.{Memory}
 use Rattle.host_mem.specs.Memory.{bytes_at, first_address, is_inside, replaced, written}

@@ -1,5 +1,5 @@
 -- A field more, and the end of the table.
-use Rattle.std.proofs.Common.{◌≡◌, ◌+◌, ◌++◌, List, ℕ, drop, take, length, sym, ap, ◌∙◌, arith}
+use Rattle.std.proofs.Common.{◌≡◌, ◌+◌, ◌++◌, List, ℕ, drop, take, sym, ap, ◌∙◌, arith}
 use Rattle.std.specs.Prelude.{replicate}
 use Rattle.layouts.specs.Number.{field_at}
 use Rattle.layouts.specs.declared.field.Field.{Field}

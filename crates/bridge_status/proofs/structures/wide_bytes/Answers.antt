@@ -1,7 +1,6 @@
 -- The table of the structure and the native one.
-use Rattle.std.proofs.Common.{◌≡◌, ℕ, refl, sym, ap, subst, ◌∙◌, length}
+use Rattle.std.proofs.Common.{◌∙◌}
 use Rattle.std.specs.Prelude.{replicate}
-use Rattle.layouts.specs.Shape.{Shape}
 use Rattle.bridge_status.specs.inside.Statuses.{shown, with_low_bytes}
 use Rattle.bridge_status.proofs.structures.wide_bytes.Goals as goal
 
