@@ -1,11 +1,11 @@
 -- What the entries of a descriptor are: an error, whoever asks, or those behind its position.
-use Rattle.std.proofs.Common.{◌≡◌, ◌⊎◌, ℕ, zero, suc, ◌+◌, ◌-◌, ◌<◌, ◌≤◌, ◌^◌, Bool, true, false, List, [], ◌∷◌, length, map, Option, Some, None, refl, sym, ap, subst, ◌∙◌, inl, inr, arith, cond}
+use Rattle.std.proofs.Common.{◌≡◌, ◌⊎◌, ℕ, zero, suc, ◌-◌, ◌<◌, ◌≤◌, ◌^◌, Bool, true, false, List, [], ◌∷◌, length, map, Option, Some, None, refl, sym, ap, subst, ◌∙◌, inl, inr, arith, cond}
 use Rattle.std.specs.FinMap.{get}
 use Rattle.std.specs.List.{AllByRecursion, filter, list_any}
 use Rattle.std.specs.Prelude.{◌||◌, codes, is_some, nat_lt, if◌then◌else◌}
 use Rattle.std.proofs.lemmas.Bool.Decides.{nat_tests}
 use Rattle.std.proofs.lemmas.List.Elements.{recursion_from_All}
-use Rattle.kernel_core.specs.FileSystem.{HasParent, IsBelowRoot, IsBelowRootBy, IsFileSystem, IsListing, IsLiveContent, IsLiveEntry, parent_at, parent_of}
+use Rattle.kernel_core.specs.FileSystem.{IsBelowRootBy, IsFileSystem, IsListing, IsLiveContent, IsLiveEntry, parent_at, parent_of}
 use Rattle.kernel_core.specs.Nodes.{Nodes, Inode, Listing, NodeContent, File, Directory, Link, in_inode, listing_at, listing_in}
 use Rattle.kernel_core.specs.ValidTree.{IsEntry, is_no_name_byte, root}
 use Rattle.kernel_core.specs.declared.error.Errno.{Errno}
@@ -87,8 +87,8 @@ module _ (nodes : Nodes) (valid : IsFileSystem nodes) where
     kept_dots 1 (codes ".") number here (omega arith) (omega arith) refl,
     (
       kept_dots 2 (codes "..") parent above (omega arith) (omega arith) refl,
-      kept_each number listing.greatest listing.entries (recursion_from_All IsEntry listing.entries is.entries.each) (recursion_from_All (IsLiveEntry nodes number listing.greatest) listing.entries is.each)
-    )
+      kept_each number listing.greatest listing.entries (recursion_from_All IsEntry listing.entries is.entries.each) (recursion_from_All (IsLiveEntry nodes number listing.greatest) listing.entries is.each),
+    ),
   )
 
   kept_all : (number parent : ℕ) (listing : Listing) → listing_at nodes number ≡ Some listing → listing.parent ≡ Some parent → AllByRecursion IsKept (all_entries nodes number parent listing.entries)

@@ -1,12 +1,11 @@
 -- The program's records of entries, one after the other.
-use Rattle.std.proofs.Common.{◌≡◌, ℕ, suc, ◌+◌, ◌-◌, ◌<◌, ◌≤◌, ◌||◌, Bool, true, false, List, [], ◌∷◌, ◌++◌, length, take, drop, Option, Some, None, refl, sym, ap, subst, ◌∙◌, arith, append_assoc, append-nil, cond}
+use Rattle.std.proofs.Common.{◌≡◌, ℕ, ◌+◌, ◌-◌, ◌||◌, Bool, true, false, List, [], ◌∷◌, ◌++◌, length, take, drop, Option, Some, None, refl, sym, ap, ◌∙◌, arith, append_assoc, append-nil}
 use Rattle.std.specs.List.{flat_map}
 use Rattle.std.specs.Prelude.{nat_lt, nat_le, not, if◌then◌else◌}
 use Rattle.std.proofs.lemmas.Bool.Decides.{nat_tests}
 use Rattle.std.proofs.lemmas.Grind.{flat_map-append}
 use Rattle.std.proofs.lemmas.List.{drop_at, drop-drop}
 use Rattle.kernel_core.specs.Queries.{NodeKind, FileKind, DirectoryKind, LinkKind}
-use Rattle.kernel_core.specs.declared.error.Errno.{Errno}
 use Rattle.kernel_core.specs.declared.error.Errno.TheVariants.{EINVAL, EOVERFLOW}
 use Rattle.kernel_model.specs.ContentRows.{Entry, entries_refusal, fitting, is_above, position_after}
 use Rattle.layouts.specs.Dirents.{dirent_bytes, dirent64_bytes, dirent64_length, type_number}
@@ -19,7 +18,7 @@ use Rattle.bridge_entries.specs.declared.records.Form.TheVariants.{Narrow, Wide}
 use Rattle.bridge_entries.specs.declared.records.Record.{Record}
 use Rattle.bridge_entries.specs.declared.showing.Shown.{Shown}
 use Rattle.bridge_entries.specs.inside.Given.{AreListed, IsListed, record_of}
-use Rattle.bridge_entries.specs.inside.Records.{can_hold, if_fits, length_for, next_fitting, record_bytes, record_in, refusal, refusal_of}
+use Rattle.bridge_entries.specs.inside.Records.{can_hold, if_fits, length_for, next_fitting, record_bytes, refusal, refusal_of}
 use Rattle.bridge_entries.specs.inside.Showing.{IsShown, form_of, fitting_in}
 
 -- One record

@@ -16,14 +16,12 @@ use Rattle.kernel_core.specs.declared.core_error.Stop.{Stop}
 use Rattle.kernel_core.specs.declared.error.Errno.{Errno}
 use Rattle.kernel_core.specs.declared.error.Errno.TheVariants.{EFAULT}
 use Rattle.kernel_core.specs.declared.reply.Reply.{Reply}
-use Rattle.kernel_model.specs.Came.{Came, Done, Refused, Waits, Did, came_as, done, refused, refused_by, refused_if, told_as}
-use Rattle.kernel_model.specs.ContentRows.{Entry, Records, entries, entries_refusal, fitting, give_entries, position_after, record_length}
-use Rattle.kernel_model.specs.Pipes.{Sent, nothing}
+use Rattle.kernel_model.specs.Came.{Came, Done, Refused, Waits, Did, came_as, done, refused_by, refused_if, told_as}
+use Rattle.kernel_model.specs.ContentRows.{Entry, entries, entries_refusal, fitting, position_after, record_length}
+use Rattle.kernel_model.specs.Pipes.{nothing}
 use Rattle.kernel_model.specs.State.{Kernel, Files}
 use Rattle.kernel_model.specs.Transfers.{moved_to}
 use Rattle.kernel_model.specs.Whole.{on_files}
-use Rattle.kernel_model.specs.declared.descriptor.Description.{Description}
-use Rattle.layouts.specs.Dirents.{dirent64_length}
 use Rattle.mips_exec.specs.Processor.{Processor}
 use Rattle.native_calls.specs.Answered as native_answered
 use Rattle.native_calls.specs.History.{moment, opening}
@@ -261,8 +259,8 @@ module _ (guest : Guest) (kernel : Kernel) (fd buffer size first third w : ℕ) 
       (subst (λ (s : O32Step). Alike (native_lists guest buffer zeros left did) s) (sym row_lists_is) (lists_alike guest buffer zeros left did))
 
   module _ (reply : Reply) (became : Kernel) (after : List ℕ) (from to : Contents) (called : native_answered.Called native_of reply became after from to)
-    (shown : Shown) (is : (found : List Entry) → AreListed 0 found → bytes_back after reply ≡ flat_map entry_bytes found → IsShown Wide w 0 found shown)
-    (new : Memory) (stored : new ≡ with_stored old buffer shown.bytes.items) where
+      (shown : Shown) (is : (found : List Entry) → AreListed 0 found → bytes_back after reply ≡ flat_map entry_bytes found → IsShown Wide w 0 found shown)
+      (new : Memory) (stored : new ≡ with_stored old buffer shown.bytes.items) where
     called_there : native_answered.Called (native_lists guest buffer zeros left did) reply became after from to
     called_there = subst (λ (s : NativeStep). native_answered.Called s reply became after from to) native_lists_is called
 

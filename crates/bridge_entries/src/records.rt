@@ -137,13 +137,7 @@ fn write_record(form: Form, entry: Record, name: &[u8], space: &mut [u8])
     ensures { space.new ≡ record_bytes form entry name.now }
 {
     match form {
-        Form::Narrow => put_dirent(
-            space,
-            entry.node as u32,
-            entry.cookie,
-            entry.kind,
-            name,
-        ),
+        Form::Narrow => put_dirent(space, entry.node as u32, entry.cookie, entry.kind, name),
         Form::Wide => put_dirent64(
             true,
             space,

@@ -1,5 +1,5 @@
 -- What a native record of getdents64(2) says, as it is read from bytes, and the program's records of that. (The form is this project's own.)
-use Rattle.std.specs.Prelude.{ℕ, ◌+◌, ◌≤◌, ◌==◌, Bool, true, ◌||◌, not, List, [], ◌∷◌, length, drop, position, slice_index, Option, Some, None, nat_lt, nat_le, if◌then◌else◌}
+use Rattle.std.specs.Prelude.{ℕ, ◌+◌, ◌≤◌, ◌==◌, Bool, true, ◌||◌, not, List, length, drop, position, slice_index, Option, Some, None, nat_lt, nat_le, if◌then◌else◌}
 use Rattle.byteorder.specs.Endian.{little_number}
 use Rattle.kernel_core.specs.declared.error.Errno.{Errno}
 use Rattle.kernel_core.specs.declared.error.Errno.TheVariants.{EINVAL, EOVERFLOW}

@@ -1,5 +1,5 @@
 -- Where there is no byte, nothing changes.
-use Rattle.std.proofs.Common.{◌≡◌, ℕ, List, [], length, sym, ap, ◌∙◌, rules}
+use Rattle.std.proofs.Common.{◌≡◌, length, sym, ap, ◌∙◌, rules}
 use Rattle.std.proofs.lemmas.List.{nil_from_length}
 use Rattle.o32_model.specs.GuestBytes.{with_stored}
 use Rattle.bridge_log.proofs.Filling.{stored_nothing}
