@@ -64,7 +64,7 @@ module _ (kernel : Kernel) (processor : Processor) (memory : Memory) (left : Lis
   abbrev not_built : O32Step
   not_built = record { kernel = kernel; left = left; memory = memory; processor = processor; sent = nothing; outcome = Error ENOSYS }
 
-  -- read, getpid, mkdir and munmap
+  -- read, getpid, mkdir, open and munmap
   reads : built 4003 ≡ in_full 4003
   reads = refl
 
@@ -74,12 +74,15 @@ module _ (kernel : Kernel) (processor : Processor) (memory : Memory) (left : Lis
   makes_directory : built 4039 ≡ in_full 4039
   makes_directory = refl
 
+  opens : built 4005 ≡ in_full 4005
+  opens = refl
+
   unmaps : built 4091 ≡ in_full 4091
   unmaps = refl
 
-  -- open, nanosleep, kill and clock_gettime
-  opens : built 4005 ≡ not_built
-  opens = refl
+  -- getdents, nanosleep, kill and clock_gettime
+  lists : built 4141 ≡ not_built
+  lists = refl
 
   sleeps : built 4166 ≡ not_built
   sleeps = refl
