@@ -1,0 +1,5 @@
+pub mod ByNumber
+pub mod EntriesFound
+pub mod RecordLemmas
+pub mod ShownLemmas
+pub mod WideCalls
