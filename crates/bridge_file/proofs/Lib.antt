@@ -1,5 +1,8 @@
-pub mod ByNumber
-pub mod HostPaths
 pub mod NodeRows
-pub mod Refusing
+pub mod Numbers
+pub mod OptionalPaths
 pub mod Rows
+pub mod SizeRows
+pub mod Telling
+pub mod TextTells
+pub mod TimeRows

@@ -2,7 +2,7 @@
 use Rattle.o32_model.specs.Names.{follow_flag, linked}
 use Rattle.o32_model.specs.PathArguments.{base, one_flag}
 use Rattle.o32_model.specs.Step.{gives}
-use Rattle.bridge_file.proofs.Rows.{link_mirrors}
+use Rattle.bridge_paths.proofs.Rows.{link_mirrors}
 use Rattle.bridge_file.proofs.names.link.Goals as goal
 
 pub returns-clause-row : goal.returns-clause-row

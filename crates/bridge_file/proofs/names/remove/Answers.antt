@@ -1,7 +1,7 @@
 -- The native call mirrors the row.
 use Rattle.o32_model.specs.Names.{remove_directory_flag, remove_row}
 use Rattle.o32_model.specs.PathArguments.{base, one_flag}
-use Rattle.bridge_file.proofs.Rows.{remove_mirrors}
+use Rattle.bridge_paths.proofs.Rows.{remove_mirrors}
 use Rattle.bridge_file.proofs.names.remove.Goals as goal
 
 pub returns-clause-row : goal.returns-clause-row

@@ -1,7 +1,7 @@
 -- The native call mirrors the row.
 use Rattle.o32_model.specs.Names.{rename_row}
 use Rattle.o32_model.specs.PathArguments.{base}
-use Rattle.bridge_file.proofs.Rows.{rename_mirrors}
+use Rattle.bridge_paths.proofs.Rows.{rename_mirrors}
 use Rattle.bridge_file.proofs.names.rename.Goals as goal
 
 pub returns-clause-row : goal.returns-clause-row
