@@ -1,8 +1,8 @@
 -- What was said of the native call.
 use Rattle.native_calls.specs.Table.{native_call}
 use Rattle.outside.specs.Streams.{contents}
-use Rattle.bridge_io.proofs.Unmoving.{looked}
-use Rattle.bridge_io.proofs.looking.look.Goals as goal
+use Rattle.bridge_log.proofs.Looking.{looked}
+use Rattle.bridge_log.proofs.looks.look.Goals as goal
 
 pub returns-clause-looks : goal.returns-clause-looks
 returns-clause-looks g c = λ reply memory look left told.

@@ -17,9 +17,10 @@ use Rattle.o32_model.specs.Step.{Guest, O32Step}
 use Rattle.o32_model.specs.declared.outcome.Outcome.{Outcome}
 use Rattle.outside.specs.Output.{GainsText, GainsBetween, with_text}
 use Rattle.outside.specs.Streams.{Contents}
+use Rattle.bridge_log.proofs.Ends.{fails_before}
 use Rattle.bridge_log.proofs.Histories.{logged_none, logged_then}
 use Rattle.bridge_log.specs.Keeping.{Logged, Keeps, reached}
-use Rattle.bridge_io.specs.inside.Looks.{IsLook, Unmoved, Looked, Replied}
+use Rattle.bridge_log.specs.Looks.{IsLook, Unmoved, Looked, Replied}
 
 -- Contents to which nothing is added
 
@@ -130,3 +131,9 @@ pub kept_then : (step : Kernel → O32Step) (result : Result Outcome Stop) (kern
 kept_then step (Ok outcome) kernel middle guest before between left old kept new u keeps =
     subst (λ (k : Kernel). Keeps (step k) kernel left guest old new) u.same (keeps_then u keeps)
 kept_then step (Err stop) kernel middle guest before between left old kept new u keeps = tt
+
+-- a look that stopped early
+pub stopped_row : (step : O32Step) (result : Result Outcome Stop) (kernel : Kernel) (memory : Memory) (processor : Processor) (before after : Contents) → IsErr result → after ≡ before
+    → o32.Answers step result kernel memory processor before after
+stopped_row step result kernel memory processor before after failed same =
+    subst (λ (to : Contents). o32.Answers step result kernel memory processor before to) (sym same) (fails_before step result kernel memory processor before failed)
