@@ -1,13 +1,12 @@
 -- The rows of calls with paths, as native calls.
-use Rattle.std.proofs.Common.{◌≡◌, ℕ, ◌<◌, ◌^◌, ◌%◌, List, [], ◌∷◌, Option, Some, None, Bool, true, false, Ok, Err, refl, sym, ap, subst, ◌∙◌, arith, lit<}
-use Rattle.std.specs.Prelude.{⊤, ℤ, ◌==◌, ◌+◌, ◌*◌, ◌/◌, if◌then◌else◌}
+use Rattle.std.proofs.Common.{◌≡◌, ℕ, ◌<◌, ◌^◌, ◌%◌, List, [], ◌∷◌, Option, Bool, false, Ok, Err, refl, ap, subst, ◌∙◌, arith, lit<}
+use Rattle.std.specs.Prelude.{ℤ, ◌==◌, ◌/◌}
 use Rattle.std.proofs.lemmas.Bool.Decides.{nat_tests}
-use Rattle.kernel_core.specs.Bits.{one_if}
 use Rattle.native_calls.specs.Flags.{only_flag}
 use Rattle.host_mem.specs.Memory.{first_address}
 use Rattle.kernel_core.specs.declared.error.Errno.{Errno}
 use Rattle.kernel_core.specs.declared.error.Errno.TheVariants.{EINVAL, ENOENT, EPERM}
-use Rattle.kernel_model.specs.Came.{Came, Done, Refused, Waits, Did, Given, came_as, refused, refused_if, refused_by, told_zero, with_given, with_some}
+use Rattle.kernel_model.specs.Came.{Did, Given, refused, told_zero}
 use Rattle.kernel_core.specs.NameCalls.{is_empty_list, link_refusal, make_refusal, rename_refusal, symlink_refusal}
 use Rattle.kernel_core.specs.Nodes.{is_directory}
 use Rattle.kernel_core.specs.PathWalk.{Place}
@@ -25,11 +24,8 @@ use Rattle.o32_model.specs.PathArguments.{base, one_flag}
 use Rattle.o32_model.specs.Paths as guest_paths
 use Rattle.o32_model.specs.Step as o32_step
 use Rattle.o32_model.specs.Step.{Guest}
-use Rattle.bridge_log.proofs.Mirroring.{mirrors_gives}
 use Rattle.bridge_log.proofs.Replies.{Fits}
 use Rattle.bridge_log.specs.Bounds.{Bounded}
-use Rattle.bridge_log.specs.Mirrors.{Mirrors}
-use Rattle.bridge_log.specs.Outcomes.{by_reply}
 use Rattle.bridge_paths.proofs.Rows.{Anything, bounded_by, bounded_either, bounded_given, bounded_if, bounded_some, fits_zero, one_only, same_gives, word}
 use Rattle.bridge_file.specs.inside.Paths.{MirrorsPath, MirrorsPaths}
 

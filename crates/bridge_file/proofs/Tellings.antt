@@ -1,5 +1,5 @@
 -- What is said of a native call that tells a text or a place, said of the o32 call that it tells for.
-use Rattle.std.proofs.Common.{◌≡◌, ℕ, List, ◌%◌, ◌^◌, refl, sym, ap, subst, ◌∙◌}
+use Rattle.std.proofs.Common.{◌≡◌, ℕ, List, refl, sym, ap, subst, ◌∙◌}
 use Rattle.guest_space.specs.Memory.{Memory}
 use Rattle.kernel_core.specs.declared.error.Errno.{Errno}
 use Rattle.kernel_core.specs.declared.error.Errno.TheVariants.{EPERM}

@@ -1,16 +1,16 @@
 -- utimensat(2), as a native call.
-use Rattle.std.proofs.Common.{◌≡◌, ℕ, suc, ◌+◌, ◌-◌, ◌<◌, ◌≤◌, ◌^◌, ◌%◌, List, [], ◌∷◌, ◌++◌, length, take, drop, replicate, Option, Some, None, Ok, Err, refl, sym, ap, subst, ◌∙◌, arith, lit<}
+use Rattle.std.proofs.Common.{◌≡◌, ℕ, ◌+◌, ◌-◌, ◌<◌, ◌^◌, ◌%◌, List, [], ◌∷◌, ◌++◌, length, take, drop, replicate, Option, Some, None, Ok, Err, refl, ap, ◌∙◌, arith, lit<}
 use Rattle.std.proofs.Math.Seq.{drop-append_seam}
 use Rattle.std.proofs.lemmas.Bool.Decides.{nat_tests}
 use Rattle.std.proofs.lemmas.List.{drop-drop, length-append, take_all}
-use Rattle.std.proofs.lemmas.Int.{ints}
-use Rattle.std.specs.Int.{cast_signed, w32, w64}
-use Rattle.std.specs.Prelude.{ℤ, Bool, true, false, not, ◌==◌, ◌&&◌, ◌||◌, ◌/◌, pos, negsuc, ◌-ℤ◌, FitsSigned, nat_lt, option_map, slice_index_or, if◌then◌else◌}
+use Rattle.std.proofs.lemmas.Int.{ints, to_z-of_z}
+use Rattle.std.specs.Int.{cast_signed, cast_unsigned, w32, w64, w128}
+use Rattle.std.specs.Prelude.{ℤ, Bool, true, false, not, ◌==◌, ◌&&◌, ◌||◌, ◌/◌, pos, negsuc, FitsSigned, nat_lt, option_map, slice_index_or, if◌then◌else◌}
 use Rattle.byteorder.specs.Endian.{little_number}
 use Rattle.host_mem.specs.Memory.{bytes_at, end_address, first_address, is_inside}
 use Rattle.kernel_core.specs.declared.error.Errno.{Errno}
 use Rattle.kernel_core.specs.declared.error.Errno.TheVariants.{EBADF, EINVAL}
-use Rattle.kernel_model.specs.Came.{Did, Given, given_or_none, refused, refused_if, told_zero, with_given, with_some}
+use Rattle.kernel_model.specs.Came.{Did, Given, given_or_none, refused_if, told_zero, with_given, with_some}
 use Rattle.kernel_model.specs.Clock.{now}
 use Rattle.kernel_model.specs.Descriptions.{node_of, opened}
 use Rattle.kernel_model.specs.NodeRows.{Times, TimeChanges, after_times, is_wrong, set_times, time_changes, times_on}
@@ -166,19 +166,33 @@ times_again times first second third fourth =
     (sound_from_test native_layouts.itimerval refl) refl (in_range times.access.seconds times.access.nanoseconds times.modified.seconds times.modified.nanoseconds first second third fourth))
 
 -- what a put of a record leaves, where its values are in range
+again : (z x : ℤ) → z ≡ cast_signed w64 (cast_unsigned w64 x) → FitsSigned w64 x → cast_signed w128 (cast_unsigned w128 z) ≡ x
+again z x is fits = omega (arith, ints)
+
+abbrev pub passed : ℤ → ℤ
+passed value = cast_signed w128 (cast_unsigned w128 value)
+
 pub both_written : (times : BothTimes) (a b c d : ℤ) (bytes : List ℕ) → FitsSigned w64 times.access.seconds → FitsSigned w64 times.access.nanoseconds → FitsSigned w64 times.modified.seconds → FitsSigned w64 times.modified.nanoseconds
-    → a ≡ times.access.seconds → b ≡ times.access.nanoseconds → c ≡ times.modified.seconds → d ≡ times.modified.nanoseconds
-    → bytes ≡ after_put_record native_layouts.itimerval (a ∷ b ∷ c ∷ d ∷ []) (replicate 32 0) → bytes ≡ both_bytes times
+    → a ≡ cast_signed w64 (cast_unsigned w64 times.access.seconds) → b ≡ cast_signed w64 (cast_unsigned w64 times.access.nanoseconds)
+    → c ≡ cast_signed w64 (cast_unsigned w64 times.modified.seconds) → d ≡ cast_signed w64 (cast_unsigned w64 times.modified.nanoseconds)
+    → bytes ≡ after_put_record native_layouts.itimerval (passed a ∷ passed b ∷ passed c ∷ passed d ∷ []) (replicate 32 0) → bytes ≡ both_bytes times
 both_written times a b c d bytes first second third fourth one two three four is =
     let t = times in
     let range = in_range t.access.seconds t.access.nanoseconds t.modified.seconds t.modified.nanoseconds first second third fourth in
     is
-    ∙ (λ i. after_put_record native_layouts.itimerval (one i ∷ two i ∷ three i ∷ four i ∷ []) (replicate 32 0))
+    ∙ (λ i. after_put_record native_layouts.itimerval (again a t.access.seconds one first i ∷ again b t.access.nanoseconds two second i ∷ again c t.modified.seconds three third i ∷ again d t.modified.nanoseconds four fourth i ∷ []) (replicate 32 0))
     ∙ ap (λ (fits : Bool). if fits then both_bytes times else replicate 32 0) range
 
--- a signed number of four bytes
-pub signed_number : (number : ℕ) → number < 2 ^ 32 → value_of true 4 number ≡ cast_signed w32 number
-signed_number number fits = by (nat_lt number 2147483648) refl where
-  by : (low : Bool) → nat_lt number 2147483648 ≡ low → (if low then pos number else pos number -ℤ pos 4294967296) ≡ (if low then pos number else negsuc (4294967296 - suc number))
-  by true is = refl
-  by false is = let high : 2147483648 ≤ number = grind (arith, nat_tests) in omega (arith, ints)
+-- a signed number of four bytes, as one of eight
+
+value_by : (number : ℕ) (low : Bool) → nat_lt number 2147483648 ≡ low → number < 2 ^ 32 → cast_signed w32 number ≡ value_of true 4 number
+value_by number true is fits = rw is refl
+value_by number false is fits = let under : nat_lt number 4294967296 ≡ true = grind (arith, nat_tests) in rw (is, under) refl
+
+pub signed_same : (number read : ℕ) (signed wide : ℤ) → read ≡ number → read < 2 ^ 32 → signed ≡ cast_signed w32 read → wide ≡ cast_signed w32 (cast_unsigned w32 signed) → FitsSigned w32 signed → FitsSigned w64 wide
+    → cast_signed w64 (cast_unsigned w64 wide) ≡ value_of true 4 number
+signed_same number read signed wide one fits two three short long =
+    to_z-of_z w64 wide long ∙ three ∙ to_z-of_z w32 signed short ∙ two ∙ value_by read (nat_lt read 2147483648) refl fits ∙ ap (value_of true 4) one
+
+pub both_long : (times : BothTimes) → length (both_bytes times) ≡ 32
+both_long times = refl

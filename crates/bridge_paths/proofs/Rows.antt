@@ -1,5 +1,5 @@
 -- What the rows of the calls on files come to, as replies and outcomes.
-use Rattle.std.proofs.Common.{◌≡◌, ℕ, ◌<◌, ◌^◌, ◌%◌, List, Option, Some, None, Bool, true, false, Ok, Err, refl, sym, subst, arith, lit<}
+use Rattle.std.proofs.Common.{◌≡◌, ℕ, ◌<◌, ◌^◌, ◌%◌, List, Option, Some, None, Bool, true, false, Ok, Err, sym, subst, arith, lit<}
 use Rattle.std.specs.Prelude.{⊤, ◌==◌, ◌+◌, ◌*◌, ◌/◌, if◌then◌else◌}
 use Rattle.std.proofs.lemmas.Bool.Decides.{nat_tests}
 use Rattle.kernel_core.specs.Bits.{one_if}

@@ -1,5 +1,5 @@
 -- The native call tells the text.
-use Rattle.std.proofs.Common.{ℕ, List, ◌∙◌, ap, sym, subst}
+use Rattle.std.proofs.Common.{◌∙◌, ap, sym, subst}
 use Rattle.std.specs.Int.{cast_signed, w32}
 use Rattle.guest_space.specs.Access.{writable_prefix}
 use Rattle.guest_space.specs.Memory.{Memory}

@@ -1,7 +1,6 @@
 -- The times are read, or the call is refused for them.
-use Rattle.std.proofs.Common.{ℕ, List, Option, Result, Ok, Err, ◌≡◌, ap, sym, subst, ◌∙◌, option_map}
+use Rattle.std.proofs.Common.{ap, sym, ◌∙◌, option_map}
 use Rattle.guest_space.specs.Memory.{Memory}
-use Rattle.kernel_core.specs.declared.error.Errno.{Errno}
 use Rattle.kernel_model.specs.Came.{given_or_none}
 use Rattle.o32_model.specs.NodeCalls.{times_at, utimensat_row}
 use Rattle.o32_model.specs.PathArguments.{base}
@@ -11,7 +10,6 @@ use Rattle.bridge_log.proofs.Ends.{fails_before, still_called, still_keeps}
 use Rattle.bridge_file.proofs.OptionalPaths.{optional_path}
 use Rattle.bridge_paths.proofs.Refusing.{still_of}
 use Rattle.bridge_file.proofs.TimeRows.{times_lost, utimensat_mirrors}
-use Rattle.bridge_file.specs.declared.times.BothTimes.{BothTimes}
 use Rattle.bridge_file.specs.inside.BothTimes.{path_or_none, times_of, times_read}
 use Rattle.bridge_file.proofs.times.set_times.Goals as goal
 

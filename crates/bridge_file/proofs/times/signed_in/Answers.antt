@@ -1,13 +1,12 @@
 -- A signed number of 32 bits is the same of 64.
-use Rattle.std.specs.Prelude.{FitsSigned, ℤ, ◌≡◌}
-use Rattle.std.specs.Int.{w64}
-use Rattle.std.proofs.Common.{rules, ◌∙◌, ap}
-use Rattle.bridge_file.proofs.TimeRows.{signed_number}
+use Rattle.std.proofs.Common.{rules}
+use Rattle.std.specs.Int.{w32, w64}
+use Rattle.std.specs.Prelude.{FitsSigned}
+use Rattle.bridge_file.proofs.TimeRows.{signed_same}
 use Rattle.bridge_file.proofs.times.signed_in.Goals as goal
 
 pub returns : goal.returns
 returns c =
-    let number = c.read_u32.ensures in
-    let signed = c.cast_signed.ensures in
-    let wide = c.from.ensures in
-    ?
+    let short : FitsSigned w32 c.cast_signed.result = search rules in
+    let long : FitsSigned w64 c.from.result = search rules in
+    signed_same _ c.read_u32.result c.cast_signed.result c.from.result c.read_u32.ensures c.read_u32.type_inv c.cast_signed.ensures c.from.ensures short long
