@@ -52,11 +52,15 @@ pub(crate) enum Row {
     Links(u32),
     /// The program stores these bytes.
     Puts(u32, &'static [u8]),
+    /// It stores so many slashes.
+    Slashes(u32, u32),
     /// A call of the 64-bit kernel itself, by its number and its first four arguments, with these bytes in host
     /// memory; and its result.
     Native(u64, [u64; 4], &'static [u8], i64),
     /// Host memory has these bytes, after a call of the 64-bit kernel itself.
     Holds(u64, &'static [u8]),
+    /// What a descriptor has open has this type and mode, by fstat(2) of the 64-bit kernel itself.
+    Mode(u64, u32),
     /// No effect is kept.
     NoEffect,
 }

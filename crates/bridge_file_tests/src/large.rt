@@ -3,8 +3,9 @@
 use crate::calls::{Call, Row};
 use crate::machine::{AT, END, first_wrong};
 use crate::numbers::{
-    CLOSE, DUP, FCNTL, FTRUNCATE, F_GETFL, HOST, LSEEK, NATIVE_AT_FDCWD, O_APPEND, O_CREAT, O_DIRECTORY,
-    O_EXCL, O_LARGEFILE, O_NOFOLLOW, O_RDWR, O_TRUNC, O_WRONLY, SEEK_END, SYMLINKAT, UNLINKAT,
+    CLOSE, DUP, F_GETFL, FCNTL, FTRUNCATE, HOST, LSEEK, NATIVE_AT_FDCWD, O_APPEND, O_CREAT,
+    O_DIRECTORY, O_EXCL, O_LARGEFILE, O_NOFOLLOW, O_RDWR, O_TRUNC, O_WRONLY, SEEK_END, SYMLINKAT,
+    UNLINKAT,
 };
 use kernel_core::Errno;
 use std::test::Fail;
@@ -27,7 +28,12 @@ const PATHS: &[u8] = b"/f\0.............\
 /// and is not truncated where it has more.
 static LARGE: [Row; 33] = [
     Row::Puts(AT, PATHS),
-    Row::Native(SYMLINKAT, [HOST, NATIVE_AT_FDCWD, HOST + 2, 0], b"f\0/l\0", 0),
+    Row::Native(
+        SYMLINKAT,
+        [HOST, NATIVE_AT_FDCWD, HOST + 2, 0],
+        b"f\0/l\0",
+        0,
+    ),
     Row::Gives(Call::Creat, [FILE, 0o600, 0, 0], 3),
     Row::Native(FTRUNCATE, [3, 0x7FFF_FFFF, 0, 0], b"", 0),
     Row::Gives(Call::Open, [FILE, O_RDWR, 0, 0], 4),
@@ -36,7 +42,11 @@ static LARGE: [Row; 33] = [
     Row::Native(FTRUNCATE, [3, 0x8000_0000, 0, 0], b"", 0),
     Row::Fails(Call::Open, [FILE, 0, 0, 0], Errno::EOVERFLOW),
     Row::Fails(Call::Open, [FILE, O_RDWR + O_TRUNC, 0, 0], Errno::EOVERFLOW),
-    Row::Fails(Call::Open, [FILE, O_CREAT + O_NOFOLLOW, 0o600, 0], Errno::EOVERFLOW),
+    Row::Fails(
+        Call::Open,
+        [FILE, O_CREAT + O_NOFOLLOW, 0o600, 0],
+        Errno::EOVERFLOW,
+    ),
     Row::Fails(Call::Open, [LINK, O_WRONLY, 0, 0], Errno::EOVERFLOW),
     Row::Fails(Call::Creat, [FILE, 0o600, 0, 0], Errno::EOVERFLOW),
     Row::Fails(Call::Creat, [LINK, 0o600, 0, 0], Errno::EOVERFLOW),
@@ -46,7 +56,11 @@ static LARGE: [Row; 33] = [
     Row::Refuses(Call::Open, [FILE, 3, 0, 0], Errno::EINVAL),
     Row::Refuses(Call::Open, [END, O_TRUNC, 0, 0], Errno::EFAULT),
     Row::Fails(Call::Open, [FILE, O_DIRECTORY, 0, 0], Errno::ENOTDIR),
-    Row::Fails(Call::Open, [FILE, O_CREAT + O_EXCL, 0o600, 0], Errno::EEXIST),
+    Row::Fails(
+        Call::Open,
+        [FILE, O_CREAT + O_EXCL, 0o600, 0],
+        Errno::EEXIST,
+    ),
     Row::Fails(Call::Open, [LINK, O_NOFOLLOW, 0, 0], Errno::ELOOP),
     // No descriptor was kept by any of them.
     Row::Gives(Call::Open, [FILE, O_LARGEFILE + O_RDWR, 0, 0], 6),
@@ -54,9 +68,17 @@ static LARGE: [Row; 33] = [
     Row::Gives(Call::Open, [LINK, O_LARGEFILE, 0, 0], 7),
     Row::Native(FTRUNCATE, [3, 0x1000_0000_0001, 0, 0], b"", -27),
     Row::Native(FTRUNCATE, [3, 0x1000_0000_0000, 0, 0], b"", 0),
-    Row::Fails(Call::Open, [FILE, O_TRUNC + O_WRONLY, 0, 0], Errno::EOVERFLOW),
+    Row::Fails(
+        Call::Open,
+        [FILE, O_TRUNC + O_WRONLY, 0, 0],
+        Errno::EOVERFLOW,
+    ),
     Row::Native(LSEEK, [3, 0, SEEK_END, 0], b"", 0x1000_0000_0000),
-    Row::Gives(Call::Open, [FILE, O_LARGEFILE + O_TRUNC + O_WRONLY, 0, 0], 8),
+    Row::Gives(
+        Call::Open,
+        [FILE, O_LARGEFILE + O_TRUNC + O_WRONLY, 0, 0],
+        8,
+    ),
     Row::Native(LSEEK, [3, 0, SEEK_END, 0], b"", 0),
     Row::Gives(Call::Open, [FILE, O_RDWR, 0, 0], 9),
     Row::Native(DUP, [0, 0, 0, 0], b"", 10),
@@ -80,13 +102,21 @@ static NO_DESCRIPTOR: [Row; 20] = [
     Row::Fails(Call::Open, [EMPTY, 0, 0, 0], Errno::EMFILE),
     Row::Fails(Call::Open, [NEW, 0, 0, 0], Errno::EMFILE),
     Row::Fails(Call::Open, [NEW, O_CREAT, 0o600, 0], Errno::EMFILE),
-    Row::Fails(Call::Open, [FILE, O_CREAT + O_EXCL, 0o600, 0], Errno::EMFILE),
+    Row::Fails(
+        Call::Open,
+        [FILE, O_CREAT + O_EXCL, 0o600, 0],
+        Errno::EMFILE,
+    ),
     Row::Fails(Call::Open, [FILE, 0, 0, 0], Errno::EMFILE),
     Row::Fails(Call::Open, [FILE, O_LARGEFILE, 0, 0], Errno::EMFILE),
     Row::Fails(Call::Creat, [FILE, 0o600, 0, 0], Errno::EMFILE),
     Row::Fails(Call::Openat, [2000, EMPTY, 0, 0], Errno::EMFILE),
     Row::Native(CLOSE, [1023, 0, 0, 0], b"", 0),
-    Row::Fails(Call::Open, [FILE, O_TRUNC + O_WRONLY, 0, 0], Errno::EOVERFLOW),
+    Row::Fails(
+        Call::Open,
+        [FILE, O_TRUNC + O_WRONLY, 0, 0],
+        Errno::EOVERFLOW,
+    ),
     Row::Native(LSEEK, [3, 0, SEEK_END, 0], b"", 0x8000_0000),
     Row::Fails(Call::Open, [NEW, 0, 0, 0], Errno::ENOENT),
     Row::Gives(Call::Open, [FILE, O_LARGEFILE, 0, 0], 1023),

@@ -3,7 +3,7 @@ ghost use Rattle.std.specs.Prelude.{IfOk};
 ghost use Rattle.kernel_core.specs.ValidTree.{IsValidTree};
 
 use crate::calls::{Call, Row};
-use crate::numbers::{DUP, HOST, NATIVE_AT_FDCWD, SYMLINKAT};
+use crate::numbers::{DUP, FSTAT, HOST, NATIVE_AT_FDCWD, SYMLINKAT};
 use bridge_open::open_call;
 use guest_space::Space;
 use host_mem::HostMem;
@@ -27,6 +27,10 @@ pub(crate) const END: u32 = 0x1_1000;
 
 /// The address of two pages that the program can store to, behind which no page is.
 pub(crate) const LONG: u32 = 0x2_0000;
+
+/// Where the type and the mode lie in a status of the 64-bit kernel (struct stat of Linux
+/// `include/uapi/asm-generic/stat.h`).
+const MODE_OFFSET: u64 = 16;
 
 /// A machine of one program.
 #[derive(Drop)]
@@ -175,6 +179,26 @@ impl Machine {
         true
     }
 
+    /// Whether the program can store so many slashes.
+    fn puts_slashes(&mut self, address: u32, count: u32) -> bool {
+        for place in 0..count {
+            if self
+                .space
+                .copy_out(address.wrapping_add(place), b"/")
+                .is_err()
+            {
+                return false;
+            }
+        }
+        true
+    }
+
+    /// Whether fstat(2) of the 64-bit kernel itself tells this type and mode of a descriptor.
+    fn has_mode(&mut self, fd: u64, mode: u32) -> bool {
+        self.reply(FSTAT, [fd, HOST, 0, 0], &[0; 128]) == Some(Reply::Done(0))
+            && self.memory.read(HOST + MODE_OFFSET, 4) == Some(mode.to_le_bytes().as_slice())
+    }
+
     /// Whether no effect is kept.
     fn has_no_effect(&self) -> bool {
         match &self.log.effects {
@@ -197,6 +221,7 @@ impl Machine {
             }
             Row::OpensAll(first) => self.opens_all(first),
             Row::Links(count) => self.links(count),
+            Row::Slashes(address, count) => self.puts_slashes(address, count),
             Row::Puts(address, bytes) => self.space.copy_out(address, bytes).is_ok(),
             Row::Native(number, arguments, bytes, result) => {
                 self.reply(number, arguments, bytes) == Some(Reply::Done(result))
@@ -204,6 +229,7 @@ impl Machine {
             Row::Holds(address, bytes) => {
                 self.memory.read(address, bytes.len() as u64) == Some(bytes)
             }
+            Row::Mode(fd, mode) => self.has_mode(fd, mode),
             Row::NoEffect => self.has_no_effect(),
         }
     }

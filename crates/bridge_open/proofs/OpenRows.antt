@@ -1,5 +1,5 @@
 -- The opening of files: what limits it, and as native calls.
-use Rattle.std.proofs.Common.{◌≡◌, ℕ, ◌+◌, ◌-◌, ◌≤◌, ◌<◌, ◌^◌, ◌%◌, ◌⊎◌, List, [], ◌∷◌, ◌++◌, length, drop, replicate, Option, Some, None, Ok, Err, refl, sym, ap, subst, ◌∙◌, inl, inr, arith, length-drop}
+use Rattle.std.proofs.Common.{◌≡◌, ℕ, ◌+◌, ◌≤◌, ◌<◌, ◌^◌, ◌%◌, ◌⊎◌, List, [], ◌∷◌, length, drop, Option, Some, None, Ok, Err, refl, sym, ap, subst, ◌∙◌, inl, inr, arith, length-drop, Result, IsErr}
 use Rattle.std.proofs.lemmas.Bool.Decides.{nat_tests}
 use Rattle.std.proofs.lemmas.List.Quantifiers.{position-Some}
 use Rattle.std.specs.FinMap.{get}
@@ -12,32 +12,36 @@ use Rattle.kernel_core.specs.NameCalls.{make_refusal}
 use Rattle.kernel_core.specs.Nodes.{Inode, NodeContent, Nodes, File, Directory, Link}
 use Rattle.kernel_core.specs.OpenSet.{OpenSet}
 use Rattle.kernel_core.specs.PathWalk.{Place}
+use Rattle.guest_space.specs.Memory.{Memory}
+use Rattle.kernel_core.specs.declared.core_error.Stop.{Stop}
 use Rattle.kernel_core.specs.declared.error.Errno.{Errno}
 use Rattle.kernel_core.specs.declared.error.Errno.TheVariants.{EEXIST, EINVAL, EMFILE, ENOENT, ENOTDIR, EOVERFLOW}
 use Rattle.kernel_core.specs.declared.open_flags.Access.{Access}
 use Rattle.kernel_core.specs.declared.open_flags.Access.TheVariants.{Read, Write, ReadWrite}
-use Rattle.kernel_model.specs.Came.{Came, Did, Given, done, refused, refused_by, refused_if, with_given, with_some}
+use Rattle.kernel_model.specs.Came.{Did, Given, done, refused, refused_by, refused_if, with_given, with_some}
 use Rattle.kernel_model.specs.Clock.{now}
-use Rattle.kernel_model.specs.Opening.{after_open, follows, is_larger, kind_refusal, open_file, open_missing, open_node, open_place, truncated}
+use Rattle.kernel_model.specs.Opening.{after_open, follows, is_larger, kind_refusal, open_file, open_node, open_place, truncated}
 use Rattle.kernel_model.specs.Paths.{Base, node_found, walk, is_missing_before_slash}
 use Rattle.kernel_model.specs.State.{Kernel, Files}
 use Rattle.kernel_model.specs.Table.{lowest_free}
 use Rattle.kernel_model.specs.Transfers.{limit_for}
 use Rattle.kernel_model.specs.Whole.{marked, on_files}
+use Rattle.mips_exec.specs.Processor.{Processor}
 use Rattle.native_calls.specs.Names as native
 use Rattle.native_calls.specs.Paths as host
 use Rattle.native_calls.specs.Step as native_step
 use Rattle.native_calls.specs.Table.{native_call}
 use Rattle.number_tables.specs.OpenNumbers.{access_number, is_synced, native_open, open_of_native}
 use Rattle.number_tables.specs.inside.OpenLaws.{native_open_found}
+use Rattle.o32_model.specs.Answered.{Answers, Stopped}
 use Rattle.o32_model.specs.Opening as o32
 use Rattle.o32_model.specs.PathArguments.{base}
 use Rattle.o32_model.specs.Paths as guest_paths
 use Rattle.o32_model.specs.Step as o32_step
-use Rattle.o32_model.specs.Step.{Guest, failure}
+use Rattle.o32_model.specs.Step.{Guest}
 use Rattle.o32_model.specs.Transfers.{small_file_limit}
-use Rattle.bridge_log.proofs.Ends.{Still}
-use Rattle.bridge_log.proofs.Replies.{Fits}
+use Rattle.o32_model.specs.declared.outcome.Outcome.{Outcome}
+use Rattle.outside.specs.Streams.{Contents}
 use Rattle.bridge_log.specs.Bounds.{Bounded}
 use Rattle.bridge_log.specs.Mirrors.{Mirrors}
 use Rattle.bridge_log.specs.Outcomes.{by_reply}
@@ -234,8 +238,22 @@ access-le ReadWrite = omega arith
 
 flags_short : (flags : OpenSet) → native_open flags < 2 ^ 32
 flags_short flags =
-    omega (arith, access-le flags.access, one_if-le flags.append, one_if-le flags.dsync, one_if-le flags.nonblock, one_if-le flags.creat, one_if-le flags.trunc, one_if-le flags.excl, one_if-le flags.noctty,
-    one_if-le flags.largefile, one_if-le flags.sync, one_if-le flags.directory, one_if-le flags.nofollow, one_if-le flags.cloexec)
+    omega (
+      arith,
+      access-le flags.access,
+      one_if-le flags.append,
+      one_if-le flags.dsync,
+      one_if-le flags.nonblock,
+      one_if-le flags.creat,
+      one_if-le flags.trunc,
+      one_if-le flags.excl,
+      one_if-le flags.noctty,
+      one_if-le flags.largefile,
+      one_if-le flags.sync,
+      one_if-le flags.directory,
+      one_if-le flags.nofollow,
+      one_if-le flags.cloexec,
+    )
 
 abbrev open_as : Kernel → Option ℕ → ℕ → Given (List ℕ) → Option OpenSet → ℕ → Did Kernel ℕ
 open_as kernel limit from path flags mode = marked kernel (λ files now. open_file files limit now (base from) path flags mode)
@@ -309,3 +327,9 @@ large_mirrors guest kernel from address mode flags path memory left there is lar
     subst (λ (d : Did Kernel ℕ). Mirrors guest (told_large guest.words) (native_step.gives memory (open_as kernel None 0 (host.path_at memory 65536) (open_of_native 0) 0) left) (o32_step.gives guest d left)) (sym asked)
     (subst (λ (d : Did Kernel ℕ). Mirrors guest (told_large guest.words) (native_step.gives memory d left) (o32_step.gives guest (free_or kernel (lowest_free kernel.files.table.fds 0) EOVERFLOW) left)) (sym given)
     (large_by guest kernel memory left (lowest_free kernel.files.table.fds 0)))
+
+-- a call that stopped early
+pub fails_stopped : (step : o32_step.O32Step) (result : Result Outcome Stop) (kernel : Kernel) (memory : Memory) (processor : Processor) (before after : Contents) → IsErr result → Stopped step before after
+    → Answers step result kernel memory processor before after
+fails_stopped step (Ok outcome) kernel memory processor before after failed stopped = absurd cc
+fails_stopped step (Err stop) kernel memory processor before after failed stopped = stopped

@@ -1,7 +1,7 @@
 -- What a look at the size of what a path leads to finds.
-use Rattle.std.proofs.Common.{◌≡◌, ℕ, ◌+◌, ◌/◌, ◌≤◌, ◌<◌, ◌^◌, ◌%◌, List, [], ◌∷◌, ◌++◌, length, take, drop, replicate, Option, Some, None, Ok, Err, refl, sym, ap, subst, ◌∙◌, arith, append-nil}
+use Rattle.std.proofs.Common.{◌≡◌, ℕ, ◌+◌, ◌-◌, ◌/◌, ◌≤◌, ◌<◌, ◌^◌, ◌%◌, List, [], ◌∷◌, ◌++◌, length, take, drop, replicate, Option, Some, None, Ok, Err, refl, sym, ap, subst, ◌∙◌, arith, append-nil, length-take, length-drop}
 use Rattle.std.proofs.lemmas.Bool.Decides.{nat_tests}
-use Rattle.std.proofs.lemmas.List.{length-append, length-replicate}
+use Rattle.std.proofs.lemmas.List.{length-append}
 use Rattle.std.specs.FinMap.{get}
 use Rattle.std.specs.Prelude.{Bool, true, false, option_map, if◌then◌else◌}
 use Rattle.byteorder.specs.Endian.{little_number}
@@ -15,7 +15,7 @@ use Rattle.kernel_core.specs.declared.error.Errno.TheVariants.{EFAULT, ENOENT, E
 use Rattle.kernel_core.specs.declared.reply.Reply.{Reply}
 use Rattle.kernel_model.specs.Came.{Came, Done, Refused, Did, Given, came_as, done, told_as, with_given, with_some}
 use Rattle.kernel_model.specs.ContentRows.{Status, node_status, status_at}
-use Rattle.kernel_model.specs.NodeRows.{StatusFlags, status_at_path}
+use Rattle.kernel_model.specs.NodeRows.{status_at_path}
 use Rattle.kernel_model.specs.Paths.{Base, walk_to_node}
 use Rattle.kernel_model.specs.State.{Kernel, Files}
 use Rattle.kernel_model.specs.Whole.{on_files}
@@ -141,3 +141,14 @@ told_led nodes memory (Ok node) valid begins =
 pub size_found : (files : Files) (from : Base) (path : List ℕ) (follow : Bool) (memory : List ℕ) → IsFileSystem files.nodes → BeginsWith (replicate 128 0) memory
     → (let came = came_led files.nodes (walk_to_node files from path follow) in size_told (memory_of memory came) (reply_of memory came) ≡ size_led files from path follow)
 size_found files from path follow memory valid begins = told_led files.nodes memory (walk_to_node files from path follow) valid begins
+
+-- the bytes that were read are as many as were asked for
+pub long_enough : (memory bytes : List ℕ) (place count : ℕ) → Some bytes ≡ bytes_at memory place count → count ≤ length bytes
+long_enough memory bytes place count read = by (is_inside memory place count) refl read where
+  by : (inside : Bool) → is_inside memory place count ≡ inside → Some bytes ≡ (if inside then Some (take count (drop (place - first_address) memory)) else None) → count ≤ length bytes
+  by true inside read =
+      let same : bytes ≡ take count (drop (place - first_address) memory) = cc in
+      let low : 65536 ≤ place = grind (arith, nat_tests) in
+      let high : place + count ≤ 65536 + length memory = grind (arith, nat_tests) in
+      omega (arith, low, high, ap length same, length-take count (drop (place - first_address) memory), length-drop (place - first_address) memory)
+  by false inside read = absurd cc

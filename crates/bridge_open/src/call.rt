@@ -47,11 +47,19 @@ pub fn open_call<I: Source, O: Sink, E: Sink>(
 {
     let [a0, a1, a2, a3] = args.reg;
     match args.nr {
-        4005 => open(
-            alloc, args, WORKING, a0, a1, a2, space, k, mem, dev, log,
-        ),
+        4005 => open(alloc, args, WORKING, a0, a1, a2, space, k, mem, dev, log),
         4008 => open(
-            alloc, args, WORKING, a0, CREAT_FLAGS, a1, space, k, mem, dev, log,
+            alloc,
+            args,
+            WORKING,
+            a0,
+            CREAT_FLAGS,
+            a1,
+            space,
+            k,
+            mem,
+            dev,
+            log,
         ),
         _ => open(alloc, args, a0, a1, a2, a3, space, k, mem, dev, log),
     }

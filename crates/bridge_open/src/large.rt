@@ -22,8 +22,8 @@ use outside::{Devices, Sink, Source};
 /// The native number of ENOENT with its sign turned (Linux `include/uapi/asm-generic/errno-base.h`).
 const NO_ENTRY: i64 = -2;
 
-/// What a file that is too large comes to: EMFILE where there is no free descriptor, and else EOVERFLOW. That
-/// there is one is told by opening the empty path, which is ENOENT then, wherever a path begins.
+/// What a file that is too large comes to: EMFILE where there is no free descriptor, and else EOVERFLOW.
+/// That there is one is told by opening the empty path, which is ENOENT then, wherever a path begins.
 pub(crate) fn too_large<I: Source, O: Sink, E: Sink>(
     words: &CallWords,
     address: u32,
@@ -36,11 +36,15 @@ pub(crate) fn too_large<I: Source, O: Sink, E: Sink>(
     log: &mut Log,
 ) -> Result<Outcome, Stop>
     requires found { path_at space.now address ≡ Ok path.now }
-    ensures row { (guest : Guest) (directory mode : ℕ) → guest.words ≡ words.now → guest.memory ≡ space.now → IsTooLarge k.old.files (base directory) path.now flags
-        → IsCall (open_row k.old guest (base directory) address (Some flags) mode) result k.new guest.memory guest.processor
+    ensures row { (guest : Guest) (directory mode : ℕ) → guest.words ≡ words.now → guest.memory ≡ space.now
+        → IsTooLarge k.old.files (base directory) path.now flags
+        → IsCall (open_row k.old guest (base directory) address (Some flags) mode) result
+        k.new guest.memory guest.processor
         (contents I.left O.written E.written dev.old) (contents I.left O.written E.written dev.new) }
-    ensures kept { (guest : Guest) (directory mode : ℕ) → guest.words ≡ words.now → guest.memory ≡ space.now → IsTooLarge k.old.files (base directory) path.now flags
-        → KeepsCall (open_row k.old guest (base directory) address (Some flags) mode) result k.old guest (I.left dev.old.input) log.old log.new }
+    ensures kept { (guest : Guest) (directory mode : ℕ) → guest.words ≡ words.now → guest.memory ≡ space.now
+        → IsTooLarge k.old.files (base directory) path.now flags
+        → KeepsCall (open_row k.old guest (base directory) address (Some flags) mode) result k.old guest
+        (I.left dev.old.input) log.old log.new }
     ensures cause { StopsOnlyIfRose I.faults O.faults E.faults result dev.old dev.new }
     ensures counts { NoCountFell I.faults O.faults E.faults dev.old dev.new }
 {

@@ -32,9 +32,9 @@ use std::alloc::Global;
 /// bits holds).
 const SMALL_FILE_LIMIT: u64 = 0x7FFF_FFFF;
 
-/// open(2), openat(2), and creat(2) by its flags: EINVAL for flags that are none, and for O_CREAT with O_DIRECTORY;
-/// what is wrong with the path; EMFILE, EEXIST, EISDIR, ENOTDIR, ELOOP, ENOSPC; EOVERFLOW for a file of more than
-/// 2^31 - 1 bytes without O_LARGEFILE.
+/// open(2), openat(2), and creat(2) by its flags: EINVAL for flags that are none, and for O_CREAT with
+/// O_DIRECTORY; what is wrong with the path; EMFILE, EEXIST, EISDIR, ENOTDIR, ELOOP, ENOSPC; EOVERFLOW for a
+/// file of more than 2^31 - 1 bytes without O_LARGEFILE.
 pub(crate) fn open<I: Source, O: Sink, E: Sink>(
     alloc: Global,
     words: &CallWords,
@@ -49,10 +49,12 @@ pub(crate) fn open<I: Source, O: Sink, E: Sink>(
     log: &mut Log,
 ) -> Result<Outcome, Stop>
     ensures row { (guest : Guest) → guest.words ≡ words.now → guest.memory ≡ space.now
-        → IsCall (open_row k.old guest (base directory) address (open_of_o32 flags) mode) result k.new guest.memory guest.processor
+        → IsCall (open_row k.old guest (base directory) address (open_of_o32 flags) mode) result
+        k.new guest.memory guest.processor
         (contents I.left O.written E.written dev.old) (contents I.left O.written E.written dev.new) }
     ensures kept { (guest : Guest) → guest.words ≡ words.now → guest.memory ≡ space.now
-        → KeepsCall (open_row k.old guest (base directory) address (open_of_o32 flags) mode) result k.old guest (I.left dev.old.input) log.old log.new }
+        → KeepsCall (open_row k.old guest (base directory) address (open_of_o32 flags) mode) result k.old guest
+        (I.left dev.old.input) log.old log.new }
     ensures cause { StopsOnlyIfRose I.faults O.faults E.faults result dev.old dev.new }
     ensures counts { NoCountFell I.faults O.faults E.faults dev.old dev.new }
 {
@@ -80,10 +82,12 @@ fn open_listed<I: Source, O: Sink, E: Sink>(
 ) -> Result<Outcome, Stop>
     requires listed { IsTrue (is_synced flags) }
     ensures row { (guest : Guest) → guest.words ≡ words.now → guest.memory ≡ space.now
-        → IsCall (open_row k.old guest (base directory) address (Some flags) mode) result k.new guest.memory guest.processor
+        → IsCall (open_row k.old guest (base directory) address (Some flags) mode) result
+        k.new guest.memory guest.processor
         (contents I.left O.written E.written dev.old) (contents I.left O.written E.written dev.new) }
     ensures kept { (guest : Guest) → guest.words ≡ words.now → guest.memory ≡ space.now
-        → KeepsCall (open_row k.old guest (base directory) address (Some flags) mode) result k.old guest (I.left dev.old.input) log.old log.new }
+        → KeepsCall (open_row k.old guest (base directory) address (Some flags) mode) result k.old guest
+        (I.left dev.old.input) log.old log.new }
     ensures cause { StopsOnlyIfRose I.faults O.faults E.faults result dev.old dev.new }
     ensures counts { NoCountFell I.faults O.faults E.faults dev.old dev.new }
 {
@@ -124,10 +128,12 @@ fn open_path<I: Source, O: Sink, E: Sink>(
     requires short { length path.now < path_limit }
     requires plain { position is_nul path.now ≡ None }
     ensures row { (guest : Guest) → guest.words ≡ words.now → guest.memory ≡ space.now
-        → IsCall (open_row k.old guest (base directory) address (Some flags) mode) result k.new guest.memory guest.processor
+        → IsCall (open_row k.old guest (base directory) address (Some flags) mode) result
+        k.new guest.memory guest.processor
         (contents I.left O.written E.written dev.old) (contents I.left O.written E.written dev.new) }
     ensures kept { (guest : Guest) → guest.words ≡ words.now → guest.memory ≡ space.now
-        → KeepsCall (open_row k.old guest (base directory) address (Some flags) mode) result k.old guest (I.left dev.old.input) log.old log.new }
+        → KeepsCall (open_row k.old guest (base directory) address (Some flags) mode) result k.old guest
+        (I.left dev.old.input) log.old log.new }
     ensures cause { StopsOnlyIfRose I.faults O.faults E.faults result dev.old dev.new }
     ensures counts { NoCountFell I.faults O.faults E.faults dev.old dev.new }
 {
@@ -176,11 +182,15 @@ fn open_sized<I: Source, O: Sink, E: Sink>(
     requires short { length path.now < path_limit }
     requires plain { position is_nul path.now ≡ None }
     requires limited { is_unlimited flags ≡ false }
-    ensures row { (guest : Guest) → guest.words ≡ words.now → guest.memory ≡ space.now → size ≡ size_led k.old.files (base directory) path.now (follows flags)
-        → IsCall (open_row k.old guest (base directory) address (Some flags) mode) result k.new guest.memory guest.processor
+    ensures row { (guest : Guest) → guest.words ≡ words.now → guest.memory ≡ space.now
+        → size ≡ size_led k.old.files (base directory) path.now (follows flags)
+        → IsCall (open_row k.old guest (base directory) address (Some flags) mode) result
+        k.new guest.memory guest.processor
         (contents I.left O.written E.written dev.old) (contents I.left O.written E.written dev.new) }
-    ensures kept { (guest : Guest) → guest.words ≡ words.now → guest.memory ≡ space.now → size ≡ size_led k.old.files (base directory) path.now (follows flags)
-        → KeepsCall (open_row k.old guest (base directory) address (Some flags) mode) result k.old guest (I.left dev.old.input) log.old log.new }
+    ensures kept { (guest : Guest) → guest.words ≡ words.now → guest.memory ≡ space.now
+        → size ≡ size_led k.old.files (base directory) path.now (follows flags)
+        → KeepsCall (open_row k.old guest (base directory) address (Some flags) mode) result k.old guest
+        (I.left dev.old.input) log.old log.new }
     ensures cause { StopsOnlyIfRose I.faults O.faults E.faults result dev.old dev.new }
     ensures counts { NoCountFell I.faults O.faults E.faults dev.old dev.new }
 {
@@ -212,11 +222,15 @@ fn open_now<I: Source, O: Sink, E: Sink>(
     requires found { path_at space.now address ≡ Ok path.now }
     requires short { length path.now < path_limit }
     requires plain { position is_nul path.now ≡ None }
-    ensures row { (guest : Guest) → guest.words ≡ words.now → guest.memory ≡ space.now → Unlimited k.old.files (base directory) path.now flags
-        → IsCall (open_row k.old guest (base directory) address (Some flags) mode) result k.new guest.memory guest.processor
+    ensures row { (guest : Guest) → guest.words ≡ words.now → guest.memory ≡ space.now
+        → Unlimited k.old.files (base directory) path.now flags
+        → IsCall (open_row k.old guest (base directory) address (Some flags) mode) result
+        k.new guest.memory guest.processor
         (contents I.left O.written E.written dev.old) (contents I.left O.written E.written dev.new) }
-    ensures kept { (guest : Guest) → guest.words ≡ words.now → guest.memory ≡ space.now → Unlimited k.old.files (base directory) path.now flags
-        → KeepsCall (open_row k.old guest (base directory) address (Some flags) mode) result k.old guest (I.left dev.old.input) log.old log.new }
+    ensures kept { (guest : Guest) → guest.words ≡ words.now → guest.memory ≡ space.now
+        → Unlimited k.old.files (base directory) path.now flags
+        → KeepsCall (open_row k.old guest (base directory) address (Some flags) mode) result k.old guest
+        (I.left dev.old.input) log.old log.new }
     ensures cause { StopsOnlyIfRose I.faults O.faults E.faults result dev.old dev.new }
     ensures counts { NoCountFell I.faults O.faults E.faults dev.old dev.new }
 {

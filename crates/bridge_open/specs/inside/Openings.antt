@@ -10,7 +10,7 @@ use Rattle.kernel_core.specs.OpenSet.{OpenSet}
 use Rattle.kernel_core.specs.declared.error.Errno.TheVariants.{EMFILE, EOVERFLOW}
 use Rattle.kernel_core.specs.declared.reply.Reply.{Reply}
 use Rattle.kernel_core.specs.declared.reply.Reply.TheVariants as replies
-use Rattle.kernel_model.specs.Came.{Did, Given, refused, with_some}
+use Rattle.kernel_model.specs.Came.{Given, refused, with_some}
 use Rattle.kernel_model.specs.Opening.{open_file}
 use Rattle.kernel_model.specs.Paths.{Base, walk_to_node}
 use Rattle.kernel_model.specs.State.{Files}

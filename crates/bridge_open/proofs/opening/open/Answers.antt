@@ -1,5 +1,5 @@
 -- Flags that are none are refused without a native call.
-use Rattle.std.proofs.Common.{None, Option, Some, sym, ap, subst, ◌∙◌}
+use Rattle.std.proofs.Common.{Option, sym, subst, ◌∙◌}
 use Rattle.kernel_core.specs.OpenSet.{OpenSet}
 use Rattle.kernel_core.specs.declared.error.Errno.TheVariants.{EINVAL}
 use Rattle.number_tables.specs.OpenNumbers.{open_of_o32}
@@ -17,7 +17,7 @@ use Rattle.bridge_paths.proofs.Refusing.{still_of}
 use Rattle.bridge_open.proofs.opening.open.Goals as goal
 
 pub open_listed-requires : goal.open_listed-requires
-open_listed-requires g c = o32_open_listed c.args.flags c.in-Some.flags (sym c.of_o32.ensures ∙ c.in-Some.is)
+open_listed-requires g c = record { listed = o32_open_listed c.args.flags c.in-Some.flags (sym c.of_o32.ensures ∙ c.in-Some.is) }
 
 pub returns-in-None-clause-row : goal.returns-in-None-clause-row
 returns-in-None-clause-row g c = λ guest same memory left told.

@@ -5,8 +5,6 @@ use Rattle.kernel_model.specs.State.{Kernel}
 use Rattle.o32_model.specs.Opening.{open_row}
 use Rattle.o32_model.specs.PathArguments.{base}
 use Rattle.outside.specs.Streams.{contents}
-use Rattle.std.specs.Prelude.{Bool}
-use Rattle.bridge_log.proofs.Ends.{fails_before}
 use Rattle.bridge_open.proofs.OpenRows.{unlimited_by_flags}
 use Rattle.bridge_log.proofs.Looking.{kept_then, row_then, still_told, stopped_row}
 use Rattle.bridge_open.specs.inside.Openings.{size_led}
