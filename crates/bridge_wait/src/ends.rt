@@ -1,0 +1,116 @@
+//! How the waits of sleeps end.
+ghost use Rattle.std.specs.Prelude.{◌≡◌, IfOk, IsTrue, OnOk};
+ghost use Rattle.bridge_log.specs.Keeping.{reached};
+ghost use Rattle.bridge_wait.specs.Numbers.{is_sleep};
+ghost use Rattle.bridge_wait.specs.inside.Endings.{interrupted_if};
+ghost use Rattle.kernel_model.specs.Clock.{left_until};
+ghost use Rattle.kernel_model.specs.Pipes.{Sent};
+ghost use Rattle.kernel_model.specs.State.{Kernel};
+ghost use Rattle.mips_exec.specs.Processor.{Processor};
+ghost use Rattle.o32_model.specs.Effects.{Effected};
+ghost use Rattle.o32_model.specs.WaitEnds.{ends_with, sleep_ended, sleep_interrupted, wait_ended};
+
+use crate::clock_times::ClockTime;
+use bridge_log::put;
+use guest_space::Space;
+use kernel_core::{Errno, NoMemory};
+use o32_model::{Cause, Close, Log, Wait};
+
+/// Ends the wait of a sleep for a cause, at a time of the clock in nanoseconds: nanosleep(2) and
+/// clock_nanosleep(2). A handler ends one with EINTR, and of a length of time it stores what is left until the
+/// wait's own deadline, or ends it with EFAULT where that can't be stored. The kernel stays as it is. What is
+/// written is kept where effects are kept.
+pub fn wait_end(
+    wait: &Wait,
+    cause: Cause,
+    clock: u64,
+    space: &mut Space,
+    log: &mut Log,
+) -> Result<Close, NoMemory>
+    requires { IsTrue (is_sleep wait.now.nr) }
+    ensures ends { IfOk result (λ close. (kernel : Kernel) → wait_ended wait.now cause clock kernel space.old ≡ ends_with close kernel space.new) }
+    ensures effects { OnOk result ((processor : Processor) (sent : Sent)
+        → Effected log.old.effects log.new.effects (reached processor space.old.pages sent) (reached processor space.new.pages sent)) }
+    ensures native { log.new.native ≡ log.old.native }
+{
+    match wait.nr {
+        4166 => sleep_end(true, wait.words[1], wait, cause, clock, space, log),
+        _ => sleep_end(
+            wait.words[1] == 0,
+            wait.words[3],
+            wait,
+            cause,
+            clock,
+            space,
+            log,
+        ),
+    }
+}
+
+/// The same, by whether the sleep is by a length of time, and where what is left of it is stored.
+fn sleep_end(
+    relative: bool,
+    address: u32,
+    wait: &Wait,
+    cause: Cause,
+    clock: u64,
+    space: &mut Space,
+    log: &mut Log,
+) -> Result<Close, NoMemory>
+    ensures ends { IfOk result (λ close. (kernel : Kernel)
+        → sleep_ended (record { relative = relative; address = address }) wait.now cause clock kernel space.old ≡ ends_with close kernel space.new) }
+    ensures effects { OnOk result ((processor : Processor) (sent : Sent)
+        → Effected log.old.effects log.new.effects (reached processor space.old.pages sent) (reached processor space.new.pages sent)) }
+    ensures native { log.new.native ≡ log.old.native }
+{
+    match cause {
+        Cause::Due => Ok(Close::Value(0)),
+        Cause::Accepted => Ok(Close::Value(0)),
+        Cause::Handler => interrupted(relative, address, wait, clock, space, log),
+        Cause::Stopped => Ok(if relative {
+            Close::Restart
+        } else {
+            Close::Again
+        }),
+    }
+}
+
+/// The end by a handler.
+fn interrupted(
+    relative: bool,
+    address: u32,
+    wait: &Wait,
+    clock: u64,
+    space: &mut Space,
+    log: &mut Log,
+) -> Result<Close, NoMemory>
+    ensures ends { IfOk result (λ close. (kernel : Kernel)
+        → sleep_interrupted (record { relative = relative; address = address }) wait.now clock kernel space.old ≡ ends_with close kernel space.new) }
+    ensures effects { OnOk result ((processor : Processor) (sent : Sent)
+        → Effected log.old.effects log.new.effects (reached processor space.old.pages sent) (reached processor space.new.pages sent)) }
+    ensures native { log.new.native ≡ log.old.native }
+{
+    if !relative || address == 0 {
+        return Ok(Close::Error(Errno::EINTR));
+    }
+    let left = ClockTime::of(left_until(clock, wait.deadline));
+    let stored = put(space, address, &left.spec_bytes(), log)?;
+    Ok(interrupted_if(stored))
+}
+
+/// EINTR where what is left was stored, and else EFAULT.
+fn interrupted_if(stored: bool) -> Close
+    ensures { result ≡ interrupted_if stored }
+{
+    Close::Error(if stored { Errno::EINTR } else { Errno::EFAULT })
+}
+
+/// How long it is to a deadline, in nanoseconds, at least 0; 0 where there is none.
+fn left_until(clock: u64, deadline: Option<u64>) -> u64
+    ensures { result ≡ left_until clock deadline }
+{
+    match deadline {
+        None => 0,
+        Some(deadline) => deadline.saturating_sub(clock),
+    }
+}

@@ -1,0 +1,67 @@
+//! Sleeping: nanosleep(2), clock_nanosleep(2).
+ghost use Rattle.std.specs.Prelude.{◌≡◌};
+ghost use Rattle.bridge_log.specs.Keeping.{KeepsCall};
+ghost use Rattle.kernel_model.specs.Stops.{StopsOnlyIfRose};
+ghost use Rattle.o32_model.specs.Answered.{IsCall};
+ghost use Rattle.o32_model.specs.Sleeps.{clock_nanosleep_row, nanosleep_row};
+ghost use Rattle.o32_model.specs.Step.{Guest};
+ghost use Rattle.outside.specs.Streams.{NoCountFell, contents};
+
+use crate::numbers::{CLOCK_NANOSLEEP, NANOSLEEP};
+use crate::times::take_time;
+use bridge_log::number_call;
+use guest_space::Space;
+use host_mem::HostMem;
+use kernel_core::Stop;
+use native_kernel::NativeKernel;
+use o32_model::{CallWords, Log, Outcome};
+use outside::{Devices, Sink, Source};
+
+/// nanosleep(2): EFAULT where the time can't be loaded, EINVAL where it is none. What is left of the time is
+/// stored where a handler ends the sleep, and not here.
+pub(crate) fn nanosleep<I: Source, O: Sink, E: Sink>(
+    words: &CallWords,
+    address: u32,
+    space: &Space,
+    k: &mut NativeKernel,
+    mem: &mut HostMem,
+    dev: &mut Devices<I, O, E>,
+    log: &mut Log,
+) -> Result<Outcome, Stop>
+    ensures row { (guest : Guest) → guest.words ≡ words.now → guest.memory ≡ space.now
+        → IsCall (nanosleep_row k.old guest address) result k.new space.now guest.processor
+        (contents I.left O.written E.written dev.old) (contents I.left O.written E.written dev.new) }
+    ensures kept { (guest : Guest) → guest.words ≡ words.now → guest.memory ≡ space.now
+        → KeepsCall (nanosleep_row k.old guest address) result k.old guest (I.left dev.old.input) log.old log.new }
+    ensures cause { StopsOnlyIfRose I.faults O.faults E.faults result dev.old dev.new }
+    ensures counts { NoCountFell I.faults O.faults E.faults dev.old dev.new }
+{
+    let place = take_time(space, address, mem)?;
+    number_call(words, k, NANOSLEEP, [place, 0, 0, 0, 0, 0], mem, dev, log)
+}
+
+/// clock_nanosleep(2): EINVAL for another clock than CLOCK_REALTIME, CLOCK_MONOTONIC and CLOCK_BOOTTIME and for
+/// flags other than TIMER_ABSTIME; then as nanosleep(2).
+pub(crate) fn clock_nanosleep<I: Source, O: Sink, E: Sink>(
+    words: &CallWords,
+    clock: u32,
+    flags: u32,
+    address: u32,
+    space: &Space,
+    k: &mut NativeKernel,
+    mem: &mut HostMem,
+    dev: &mut Devices<I, O, E>,
+    log: &mut Log,
+) -> Result<Outcome, Stop>
+    ensures row { (guest : Guest) → guest.words ≡ words.now → guest.memory ≡ space.now
+        → IsCall (clock_nanosleep_row k.old guest clock flags address) result k.new space.now guest.processor
+        (contents I.left O.written E.written dev.old) (contents I.left O.written E.written dev.new) }
+    ensures kept { (guest : Guest) → guest.words ≡ words.now → guest.memory ≡ space.now
+        → KeepsCall (clock_nanosleep_row k.old guest clock flags address) result k.old guest (I.left dev.old.input) log.old log.new }
+    ensures cause { StopsOnlyIfRose I.faults O.faults E.faults result dev.old dev.new }
+    ensures counts { NoCountFell I.faults O.faults E.faults dev.old dev.new }
+{
+    let place = take_time(space, address, mem)?;
+    let args = [u64::from(clock), u64::from(flags), place, 0, 0, 0];
+    number_call(words, k, CLOCK_NANOSLEEP, args, mem, dev, log)
+}
