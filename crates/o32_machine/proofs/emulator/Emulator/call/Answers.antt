@@ -1,6 +1,14 @@
 -- The call at the machine's time.
-use Rattle.o32_machine.proofs.Turning.{call_stopped_here, call_went}
+use Rattle.outside.specs.Streams.{contents}
+use Rattle.o32_machine.proofs.Turning.{call_stopped_here, call_went, fails_before}
+use Rattle.o32_machine.specs.Emulator.{machine_at}
+use Rattle.o32_model.specs.Turn.{at_time, called}
 use Rattle.o32_machine.proofs.emulator.Emulator.call.Goals as goal
+
+pub returns-in_err-advance-clause-turn : goal.returns-in_err-advance-clause-turn
+returns-in_err-advance-clause-turn g c = λ left told.
+    fails_before (at_time c.args.self.now.machine.kernel.clock (called c.args.self.now.machine left)) c.from_residual.result (machine_at c.self.inside.clock c.advance.new.self)
+    (contents g.I.Source.left g.O.Sink.written g.E.Sink.written c.args.dev.now) c.from_residual.ensures.0
 
 pub returns-in_err-turn-clause-turn : goal.returns-in_err-turn-clause-turn
 returns-in_err-turn-clause-turn g c = λ left told.
