@@ -54,18 +54,51 @@ fn refused_words(rt: HostRuntime) -> Result<(), Fail> {
 
 #[test]
 fn refused_names(rt: HostRuntime) -> Result<(), Fail> {
-    let rows: [(&[&str], usize); 14] = [
+    let rows: [(&[&str], usize); 20] = [
         (&["run", "--image"], 2),
+        (&["run", "--schedule"], 2),
+        (&["run", "--schedule", "", "p"], 2),
         (&["run", "--save"], 2),
         (&["run", "--image", "", "p"], 2),
         (&["run", "--save", "", "p"], 2),
         (&["run", "--image", "a\0", "p"], 2),
         (&["run", "--save", "a\0", "p"], 2),
         (&["run", "--image", "i", "--image", "j", "p"], 3),
+        (
+            &["run", "--schedule", "i", "--schedule", "j", "p"],
+            3,
+        ),
         (&["run", "--save", "s", "--save", "t", "p"], 3),
         (&["run", "--image", "x", "--save", "x", "p"], 4),
         (
             &["run", "--save", "x", "--budget", "1", "--image", "x", "p"],
+            6,
+        ),
+        (&["run", "--schedule", "x", "--save", "x", "p"], 4),
+        (
+            &[
+                "run",
+                "--save",
+                "x",
+                "--schedule",
+                "x",
+                "--image",
+                "x",
+                "p",
+            ],
+            4,
+        ),
+        (
+            &[
+                "run",
+                "--image",
+                "x",
+                "--schedule",
+                "x",
+                "--save",
+                "x",
+                "p",
+            ],
             6,
         ),
         (&["run", "--save", "p", "p"], 3),
