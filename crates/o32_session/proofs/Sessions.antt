@@ -220,7 +220,7 @@ opens files (Some name) opened has is = opens_by files name is.0 opened is.1 has
 -- where the answer is that of this run
 run_end_of : (quantum : ℕ) (machine : Machine) (budget : ℕ) (names : Names) (old new : Seen) (turns : ℕ) (end : End) (host : Option Emulated) (left : List ℕ) → old.left ≡ Some left →
     Answers (Run quantum machine budget) names old new turns end host → (end ≡ ReadFault → ⊥) → (Rose old.store.write_faults new.store.write_faults → ⊥) →
-    (Rose old.out_faults new.out_faults → ⊥) → (Rose old.err_faults new.err_faults → ⊥) → (end ≡ NoMemory) ⊎ IsRunEnd machine left budget turns end
+    (Rose old.out_faults new.out_faults → ⊥) → (Rose old.err_faults new.err_faults → ⊥) → (end ≡ NoMemory) ⊎ IsRunEnd quantum machine left budget turns end
 run_end_of quantum machine budget names old new turns (Exited status) host left told answer read file out err = inr (answer.told left told).over
 run_end_of quantum machine budget names old new turns (Killed signal) host left told answer read file out err = inr (answer.told left told).over
 run_end_of quantum machine budget names old new turns Budget host left told answer read file out err = inr (answer.told left told).over
@@ -228,7 +228,7 @@ run_end_of quantum machine budget names old new turns Blocked host left told ans
 run_end_of quantum machine budget names old new turns (Refused given) host left told answer read file out err = absurd answer
 run_end_of quantum machine budget names old new turns ReadFault host left told answer read file out err = absurd (read refl)
 run_end_of quantum machine budget names old new turns WriteFault host left told answer read file out err =
-    elim answer as (λ _. (WriteFault ≡ NoMemory) ⊎ IsRunEnd machine left budget turns WriteFault) [
+    elim answer as (λ _. (WriteFault ≡ NoMemory) ⊎ IsRunEnd quantum machine left budget turns WriteFault) [
       | inl in_run ↦ absurd (elim in_run.1 [ inl rose ↦ out rose | inr rose ↦ err rose ])
       | inr at_save ↦ absurd (file at_save.1)
     ]

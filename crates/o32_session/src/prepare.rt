@@ -78,8 +78,9 @@ fn machine_of_plan(
     ensures save { IfOk result (λ ready. ready.save ≡ line.save) }
     ensures reason { IfErr result (IsStartReason (asked_of_schedule (texts args.now) (line_seen line) plan.now tree schedule)) }
 {
+    let environment = line.environment.as_slice();
     let chance = stack_chance(schedule.random.as_slice());
-    let start = build(alloc, plan, args, line.environment.as_slice(), chance)?;
+    let start = build(alloc, plan, args, environment, chance)?;
     Ok(Ready {
         emulator: Emulator::new(alloc, start, tree, schedule)?,
         budget: line.budget,
