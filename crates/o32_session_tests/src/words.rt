@@ -64,10 +64,7 @@ fn refused_names(rt: HostRuntime) -> Result<(), Fail> {
         (&["run", "--image", "a\0", "p"], 2),
         (&["run", "--save", "a\0", "p"], 2),
         (&["run", "--image", "i", "--image", "j", "p"], 3),
-        (
-            &["run", "--schedule", "i", "--schedule", "j", "p"],
-            3,
-        ),
+        (&["run", "--schedule", "i", "--schedule", "j", "p"], 3),
         (&["run", "--save", "s", "--save", "t", "p"], 3),
         (&["run", "--image", "x", "--save", "x", "p"], 4),
         (
@@ -76,29 +73,11 @@ fn refused_names(rt: HostRuntime) -> Result<(), Fail> {
         ),
         (&["run", "--schedule", "x", "--save", "x", "p"], 4),
         (
-            &[
-                "run",
-                "--save",
-                "x",
-                "--schedule",
-                "x",
-                "--image",
-                "x",
-                "p",
-            ],
+            &["run", "--save", "x", "--schedule", "x", "--image", "x", "p"],
             4,
         ),
         (
-            &[
-                "run",
-                "--image",
-                "x",
-                "--schedule",
-                "x",
-                "--save",
-                "x",
-                "p",
-            ],
+            &["run", "--image", "x", "--schedule", "x", "--save", "x", "p"],
             6,
         ),
         (&["run", "--save", "p", "p"], 3),
