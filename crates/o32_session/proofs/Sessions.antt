@@ -23,7 +23,7 @@ use Rattle.start_stack.specs.Stack.{start_size, start_limit}
 use Rattle.o32_machine.specs.Emulator.{Emulated}
 use Rattle.o32_model.specs.Turn.{Machine}
 use Rattle.o32_session.specs.Answers.{IsRefusal}
-use Rattle.o32_session.specs.Asked.{Asked, Refuse, Run, Names, names_of, Found, Bytes, found_at, IsOpened, IsOpenedBy, AsksOf, AsksOfPlan, AsksUnless, AsksFor, IsScheduled, arguments_of, asked_of_schedule, asked_of_tree, first_machine, empty_schedule, empty_tree, image_limit, schedule_limit, schedule_of_found, schedule_of_text}
+use Rattle.o32_session.specs.Asked.{Asked, Refuse, Run, Names, names_of, Found, Bytes, found_at, IsOpened, IsOpenedBy, AsksOf, AsksOfPlan, AsksUnless, AsksFor, IsScheduled, arguments_of, asked_of_schedule, asked_of_tree, first_machine, empty_tree, image_limit, schedule_of_found}
 use Rattle.o32_session.specs.Saved.{SavesTree, SavesTreeInPart, Stored, after_turned, turned_by}
 use Rattle.o32_session.specs.Session.{Seen, DoesNothing, Answers, final_tree, IsEarly, Finishes, IsRun, IsPartOfRun, StopsAtSave, no_names, AnswersReading, AsksForRun, EndsAsRun, HasImage, HasSchedule, IsRunEnd}
 use Rattle.o32_session.specs.Words.{Line, Reading, Asks, WrongAt, read_words, word_at}
