@@ -8,3 +8,4 @@ pub mod SavedFiles
 pub mod Reading
 pub mod Budgets
 pub mod Saves
+pub mod Chance

@@ -25,7 +25,7 @@ pub(crate) fn run<I: Source, O: Sink, E: Sink>(
 ) -> Ran
     requires fresh { IsFresh emulator.old }
     requires budget { budget ≤ 1_000_000_000_000 }
-    ensures run { RunsAs emulator.old.machine budget result.turns result.end
+    ensures run { RunsAs emulator.old.quantum emulator.old.machine budget result.turns result.end
         (contents I.left O.written E.written dev.old) (contents I.left O.written E.written dev.new) emulator.new.machine }
     ensures within { WithinBudget result.end result.turns budget }
     ensures turns { emulator.new.turns ≡ result.turns }
