@@ -3,5 +3,7 @@ pub mod LimitMirrors
 pub mod Numbering
 pub mod PlainCalls
 pub mod PlainRows
+pub mod Quieting
+pub mod Stepping
 pub mod TellMirrors
 pub mod Turning

@@ -180,7 +180,7 @@ module _ (emulated : Emulated) (clock quantum turns : ℕ) (over : Bool) (machin
     (is : record { machine = machine_at clock machine; quantum = quantum; turns = turns; over = over } ≡ emulated)
     (advanced_is : advanced ≡ record machine { kernel = advance machine.kernel clock false }) where
   module _ (taken : Machine) (awake : is_blocked machine ≡ false) (taken_is : taken ≡ record advanced { fault = None }) where
-    killed_of : (signal : Sig) (number : ℕ) (at : Contents) (left : List ℕ) → advanced.fault ≡ Some signal → number ≡ o32_signal signal → at.left ≡ Some left
+    pub killed_of : (signal : Sig) (number : ℕ) (at : Contents) (left : List ℕ) → advanced.fault ≡ Some signal → number ≡ o32_signal signal → at.left ≡ Some left
         → Turned (attempt_of quantum (machine_at clock machine) left) (Ended (Killed number)) (machine_at clock taken) at at
     killed_of signal number at left fault number_is told =
         let ends_so = kills clock machine quantum left awake signal (sym (ap (λ (m : Machine). m.fault) advanced_is) ∙ fault) in

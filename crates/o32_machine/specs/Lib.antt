@@ -1,3 +1,4 @@
 pub mod Answered
 pub mod Emulator
+pub mod Quiet
 pub mod inside

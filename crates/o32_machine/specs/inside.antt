@@ -1,4 +1,5 @@
 pub mod Finishing
 pub mod Limits
 pub mod Plain
+pub mod Stepping
 pub mod Tells

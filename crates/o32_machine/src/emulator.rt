@@ -1,5 +1,5 @@
 //! An emulator: a process, its clock and the turns that it took.
-ghost use Rattle.std.specs.Prelude.{◌≡◌, ◌↔◌, ◌+◌, ◌<◌, ℕ, Contains, false, true, IfOk, None, OnErr};
+ghost use Rattle.std.specs.Prelude.{◌≡◌, ◌↔◌, ◌+◌, ◌*◌, ◌^◌, ◌<◌, ◌≤◌, ℕ, Contains, false, true, IfOk, None, OnErr};
 ghost use Rattle.kernel_core.specs.LoadedTree.{saved};
 ghost use Rattle.kernel_core.specs.ValidTree.{IsReached, IsValidTree, numbers};
 ghost use Rattle.kernel_model.specs.Begin.{first_state};
@@ -8,6 +8,7 @@ ghost use Rattle.kernel_model.specs.Stops.{StopsOnlyIfRose};
 ghost use Rattle.native_kernel.specs.Settings.{settings_of};
 ghost use Rattle.o32_machine.specs.Answered.{IsTurn, attempt_of, is_last, turns_done};
 ghost use Rattle.o32_machine.specs.Emulator.{first_emulated, first_machine, runs};
+ghost use Rattle.o32_machine.specs.Quiet.{IsTurnAfter};
 ghost use Rattle.o32_model.specs.Turn.{at_time, called, is_blocked};
 ghost use Rattle.outside.specs.Streams.{NoCountFell, contents};
 ghost use Rattle.schedule.specs.Ranges.{IsGivenSchedule};
@@ -103,37 +104,68 @@ impl Emulator {
         ensures cause { StopsOnlyIfRose I.faults O.faults E.faults result dev.old dev.new }
         ensures counts { NoCountFell I.faults O.faults E.faults dev.old dev.new }
     {
-        let result = self.attempt(dev);
+        self.next_turns(1, dev)
+    }
+
+    /// Takes turns, at least one and at most `limit`, up to the first that makes a call, meets a fault or ends the
+    /// process. It answers for the last of them, as `turn` does; those before it are quiet: they take nothing of the
+    /// input and send nothing.
+    ///
+    /// # Errors
+    ///
+    /// As those of a turn. The turns before the one that isn't finished count.
+    pub fn next_turns<I: Source, O: Sink, E: Sink>(
+        &mut self,
+        limit: u64,
+        dev: &mut Devices<I, O, E>,
+    ) -> Result<Turn, Stop>
+        requires on { self.old.over ≡ false }
+        requires some { 0 < limit }
+        requires few { self.old.turns + limit ≤ 1_000_000_000_000 }
+        ensures turns { IsTurnAfter self.old.quantum limit self.old.machine self.old.turns result self.new.machine self.new.turns
+            (contents I.left O.written E.written dev.old) (contents I.left O.written E.written dev.new) }
+        ensures quantum { self.new.quantum ≡ self.old.quantum }
+        ensures over { self.new.over ≡ is_last result }
+        ensures cause { StopsOnlyIfRose I.faults O.faults E.faults result dev.old dev.new }
+        ensures counts { NoCountFell I.faults O.faults E.faults dev.old dev.new }
+    {
+        let result = self.attempt(limit, dev);
         if !matches!(result, Ok(Turn::Went)) {
             self.over = true;
         }
         result
     }
 
-    /// The same, but for whether a further turn follows.
+    /// The same, but for whether a further turn follows. The clock of the kernel is moved once, before the last turn:
+    /// a timer that goes off more than once before its signal is taken posts it once.
     fn attempt<I: Source, O: Sink, E: Sink>(
         &mut self,
+        limit: u64,
         dev: &mut Devices<I, O, E>,
     ) -> Result<Turn, Stop>
-        requires few { self.old.turns < 1_000_000_000_000 }
-        ensures turn { IsTurn (attempt_of self.old.quantum self.old.machine) result self.new.machine
+        requires some { 0 < limit }
+        requires few { self.old.turns + limit ≤ 1_000_000_000_000 }
+        ensures turns { IsTurnAfter self.old.quantum limit self.old.machine self.old.turns result self.new.machine self.new.turns
             (contents I.left O.written E.written dev.old) (contents I.left O.written E.written dev.new) }
         ensures quantum { self.new.quantum ≡ self.old.quantum }
-        ensures turns { self.new.turns ≡ self.old.turns + turns_done result }
         ensures over { self.new.over ≡ self.old.over }
-        ensures awake { OnErr result (is_blocked self.old.machine ≡ false) }
         ensures cause { StopsOnlyIfRose I.faults O.faults E.faults result dev.old dev.new }
         ensures counts { NoCountFell I.faults O.faults E.faults dev.old dev.new }
     {
         if self.process.waits() {
             return Ok(Turn::Ended(Finish::Blocked));
         }
-        self.process.advance(self.clock)?;
         if let Some(signal) = self.process.take_fault() {
+            self.process.advance(self.clock)?;
             self.turns += 1;
             return Ok(Turn::Ended(Finish::Killed(signal.to_o32() as u8)));
         }
-        let turn = self.process.execute(dev)?;
+        let ran = self.process.run(limit - 1);
+        self.clock = later(self.clock, self.quantum, ran.quiet);
+        self.turns += ran.quiet;
+        let came = ran.came?;
+        self.process.advance(self.clock)?;
+        let turn = self.process.end_turn(came, dev)?;
         self.clock += self.quantum;
         self.turns += 1;
         Ok(turn)
@@ -196,4 +228,15 @@ impl Emulator {
     {
         self.process.tree()
     }
+}
+
+/// The clock's time, in nanoseconds, after so many turns with an instruction.
+#[inline]
+fn later(clock: u64, quantum: u64, turns: u64) -> u64
+    requires quantum { quantum ≤ 1_000_000 }
+    requires clock { clock + 1_000_000 * turns < 2 ^ 64 }
+    ensures time { result ≡ clock + turns * quantum }
+    ensures bound { result ≤ clock + 1_000_000 * turns }
+{
+    clock + turns * quantum
 }

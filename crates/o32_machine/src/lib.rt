@@ -10,6 +10,7 @@ mod numbers;
 mod plain;
 mod process;
 mod rlimit;
+mod running;
 mod small;
 mod telling;
 mod turn;

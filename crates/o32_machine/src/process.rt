@@ -1,5 +1,5 @@
 //! The process of an o32 program: its processor and memory, and the kernel that it calls.
-ghost use Rattle.std.specs.Prelude.{◌≡◌, ◌↔◌, ℕ, Contains, false, if◌then◌else◌, IfOk, None, OnOk};
+ghost use Rattle.std.specs.Prelude.{◌≡◌, ◌≤◌, ◌↔◌, ℕ, Contains, false, if◌then◌else◌, IfOk, None, OnOk};
 ghost use Rattle.kernel_core.specs.LoadedTree.{saved};
 ghost use Rattle.kernel_core.specs.ValidTree.{IsReached, IsValidTree, numbers};
 ghost use Rattle.kernel_model.specs.SignalRows as signals;
@@ -7,17 +7,19 @@ ghost use Rattle.kernel_model.specs.Stops.{StopsOnlyIfRose};
 ghost use Rattle.o32_machine.specs.Answered.{IsTurn, over_of, turns_of};
 ghost use Rattle.o32_machine.specs.Emulator.{first_machine};
 ghost use Rattle.o32_machine.specs.inside.Finishing.{finished};
-ghost use Rattle.o32_model.specs.Turn.{called, executed, is_blocked};
+ghost use Rattle.o32_machine.specs.inside.Stepping.{GoesThen};
+ghost use Rattle.o32_model.specs.Turn.{after_step, called, is_blocked};
 ghost use Rattle.o32_model.specs.Words.{with_result};
 ghost use Rattle.outside.specs.Streams.{NoCountFell, contents};
 
 use crate::calls::make_call;
+use crate::running::{Ran, run};
 use crate::turn::Turn;
 use bridge_mem::args;
 use guest_space::Space;
 use host_mem::HostMem;
 use kernel_core::{Finish, NoMemory, Sig, Stop, Tree};
-use mips_exec::{Cpu, Stepped, step};
+use mips_exec::{Cpu, Stepped};
 use native_kernel::NativeKernel;
 use number_tables::O32Number;
 use o32_model::{Log, Outcome, Seen, Wait};
@@ -115,20 +117,31 @@ impl Process {
         fault
     }
 
-    /// Carries out one instruction, with its call.
-    pub(crate) fn execute<I: Source, O: Sink, E: Sink>(
+    /// Carries out instructions, one after the other: at most `most` that make no call and meet no fault, and one
+    /// more, whose call is not yet made.
+    pub(crate) fn run(&mut self, most: u64) -> Ran
+        ensures last { GoesThen result.quiet self.old.processor self.old.memory result.came self.new.processor self.new.memory }
+        ensures few { result.quiet ≤ most }
+        ensures others { self.new ≡ record self.old { processor = self.new.processor; memory = self.new.memory } }
+    {
+        run(&mut self.cpu, &mut self.space, most)
+    }
+
+    /// Ends a turn whose instruction was just executed and came to this: makes its call, or keeps its fault.
+    pub(crate) fn end_turn<I: Source, O: Sink, E: Sink>(
         &mut self,
+        came: Stepped,
         dev: &mut Devices<I, O, E>,
     ) -> Result<Turn, Stop>
         requires wait { self.old.wait ≡ None }
         requires fault { self.old.fault ≡ None }
-        ensures turn { IsTurn (executed self.old) result self.new
+        ensures turn { IsTurn (λ left. after_step self.old.processor self.old.memory self.old.kernel left came) result self.new
             (contents I.left O.written E.written dev.old) (contents I.left O.written E.written dev.new) }
         ensures counted { IfOk result (λ turn. turns_of turn ≡ 1) }
         ensures cause { StopsOnlyIfRose I.faults O.faults E.faults result dev.old dev.new }
         ensures counts { NoCountFell I.faults O.faults E.faults dev.old dev.new }
     {
-        match step(&mut self.cpu, &mut self.space)? {
+        match came {
             Stepped::Next => Ok(Turn::Went),
             Stepped::Syscall => self.call(dev),
             Stepped::Fault { sig, .. } => {
