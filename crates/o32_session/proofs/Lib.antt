@@ -9,3 +9,4 @@ pub mod Reading
 pub mod Budgets
 pub mod Saves
 pub mod Chance
+pub mod QuietTurns

@@ -137,9 +137,23 @@ fn budgets(rt: HostRuntime) -> Result<(), Fail> {
 }
 
 #[test]
-fn budgets_at_other_ends(rt: HostRuntime) -> Result<(), Fail> {
+fn budgets_of_a_fault(rt: HostRuntime) -> Result<(), Fail> {
     let alloc = rt.alloc();
     let faults = one_page(alloc, &[BREAK])?;
+    let of_1 = ["run", "--budget", "1", "p"];
+    let of_2 = ["run", "--budget", "2", "p"];
+    // The fault of the last turn kills in no further one.
+    let rows: [Run; 2] = [
+        (&of_1, &faults, End::Budget, 124, 1, b"", b""),
+        (&of_2, &faults, End::Killed(5), 133, 2, b"", b""),
+    ];
+    assert_eq!(rt; first_wrong(alloc, &rows)?, None);
+    Ok(())
+}
+
+#[test]
+fn budgets_of_a_wait(rt: HostRuntime) -> Result<(), Fail> {
+    let alloc = rt.alloc();
     let waits = [
         SET_V0 | PIPE,
         SYSCALL,
@@ -150,14 +164,10 @@ fn budgets_at_other_ends(rt: HostRuntime) -> Result<(), Fail> {
         SYSCALL,
     ];
     let blocks = one_page(alloc, &waits)?;
-    let of_1 = ["run", "--budget", "1", "p"];
-    let of_2 = ["run", "--budget", "2", "p"];
     let of_7 = ["run", "--budget", "7", "p"];
     let of_8 = ["run", "--budget", "8", "p"];
-    // The fault of the last turn kills in no further one, and no further attempt finds that the process is blocked.
-    let rows: [Run; 4] = [
-        (&of_1, &faults, End::Budget, 124, 1, b"", b""),
-        (&of_2, &faults, End::Killed(5), 133, 2, b"", b""),
+    // Behind the budget's last turn no further attempt finds that the process is blocked.
+    let rows: [Run; 2] = [
         (&of_7, &blocks, End::Budget, 124, 7, b"", b""),
         (&of_8, &blocks, End::Blocked, 123, 7, b"", b""),
     ];
