@@ -1,5 +1,5 @@
 -- Answers to the program's getdents(2), by the entries that the native call gave.
-use Rattle.std.proofs.Common.{◌≡◌, ℕ, ◌+◌, ◌*◌, ◌/◌, ◌<◌, ◌≤◌, Bool, true, false, List, [], ◌∷◌, ◌++◌, length, Option, Some, None, refl, sym, ap, subst, ◌∙◌, inl, inr, arith}
+use Rattle.std.proofs.Common.{◌≡◌, ℕ, ◌+◌, ◌*◌, ◌/◌, ◌<◌, ◌≤◌, Bool, true, false, List, [], ◌∷◌, ◌++◌, length, Option, Some, sym, ap, subst, ◌∙◌, arith}
 use Rattle.std.specs.List.{flat_map}
 use Rattle.std.specs.Prelude.{nat_lt, sum_by, if◌then◌else◌}
 use Rattle.std.proofs.lemmas.Bool.Decides.{nat_tests}
@@ -8,8 +8,7 @@ use Rattle.std.proofs.lemmas.List.Concat.{length-flat_map}
 use Rattle.kernel_core.specs.declared.error.Errno.{Errno}
 use Rattle.kernel_core.specs.declared.error.Errno.TheVariants.{EFAULT}
 use Rattle.kernel_model.specs.Came.{Came, Done, Refused}
-use Rattle.kernel_model.specs.ContentRows.{Entry, entries_refusal, fitting, position_after, record_length}
-use Rattle.layouts.specs.Dirents.{dirent64_length}
+use Rattle.kernel_model.specs.ContentRows.{Entry, fitting, position_after, record_length}
 use Rattle.native_calls.specs.Status.{entry_bytes}
 use Rattle.o32_model.specs.Entries.{entry_form}
 use Rattle.o32_model.specs.declared.call_words.CallWords.{CallWords}

@@ -9,7 +9,7 @@ use Rattle.kernel_core.specs.FileContent.{greatest_size}
 use Rattle.kernel_core.specs.FileSystem.{IsFileSystem}
 use Rattle.kernel_core.specs.declared.error.Errno.TheVariants.{EINVAL}
 use Rattle.kernel_core.specs.declared.reply.Reply.{Reply}
-use Rattle.kernel_model.specs.Came.{Came, Done, Refused, Did, came_as, done}
+use Rattle.kernel_model.specs.Came.{Came, Done, Refused, Did, came_as}
 use Rattle.kernel_model.specs.ContentRows.{Entry, seek}
 use Rattle.kernel_model.specs.Descriptions.{node_of, opened}
 use Rattle.kernel_model.specs.State.{Kernel, Files}
@@ -24,7 +24,7 @@ use Rattle.bridge_log.specs.Bounds.{Bounded}
 use Rattle.bridge_log.specs.Fills.{bytes_back}
 use Rattle.bridge_entries.proofs.Moves.{node_came, position_came, position_did, seek_is}
 use Rattle.bridge_entries.proofs.WideCalls.{Fits, listed_back, native_is, native_lists, row_fits}
-use Rattle.bridge_entries.specs.inside.Listed.{IsListedBy, did_of, listed_of, place_in, place_of, place_there}
+use Rattle.bridge_entries.specs.inside.Listed.{IsListedBy, did_of, place_in, place_of, place_there}
 use Rattle.bridge_entries.specs.inside.Passing.{IsQuiet, Replied}
 
 quiet_of : (kernel : Kernel) (memory left : List ℕ) (did : Did Files ℕ) (state : Files) (came : Came ℕ) → did ≡ record { state = state; came = came }

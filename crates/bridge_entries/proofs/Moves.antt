@@ -1,23 +1,21 @@
 -- A description's position, where it moves more than once.
-use Rattle.std.proofs.Common.{◌≡◌, ◌⊎◌, ℕ, suc, ◌+◌, ◌-◌, ◌<◌, ◌≤◌, ◌^◌, Bool, true, false, List, [], ◌∷◌, length, get_or, Option, Some, None, refl, sym, ap, subst, ◌∙◌, inl, inr, arith}
+use Rattle.std.proofs.Common.{◌≡◌, ℕ, ◌<◌, ◌≤◌, ◌^◌, Bool, true, false, List, [], ◌∷◌, length, get_or, Option, Some, None, refl, sym, ap, ◌∙◌, arith}
 use Rattle.std.specs.Int.{w64, cast_signed}
-use Rattle.std.specs.Prelude.{ℤ, pos, ◌+ℤ◌, nat_le, nat_lt, nat_abs, int_lt, not, option_and_then, option_map, slice_index_or, slice_set, sum_by, ◌||◌, if◌then◌else◌}
+use Rattle.std.specs.Prelude.{ℤ, pos, ◌+ℤ◌, nat_le, nat_lt, nat_abs, int_lt, not, option_and_then, slice_index_or, slice_set, sum_by, if◌then◌else◌}
 use Rattle.std.proofs.lemmas.Bool.Decides.{nat_tests}
 use Rattle.std.proofs.lemmas.Int.{ints}
 use Rattle.std.proofs.lemmas.List.{set-get_or, set-set, get_or-set_same, get_or_past}
-use Rattle.std.proofs.lemmas.List.Sums.{sum_by-cons}
 use Rattle.kernel_core.specs.FileContent.{greatest_size}
 use Rattle.kernel_core.specs.declared.error.Errno.{Errno}
 use Rattle.kernel_core.specs.declared.error.Errno.TheVariants.{EBADF, EFAULT, EINVAL, ESPIPE}
-use Rattle.kernel_model.specs.Came.{Came, Done, Refused, Did, done, refused, refused_by, refused_if, with_some}
+use Rattle.kernel_model.specs.Came.{Came, Done, Refused, done, refused, refused_by, refused_if, with_some}
 use Rattle.kernel_model.specs.ContentRows.{Entry, entries_refusal, fitting, give_entries, is_position, position_after, record_length, seek, seek_from}
 use Rattle.kernel_model.specs.Descriptions.{node_of, opened}
 use Rattle.kernel_model.specs.State.{Files, Descriptors}
-use Rattle.kernel_model.specs.Table.{changed_at, description_at, number_at, slot, with_description}
+use Rattle.kernel_model.specs.Table.{changed_at, number_at, slot, with_description}
 use Rattle.kernel_model.specs.Transfers.{moved_to}
 use Rattle.kernel_model.specs.declared.descriptor.Description.{Description}
-use Rattle.native_calls.specs.Status.{entry_records}
-use Rattle.bridge_entries.specs.inside.Answers.{came_by, came_of, if_room, narrow}
+use Rattle.bridge_entries.specs.inside.Answers.{came_by, came_of, narrow}
 use Rattle.bridge_entries.specs.inside.Given.{AreListed}
 use Rattle.bridge_entries.specs.inside.Listed.{listed_of}
 

@@ -1,7 +1,7 @@
 -- getdents(2) of an o32 program by native calls that take and send nothing.
-use Rattle.std.proofs.Common.{◌≡◌, ◌⊎◌, ℕ, ◌+◌, ◌<◌, ◌≤◌, ◌^◌, Bool, true, false, List, [], ◌∷◌, length, None, Some, Option, refl, sym, ap, subst, ◌∙◌, inl, inr, arith, min}
+use Rattle.std.proofs.Common.{◌≡◌, ◌⊎◌, ℕ, ◌+◌, ◌<◌, ◌≤◌, Bool, true, false, List, length, None, Some, Option, refl, sym, ap, subst, ◌∙◌, inl, inr, arith, min}
 use Rattle.std.specs.List.{flat_map}
-use Rattle.std.specs.Prelude.{nat_lt, sum_by, if◌then◌else◌}
+use Rattle.std.specs.Prelude.{nat_lt, sum_by}
 use Rattle.std.proofs.lemmas.Bool.Decides.{nat_tests}
 use Rattle.guest_space.specs.Access.{first_denied, writable_prefix}
 use Rattle.guest_space.specs.Bytes.{copied_out}
@@ -11,14 +11,13 @@ use Rattle.kernel_core.specs.FileSystem.{IsFileSystem}
 use Rattle.kernel_core.specs.declared.error.Errno.{Errno}
 use Rattle.kernel_core.specs.declared.error.Errno.TheVariants.{EFAULT}
 use Rattle.kernel_core.specs.declared.reply.Reply.{Reply}
-use Rattle.kernel_model.specs.Came.{Came, Done, Refused, Did, came_as, refused_by, refused_if, done}
+use Rattle.kernel_model.specs.Came.{Did, came_as, refused_by, refused_if, done}
 use Rattle.kernel_model.specs.ContentRows.{Entry, entries, entries_refusal, fitting, position_after, record_length}
 use Rattle.kernel_model.specs.Pipes.{nothing}
 use Rattle.kernel_model.specs.State.{Kernel, Files}
 use Rattle.kernel_model.specs.Transfers.{moved_to}
 use Rattle.kernel_model.specs.Whole.{with_files}
 use Rattle.kernel_model.specs.declared.descriptor.Description.{Description}
-use Rattle.mips_exec.specs.Processor.{Processor}
 use Rattle.o32_model.specs.Answered as o32
 use Rattle.o32_model.specs.Effects.{Effected}
 use Rattle.o32_model.specs.Entries.{entry_form, getdents_row}
@@ -27,7 +26,6 @@ use Rattle.o32_model.specs.Logs.{Kept}
 use Rattle.o32_model.specs.Step as o32_step
 use Rattle.o32_model.specs.Step.{Guest, O32Step}
 use Rattle.o32_model.specs.declared.call_words.CallWords.{CallWords}
-use Rattle.o32_model.specs.declared.outcome.Outcome.{Outcome}
 use Rattle.outside.specs.Streams.{Contents}
 use Rattle.bridge_log.proofs.Filling.{stored_is}
 use Rattle.bridge_log.specs.Bounds.{Bounded}
@@ -38,7 +36,7 @@ use Rattle.bridge_entries.proofs.Quietly.{Silent, passed_called, passed_keeps, p
 use Rattle.bridge_entries.proofs.WideCalls.{given_is}
 use Rattle.bridge_entries.specs.declared.answers.Answer.{Answer}
 use Rattle.bridge_entries.specs.inside.Answers.{IsGiven, narrow}
-use Rattle.bridge_entries.specs.inside.Listed.{IsListedBy, did_of, listed_of}
+use Rattle.bridge_entries.specs.inside.Listed.{IsListedBy, did_of}
 use Rattle.bridge_entries.specs.inside.Passing.{Passed}
 
 -- One call after the other

@@ -1,15 +1,13 @@
 -- How many entries the program's getdents(2) gives, by what the native call gave with enough room.
-use Rattle.std.proofs.Common.{◌≡◌, ◌⊎◌, ℕ, ◌+◌, ◌-◌, ◌*◌, ◌/◌, ◌<◌, ◌≤◌, ◌^◌, Bool, true, false, List, [], ◌∷◌, length, min, Option, Some, None, refl, sym, ap, subst, ◌∙◌, inl, inr, arith}
+use Rattle.std.proofs.Common.{◌≡◌, ◌⊎◌, ℕ, ◌+◌, ◌-◌, ◌*◌, ◌/◌, ◌<◌, ◌≤◌, Bool, true, false, List, [], ◌∷◌, length, Option, Some, None, refl, sym, ap, subst, ◌∙◌, inl, inr, arith}
 use Rattle.std.specs.Prelude.{◌||◌, nat_lt, sum_by, if◌then◌else◌}
 use Rattle.std.proofs.lemmas.Bool.Decides.{nat_tests}
 use Rattle.std.proofs.lemmas.List.Sums.{sum_by-cons}
 use Rattle.kernel_core.specs.declared.error.Errno.{Errno}
 use Rattle.kernel_core.specs.declared.error.Errno.TheVariants.{EFAULT, EINVAL, EOVERFLOW}
-use Rattle.kernel_model.specs.Came.{Came, Done, Refused}
-use Rattle.kernel_model.specs.ContentRows.{Entry, entries_refusal, fitting, is_above, position_after, record_length}
-use Rattle.layouts.specs.Dirents.{dirent_length, dirent64_length}
+use Rattle.kernel_model.specs.Came.{Done, Refused}
+use Rattle.kernel_model.specs.ContentRows.{Entry, entries_refusal, fitting, is_above, record_length}
 use Rattle.native_calls.specs.Status.{entry_records}
-use Rattle.o32_model.specs.Entries.{entry_form}
 use Rattle.bridge_entries.specs.inside.Given.{AreListed, IsListed}
 use Rattle.bridge_entries.specs.inside.Answers.{came_by, came_of, if_room, narrow}
 

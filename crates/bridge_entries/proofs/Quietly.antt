@@ -19,7 +19,7 @@ use Rattle.o32_model.specs.declared.outcome.Outcome.{Outcome}
 use Rattle.outside.specs.Output.{GainsText, GainsBetween, with_text}
 use Rattle.outside.specs.Streams.{Contents}
 use Rattle.outside.proofs.OutputLemmas.{GainsText-nothing, GainsBetween-nothing}
-use Rattle.bridge_log.proofs.Histories.{logged_none, logged_then}
+use Rattle.bridge_log.proofs.Histories.{logged_then}
 use Rattle.bridge_log.specs.Keeping.{Logged, Keeps, reached}
 use Rattle.bridge_entries.specs.inside.Passing.{IsQuiet, Passed, Went, Replied}
 

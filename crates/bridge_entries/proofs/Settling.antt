@@ -18,10 +18,8 @@ use Rattle.kernel_model.specs.Whole.{on_files, with_files}
 use Rattle.kernel_model.specs.declared.descriptor.Description.{Description}
 use Rattle.native_calls.specs.Status.{entry_bytes, entry_records}
 use Rattle.native_calls.specs.Step as native_step
-use Rattle.o32_model.specs.Entries.{entry_form}
 use Rattle.o32_model.specs.Step as o32_step
 use Rattle.o32_model.specs.declared.call_words.CallWords.{CallWords}
-use Rattle.o32_model.specs.declared.outcome.Outcome.{Outcome}
 use Rattle.bridge_log.proofs.Replies.{outcome_of_failure}
 use Rattle.bridge_log.specs.Fills.{bytes_back}
 use Rattle.bridge_log.specs.Outcomes.{outcome_of}
@@ -29,7 +27,7 @@ use Rattle.bridge_entries.proofs.EntriesFound.{Gives, Refuses, found_at, fitting
 use Rattle.bridge_entries.proofs.Moves.{moved_nowhere, moved_twice, narrow_gives, opened_moved, position_small}
 use Rattle.bridge_entries.proofs.Narrowing.{came_again, came_asked, came_refused}
 use Rattle.bridge_entries.specs.declared.answers.Answer.{Answer}
-use Rattle.bridge_entries.specs.inside.Answers.{IsAnswer, IsGiven, came_by, came_of, if_room, narrow}
+use Rattle.bridge_entries.specs.inside.Answers.{IsAnswer, IsGiven, came_by, came_of, narrow}
 use Rattle.bridge_entries.specs.inside.Given.{AreListed}
 use Rattle.bridge_entries.specs.inside.Listed.{IsListedBy, did_of, listed_of, place_of, place_there}
 

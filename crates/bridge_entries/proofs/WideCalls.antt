@@ -21,7 +21,6 @@ use Rattle.kernel_model.specs.ContentRows.{Entry, entries, entries_refusal, fitt
 use Rattle.kernel_model.specs.Pipes.{nothing}
 use Rattle.kernel_model.specs.State.{Kernel, Files}
 use Rattle.kernel_model.specs.Transfers.{moved_to}
-use Rattle.kernel_model.specs.Whole.{on_files}
 use Rattle.mips_exec.specs.Processor.{Processor}
 use Rattle.native_calls.specs.Answered as native_answered
 use Rattle.native_calls.specs.History.{moment, opening}

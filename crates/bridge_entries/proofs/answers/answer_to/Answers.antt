@@ -1,5 +1,5 @@
 -- The first entry decides, and then those that fit.
-use Rattle.std.proofs.Common.{◌≡◌, ℕ, ◌∷◌, List, length, Some, None, sym, subst, ◌∙◌, rules}
+use Rattle.std.proofs.Common.{◌≡◌, ◌∷◌, List, length, Some, None, sym, subst, rules}
 use Rattle.std.proofs.lemmas.List.{nil_from_length}
 use Rattle.kernel_model.specs.Came.{Came}
 use Rattle.kernel_model.specs.ContentRows.{Entry}

@@ -1,5 +1,5 @@
 -- The records that fit, or no room for them.
-use Rattle.std.proofs.Common.{◌≡◌, ℕ, ◌<◌, ◌≤◌, List, length, Some, ap, arith, rules}
+use Rattle.std.proofs.Common.{◌≡◌, ◌<◌, ◌≤◌, List, length, Some, ap, arith, rules}
 use Rattle.kernel_core.specs.declared.error.Errno.TheVariants.{EFAULT}
 use Rattle.kernel_model.specs.ContentRows.{Entry, fitting}
 use Rattle.o32_model.specs.declared.outcome.Outcome.TheVariants.{Value}

@@ -1,5 +1,5 @@
 -- The position is known, the entries are listed, and the position is put where it has to be.
-use Rattle.std.proofs.Common.{◌≡◌, ◌⊎◌, ◌≤◌, ◌+◌, ◌*◌, ◌<◌, ◌^◌, ℕ, None, Some, Option, inl, inr, refl, sym, ap, subst, ◌∙◌, arith, min}
+use Rattle.std.proofs.Common.{◌≡◌, ◌⊎◌, ◌*◌, ◌<◌, ◌^◌, ℕ, None, Some, inl, inr, sym, ap, subst, ◌∙◌}
 use Rattle.kernel_core.specs.FileSystem.{IsFileSystem}
 use Rattle.kernel_model.specs.Descriptions.{opened}
 use Rattle.kernel_model.specs.State.{Kernel}

@@ -1,12 +1,8 @@
 -- The answer's records go to the program's buffer.
-use Rattle.std.proofs.Common.{Option, List, refl, ap, sym, subst, ◌∙◌}
-use Rattle.kernel_core.specs.declared.record.Effect.{Effect}
+use Rattle.std.proofs.Common.{ap, ◌∙◌}
 use Rattle.kernel_model.specs.Pipes.{nothing}
-use Rattle.o32_model.specs.Effects.{Effected}
 use Rattle.o32_model.specs.Entries.{entry_form, getdents_row}
 use Rattle.o32_model.specs.GuestBytes.{with_stored}
-use Rattle.outside.specs.Streams.{contents}
-use Rattle.bridge_log.specs.Keeping.{reached}
 use Rattle.bridge_entries.proofs.NarrowCalls.{narrow_called, narrow_keeps}
 use Rattle.bridge_entries.proofs.Quietly.{silent_stop}
 use Rattle.bridge_entries.proofs.WideCalls.{answers_err}
