@@ -47,6 +47,8 @@ pub(crate) struct Process {
     kernel: NativeKernel,
     /// The memory of the host in which native calls find their buffers.
     mem: HostMem,
+    /// What gives the calls on files the memory for paths.
+    alloc: Global,
     /// The call that waits.
     wait: Option<Wait>,
     /// The signal of the fault that the last turn met.
@@ -76,6 +78,7 @@ impl Process {
             space: start.space,
             kernel,
             mem: HostMem::new(alloc),
+            alloc,
             wait: None,
             fault: None,
         }
@@ -175,6 +178,7 @@ impl Process {
             restart: None,
         };
         let outcome = make_call(
+            self.alloc,
             &words,
             &mut self.cpu,
             &mut self.space,

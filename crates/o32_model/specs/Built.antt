@@ -1,15 +1,39 @@
--- The calls that a machine makes so far: those on descriptors and what they have open, the small ones, and those on mappings. Any other number
--- is ENOSYS to it until its group is built. (That the groups come in steps is this project's own.)
-use Rattle.std.specs.Prelude.{ℕ, List, Option, None}
+-- The calls that a machine makes so far: those on descriptors and what they have open, the small ones, of those on files the ones whose numbers
+-- stand here, and those on mappings. Any other number is ENOSYS to it until its group is built. (That the groups come in steps is this
+-- project's own.)
+use Rattle.std.specs.Prelude.{ℕ, Bool, List, [], ◌∷◌, Option, None, ◌==◌, if◌then◌else◌}
+use Rattle.std.specs.List.{list_any}
 use Rattle.kernel_model.specs.State.{Kernel}
 use Rattle.o32_model.specs.Mappings.{map_calls}
 use Rattle.o32_model.specs.Small.{small_calls}
 use Rattle.o32_model.specs.Step.{Guest, O32Step, O32Call}
-use Rattle.o32_model.specs.Table.{call_in, io_call_or, step_of}
+use Rattle.o32_model.specs.Table.{call_in, file_call_or, io_call_or, step_of}
+
+-- the calls on files but getdents: link, unlink, rename, mkdir, rmdir, symlink, mkdirat, unlinkat, renameat, linkat, symlinkat; chdir, chmod, access,
+-- umask, fchmod, fsync, fchdir, fdatasync, fchmodat, faccessat, utimensat; readlink, getcwd, readlinkat; truncate, ftruncate, truncate64,
+-- ftruncate64; lseek, _llseek; open, creat, openat; stat, lstat, fstat, stat64, lstat64, fstat64, fstatat64; getdents64
+abbrev pub file_numbers : List ℕ
+file_numbers =
+    4009 ∷ 4010 ∷ 4038 ∷ 4039 ∷ 4040 ∷ 4083 ∷ 4289 ∷ 4294 ∷ 4295 ∷ 4296 ∷ 4297
+    ∷ 4012 ∷ 4015 ∷ 4033 ∷ 4060 ∷ 4094 ∷ 4118 ∷ 4133 ∷ 4152 ∷ 4299 ∷ 4300 ∷ 4316
+    ∷ 4085 ∷ 4203 ∷ 4298
+    ∷ 4092 ∷ 4093 ∷ 4211 ∷ 4212
+    ∷ 4019 ∷ 4140
+    ∷ 4005 ∷ 4008 ∷ 4288
+    ∷ 4106 ∷ 4107 ∷ 4108 ∷ 4213 ∷ 4214 ∷ 4215 ∷ 4293
+    ∷ 4219
+    ∷ []
+
+abbrev pub is_file_call_built : ℕ → Bool
+is_file_call_built number = list_any (λ (built : ℕ). number == built) file_numbers
+
+-- one of these is that of the whole table
+abbrev pub built_file_call_or : Option O32Call → ℕ → Option O32Call
+built_file_call_or otherwise number = if is_file_call_built number then file_call_or otherwise number else otherwise
 
 -- the call of a number in these groups
 abbrev pub built_of : ℕ → Option O32Call
-built_of number = io_call_or (call_in small_calls (call_in map_calls None number) number) number
+built_of number = io_call_or (call_in small_calls (built_file_call_or (call_in map_calls None number) number) number) number
 
 -- What a call does. Where there is one of its number it is that of the whole table, and any other number is ENOSYS for now.
 abbrev pub built_call : Kernel → Guest → List ℕ → O32Step

@@ -6,7 +6,7 @@ use Rattle.kernel_model.specs.Pipes.{nothing}
 use Rattle.kernel_model.specs.State.{Kernel}
 use Rattle.mips_exec.specs.Processor.{Processor}
 use Rattle.o32_model.proofs.rows.Small.{words, guest}
-use Rattle.o32_model.specs.Built.{built_of, built_call}
+use Rattle.o32_model.specs.Built.{built_of, built_call, file_numbers}
 use Rattle.o32_model.specs.Descriptors.{descriptor_calls}
 use Rattle.o32_model.specs.Mappings.{map_calls}
 use Rattle.o32_model.specs.Small.{small_calls}
@@ -41,6 +41,19 @@ small = refl
 mappings : in_built map_calls ≡ in_table map_calls
 mappings = refl
 
+-- and of the calls on files
+
+abbrev file_in_table : List ℕ → List (Option O32Call)
+file_in_table [] = []
+file_in_table (number ∷ more) = call_of number ∷ file_in_table more
+
+abbrev file_in_built : List ℕ → List (Option O32Call)
+file_in_built [] = []
+file_in_built (number ∷ more) = built_of number ∷ file_in_built more
+
+files : file_in_built file_numbers ≡ file_in_table file_numbers
+files = refl
+
 module _ (kernel : Kernel) (processor : Processor) (memory : Memory) (left : List ℕ) where
   abbrev built : ℕ → O32Step
   built number = built_call kernel (guest (words number 1 2 3 4) processor memory) left
@@ -51,19 +64,25 @@ module _ (kernel : Kernel) (processor : Processor) (memory : Memory) (left : Lis
   abbrev not_built : O32Step
   not_built = record { kernel = kernel; left = left; memory = memory; processor = processor; sent = nothing; outcome = Error ENOSYS }
 
-  -- read, getpid and munmap
+  -- read, getpid, mkdir, open and munmap
   reads : built 4003 ≡ in_full 4003
   reads = refl
 
   tells_its_number : built 4020 ≡ in_full 4020
   tells_its_number = refl
 
+  makes_directory : built 4039 ≡ in_full 4039
+  makes_directory = refl
+
+  opens : built 4005 ≡ in_full 4005
+  opens = refl
+
   unmaps : built 4091 ≡ in_full 4091
   unmaps = refl
 
-  -- open, nanosleep, kill and clock_gettime
-  opens : built 4005 ≡ not_built
-  opens = refl
+  -- getdents, nanosleep, kill and clock_gettime
+  lists : built 4141 ≡ not_built
+  lists = refl
 
   sleeps : built 4166 ≡ not_built
   sleeps = refl
