@@ -2,7 +2,7 @@
 use Rattle.std.proofs.Common.{OnOk, sym, subst, ◌∙◌}
 use Rattle.outside.specs.Streams.{contents}
 use Rattle.bridge_log.specs.Keeping.{Keeps}
-use Rattle.o32_machine.proofs.Numbering.{file_call_same, io_call_same, map_call_same}
+use Rattle.o32_machine.proofs.Numbering.{file_call_same, io_call_same, map_call_same, small_call_same}
 use Rattle.o32_machine.specs.inside.Plain.{found}
 use Rattle.o32_model.specs.Answered.{Answers}
 use Rattle.o32_model.specs.Step.{O32Step}
@@ -46,3 +46,16 @@ returns-then-is_map_call-clause-kept g c = λ left told.
     let guest = found c.args.args.now c.args.cpu.now c.args.space.now in
     subst (λ (s : O32Step). OnOk c.map_call.result (Keeps s c.args.k.now left guest c.args.log.now c.map_call.new.log))
     (map_call_same c.args.k.now guest left (sym c.is_map_call.ensures ∙ c.if-is_map_call.true)) (c.map_call.ensures.kept left told)
+
+pub returns-clause-row : goal.returns-clause-row
+returns-clause-row g c = λ left told.
+    let guest = found c.args.args.now c.args.cpu.now c.args.space.now in
+    subst (λ (s : O32Step). Answers s c.small_call.result c.small_call.new.k c.small_call.new.space c.small_call.new.cpu
+    (contents g.I.Source.left g.O.Sink.written g.E.Sink.written c.args.dev.now) (contents g.I.Source.left g.O.Sink.written g.E.Sink.written c.small_call.new.dev))
+    (small_call_same c.args.k.now guest left (sym c.is_io_call.ensures ∙ c.if-is_io_call.false) (sym c.is_file_call.ensures ∙ c.if-is_file_call.false) (sym c.is_map_call.ensures ∙ c.if-is_map_call.false)) (c.small_call.ensures.row left told)
+
+pub returns-clause-kept : goal.returns-clause-kept
+returns-clause-kept g c = λ left told.
+    let guest = found c.args.args.now c.args.cpu.now c.args.space.now in
+    subst (λ (s : O32Step). OnOk c.small_call.result (Keeps s c.args.k.now left guest c.args.log.now c.small_call.new.log))
+    (small_call_same c.args.k.now guest left (sym c.is_io_call.ensures ∙ c.if-is_io_call.false) (sym c.is_file_call.ensures ∙ c.if-is_file_call.false) (sym c.is_map_call.ensures ∙ c.if-is_map_call.false)) (c.small_call.ensures.kept left told)
