@@ -21,7 +21,6 @@ use Rattle.kernel_model.specs.ContentRows.{Entry, entries, entries_refusal, fitt
 use Rattle.kernel_model.specs.Pipes.{nothing}
 use Rattle.kernel_model.specs.State.{Kernel, Files}
 use Rattle.kernel_model.specs.Transfers.{moved_to}
-use Rattle.kernel_model.specs.Whole.{on_files}
 use Rattle.mips_exec.specs.Processor.{Processor}
 use Rattle.native_calls.specs.Answered as native_answered
 use Rattle.native_calls.specs.History.{moment, opening}
@@ -53,14 +52,10 @@ use Rattle.bridge_entries.proofs.RecordLemmas.{length-entry, length-wide}
 use Rattle.bridge_entries.specs.declared.records.Form.TheVariants.{Wide}
 use Rattle.bridge_entries.specs.declared.showing.Shown.{Shown}
 use Rattle.bridge_entries.specs.inside.Given.{AreListed}
+use Rattle.bridge_entries.specs.inside.Listed.{did_of, listed_of}
 use Rattle.bridge_entries.specs.inside.Showing.{IsShown}
 
 -- What a row gives
-
-abbrev pub listed_of : Came (List Entry) → List Entry
-listed_of (Done found) = found
-listed_of (Refused error) = []
-listed_of (Waits wake) = []
 
 abbrev room_of : List Entry → ℕ
 room_of found = sum_by (record_length entry_records) found
@@ -138,21 +133,25 @@ same_outcome words (Done found) = ap o32_step.value (length_native found ∙ sym
 same_outcome words (Refused error) = refl
 same_outcome words (Waits wake) = refl
 
-module _ (guest : Guest) (buffer : ℕ) (room left : List ℕ) (did : Did Kernel (List Entry)) where
-  abbrev pub native_lists : NativeStep
-  native_lists = native_step.fills (written room first_address) room (told_as (flat_map entry_bytes) did) left
+abbrev pub native_lists : List ℕ → List ℕ → Did Kernel (List Entry) → NativeStep
+native_lists room left did = native_step.fills (written room first_address) room (told_as (flat_map entry_bytes) did) left
 
+-- what the native call put into host memory are the entries' records
+pub listed_back : (room left : List ℕ) (did : Did Kernel (List Entry)) → Bounded (Fits (length room)) did.came → bytes_back (native_lists room left did).memory (native_lists room left did).reply ≡ flat_map entry_bytes (listed_of did.came)
+listed_back room left did fits = back_is room (came_as (flat_map entry_bytes) did.came) (native_fits (length room) did.came fits) ∙ given_is entry_bytes did.came
+
+module _ (guest : Guest) (buffer : ℕ) (room left : List ℕ) (did : Did Kernel (List Entry)) where
   abbrev pub program_lists : O32Step
   program_lists = o32_step.fills (copied_out guest.memory buffer) guest (told_as (flat_map entry64_form.bytes) did) left
 
-  pub lists_alike : Alike native_lists program_lists
+  pub lists_alike : Alike (native_lists room left did) program_lists
   lists_alike = record { kernel = refl; left = refl; sent = refl }
 
-  module _ (fits : Bounded (Fits (length room)) did.came) (reply : Reply) (became : Kernel) (after : List ℕ) (from to : Contents) (called : native_answered.Called native_lists reply became after from to) where
+  module _ (fits : Bounded (Fits (length room)) did.came) (reply : Reply) (became : Kernel) (after : List ℕ) (from to : Contents) (called : native_answered.Called (native_lists room left did) reply became after from to) where
     -- what the native call gave are the entries' records
     pub given_back : bytes_back after reply ≡ flat_map entry_bytes (listed_of did.came)
     given_back =
-        ap (λ (m : List ℕ). bytes_back m reply) called.stored ∙ ap (bytes_back native_lists.memory) called.answered
+        ap (λ (m : List ℕ). bytes_back m reply) called.stored ∙ ap (bytes_back (native_lists room left did).memory) called.answered
         ∙ back_is room (came_as (flat_map entry_bytes) did.came) (native_fits (length room) did.came fits) ∙ given_is entry_bytes did.came
 
     module _ (shown : Shown) (is : (found : List Entry) → AreListed 0 found → bytes_back after reply ≡ flat_map entry_bytes found → IsShown Wide (length room) 0 found shown) where
@@ -176,7 +175,7 @@ module _ (guest : Guest) (buffer : ℕ) (room left : List ℕ) (did : Did Kernel
             ∙ same_outcome guest.words did.came)
             lists_memory refl
 
-        pub lists_keeps : (kernel : Kernel) (before kept : Kept) → Logged before.native kept.native (opening kernel left) (moment native_lists.kernel native_lists.left native_lists.sent)
+        pub lists_keeps : (kernel : Kernel) (before kept : Kept) → Logged before.native kept.native (opening kernel left) (moment (native_lists room left did).kernel (native_lists room left did).left (native_lists room left did).sent)
             → Effected before.effects kept.effects (reached guest.processor old.pages nothing) (reached guest.processor new.pages nothing)
             → Keeps program_lists kernel left guest before kept
         lists_keeps kernel before kept logged effected =
@@ -192,16 +191,13 @@ room_is room count less = grind (arith, nat_tests, length-replicate {A = ℕ} ro
 low_same : (number : ℕ) → number < 2 ^ 32 → number % 2 ^ 32 ≡ number
 low_same number fits = omega arith
 
-abbrev pub did_of : Kernel → ℕ → ℕ → ℕ → Did Kernel (List Entry)
-did_of kernel fd size room = on_files kernel (entries kernel.files fd entry_records size room)
-
-pub native_is : (guest : Guest) (buffer : ℕ) (kernel : Kernel) (left : List ℕ) (first third fd size room : ℕ) → first ≡ fd → third ≡ size → fd < 2 ^ 32 → size < 2 ^ 32 → room ≤ size
-    → native_call 61 (first ∷ 65536 ∷ third ∷ 0 ∷ 0 ∷ 0 ∷ []) kernel (replicate room 0) left ≡ native_lists guest buffer (replicate room 0) left (did_of kernel fd size room)
+pub native_is : (kernel : Kernel) (left : List ℕ) (first third fd size room : ℕ) → first ≡ fd → third ≡ size → fd < 2 ^ 32 → size < 2 ^ 32 → room ≤ size
+    → native_call 61 (first ∷ 65536 ∷ third ∷ 0 ∷ 0 ∷ 0 ∷ []) kernel (replicate room 0) left ≡ native_lists (replicate room 0) left (did_of kernel fd size room)
 unfolding native.getdents_row
-native_is guest buffer kernel left first third fd size room first_is third_is fd_fits size_fits less =
+native_is kernel left first third fd size room first_is third_is fd_fits size_fits less =
     let e1 : first % 2 ^ 32 ≡ fd = ap (λ (n : ℕ). n % 2 ^ 32) first_is ∙ low_same fd fd_fits in
     let e3 : third % 2 ^ 32 ≡ size = ap (λ (n : ℕ). n % 2 ^ 32) third_is ∙ low_same size size_fits in
-    ap (λ (d : Did Kernel (List Entry)). native_lists guest buffer (replicate room 0) left d)
+    ap (λ (d : Did Kernel (List Entry)). native_lists (replicate room 0) left d)
     (ap (λ (n : ℕ). did_of kernel n (third % 2 ^ 32) (host.accessible (replicate room 0) 65536 (third % 2 ^ 32))) e1
     ∙ ap (λ (n : ℕ). did_of kernel fd n (host.accessible (replicate room 0) 65536 n)) e3
     ∙ ap (λ (n : ℕ). did_of kernel fd size n) (room_is room size less))
@@ -237,10 +233,10 @@ module _ (guest : Guest) (kernel : Kernel) (fd buffer size first third w : ℕ) 
   abbrev pub row_of : O32Step
   row_of = getdents_row entry64_form kernel guest fd buffer size left
 
-  native_lists_is : native_of ≡ native_lists guest buffer zeros left did
+  native_lists_is : native_of ≡ native_lists zeros left did
   native_lists_is =
       ap (λ (m : List ℕ). native_call 61 (first ∷ 65536 ∷ third ∷ 0 ∷ 0 ∷ 0 ∷ []) kernel m left) asks.zeros
-      ∙ native_is guest buffer kernel left first third fd size w asks.first_is asks.third_is asks.fd_fits asks.size_fits asks.less
+      ∙ native_is kernel left first third fd size w asks.first_is asks.third_is asks.fd_fits asks.size_fits asks.less
 
   row_lists_is : row_of ≡ program_lists guest buffer zeros left did
   row_lists_is =
@@ -256,12 +252,12 @@ module _ (guest : Guest) (kernel : Kernel) (fd buffer size first third w : ℕ) 
   pub wide_alike : Alike native_of row_of
   wide_alike =
       subst (λ (s : NativeStep). Alike s row_of) (sym native_lists_is)
-      (subst (λ (s : O32Step). Alike (native_lists guest buffer zeros left did) s) (sym row_lists_is) (lists_alike guest buffer zeros left did))
+      (subst (λ (s : O32Step). Alike (native_lists zeros left did) s) (sym row_lists_is) (lists_alike guest buffer zeros left did))
 
   module _ (reply : Reply) (became : Kernel) (after : List ℕ) (from to : Contents) (called : native_answered.Called native_of reply became after from to)
       (shown : Shown) (is : (found : List Entry) → AreListed 0 found → bytes_back after reply ≡ flat_map entry_bytes found → IsShown Wide w 0 found shown)
       (new : Memory) (stored : new ≡ with_stored old buffer shown.bytes.items) where
-    called_there : native_answered.Called (native_lists guest buffer zeros left did) reply became after from to
+    called_there : native_answered.Called (native_lists zeros left did) reply became after from to
     called_there = subst (λ (s : NativeStep). native_answered.Called s reply became after from to) native_lists_is called
 
     is_there : (found : List Entry) → AreListed 0 found → bytes_back after reply ≡ flat_map entry_bytes found → IsShown Wide (length zeros) 0 found shown

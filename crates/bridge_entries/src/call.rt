@@ -8,7 +8,7 @@ ghost use Rattle.o32_model.specs.Answered.{IsCall};
 ghost use Rattle.o32_model.specs.Table.{o32_call};
 ghost use Rattle.outside.specs.Streams.{NoCountFell, contents};
 
-use crate::listing::getdents64;
+use crate::listing::{getdents, getdents64};
 use guest_space::Space;
 use host_mem::HostMem;
 use kernel_core::Stop;
@@ -18,8 +18,8 @@ use o32_model::{CallWords, Log, Outcome, Seen};
 use outside::{Devices, Sink, Source};
 use std::alloc::Global;
 
-/// Makes a call of the program on the entries of a directory, by its words: getdents64(2). It stops early for
-/// want of memory, or by a device.
+/// Makes a call of the program on the entries of a directory, by its words: getdents(2) or getdents64(2). It stops
+/// early for want of memory, or by a device.
 pub fn entries_call<I: Source, O: Sink, E: Sink>(
     alloc: Global,
     args: &CallWords,
@@ -40,5 +40,8 @@ pub fn entries_call<I: Source, O: Sink, E: Sink>(
     ensures counts { NoCountFell I.faults O.faults E.faults dev.old dev.new }
 {
     let [fd, buffer, size, _] = args.reg;
-    getdents64(alloc, args, fd, buffer, size, space, k, mem, dev, log)
+    match args.nr {
+        4141 => getdents(alloc, args, fd, buffer, size, space, k, mem, dev, log),
+        _ => getdents64(alloc, args, fd, buffer, size, space, k, mem, dev, log),
+    }
 }

@@ -19,7 +19,7 @@ pub(crate) struct Shown {
     /// The cookie of the last of them, or the position at first.
     pub(crate) cookie: u64,
     /// For how many bytes there is room behind them.
-    left: usize,
+    pub(crate) left: usize,
 }
 
 /// The program's records of the native ones that were given behind a position, as far as they fit into `size`

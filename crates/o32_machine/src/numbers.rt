@@ -101,6 +101,7 @@ pub(crate) fn is_file_call(nr: u32) -> bool
         4214 => true,
         4215 => true,
         4293 => true,
+        4141 => true,
         4219 => true,
         _ => false,
     }
@@ -124,5 +125,5 @@ pub(crate) fn is_status_call(nr: u32) -> bool
 pub(crate) fn is_entries_call(nr: u32) -> bool
     ensures { result ≡ entries.is_entries_call nr }
 {
-    nr == 4219
+    nr == 4141 || nr == 4219
 }

@@ -9,9 +9,9 @@ use Rattle.o32_model.specs.Small.{small_calls}
 use Rattle.o32_model.specs.Step.{Guest, O32Step, O32Call}
 use Rattle.o32_model.specs.Table.{call_in, file_call_or, io_call_or, step_of}
 
--- the calls on files but getdents: link, unlink, rename, mkdir, rmdir, symlink, mkdirat, unlinkat, renameat, linkat, symlinkat; chdir, chmod, access,
+-- the calls on files: link, unlink, rename, mkdir, rmdir, symlink, mkdirat, unlinkat, renameat, linkat, symlinkat; chdir, chmod, access,
 -- umask, fchmod, fsync, fchdir, fdatasync, fchmodat, faccessat, utimensat; readlink, getcwd, readlinkat; truncate, ftruncate, truncate64,
--- ftruncate64; lseek, _llseek; open, creat, openat; stat, lstat, fstat, stat64, lstat64, fstat64, fstatat64; getdents64
+-- ftruncate64; lseek, _llseek; open, creat, openat; stat, lstat, fstat, stat64, lstat64, fstat64, fstatat64; getdents, getdents64
 abbrev pub file_numbers : List ℕ
 file_numbers =
     4009 ∷ 4010 ∷ 4038 ∷ 4039 ∷ 4040 ∷ 4083 ∷ 4289 ∷ 4294 ∷ 4295 ∷ 4296 ∷ 4297
@@ -21,7 +21,7 @@ file_numbers =
     ∷ 4019 ∷ 4140
     ∷ 4005 ∷ 4008 ∷ 4288
     ∷ 4106 ∷ 4107 ∷ 4108 ∷ 4213 ∷ 4214 ∷ 4215 ∷ 4293
-    ∷ 4219
+    ∷ 4141 ∷ 4219
     ∷ []
 
 abbrev pub is_file_call_built : ℕ → Bool

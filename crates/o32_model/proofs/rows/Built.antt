@@ -64,7 +64,7 @@ module _ (kernel : Kernel) (processor : Processor) (memory : Memory) (left : Lis
   abbrev not_built : O32Step
   not_built = record { kernel = kernel; left = left; memory = memory; processor = processor; sent = nothing; outcome = Error ENOSYS }
 
-  -- read, getpid, mkdir, open and munmap
+  -- read, getpid, mkdir, open, getdents and munmap
   reads : built 4003 ≡ in_full 4003
   reads = refl
 
@@ -77,13 +77,13 @@ module _ (kernel : Kernel) (processor : Processor) (memory : Memory) (left : Lis
   opens : built 4005 ≡ in_full 4005
   opens = refl
 
+  lists : built 4141 ≡ in_full 4141
+  lists = refl
+
   unmaps : built 4091 ≡ in_full 4091
   unmaps = refl
 
-  -- getdents, nanosleep, kill and clock_gettime
-  lists : built 4141 ≡ not_built
-  lists = refl
-
+  -- nanosleep, kill and clock_gettime
   sleeps : built 4166 ≡ not_built
   sleeps = refl
 
