@@ -96,7 +96,7 @@ map_same : (number : ℕ) → is_map_call number ≡ true → built_of number �
 map_same number there = in_list map_calls None number IsSame mappings_same (λ none. absurd (let wrong : false ≡ true = none in cc)) there
 
 files_same : EachNumber IsSame file_numbers
-files_same = (refl, (refl, (refl, (refl, (refl, (refl, (refl, (refl, (refl, (refl, (refl, (refl, (refl, (refl, (refl, (refl, (refl, (refl, (refl, (refl, (refl, (refl, (refl, (refl, (refl, (refl, (refl, (refl, (refl, (refl, (refl, (refl, (refl, (refl, (refl, (refl, (refl, (refl, (refl, (refl, (refl, (refl, tt))))))))))))))))))))))))))))))))))))))))))
+files_same = (refl, (refl, (refl, (refl, (refl, (refl, (refl, (refl, (refl, (refl, (refl, (refl, (refl, (refl, (refl, (refl, (refl, (refl, (refl, (refl, (refl, (refl, (refl, (refl, (refl, (refl, (refl, (refl, (refl, (refl, (refl, (refl, (refl, (refl, (refl, (refl, (refl, (refl, (refl, (refl, (refl, (refl, (refl, tt)))))))))))))))))))))))))))))))))))))))))))
 
 file_same : (number : ℕ) → is_file_call_built number ≡ true → built_of number ≡ call_of number
 file_same number there = among file_numbers number IsSame files_same there
@@ -119,7 +119,7 @@ abbrev IsMade : ℕ → Type 0
 IsMade number = (is_open_call number || (is_status_call number || (is_entries_call number || is_call_there number))) ≡ true
 
 files_made : EachNumber IsMade file_numbers
-files_made = (refl, (refl, (refl, (refl, (refl, (refl, (refl, (refl, (refl, (refl, (refl, (refl, (refl, (refl, (refl, (refl, (refl, (refl, (refl, (refl, (refl, (refl, (refl, (refl, (refl, (refl, (refl, (refl, (refl, (refl, (refl, (refl, (refl, (refl, (refl, (refl, (refl, (refl, (refl, (refl, (refl, (refl, tt))))))))))))))))))))))))))))))))))))))))))
+files_made = (refl, (refl, (refl, (refl, (refl, (refl, (refl, (refl, (refl, (refl, (refl, (refl, (refl, (refl, (refl, (refl, (refl, (refl, (refl, (refl, (refl, (refl, (refl, (refl, (refl, (refl, (refl, (refl, (refl, (refl, (refl, (refl, (refl, (refl, (refl, (refl, (refl, (refl, (refl, (refl, (refl, (refl, (refl, tt)))))))))))))))))))))))))))))))))))))))))))
 
 last_of : (one two three four : Bool) → (one || (two || (three || four))) ≡ true → one ≡ false → two ≡ false → three ≡ false → four ≡ true
 last_of false false false four made a b c = made
