@@ -1,5 +1,8 @@
-pub mod ByNumber
-pub mod HostPaths
+pub mod ByGroup
 pub mod NodeRows
-pub mod Refusing
+pub mod OptionalPaths
 pub mod Rows
+pub mod SizeRows
+pub mod Tellings
+pub mod TextTells
+pub mod TimeRows

@@ -1,5 +1,5 @@
 -- The rows of calls on nodes, as native calls.
-use Rattle.std.proofs.Common.{◌≡◌, ℕ, ◌<◌, ◌^◌, ◌%◌, List, [], ◌∷◌, Option, Some, None, Ok, Err, refl, ap, subst}
+use Rattle.std.proofs.Common.{◌≡◌, ℕ, ◌<◌, ◌^◌, ◌%◌, List, [], ◌∷◌, Option, Some, None, Ok, Err, refl, ap, subst, arith}
 use Rattle.std.specs.Prelude.{ℤ, true, ◌==◌, ◌&&◌, not, nat_lt}
 use Rattle.std.specs.FinMap.{get}
 use Rattle.kernel_core.specs.declared.error.Errno.{Errno}
@@ -8,7 +8,7 @@ use Rattle.kernel_model.specs.Came.{Did, Given, refused, told_zero}
 use Rattle.kernel_model.specs.Clock.{now}
 use Rattle.kernel_model.specs.ContentRows.{sync}
 use Rattle.kernel_model.specs.Descriptions.{node_of, opened}
-use Rattle.kernel_model.specs.NodeRows.{access, change_mode, change_open_mode, change_directory, change_to_open, is_not_executable, on_open_node}
+use Rattle.kernel_model.specs.NodeRows.{access, change_mode, change_open_mode, change_directory, change_to_open, is_not_executable, on_open_node, set_umask}
 use Rattle.kernel_core.specs.Nodes.{is_directory}
 use Rattle.kernel_model.specs.Paths.{Working, directory_of, walk_to_node}
 use Rattle.kernel_model.specs.State.{Kernel, Files}
@@ -23,7 +23,8 @@ use Rattle.bridge_log.proofs.Replies.{Fits}
 use Rattle.bridge_log.specs.Bounds.{Bounded}
 use Rattle.bridge_log.specs.Mirrors.{Mirrors}
 use Rattle.bridge_log.specs.Outcomes.{by_reply}
-use Rattle.bridge_file.proofs.Rows.{Anything, bounded_given, bounded_if, bounded_some, fits_zero, one_path, same_gives, word}
+use Rattle.bridge_paths.proofs.Rows.{Anything, bounded_given, bounded_if, bounded_some, fits_zero, same_gives, word}
+use Rattle.bridge_file.proofs.Rows.{one_path}
 use Rattle.bridge_file.specs.inside.Paths.{MirrorsPath}
 
 -- Access
@@ -92,7 +93,7 @@ chmod_mirrors guest kernel address given_from given_mode from mode one two first
     (λ i. o32.chmod_row kernel guest (base (e1 i)) address (e2 i))
     (chmod_of guest kernel address given_from given_mode)
 
-bounded_on_node : (files : Files) (node : Option ℕ) (change : ℕ → Files) → Bounded Anything (on_open_node files node change).came
+pub bounded_on_node : (files : Files) (node : Option ℕ) (change : ℕ → Files) → Bounded Anything (on_open_node files node change).came
 bounded_on_node files None change = tt
 bounded_on_node files (Some node) change = tt
 
@@ -178,3 +179,19 @@ unfolding native.fchdir_row o32.fchdir_row
 fchdir_mirrors guest kernel memory left given_fd fd one first =
     same_gives guest memory left (fchdir_as kernel (given_fd % 2 ^ 32)) (fchdir_as kernel fd) (fchdir_as kernel fd)
     (ap (fchdir_as kernel) (word given_fd fd one first)) refl (fchdir_fits kernel fd)
+
+-- The mask of new nodes
+
+abbrev umask_as : Kernel → ℕ → Did Kernel ℕ
+umask_as kernel mask = on_files kernel (set_umask kernel.files mask)
+
+umask_fits : (kernel : Kernel) (mask : ℕ) → kernel.files.umask < 2 ^ 16 → Fits (umask_as kernel mask).came
+unfolding set_umask
+umask_fits kernel mask small = omega arith
+
+pub umask_mirrors : (guest : Guest) (kernel : Kernel) (memory left : List ℕ) (given mask : ℕ) → kernel.files.umask < 2 ^ 16 → given ≡ mask → mask < 2 ^ 32
+    → Mirrors guest (by_reply guest.words) (native_call 166 (given ∷ 0 ∷ 0 ∷ 0 ∷ 0 ∷ 0 ∷ []) kernel memory left) (o32.umask_row kernel guest mask left)
+unfolding native.umask_row o32.umask_row
+umask_mirrors guest kernel memory left given mask small one first =
+    same_gives guest memory left (umask_as kernel (given % 2 ^ 32)) (umask_as kernel mask) (umask_as kernel mask)
+    (ap (umask_as kernel) (word given mask one first)) refl (umask_fits kernel mask small)

@@ -1,13 +1,12 @@
 -- The rows of calls with paths, as native calls.
-use Rattle.std.proofs.Common.{◌≡◌, ℕ, ◌<◌, ◌^◌, ◌%◌, List, [], ◌∷◌, Option, Some, None, Bool, true, false, Ok, Err, refl, sym, ap, subst, ◌∙◌, arith, lit<}
-use Rattle.std.specs.Prelude.{⊤, ℤ, ◌==◌, ◌+◌, ◌*◌, ◌/◌, if◌then◌else◌}
+use Rattle.std.proofs.Common.{◌≡◌, ℕ, ◌<◌, ◌^◌, ◌%◌, List, [], ◌∷◌, Option, Bool, false, Ok, Err, refl, ap, subst, ◌∙◌, arith, lit<}
+use Rattle.std.specs.Prelude.{ℤ, ◌==◌, ◌/◌}
 use Rattle.std.proofs.lemmas.Bool.Decides.{nat_tests}
-use Rattle.kernel_core.specs.Bits.{one_if}
 use Rattle.native_calls.specs.Flags.{only_flag}
 use Rattle.host_mem.specs.Memory.{first_address}
 use Rattle.kernel_core.specs.declared.error.Errno.{Errno}
 use Rattle.kernel_core.specs.declared.error.Errno.TheVariants.{EINVAL, ENOENT, EPERM}
-use Rattle.kernel_model.specs.Came.{Came, Done, Refused, Waits, Did, Given, came_as, refused, refused_if, refused_by, told_zero, with_given, with_some}
+use Rattle.kernel_model.specs.Came.{Did, Given, refused, told_zero}
 use Rattle.kernel_core.specs.NameCalls.{is_empty_list, link_refusal, make_refusal, rename_refusal, symlink_refusal}
 use Rattle.kernel_core.specs.Nodes.{is_directory}
 use Rattle.kernel_core.specs.PathWalk.{Place}
@@ -25,50 +24,10 @@ use Rattle.o32_model.specs.PathArguments.{base, one_flag}
 use Rattle.o32_model.specs.Paths as guest_paths
 use Rattle.o32_model.specs.Step as o32_step
 use Rattle.o32_model.specs.Step.{Guest}
-use Rattle.bridge_log.proofs.Mirroring.{mirrors_gives}
 use Rattle.bridge_log.proofs.Replies.{Fits}
 use Rattle.bridge_log.specs.Bounds.{Bounded}
-use Rattle.bridge_log.specs.Mirrors.{Mirrors}
-use Rattle.bridge_log.specs.Outcomes.{by_reply}
+use Rattle.bridge_paths.proofs.Rows.{Anything, bounded_by, bounded_either, bounded_given, bounded_if, bounded_some, fits_zero, one_only, same_gives, word}
 use Rattle.bridge_file.specs.inside.Paths.{MirrorsPath, MirrorsPaths}
-
--- Rows that never wait
-
-pub bounded_given : {S V A : Type 0} (P : V → Type 0) (state : S) (there : Given A) (rest : A → Did S V) → ((a : A) → Bounded P (rest a).came) → Bounded P (with_given state there rest).came
-bounded_given P state (Err error) rest each = tt
-bounded_given P state (Ok a) rest each = each a
-
-pub bounded_some : {S V A : Type 0} (P : V → Type 0) (state : S) (error : Errno) (there : Option A) (rest : A → Did S V) → ((a : A) → Bounded P (rest a).came) → Bounded P (with_some state error there rest).came
-bounded_some P state error None rest each = tt
-bounded_some P state error (Some a) rest each = each a
-
-pub bounded_if : {S V : Type 0} (P : V → Type 0) (wrong : Bool) (error : Errno) (state : S) (rest : Did S V) → Bounded P rest.came → Bounded P (refused_if wrong error state rest).came
-bounded_if P true error state rest bounded = tt
-bounded_if P false error state rest bounded = bounded
-
-pub bounded_by : {S V : Type 0} (P : V → Type 0) (error : Option Errno) (state : S) (rest : Did S V) → Bounded P rest.came → Bounded P (refused_by error state rest).came
-bounded_by P (Some error) state rest bounded = tt
-bounded_by P None state rest bounded = bounded
-
-bounded_either : {S V : Type 0} (P : V → Type 0) (test : Bool) (one other : Did S V) → Bounded P one.came → Bounded P other.came → Bounded P (if test then one else other).came
-bounded_either P true one other first second = first
-bounded_either P false one other first second = second
-
-abbrev pub Anything : {V : Type 0} → V → Type 0
-Anything _ = ⊤
-
-pub fits_zero : (came : Came (Unit {0})) → Bounded Anything came → Fits (came_as (λ _. 0) came)
-fits_zero (Done found) bounded = lit< tt
-fits_zero (Refused error) bounded = tt
-fits_zero (Waits wake) bounded = bounded
-
--- both calls give what a row came to
-pub same_gives : (guest : Guest) (memory left : List ℕ) (native_did did given : Did Kernel ℕ) → native_did ≡ given → did ≡ given → Fits given.came
-    → Mirrors guest (by_reply guest.words) (native_step.gives memory native_did left) (o32_step.gives guest did left)
-same_gives guest memory left native_did did given there here fits =
-    subst (λ (d : Did Kernel ℕ). Mirrors guest (by_reply guest.words) (native_step.gives memory native_did left) (o32_step.gives guest d left)) (sym here)
-    (subst (λ (d : Did Kernel ℕ). Mirrors guest (by_reply guest.words) (native_step.gives memory d left) (o32_step.gives guest given left)) (sym there)
-    (mirrors_gives guest memory given left fits))
 
 -- Rows of one path, by what was read at it
 
@@ -100,10 +59,6 @@ module _ (guest : Guest) (kernel : Kernel) (first second : ℕ) (row : Given (Li
     second_lost = λ one error there also left.
         ap (λ (d : Did Kernel ℕ). o32_step.gives guest d left) ((λ i. row (there i) (also i)) ∙ second_lost one error);
   }
-
--- an argument is its low 32 bits
-pub word : (given number : ℕ) → given ≡ number → number < 2 ^ 32 → given % 2 ^ 32 ≡ number
-word given number same fits = omega arith
 
 -- Directories
 
@@ -138,12 +93,7 @@ mkdir_mirrors guest kernel address given_from given_mode from mode one two first
     (λ i. o32.mkdir_row kernel guest (base (e1 i)) address (e2 i))
     (mkdir_of guest kernel address given_from given_mode)
 
--- A number of which a call takes one flag: both worlds read it alike.
-
-one_only : (flag number : ℕ) (has : Bool) → (number / flag % 2 == 1) ≡ has → 0 < flag → (number ≡ 0 → has ≡ false) → (number ≡ flag → has ≡ true)
-    → (if 0 + flag * one_if has == number then Some has else None) ≡ one_flag flag number
-one_only flag number true is some none there = grind (arith, nat_tests)
-one_only flag number false is some none there = grind (arith, nat_tests)
+-- A number of which a call takes one flag
 
 directory_flag : (number : ℕ) → only_flag 0x200 number ≡ one_flag 0x200 number
 directory_flag number = one_only 0x200 number (number / 0x200 % 2 == 1) refl (lit< tt) (λ zero. grind (arith, nat_tests)) (λ same. grind (arith, nat_tests))

@@ -1,1 +1,4 @@
+pub mod BothTimes
 pub mod Paths
+pub mod Places
+pub mod Tells

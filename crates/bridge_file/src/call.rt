@@ -1,15 +1,21 @@
 //! A call by its number.
 ghost use Rattle.std.specs.Prelude.{◌≡◌, IsTrue};
-ghost use Rattle.bridge_file.specs.Found.{found};
-ghost use Rattle.bridge_file.specs.Numbers.{is_call_there, is_name_call, is_node_call};
+ghost use Rattle.bridge_paths.specs.Found.{found};
+ghost use Rattle.bridge_file.specs.Numbers.{is_call_there, is_name_call, is_node_call, is_place_call, is_size_call, is_text_call};
 ghost use Rattle.bridge_log.specs.Keeping.{KeepsCall};
 ghost use Rattle.kernel_model.specs.Stops.{StopsOnlyIfRose};
 ghost use Rattle.o32_model.specs.Answered.{IsCall};
 ghost use Rattle.o32_model.specs.Table.{o32_call};
 ghost use Rattle.outside.specs.Streams.{NoCountFell, contents};
 
+use crate::arguments::{pair, widened};
+use crate::groups::{is_node_call, is_place_call, is_size_call, is_text_call};
 use crate::names::{link, linkat, mkdir, remove, rename, symlink};
-use crate::nodes::{access, chdir, chmod, fchdir, fchmod, fdatasync, fsync};
+use crate::nodes::{access, chdir, chmod, fchdir, fchmod, fdatasync, fsync, umask};
+use crate::seeking::{llseek, lseek};
+use crate::sizes::{ftruncate, truncate};
+use crate::texts::{getcwd, readlink};
+use crate::times::utimensat;
 use guest_space::Space;
 use host_mem::HostMem;
 use kernel_core::Stop;
@@ -25,9 +31,10 @@ const WORKING: u32 = 0xFFFF_FF9C;
 /// The flag of unlinkat(2) by which a directory is removed (Linux `include/uapi/linux/fcntl.h`).
 const AT_REMOVEDIR: u32 = 0x200;
 
-/// Makes a call of the program on names or nodes, by its words: link(2), unlink(2), rename(2), mkdir(2),
-/// rmdir(2), symlink(2), chdir(2), chmod(2), access(2), fchmod(2), fsync(2), fchdir(2), fdatasync(2), and their
-/// forms with descriptors of directories. It stops early for want of memory, or by a device.
+/// Makes a call of the program on files, by its words: link(2), unlink(2), rename(2), mkdir(2), rmdir(2),
+/// symlink(2), readlink(2), chdir(2), getcwd(2), umask(2), chmod(2), access(2), fchmod(2), fsync(2), fchdir(2),
+/// fdatasync(2), utimensat(2), truncate(2), ftruncate(2), lseek(2), _llseek(2), and their forms with descriptors
+/// of directories and with sizes of 64 bits. It stops early for want of memory, or by a device.
 pub fn file_call<I: Source, O: Sink, E: Sink>(
     alloc: Global,
     args: &CallWords,
@@ -49,6 +56,12 @@ pub fn file_call<I: Source, O: Sink, E: Sink>(
 {
     if is_node_call(args.nr) {
         node_call(alloc, args, cpu, space, k, mem, dev, log)
+    } else if is_text_call(args.nr) {
+        text_call(alloc, args, cpu, space, k, mem, dev, log)
+    } else if is_size_call(args.nr) {
+        size_call(alloc, args, cpu, space, k, mem, dev, log)
+    } else if is_place_call(args.nr) {
+        place_call(args, cpu, space, k, mem, dev, log)
     } else {
         name_call(alloc, args, cpu, space, k, mem, dev, log)
     }
@@ -123,31 +136,98 @@ fn node_call<I: Source, O: Sink, E: Sink>(
     ensures cause { StopsOnlyIfRose I.faults O.faults E.faults result dev.old dev.new }
     ensures counts { NoCountFell I.faults O.faults E.faults dev.old dev.new }
 {
-    let [a0, a1, a2, _] = args.reg;
+    let [a0, a1, a2, a3] = args.reg;
     match args.nr {
         4012 => chdir(alloc, args, a0, space, k, mem, dev, log),
         4015 => chmod(alloc, args, WORKING, a0, a1, space, k, mem, dev, log),
         4033 => access(alloc, args, WORKING, a0, a1, space, k, mem, dev, log),
+        4060 => umask(args, a0, k, mem, dev, log),
         4094 => fchmod(args, a0, a1, k, mem, dev, log),
         4118 => fsync(args, a0, k, mem, dev, log),
         4133 => fchdir(args, a0, k, mem, dev, log),
         4152 => fdatasync(args, a0, k, mem, dev, log),
         4299 => chmod(alloc, args, a0, a1, a2, space, k, mem, dev, log),
+        4316 => utimensat(alloc, args, a0, a1, a2, a3, space, k, mem, dev, log),
         _ => access(alloc, args, a0, a1, a2, space, k, mem, dev, log),
     }
 }
 
-/// Whether a number is that of a call on nodes.
-fn is_node_call(nr: u32) -> bool
-    ensures { result ≡ is_node_call nr }
+/// A call that tells a text.
+fn text_call<I: Source, O: Sink, E: Sink>(
+    alloc: Global,
+    args: &CallWords,
+    cpu: &mut Cpu,
+    space: &mut Space,
+    k: &mut NativeKernel,
+    mem: &mut HostMem,
+    dev: &mut Devices<I, O, E>,
+    log: &mut Log,
+) -> Result<Outcome, Stop>
+    requires { IsTrue (is_text_call args.now.nr) }
+    ensures row { IsCall (o32_call k.old (found args.now cpu.old space.old)) result k.new space.new cpu.new
+        (contents I.left O.written E.written dev.old) (contents I.left O.written E.written dev.new) }
+    ensures kept { KeepsCall (o32_call k.old (found args.now cpu.old space.old)) result k.old
+        (found args.now cpu.old space.old) (I.left dev.old.input) log.old log.new }
+    ensures cause { StopsOnlyIfRose I.faults O.faults E.faults result dev.old dev.new }
+    ensures counts { NoCountFell I.faults O.faults E.faults dev.old dev.new }
 {
-    nr == 4012
-        || nr == 4015
-        || nr == 4033
-        || nr == 4094
-        || nr == 4118
-        || nr == 4133
-        || nr == 4152
-        || nr == 4299
-        || nr == 4300
+    let [a0, a1, a2, a3] = args.reg;
+    match args.nr {
+        4085 => readlink(alloc, args, WORKING, a0, a1, a2, space, k, mem, dev, log),
+        4203 => getcwd(args, a0, a1, space, k, mem, dev, log),
+        _ => readlink(alloc, args, a0, a1, a2, a3, space, k, mem, dev, log),
+    }
+}
+
+/// A call on sizes.
+fn size_call<I: Source, O: Sink, E: Sink>(
+    alloc: Global,
+    args: &CallWords,
+    cpu: &mut Cpu,
+    space: &mut Space,
+    k: &mut NativeKernel,
+    mem: &mut HostMem,
+    dev: &mut Devices<I, O, E>,
+    log: &mut Log,
+) -> Result<Outcome, Stop>
+    requires { IsTrue (is_size_call args.now.nr) }
+    ensures row { IsCall (o32_call k.old (found args.now cpu.old space.old)) result k.new space.new cpu.new
+        (contents I.left O.written E.written dev.old) (contents I.left O.written E.written dev.new) }
+    ensures kept { KeepsCall (o32_call k.old (found args.now cpu.old space.old)) result k.old
+        (found args.now cpu.old space.old) (I.left dev.old.input) log.old log.new }
+    ensures cause { StopsOnlyIfRose I.faults O.faults E.faults result dev.old dev.new }
+    ensures counts { NoCountFell I.faults O.faults E.faults dev.old dev.new }
+{
+    let [a0, a1, a2, a3] = args.reg;
+    match args.nr {
+        4092 => truncate(alloc, args, a0, widened(a1), space, k, mem, dev, log),
+        4093 => ftruncate(args, a0, widened(a1), k, mem, dev, log),
+        4211 => truncate(alloc, args, a0, pair(a2, a3), space, k, mem, dev, log),
+        _ => ftruncate(args, a0, pair(a2, a3), k, mem, dev, log),
+    }
+}
+
+/// A call on places.
+fn place_call<I: Source, O: Sink, E: Sink>(
+    args: &CallWords,
+    cpu: &mut Cpu,
+    space: &mut Space,
+    k: &mut NativeKernel,
+    mem: &mut HostMem,
+    dev: &mut Devices<I, O, E>,
+    log: &mut Log,
+) -> Result<Outcome, Stop>
+    requires { IsTrue (is_place_call args.now.nr) }
+    ensures row { IsCall (o32_call k.old (found args.now cpu.old space.old)) result k.new space.new cpu.new
+        (contents I.left O.written E.written dev.old) (contents I.left O.written E.written dev.new) }
+    ensures kept { KeepsCall (o32_call k.old (found args.now cpu.old space.old)) result k.old
+        (found args.now cpu.old space.old) (I.left dev.old.input) log.old log.new }
+    ensures cause { StopsOnlyIfRose I.faults O.faults E.faults result dev.old dev.new }
+    ensures counts { NoCountFell I.faults O.faults E.faults dev.old dev.new }
+{
+    let [a0, a1, a2, a3] = args.reg;
+    match args.nr {
+        4019 => lseek(args, a0, a1, a2, k, mem, dev, log),
+        _ => llseek(args, a0, a1, a2, a3, space, k, mem, dev, log),
+    }
 }

@@ -10,8 +10,8 @@ ghost use Rattle.o32_model.specs.Step.{Guest, O32Step};
 ghost use Rattle.outside.specs.Streams.{NoCountFell, contents};
 ghost use Rattle.bridge_file.specs.inside.Paths.{MirrorsPath, MirrorsPaths};
 
-use crate::paths::{put_one, put_two, read_path};
 use bridge_log::number_call;
+use bridge_paths::{put_one, put_two, read_path};
 use guest_space::Space;
 use host_mem::HostMem;
 use kernel_core::{Bytes, Stop};

@@ -10,6 +10,7 @@ ghost use Rattle.o32_model.specs.Step.{Guest, O32Step, gives};
 ghost use Rattle.o32_model.specs.Words.{stack_word};
 ghost use Rattle.outside.specs.Streams.{NoCountFell, contents};
 
+use crate::arguments::fifth;
 use crate::calls::{path_call, paths_call};
 use crate::numbers::{LINKAT, MKDIRAT, RENAMEAT, SYMLINKAT, UNLINKAT};
 use guest_space::Space;
@@ -228,11 +229,4 @@ pub(crate) fn linkat<I: Source, O: Sink, E: Sink>(
             log,
         ),
     }
-}
-
-/// The fifth argument, which is None where it can't be read.
-fn fifth(words: &CallWords) -> Option<u32>
-    ensures { result ≡ stack_word words.now 0 }
-{
-    words.stack[0]
 }

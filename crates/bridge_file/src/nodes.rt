@@ -1,17 +1,17 @@
 //! The calls on the node that a path or a descriptor names, and on the working directory: access(2), chmod(2),
-//! fchmod(2), fsync(2), chdir(2), fchdir(2). What is wrong with a path is EFAULT or ENAMETOOLONG, and what the
+//! fchmod(2), fsync(2), chdir(2), fchdir(2), umask(2). What is wrong with a path is EFAULT or ENAMETOOLONG, and what the
 //! walk finds.
 ghost use Rattle.std.specs.Prelude.{◌≡◌};
 ghost use Rattle.bridge_log.specs.Keeping.{KeepsCall};
 ghost use Rattle.kernel_model.specs.Stops.{StopsOnlyIfRose};
 ghost use Rattle.o32_model.specs.Answered.{IsCall};
-ghost use Rattle.o32_model.specs.NodeCalls.{access_row, chdir_row, chmod_row, fchdir_row, fchmod_row, sync_row};
+ghost use Rattle.o32_model.specs.NodeCalls.{access_row, chdir_row, chmod_row, fchdir_row, fchmod_row, sync_row, umask_row};
 ghost use Rattle.o32_model.specs.PathArguments.{base};
 ghost use Rattle.o32_model.specs.Step.{Guest};
 ghost use Rattle.outside.specs.Streams.{NoCountFell, contents};
 
 use crate::calls::path_call;
-use crate::numbers::{CHDIR, FACCESSAT, FCHDIR, FCHMOD, FCHMODAT, FDATASYNC, FSYNC};
+use crate::numbers::{CHDIR, FACCESSAT, FCHDIR, FCHMOD, FCHMODAT, FDATASYNC, FSYNC, UMASK};
 use bridge_log::number_call;
 use guest_space::Space;
 use host_mem::{FIRST_ADDRESS, HostMem};
@@ -195,4 +195,26 @@ pub(crate) fn fdatasync<I: Source, O: Sink, E: Sink>(
 {
     let args = [u64::from(fd), 0, 0, 0, 0, 0];
     number_call(words, k, FDATASYNC, args, mem, dev, log)
+}
+
+/// umask(2), which always succeeds: nine bits are kept, and the result is the old ones.
+pub(crate) fn umask<I: Source, O: Sink, E: Sink>(
+    words: &CallWords,
+    mask: u32,
+    k: &mut NativeKernel,
+    mem: &mut HostMem,
+    dev: &mut Devices<I, O, E>,
+    log: &mut Log,
+) -> Result<Outcome, Stop>
+    ensures row { (guest : Guest) → guest.words ≡ words.now
+        → IsCall (umask_row k.old guest mask) result k.new guest.memory guest.processor
+        (contents I.left O.written E.written dev.old) (contents I.left O.written E.written dev.new) }
+    ensures kept { (guest : Guest) → guest.words ≡ words.now
+        → KeepsCall (umask_row k.old guest mask) result k.old guest (I.left dev.old.input) log.old log.new }
+    ensures cause { StopsOnlyIfRose I.faults O.faults E.faults result dev.old dev.new }
+    ensures counts { NoCountFell I.faults O.faults E.faults dev.old dev.new }
+{
+    k.files_valid();
+    let args = [u64::from(mask), 0, 0, 0, 0, 0];
+    number_call(words, k, UMASK, args, mem, dev, log)
 }

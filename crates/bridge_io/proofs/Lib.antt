@@ -14,7 +14,6 @@ pub mod Rooms
 pub mod StatusSize
 pub mod Storing
 pub mod TerminalMirrors
-pub mod Unmoving
 pub mod WriteMirrors
 pub mod WritevMirrors
 pub mod Writes

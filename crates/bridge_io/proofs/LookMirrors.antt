@@ -27,7 +27,7 @@ use Rattle.native_calls.specs.Terminal.{int_bytes, ioctl_row}
 use Rattle.number_tables.specs.OpenNumbers.{native_open}
 use Rattle.bridge_io.proofs.CommandMirrors.{flags_again}
 use Rattle.bridge_io.proofs.StatusSize.{length-status, size_told}
-use Rattle.bridge_io.specs.inside.Looks.{IsLook}
+use Rattle.bridge_log.specs.Looks.{IsLook}
 use Rattle.bridge_io.specs.inside.Rooms.{flags_there, flags_in, number_in, node_position, position_there, size_there, size_in, low_size, is_ready, is_fault}
 
 -- F_GETFL

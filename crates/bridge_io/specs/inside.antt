@@ -1,4 +1,3 @@
-pub mod Looks
 pub mod Outcomes
 pub mod Plans
 pub mod Purposes

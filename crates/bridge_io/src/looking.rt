@@ -1,6 +1,6 @@
 //! What a write finds out about a descriptor before it moves bytes, by native calls that change nothing.
-ghost use Rattle.std.specs.Prelude.{◌≡◌, ℕ, List, false};
-ghost use Rattle.bridge_io.specs.inside.Looks.{IsLook, LooksFor, Replied};
+ghost use Rattle.std.specs.Prelude.{◌≡◌, false};
+ghost use Rattle.bridge_log.specs.Looks.{LooksFor};
 ghost use Rattle.bridge_io.specs.inside.Rooms.{
   IsRoom,
   begin_there,
@@ -11,19 +11,16 @@ ghost use Rattle.bridge_io.specs.inside.Rooms.{
 };
 ghost use Rattle.kernel_model.specs.Descriptions.{opened};
 ghost use Rattle.kernel_model.specs.Stops.{StopsOnlyIfRose};
-ghost use Rattle.kernel_core.specs.declared.reply.Reply.{Reply};
-ghost use Rattle.native_calls.specs.Table.{native_call};
-ghost use Rattle.native_kernel.specs.Built.{built_call};
 ghost use Rattle.o32_model.specs.Transfers.{small_file_limit};
 ghost use Rattle.outside.specs.Streams.{NoCountFell, contents};
 
 use crate::numbers::{F_GETFL, FCNTL, FIONREAD, FSTAT, IOCTL, LSEEK, SEEK_CUR};
 use crate::room::{Room, WriteFlags};
 use crate::telling::{flags_in, is_fault, number_in, size_in};
-use bridge_log::native;
+use bridge_log::look;
 use bridge_mem::fresh_room;
 use host_mem::{FIRST_ADDRESS, HostMem};
-use kernel_core::{Reply, Stop};
+use kernel_core::Stop;
 use native_kernel::NativeKernel;
 use o32_model::Log;
 use outside::{Devices, Sink, Source};
@@ -33,26 +30,6 @@ const STATUS_SIZE: u32 = 128;
 
 /// The size from which on a file without O_LARGEFILE takes no byte (open(2)).
 pub(crate) const SMALL_FILE_LIMIT: u64 = 0x7FFF_FFFF;
-
-/// Makes a native call that changes nothing.
-fn look<I: Source, O: Sink, E: Sink>(
-    k: &mut NativeKernel,
-    nr: u64,
-    args: [u64; 6],
-    mem: &mut HostMem,
-    dev: &mut Devices<I, O, E>,
-    log: &mut Log,
-) -> Result<Reply, Stop>
-    requires built { built_call nr ≡ native_call nr }
-    ensures looks { (reply : Reply) (memory : List ℕ)
-        → ((left : List ℕ) → IsLook k.old reply memory left (native_call nr args k.old mem.old left))
-        → LooksFor (Replied reply memory mem.new) result k.old k.new
-        (contents I.left O.written E.written dev.old) (contents I.left O.written E.written dev.new) log.old log.new }
-    ensures cause { StopsOnlyIfRose I.faults O.faults E.faults result dev.old dev.new }
-    ensures counts { NoCountFell I.faults O.faults E.faults dev.old dev.new }
-{
-    native(k, nr, args, mem, dev, log)
-}
 
 /// The flags of a descriptor; None where it is not open.
 pub(crate) fn write_flags<I: Source, O: Sink, E: Sink>(

@@ -1,7 +1,7 @@
 //! Writing at a place: pwrite(2).
 ghost use Rattle.std.specs.Prelude.{◌≡◌, ◌<◌, ◌^◌, ℤ, Some, true, false};
 ghost use Rattle.std.specs.Int.{w64, cast_signed};
-ghost use Rattle.bridge_io.specs.inside.Looks.{LooksFor};
+ghost use Rattle.bridge_log.specs.Looks.{LooksFor};
 ghost use Rattle.bridge_io.specs.inside.Plans.{IsPlan};
 ghost use Rattle.bridge_io.specs.inside.Rooms.{flags_there, size_there};
 ghost use Rattle.bridge_io.specs.inside.Written.{place_write_of};

@@ -5,6 +5,7 @@
 mod calls;
 mod effects;
 mod filled;
+mod looks;
 mod mirrored;
 mod outcomes;
 mod storing;
@@ -12,6 +13,7 @@ mod storing;
 pub use calls::native;
 pub use effects::{sent, wrote};
 pub use filled::fill_call;
+pub use looks::look;
 pub use mirrored::number_call;
 pub use outcomes::outcome_of;
 pub use storing::{put, sent_back};

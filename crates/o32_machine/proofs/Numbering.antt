@@ -1,15 +1,20 @@
 -- A call's number in the groups that there are, and in the whole table.
 use Rattle.std.proofs.Common.{◌≡◌, ℕ, Bool, true, false, List, [], ◌∷◌, Option, Some, None, inl, inr, refl, sym, ap, subst, ◌∙◌, eqb-true}
+use Rattle.std.specs.List.{list_any}
 use Rattle.std.specs.Prelude.{⊤, ◌⊎◌, is_some, ◌==◌, ◌||◌, if◌then◌else◌}
+use Rattle.bridge_entries.specs.Numbers.{is_entries_call}
+use Rattle.bridge_file.specs.Numbers.{is_call_there}
+use Rattle.bridge_open.specs.Numbers.{is_open_call}
+use Rattle.bridge_status.specs.Numbers.{is_status_call}
+use Rattle.bridge_wait.specs.Numbers as wait
 use Rattle.kernel_model.specs.State.{Kernel}
-use Rattle.bridge_wait.specs.Numbers.{is_call_there}
-use Rattle.o32_model.specs.Built.{built_call, built_of, built_seeing_of, built_time_call_or, is_time_call_built}
+use Rattle.o32_model.specs.Built.{built_call, built_of, built_file_call_or, built_seeing_of, built_time_call_or, file_numbers, is_file_call_built, is_time_call_built}
 use Rattle.o32_model.specs.Descriptors.{descriptor_calls}
 use Rattle.o32_model.specs.Mappings.{map_calls}
 use Rattle.o32_model.specs.Seeing.{SeeingCall}
 use Rattle.o32_model.specs.Small.{small_calls}
 use Rattle.o32_model.specs.Step.{Guest, O32Call}
-use Rattle.o32_model.specs.Table.{call_in, call_of, is_io_call, is_map_call, machine_call, o32_call, seeing_call_of, seeing_step_of, step_of, wait_call_or}
+use Rattle.o32_model.specs.Table.{call_in, call_of, file_call_or, is_io_call, is_map_call, machine_call, o32_call, seeing_call_of, seeing_step_of, step_of, wait_call_or}
 use Rattle.o32_model.specs.Terminal.{terminal_calls}
 use Rattle.o32_model.specs.Transfers.{transfer_calls}
 use Rattle.o32_model.specs.declared.wait.Seen.{Seen}
@@ -32,6 +37,21 @@ in_list : (calls : List O32Call) (otherwise : Option O32Call) (number : ℕ) (P 
 in_list [] otherwise number P each behind there = behind there
 in_list (call ∷ calls) otherwise number P each behind there =
     one_or call (call_in calls otherwise number) number P each.0 (in_list calls otherwise number P each.1 behind) (number == call.number) refl there
+
+-- the same of a list of numbers
+
+abbrev EachNumber : (ℕ → Type 0) → List ℕ → Type 0
+EachNumber P [] = ⊤
+EachNumber P (number ∷ numbers) = P number × EachNumber P numbers
+
+one_number : (one number : ℕ) (rest : Bool) (P : ℕ → Type 0) → P one → (rest ≡ true → P number) → (b : Bool) → (number == one) ≡ b → (b || rest) ≡ true → P number
+one_number one number rest P at more true e there = subst P (sym (eqb-true number one e)) at
+one_number one number rest P at more false e there = more there
+
+among : (numbers : List ℕ) (number : ℕ) (P : ℕ → Type 0) → EachNumber P numbers → list_any (λ (built : ℕ). number == built) numbers ≡ true → P number
+among [] number P each there = absurd cc
+among (one ∷ numbers) number P each there =
+    one_number one number (list_any (λ (built : ℕ). number == built) numbers) P each.0 (among numbers number P each.1) (number == one) refl there
 
 -- one that is not found is none of the list, and stands nowhere behind it
 
@@ -70,6 +90,9 @@ module _ (seen : Seen) (kernel : Kernel) (guest : Guest) (left : List ℕ) where
   mappings_same : EachIs IsSame map_calls
   mappings_same = (refl, (refl, (refl, (refl, (refl, (refl, (refl, (refl, tt))))))))
 
+  files_same : EachNumber IsSame file_numbers
+  files_same = (refl, (refl, (refl, (refl, (refl, (refl, (refl, (refl, (refl, (refl, (refl, (refl, (refl, (refl, (refl, (refl, (refl, (refl, (refl, (refl, (refl, (refl, (refl, (refl, (refl, (refl, (refl, (refl, (refl, (refl, (refl, (refl, (refl, (refl, (refl, (refl, (refl, (refl, (refl, (refl, (refl, (refl, (refl, tt)))))))))))))))))))))))))))))))))))))))))))
+
   io_same : (number : ℕ) → is_io_call number ≡ true → IsSame number
   io_same number there =
       in_list transfer_calls (call_in descriptor_calls (call_in terminal_calls None number) number) number IsSame transfers_same (λ behind.
@@ -94,7 +117,7 @@ module _ (seen : Seen) (kernel : Kernel) (guest : Guest) (left : List ℕ) where
   or_last : (front : Bool) (number one : ℕ) → (front ≡ true → IsSameTime number) → IsSameTime one → (front || number == one) ≡ true → IsSameTime number
   or_last front number one before same there = elim (either front (number == one) there) [ inl first ↦ before first | inr last ↦ at_number number one same last ]
 
-  time_same : (number : ℕ) → is_call_there number ≡ true → IsSameTime number
+  time_same : (number : ℕ) → wait.is_call_there number ≡ true → IsSameTime number
   time_same number there =
       or_last (number == 4013 || number == 4078 || number == 4166 || number == 4263 || number == 4264) number 4265
       (or_last (number == 4013 || number == 4078 || number == 4166 || number == 4263) number 4264
@@ -106,10 +129,13 @@ module _ (seen : Seen) (kernel : Kernel) (guest : Guest) (left : List ℕ) where
   pub io_call_same : is_io_call guest.words.nr ≡ true → o32_call kernel guest left ≡ built_call seen kernel guest left
   io_call_same there = io_same guest.words.nr there
 
+  pub file_call_same : is_file_call_built guest.words.nr ≡ true → o32_call kernel guest left ≡ built_call seen kernel guest left
+  file_call_same there = among file_numbers guest.words.nr IsSame files_same there
+
   pub map_call_same : is_map_call guest.words.nr ≡ true → o32_call kernel guest left ≡ built_call seen kernel guest left
   map_call_same there = map_same guest.words.nr there
 
-  pub time_call_same : is_call_there guest.words.nr ≡ true → machine_call seen kernel guest left ≡ built_call seen kernel guest left
+  pub time_call_same : wait.is_call_there guest.words.nr ≡ true → machine_call seen kernel guest left ≡ built_call seen kernel guest left
   time_call_same there = time_same guest.words.nr there
 
 -- a number that none of the calls on time has
@@ -123,33 +149,53 @@ no_time false false false false true f none = absurd cc
 no_time false false false false false true none = absurd cc
 no_time false false false false false false none = (refl, refl)
 
-not_time : (number : ℕ) → is_call_there number ≡ false → (is_time_call_built number ≡ false) × ((number == 4263) ≡ false)
+not_time : (number : ℕ) → wait.is_call_there number ≡ false → (is_time_call_built number ≡ false) × ((number == 4263) ≡ false)
 not_time number none = no_time (number == 4013) (number == 4078) (number == 4166) (number == 4263) (number == 4264) (number == 4265) none
 
 -- what is in none of these groups is looked for among the small calls alone
 
-small_of : (number : ℕ) → is_io_call number ≡ false → is_map_call number ≡ false → is_call_there number ≡ false → built_of number ≡ call_in small_calls None number
-small_of number no_io no_map no_time =
+small_of : (number : ℕ) → is_io_call number ≡ false → is_file_call_built number ≡ false → wait.is_call_there number ≡ false → is_map_call number ≡ false → built_of number ≡ call_in small_calls None number
+small_of number no_io no_file no_time no_map =
     let last = call_in map_calls None number in
-    let others = call_in small_calls (built_time_call_or last number) number in
+    let times = built_time_call_or last number in
+    let others = call_in small_calls (built_file_call_or times number) number in
     let first = not_in transfer_calls (call_in descriptor_calls (call_in terminal_calls None number) number)
     (call_in descriptor_calls (call_in terminal_calls others number) number) number no_io in
     let second = not_in descriptor_calls (call_in terminal_calls None number) (call_in terminal_calls others number) number first.1 in
     let third = not_in terminal_calls None others number second.1 in
     first.0 ∙ second.0 ∙ third.0
+    ∙ ap (λ (b : Bool). call_in small_calls (if b then file_call_or times number else times) number) no_file
     ∙ ap (λ (b : Bool). call_in small_calls (if b then wait_call_or last number else last) number) (not_time number no_time).0
     ∙ ap (λ (o : Option O32Call). call_in small_calls o number) (none_of last no_map)
 
-none_seeing : (number : ℕ) → is_call_there number ≡ false → built_seeing_of number ≡ None
+none_seeing : (number : ℕ) → wait.is_call_there number ≡ false → built_seeing_of number ≡ None
 none_seeing number no_time = rw (not_time number no_time).1 refl
 
 found_small : (seen : Seen) (kernel : Kernel) (guest : Guest) (left : List ℕ) (found : Option O32Call) → step_of found kernel guest left ≡ seeing_step_of found None seen kernel guest left
 found_small seen kernel guest left None = refl
 found_small seen kernel guest left (Some call) = refl
 
-pub small_call_same : (seen : Seen) (kernel : Kernel) (guest : Guest) (left : List ℕ) → is_io_call guest.words.nr ≡ false → is_map_call guest.words.nr ≡ false → is_call_there guest.words.nr ≡ false
+pub small_call_same : (seen : Seen) (kernel : Kernel) (guest : Guest) (left : List ℕ) → is_io_call guest.words.nr ≡ false → is_file_call_built guest.words.nr ≡ false → wait.is_call_there guest.words.nr ≡ false → is_map_call guest.words.nr ≡ false
     → step_of (call_in small_calls None guest.words.nr) kernel guest left ≡ built_call seen kernel guest left
-small_call_same seen kernel guest left no_io no_map no_time =
+small_call_same seen kernel guest left no_io no_file no_time no_map =
     found_small seen kernel guest left (call_in small_calls None guest.words.nr)
-    ∙ ap (λ (o : Option O32Call). seeing_step_of o None seen kernel guest left) (sym (small_of guest.words.nr no_io no_map no_time))
+    ∙ ap (λ (o : Option O32Call). seeing_step_of o None seen kernel guest left) (sym (small_of guest.words.nr no_io no_file no_time no_map))
     ∙ ap (λ (o : Option SeeingCall). seeing_step_of (built_of guest.words.nr) o seen kernel guest left) (sym (none_seeing guest.words.nr no_time))
+
+-- a call on files is made by one of four crates
+
+abbrev IsMade : ℕ → Type 0
+IsMade number = (is_open_call number || (is_status_call number || (is_entries_call number || is_call_there number))) ≡ true
+
+files_made : EachNumber IsMade file_numbers
+files_made = (refl, (refl, (refl, (refl, (refl, (refl, (refl, (refl, (refl, (refl, (refl, (refl, (refl, (refl, (refl, (refl, (refl, (refl, (refl, (refl, (refl, (refl, (refl, (refl, (refl, (refl, (refl, (refl, (refl, (refl, (refl, (refl, (refl, (refl, (refl, (refl, (refl, (refl, (refl, (refl, (refl, (refl, (refl, tt)))))))))))))))))))))))))))))))))))))))))))
+
+last_of : (one two three four : Bool) → (one || (two || (three || four))) ≡ true → one ≡ false → two ≡ false → three ≡ false → four ≡ true
+last_of false false false four made a b c = made
+last_of true two three four made a b c = absurd cc
+last_of false true three four made a b c = absurd cc
+last_of false false true four made a b c = absurd cc
+
+pub path_call_there : (number : ℕ) → is_file_call_built number ≡ true → is_open_call number ≡ false → is_status_call number ≡ false → is_entries_call number ≡ false → is_call_there number ≡ true
+path_call_there number there no_open no_status no_entries =
+    last_of (is_open_call number) (is_status_call number) (is_entries_call number) (is_call_there number) (among file_numbers number IsMade files_made there) no_open no_status no_entries

@@ -171,10 +171,6 @@ module _ (clock : ℕ) (machine : Machine) where
     kills signal fault = begun ∙ ap (λ (f : Option Sig). after_fault (clock + quantum) moved left f) fault
         ∙ ap (λ (m : Machine). ends (record m { fault = None }) left nothing (Killed (o32_signal signal))) (sym stands)
 
-    pub executes : machine.fault ≡ None
-        → attempt_of quantum (machine_at clock machine) left ≡ at_time (clock + quantum) (executed moved left)
-    executes fault = begun ∙ ap (λ (f : Option Sig). after_fault (clock + quantum) moved left f) fault
-
   -- a blocked process
   pub finds_blocked : (quantum : ℕ) (left : List ℕ) → is_blocked machine ≡ true
       → attempt_of quantum (machine_at clock machine) left ≡ unless_blocked quantum (machine_at clock machine) left true
@@ -217,35 +213,6 @@ module _ (emulated : Emulated) (clock quantum turns : ℕ) (over : Bool) (machin
         (ap (λ (m : Machine). machine_at clock m) (taken_is ∙ ap (λ (m : Machine). record m { fault = None }) advanced_is) ∙ sym (ap (λ (t : Turn). t.machine) ends_so))
         (ap (λ (t : Turn). t.left) ends_so)
         (ap (λ (t : Turn). t.sent) ends_so)
-
-    pub killed_turn : (signal : Sig) (number : ℕ) (at : Contents) (left : List ℕ) → advanced.fault ≡ Some signal → number ≡ o32_signal signal → at.left ≡ Some left
-        → Turned (attempt_of emulated.quantum emulated.machine left) (Ended (Killed number)) (machine_at clock taken) at at
-    killed_turn signal number at left fault number_is told =
-        subst (λ (e : Emulated). Turned (attempt_of e.quantum e.machine left) (Ended (Killed number)) (machine_at clock taken) at at) is (killed_of signal number at left fault number_is told)
-
-    module _ (fault : advanced.fault ≡ None) (left : List ℕ) where
-      no_fault : machine.fault ≡ None
-      no_fault = sym (ap (λ (m : Machine). m.fault) advanced_is) ∙ fault
-
-      taken_moved : taken ≡ moved clock machine
-      taken_moved = taken_is ∙ ap (λ (m : Machine). record m { fault = None }) advanced_is ∙ ap (λ (f : Option Sig). record (moved clock machine) { fault = f }) (sym no_fault)
-
-      defined_is : at_time (clock + quantum) (executed taken left) ≡ attempt_of emulated.quantum emulated.machine left
-      defined_is =
-          ap (λ (m : Machine). at_time (clock + quantum) (executed m left)) taken_moved
-          ∙ sym (executes clock machine quantum left up no_fault)
-          ∙ ap (λ (e : Emulated). attempt_of e.quantum e.machine left) is
-
-      pub went_turn : (turn : code.Turn) (became : Machine) (before after : Contents) → Turned (executed taken left) turn became before after
-          → Turned (attempt_of emulated.quantum emulated.machine left) turn (machine_at (clock + quantum) became) before after
-      went_turn turn became before after turned =
-          subst (λ (t : Turn). Turned t turn (machine_at (clock + quantum) became) before after) defined_is (at_time_answers (clock + quantum) (executed taken left) turn became before after turned)
-
-      pub stopped_turn : (result : Result code.Turn Stop) (became : Machine) (before after : Contents) → IsErr result → Stopped (executed taken left) before after
-          → Answers (attempt_of emulated.quantum emulated.machine left) result became before after
-      stopped_turn result became before after failed stopped =
-          subst (λ (t : Turn). Answers t result became before after) defined_is
-          (stops (at_time (clock + quantum) (executed taken left)) result became before after failed (at_time_stopped (clock + quantum) (executed taken left) before after stopped))
 
   module _ (none : gone_off emulated.machine.kernel.clock emulated.machine.kernel.timer ≡ None) (left : List ℕ) where
     not_due_here : gone_off clock machine.kernel.timer ≡ None

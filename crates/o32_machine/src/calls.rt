@@ -7,7 +7,8 @@ ghost use Rattle.o32_model.specs.Answered.{IsCall};
 ghost use Rattle.o32_model.specs.Built.{built_call};
 ghost use Rattle.outside.specs.Streams.{NoCountFell, contents};
 
-use crate::numbers::{is_io_call, is_map_call, is_time_call};
+use crate::files::call_on_files;
+use crate::numbers::{is_file_call, is_io_call, is_map_call, is_time_call};
 use crate::small::small_call;
 use bridge_io::io_call;
 use bridge_map::map_call;
@@ -19,10 +20,12 @@ use mips_exec::Cpu;
 use native_kernel::NativeKernel;
 use o32_model::{CallWords, Log, Outcome, Seen};
 use outside::{Devices, Sink, Source};
+use std::alloc::Global;
 
 /// Makes a call of the program, by its words, of those that there are so far. Any other number is ENOSYS. The
 /// native clock stands at the machine's.
 pub(crate) fn make_call<I: Source, O: Sink, E: Sink>(
+    alloc: Global,
     args: &CallWords,
     cpu: &mut Cpu,
     space: &mut Space,
@@ -41,6 +44,9 @@ pub(crate) fn make_call<I: Source, O: Sink, E: Sink>(
 {
     if is_io_call(args.nr) {
         return io_call(args, cpu, space, k, mem, dev, log, seen);
+    }
+    if is_file_call(args.nr) {
+        return call_on_files(alloc, args, cpu, space, k, mem, dev, log, seen);
     }
     if is_map_call(args.nr) {
         return map_call(args, cpu, space, k, mem, dev, log, seen);

@@ -4,6 +4,7 @@
 mod calls;
 mod chance;
 mod emulator;
+mod files;
 mod limits;
 mod names;
 mod numbers;

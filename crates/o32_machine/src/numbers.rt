@@ -2,7 +2,11 @@
 //! `arch/mips/include/uapi/asm/unistd.h`, the o32 table), and native ones (Linux
 //! `include/uapi/asm-generic/unistd.h`).
 ghost use Rattle.std.specs.Prelude.{◌≡◌};
-ghost use Rattle.bridge_wait.specs.Numbers.{is_call_there};
+ghost use Rattle.bridge_entries.specs.Numbers as entries;
+ghost use Rattle.bridge_open.specs.Numbers as opening;
+ghost use Rattle.bridge_status.specs.Numbers as status;
+ghost use Rattle.bridge_wait.specs.Numbers as wait;
+ghost use Rattle.o32_model.specs.Built.{is_file_call_built};
 ghost use Rattle.o32_model.specs.Table as table;
 
 pub(crate) const UNAME: u64 = 160;
@@ -52,9 +56,82 @@ pub(crate) fn is_map_call(nr: u32) -> bool
     }
 }
 
-/// Whether a number is that of a call on time, of those that are made so far.
+/// Whether a number is that of a call on files that there is.
+pub(crate) fn is_file_call(nr: u32) -> bool
+    ensures { result ≡ is_file_call_built nr }
+{
+    match nr {
+        4009 => true,
+        4010 => true,
+        4038 => true,
+        4039 => true,
+        4040 => true,
+        4083 => true,
+        4289 => true,
+        4294 => true,
+        4295 => true,
+        4296 => true,
+        4297 => true,
+        4012 => true,
+        4015 => true,
+        4033 => true,
+        4060 => true,
+        4094 => true,
+        4118 => true,
+        4133 => true,
+        4152 => true,
+        4299 => true,
+        4300 => true,
+        4316 => true,
+        4085 => true,
+        4203 => true,
+        4298 => true,
+        4092 => true,
+        4093 => true,
+        4211 => true,
+        4212 => true,
+        4019 => true,
+        4140 => true,
+        4005 => true,
+        4008 => true,
+        4288 => true,
+        4106 => true,
+        4107 => true,
+        4108 => true,
+        4213 => true,
+        4214 => true,
+        4215 => true,
+        4293 => true,
+        4141 => true,
+        4219 => true,
+        _ => false,
+    }
+}
+
+/// Whether a number is that of a call that opens a file.
+pub(crate) fn is_open_call(nr: u32) -> bool
+    ensures { result ≡ opening.is_open_call nr }
+{
+    nr == 4005 || nr == 4008 || nr == 4288
+}
+
+/// Whether a number is that of a call on status.
+pub(crate) fn is_status_call(nr: u32) -> bool
+    ensures { result ≡ status.is_status_call nr }
+{
+    nr == 4106 || nr == 4107 || nr == 4108 || nr == 4213 || nr == 4214 || nr == 4215 || nr == 4293
+}
+
+/// Whether a number is that of a call on the entries of a directory.
+pub(crate) fn is_entries_call(nr: u32) -> bool
+    ensures { result ≡ entries.is_entries_call nr }
+{
+    nr == 4141 || nr == 4219
+}
+
+/// Whether a number is that of a call on time, of those that there are.
 pub(crate) fn is_time_call(nr: u32) -> bool
-    ensures { result ≡ is_call_there nr }
+    ensures { result ≡ wait.is_call_there nr }
 {
     match nr {
         4013 => true,

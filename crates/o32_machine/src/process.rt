@@ -51,6 +51,8 @@ pub(crate) struct Process {
     kernel: NativeKernel,
     /// The memory of the host in which native calls find their buffers.
     mem: HostMem,
+    /// What gives the calls on files the memory for paths.
+    alloc: Global,
     /// The call that waits.
     wait: Option<Wait>,
     /// The signal of the fault that the last turn met.
@@ -82,6 +84,7 @@ impl Process {
             space: start.space,
             kernel,
             mem: HostMem::new(alloc),
+            alloc,
             wait: None,
             fault: None,
             idle: 0,
@@ -110,7 +113,9 @@ impl Process {
     /// Ends the call that waits where its deadline is over, at the kernel's time `clock`, in nanoseconds.
     pub(crate) fn wake(&mut self, clock: u64)
         requires { self.old.kernel.clock ≡ clock }
-        ensures { self.new ≡ woken self.old }
+        ensures woken { self.new ≡ woken self.old }
+        ensures clock { self.new.kernel.clock ≡ clock }
+        ensures idle { self.new.idle ≡ self.old.idle }
     {
         if let Some(wait) = self.wait {
             if is_over_at(clock, wait.deadline) {
@@ -152,7 +157,9 @@ impl Process {
 
     /// Moves the kernel's clock to a time, in nanoseconds. No call waits.
     pub(crate) fn advance(&mut self, clock: u64) -> Result<(), NoMemory>
-        ensures { OnOk result (self.new ≡ record self.old { kernel = signals.advance self.old.kernel clock false }) }
+        ensures moved { OnOk result (self.new ≡ record self.old { kernel = signals.advance self.old.kernel clock false }) }
+        ensures clock { OnOk result (self.new.kernel.clock ≡ clock) }
+        ensures idle { self.new.idle ≡ self.old.idle }
     {
         self.kernel.advance(clock, false)?;
         Ok(())
@@ -235,6 +242,7 @@ impl Process {
             restart: None,
         };
         let outcome = make_call(
+            self.alloc,
             &words,
             &mut self.cpu,
             &mut self.space,

@@ -1,6 +1,6 @@
--- The calls that a machine makes so far: those on descriptors and what they have open, the small ones, of those on time and readiness the ones
--- whose numbers stand here, and those on mappings. Any other number is ENOSYS to it until its group is built. (That the groups come in steps is
--- this project's own.)
+-- The calls that a machine makes so far: those on descriptors and what they have open, the small ones, of those on files and of those on time
+-- and readiness the ones whose numbers stand here, and those on mappings. Any other number is ENOSYS to it until its group is built. (That the
+-- groups come in steps is this project's own.)
 use Rattle.std.specs.Prelude.{ℕ, Bool, List, [], ◌∷◌, Option, None, ◌==◌, if◌then◌else◌}
 use Rattle.std.specs.List.{list_any}
 use Rattle.kernel_model.specs.State.{Kernel}
@@ -8,8 +8,30 @@ use Rattle.o32_model.specs.Mappings.{map_calls}
 use Rattle.o32_model.specs.Seeing.{SeeingCall, seeing_clock_calls}
 use Rattle.o32_model.specs.Small.{small_calls}
 use Rattle.o32_model.specs.Step.{Guest, O32Step, O32Call}
-use Rattle.o32_model.specs.Table.{call_in, io_call_or, seeing_call_in, seeing_step_of, wait_call_or}
+use Rattle.o32_model.specs.Table.{call_in, file_call_or, io_call_or, seeing_call_in, seeing_step_of, wait_call_or}
 use Rattle.o32_model.specs.declared.wait.Seen.{Seen}
+
+-- the calls on files: link, unlink, rename, mkdir, rmdir, symlink, mkdirat, unlinkat, renameat, linkat, symlinkat; chdir, chmod, access,
+-- umask, fchmod, fsync, fchdir, fdatasync, fchmodat, faccessat, utimensat; readlink, getcwd, readlinkat; truncate, ftruncate, truncate64,
+-- ftruncate64; lseek, _llseek; open, creat, openat; stat, lstat, fstat, stat64, lstat64, fstat64, fstatat64; getdents, getdents64
+abbrev pub file_numbers : List ℕ
+file_numbers =
+    4009 ∷ 4010 ∷ 4038 ∷ 4039 ∷ 4040 ∷ 4083 ∷ 4289 ∷ 4294 ∷ 4295 ∷ 4296 ∷ 4297
+    ∷ 4012 ∷ 4015 ∷ 4033 ∷ 4060 ∷ 4094 ∷ 4118 ∷ 4133 ∷ 4152 ∷ 4299 ∷ 4300 ∷ 4316
+    ∷ 4085 ∷ 4203 ∷ 4298
+    ∷ 4092 ∷ 4093 ∷ 4211 ∷ 4212
+    ∷ 4019 ∷ 4140
+    ∷ 4005 ∷ 4008 ∷ 4288
+    ∷ 4106 ∷ 4107 ∷ 4108 ∷ 4213 ∷ 4214 ∷ 4215 ∷ 4293
+    ∷ 4141 ∷ 4219
+    ∷ []
+
+abbrev pub is_file_call_built : ℕ → Bool
+is_file_call_built number = list_any (λ (built : ℕ). number == built) file_numbers
+
+-- one of these is that of the whole table
+abbrev pub built_file_call_or : Option O32Call → ℕ → Option O32Call
+built_file_call_or otherwise number = if is_file_call_built number then file_call_or otherwise number else otherwise
 
 -- Of the calls on time and readiness: time, gettimeofday, nanosleep, clock_getres, clock_nanosleep.
 
@@ -28,8 +50,9 @@ abbrev pub built_of : ℕ → Option O32Call
 built_of number =
     io_call_or
     (call_in small_calls
+    (built_file_call_or
     (built_time_call_or
-    (call_in map_calls None number) number) number) number
+    (call_in map_calls None number) number) number) number) number
 
 -- the call of a number that sees more of the machine: clock_gettime
 abbrev pub built_seeing_of : ℕ → Option SeeingCall

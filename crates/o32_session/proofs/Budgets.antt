@@ -5,7 +5,7 @@ use Rattle.std.specs.Prelude.{⊤, is_some, nat_le, if◌then◌else◌, codes}
 use Rattle.std.specs.Option.{unwrap_or}
 use Rattle.std.specs.Str.{bytes_eq}
 use Rattle.std.specs.Str.Parse.{digits_value}
-use Rattle.o32_session.specs.Words.{Line, Options, Reading, Asks, WrongAt, Role, ImageOption, BudgetOption, SaveOption, EnvOption, ProgramName, NoOption, budget_of, up_to_greatest, default_budget, greatest_budget, is_plain_number, is_file_name, is_setting, has_nul, line_of, no_options, read_guest, read_last, read_pair, read_options, read_line, with_budget, with_names, compare_names, equal_name, read_words, role_of}
+use Rattle.o32_session.specs.Words.{Line, Options, Reading, Asks, WrongAt, Role, ImageOption, ScheduleOption, BudgetOption, SaveOption, EnvOption, ProgramName, NoOption, budget_of, up_to_greatest, default_budget, greatest_budget, is_plain_number, is_file_name, is_setting, has_nul, line_of, no_options, read_guest, read_last, read_pair, read_options, read_line, with_budget, with_names, compare_names, equal_name, read_words, role_of}
 
 abbrev Fits : Option ℕ → Type 0
 Fits None = ⊤
@@ -41,6 +41,7 @@ guest_within line at (word ∷ rest) within = either_within (has_nul word) (Wron
 
 last_within : (at : ℕ) (options : Options) (role : Role) → Fits options.budget → AsksWithin (read_last at options role)
 last_within at options ImageOption fits = either_within (is_some options.image) (WrongAt at) (WrongAt (at + 1)) tt tt
+last_within at options ScheduleOption fits = either_within (is_some options.schedule) (WrongAt at) (WrongAt (at + 1)) tt tt
 last_within at options BudgetOption fits = either_within (is_some options.budget) (WrongAt at) (WrongAt (at + 1)) tt tt
 last_within at options SaveOption fits = either_within (is_some options.save) (WrongAt at) (WrongAt (at + 1)) tt tt
 last_within at options EnvOption fits = tt
@@ -55,6 +56,8 @@ pair_within : (at : ℕ) (options : Options) (role : Role) (value : List ℕ) (g
     → AsksWithin (read_pair at options role value guest go_on)
 pair_within at options ImageOption value guest go_on fits within each =
     either_within (is_some options.image) (WrongAt at) _ tt (either_within (is_file_name value) (go_on (record options { image = Some (at + 1) })) (WrongAt (at + 1)) (each (record options { image = Some (at + 1) }) fits) tt)
+pair_within at options ScheduleOption value guest go_on fits within each =
+    either_within (is_some options.schedule) (WrongAt at) _ tt (either_within (is_file_name value) (go_on (record options { schedule = Some (at + 1) })) (WrongAt (at + 1)) (each (record options { schedule = Some (at + 1) }) fits) tt)
 pair_within at options BudgetOption value guest go_on fits within each =
     either_within (is_some options.budget) (WrongAt at) _ tt (with_within at options (budget_of value) go_on (budget_fits value) each)
 pair_within at options SaveOption value guest go_on fits within each =

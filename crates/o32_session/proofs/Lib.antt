@@ -8,3 +8,5 @@ pub mod SavedFiles
 pub mod Reading
 pub mod Budgets
 pub mod Saves
+pub mod Chance
+pub mod QuietTurns

@@ -2,7 +2,9 @@
 use Rattle.std.proofs.Common.{◌≡◌, ◌<◌, ◌≤◌, ℕ, Bool, cond, List, Option, None, Result, Ok, Err, IfOk, IfErr, ap, ◌∙◌, sym, subst, refl, arith}
 use Rattle.std.proofs.lemmas.Bool.{le-ltb}
 use Rattle.guest_space.specs.Memory.{Memory}
-use Rattle.kernel_model.specs.Begin.{Settings, first_state}
+use Rattle.kernel_model.specs.Begin.{first_state}
+use Rattle.native_kernel.specs.Settings.{settings_of}
+use Rattle.schedule.specs.declared.Schedule.{Schedule}
 use Rattle.mips_exec.specs.Processor.{Processor}
 use Rattle.o32_machine.specs.Emulator as emulators
 use Rattle.o32_model.specs.Turn.{Machine}
@@ -14,10 +16,11 @@ use Rattle.elf_image.specs.Rules.{first_failure}
 use Rattle.elf_image.specs.Loading.{plan_of, IsValidPlan}
 use Rattle.elf_image.specs.declared.load_plan.Plan.{Plan}
 use Rattle.o32_session.specs.Words.{Line}
-use Rattle.o32_session.specs.Asked.{Asked, Refuse, Run, names_of, Absent, Long, Bytes, IsFound, IsOpened, asked_of_tree, asked_of_plan, AsksUnless, AsksFor, arguments_of, first_machine, first_settings, program_limit, random_bytes}
-use Rattle.o32_session.specs.inside.Prepared.{IsLoaded, IsElfReason, IsRefusedFor, is_absent, is_long, is_broken, IsPlanOf, IsPlanned, IsTree, IsStartReason, IsPreparedLine}
+use Rattle.o32_session.specs.Asked.{Asked, Refuse, Run, names_of, Absent, Long, Bytes, IsFound, IsOpened, IsScheduled, asked_of_schedule, AsksOfPlan, AsksUnless, AsksFor, arguments_of, first_machine, program_limit, stack_chance}
+use Rattle.o32_session.specs.inside.Prepared.{IsLoaded, IsElfReason, IsRefusedFor, is_absent, is_long, is_broken, IsPlanOf, IsPlanned, IsTree, IsScheduledAs, IsStartReason, IsPreparedLine}
 use Rattle.o32_session.specs.declared.answer.Refusal.{Refusal}
 use Rattle.o32_session.specs.declared.answer.Refusal.TheVariants.{Usage, Missing, TooLong, Elf, Image, Start}
+use Rattle.o32_session.specs.declared.answer.Refusal.TheVariants as refusals
 use Rattle.o32_session.specs.declared.load.SessionFile.TheVariants as which
 use Rattle.o32_session.specs.declared.not_run.NotRun.{NotRun}
 use Rattle.o32_session.specs.declared.not_run.NotRun.TheVariants.{Refused, ReadFault, NoMemory}
@@ -36,6 +39,7 @@ planned told name bytes found (Err (Refused (Usage word))) is reason = absurd re
 planned told name bytes found (Err (Refused (Missing file))) is reason = absurd reason
 planned told name bytes found (Err (Refused (TooLong file))) is reason = absurd reason
 planned told name bytes found (Err (Refused (Image broken))) is reason = absurd reason
+planned told name bytes found (Err (Refused (refusals.Schedule broken))) is reason = absurd reason
 planned told name bytes found (Err (Refused Start)) is reason = absurd reason
 planned told name bytes found (Err ReadFault) is reason = tt
 planned told name bytes found (Err NoMemory) is reason = tt
@@ -48,6 +52,7 @@ unplanned told name (Refused (TooLong file)) is = subst (λ n. IsRefusedFor told
 unplanned told name (Refused (Usage word)) is = absurd is
 unplanned told name (Refused (Elf rule)) is = absurd is
 unplanned told name (Refused (Image broken)) is = absurd is
+unplanned told name (Refused (refusals.Schedule broken)) is = absurd is
 unplanned told name (Refused Start) is = absurd is
 unplanned told name ReadFault is = tt
 unplanned told name NoMemory is = tt
@@ -57,42 +62,60 @@ unplanned told name NoMemory is = tt
 -- what a plan asks for, with what came of the image
 asks_planned : (words : List (List ℕ)) (line : Line) (told : Option Files) (plan : Plan) (found : Result Tree Refusal) (asked : Asked) →
     IsPlanOf told (names_of words line).program plan → IsOpened told (names_of words line).image found →
-    asked_of_plan (arguments_of words line) line plan found ≡ asked → AsksFor words line told asked
-asks_planned words line told plan found asked is image same = (
+    AsksOfPlan (arguments_of words line) line (names_of words line) told plan found asked → AsksFor words line told asked
+asks_planned words line told plan found asked is image asks = (
   Bytes is.bytes,
   is.found,
   subst (λ f. AsksUnless (arguments_of words line) line (names_of words line) told is.bytes f asked) (sym is.formed)
-      (found, image, sym same ∙ ap (λ p. asked_of_plan (arguments_of words line) line p found) is.same),
+      (found, image, subst (λ p. AsksOfPlan (arguments_of words line) line (names_of words line) told p found asked) is.same asks),
 )
 
-start_prepared : (words : List (List ℕ)) (line : Line) (told : Option Files) (plan : Plan) (tree : Tree) (reason : NotRun) →
-    IsPlanOf told (names_of words line).program plan → IsOpened told (names_of words line).image (Ok tree) →
-    IsStartReason (asked_of_tree (arguments_of words line) line plan tree) reason → IsPreparedLine words line told (Err reason)
-start_prepared words line told plan tree (Refused Start) is image reason =
-    asks_planned words line told plan (Ok tree) (Refuse Start) is image reason
-start_prepared words line told plan tree (Refused (Usage word)) is image reason = absurd reason
-start_prepared words line told plan tree (Refused (Missing file)) is image reason = absurd reason
-start_prepared words line told plan tree (Refused (TooLong file)) is image reason = absurd reason
-start_prepared words line told plan tree (Refused (Elf rule)) is image reason = absurd reason
-start_prepared words line told plan tree (Refused (Image broken)) is image reason = absurd reason
-start_prepared words line told plan tree ReadFault is image reason = tt
-start_prepared words line told plan tree NoMemory is image reason = tt
+-- there is no tree
+pub unopened_line : (words : List (List ℕ)) (line : Line) (told : Option Files) (plan : Plan) (reason : NotRun) →
+    IsPlanOf told (names_of words line).program plan → IsTree told (names_of words line).image (Err reason) → IsPreparedLine words line told (Err reason)
+unopened_line words line told plan (Refused refusal) is image = asks_planned words line told plan (Err refusal) (Refuse refusal) is image refl
+unopened_line words line told plan ReadFault is image = tt
+unopened_line words line told plan NoMemory is image = tt
 
--- the machine of a plan beside its tree
-pub prepared : (words : List (List ℕ)) (line : Line) (told : Option Files) (plan : Plan) (tree : Tree) (args : List (List ℕ)) →
+-- there is no schedule
+pub unscheduled_line : (words : List (List ℕ)) (line : Line) (told : Option Files) (plan : Plan) (tree : Tree) (reason : NotRun) →
+    IsPlanOf told (names_of words line).program plan → IsTree told (names_of words line).image (Ok tree) →
+    IsScheduledAs told (names_of words line).schedule (Err reason) → IsPreparedLine words line told (Err reason)
+unscheduled_line words line told plan tree (Refused refusal) is image scheduled =
+    asks_planned words line told plan (Ok tree) (Refuse refusal) is image.0 (Err refusal, scheduled, refl)
+unscheduled_line words line told plan tree ReadFault is image scheduled = tt
+unscheduled_line words line told plan tree NoMemory is image scheduled = tt
+
+start_prepared : (words : List (List ℕ)) (line : Line) (told : Option Files) (plan : Plan) (tree : Tree) (schedule : Schedule) (reason : NotRun) →
+    IsPlanOf told (names_of words line).program plan → IsOpened told (names_of words line).image (Ok tree) →
+    IsScheduled told (names_of words line).schedule (Ok schedule) →
+    IsStartReason (asked_of_schedule (arguments_of words line) line plan tree schedule) reason → IsPreparedLine words line told (Err reason)
+start_prepared words line told plan tree schedule (Refused Start) is image scheduled reason =
+    asks_planned words line told plan (Ok tree) (Refuse Start) is image (Ok schedule, scheduled, sym reason)
+start_prepared words line told plan tree schedule (Refused (Usage word)) is image scheduled reason = absurd reason
+start_prepared words line told plan tree schedule (Refused (Missing file)) is image scheduled reason = absurd reason
+start_prepared words line told plan tree schedule (Refused (TooLong file)) is image scheduled reason = absurd reason
+start_prepared words line told plan tree schedule (Refused (Elf rule)) is image scheduled reason = absurd reason
+start_prepared words line told plan tree schedule (Refused (Image broken)) is image scheduled reason = absurd reason
+start_prepared words line told plan tree schedule (Refused (refusals.Schedule broken)) is image scheduled reason = absurd reason
+start_prepared words line told plan tree schedule ReadFault is image scheduled reason = tt
+start_prepared words line told plan tree schedule NoMemory is image scheduled reason = tt
+
+-- the machine of a plan beside its tree, under its schedule
+pub prepared : (words : List (List ℕ)) (line : Line) (told : Option Files) (plan : Plan) (tree : Tree) (schedule : Schedule) (args : List (List ℕ)) →
     args ≡ arguments_of words line → IsPlanOf told (names_of words line).program plan →
-    IsTree told (names_of words line).image (Ok tree) → (result : Result Ready NotRun) →
-    IfOk result (λ ready. asked_of_tree args line plan tree ≡ Run ready.emulator.machine ready.budget) →
+    IsTree told (names_of words line).image (Ok tree) → IsScheduledAs told (names_of words line).schedule (Ok schedule) → (result : Result Ready NotRun) →
+    IfOk result (λ ready. asked_of_schedule args line plan tree schedule ≡ Run ready.emulator.quantum ready.emulator.machine ready.budget) →
     IfOk result (λ ready. ready.save ≡ line.save) →
-    IfErr result (IsStartReason (asked_of_tree args line plan tree)) → IsPreparedLine words line told result
-prepared words line told plan tree args same is image (Ok ready) runs save reason = (
-  asks_planned words line told plan (Ok tree) (Run ready.emulator.machine ready.budget) is image.0
-      (ap (λ a. asked_of_tree a line plan tree) (sym same) ∙ runs),
+    IfErr result (IsStartReason (asked_of_schedule args line plan tree schedule)) → IsPreparedLine words line told result
+prepared words line told plan tree schedule args same is image scheduled (Ok ready) runs save reason = (
+  asks_planned words line told plan (Ok tree) (Run ready.emulator.quantum ready.emulator.machine ready.budget) is image.0
+      (Ok schedule, scheduled, sym (ap (λ a. asked_of_schedule a line plan tree schedule) (sym same) ∙ runs)),
   save,
 )
-prepared words line told plan tree args same is image (Err reason) runs save why =
-    start_prepared words line told plan tree reason is image.0
-    (subst (λ a. IsStartReason (asked_of_tree a line plan tree) reason) same why)
+prepared words line told plan tree schedule args same is image scheduled (Err reason) runs save why =
+    start_prepared words line told plan tree schedule reason is image.0 scheduled
+    (subst (λ a. IsStartReason (asked_of_schedule a line plan tree schedule) reason) same why)
 
 -- there is no plan
 refused_prepared : (words : List (List ℕ)) (line : Line) (told : Option Files) (refusal : Refusal) →
@@ -113,17 +136,16 @@ unplanned_line words line told NoMemory is = tt
 
 -- The machine
 
--- the emulator of a start that fits, over the kernel of this tree
-pub machine_ready : (args : List (List ℕ)) (line : Line) (plan : Plan) (tree : Tree) (cpu : Processor) (space : Memory) (settings : Settings) (machine : Machine)
-    → (start_limit < start_size args line.environment → ⊥) → cpu ≡ start_processor plan args line.environment → space ≡ start_memory plan args line.environment random_bytes → settings ≡ first_settings
-    → machine ≡ emulators.first_machine cpu space (first_state tree settings) → asked_of_tree args line plan tree ≡ Run machine line.budget
-machine_ready args line plan tree cpu space settings machine fits cpu_is space_is settings_are machine_is =
+-- the emulator of a start that fits, over the kernel of this tree and schedule
+pub machine_ready : (args : List (List ℕ)) (line : Line) (plan : Plan) (tree : Tree) (schedule : Schedule) (cpu : Processor) (space : Memory) (quantum : ℕ) (machine : Machine)
+    → (start_limit < start_size args line.environment → ⊥) → cpu ≡ start_processor plan args line.environment → space ≡ start_memory plan args line.environment (stack_chance schedule) → quantum ≡ schedule.quantum
+    → machine ≡ emulators.first_machine cpu space (first_state tree (settings_of schedule)) → asked_of_schedule args line plan tree schedule ≡ Run quantum machine line.budget
+machine_ready args line plan tree schedule cpu space quantum machine fits cpu_is space_is quantum_is machine_is =
     let within : start_size args line.environment ≤ start_limit = omega arith in
-    let same : first_machine plan args line.environment tree ≡ machine =
+    let same : first_machine plan args line.environment tree schedule ≡ machine =
     sym (machine_is
-    ∙ ap (λ (p : Processor). emulators.first_machine p space (first_state tree settings)) cpu_is
-    ∙ ap (λ (m : Memory). emulators.first_machine (start_processor plan args line.environment) m (first_state tree settings)) space_is
-    ∙ ap (λ (s : Settings). emulators.first_machine (start_processor plan args line.environment) (start_memory plan args line.environment random_bytes) (first_state tree s)) settings_are) in
-    ap (λ (b : Bool). cond b (Refuse Start) (Run (first_machine plan args line.environment tree) line.budget))
+    ∙ ap (λ (p : Processor). emulators.first_machine p space (first_state tree (settings_of schedule))) cpu_is
+    ∙ ap (λ (m : Memory). emulators.first_machine (start_processor plan args line.environment) m (first_state tree (settings_of schedule))) space_is) in
+    ap (λ (b : Bool). cond b (Refuse Start) (Run schedule.quantum (first_machine plan args line.environment tree schedule) line.budget))
     (le-ltb start_limit (start_size args line.environment) within)
-    ∙ ap (λ (m : Machine). Run m line.budget) same
+    ∙ (ap (λ (m : Machine). Run schedule.quantum m line.budget) same ∙ ap (λ (q : ℕ). Run q machine line.budget) (sym quantum_is))

@@ -24,7 +24,6 @@ use Rattle.o32_model.specs.Step.{O32Step}
 use Rattle.o32_model.specs.Turn.{Machine, Turn, after_fault, after_outcome, after_step, guest_of, is_blocked, timed, turn_of}
 use Rattle.o32_model.specs.declared.outcome.Outcome.{Outcome}
 use Rattle.o32_model.specs.declared.outcome.Outcome.TheVariants as outcomes
-use Rattle.o32_session.specs.Asked.{quantum}
 use Rattle.o32_session.specs.inside.Runs.{IsCut, IsOver, IsSoFar}
 
 -- How a turn ends the process: by an exit or a signal alone
@@ -54,46 +53,46 @@ own_end_of_fault later machine left None finish over =
     let step = step_of machine.processor machine.memory in own_end_of_step step.processor step.memory machine.kernel left step.came finish over
 own_end_of_fault later machine left (Some signal) finish over = subst IsOwnEnd (let same : Killed (o32_signal signal) ≡ finish = cc in same) tt
 
-own_end : (machine : Machine) (left : List ℕ) (finish : Finish) → (turn_of quantum machine left).over ≡ Some finish → IsOwnEnd finish
+own_end : (quantum : ℕ) (machine : Machine) (left : List ℕ) (finish : Finish) → (turn_of quantum machine left).over ≡ Some finish → IsOwnEnd finish
 unfolding turn_of
-own_end machine left finish over = own_end_of_fault (machine.kernel.clock + quantum) (timed machine) left machine.fault finish over
+own_end quantum machine left finish over = own_end_of_fault (machine.kernel.clock + quantum) (timed machine) left machine.fault finish over
 
 -- what an attempt finds, by how it ends
 
-abbrev IsFound : Machine → List ℕ → Finish → Type 0
-IsFound machine left (Exited status) = (is_blocked machine ≡ false) × ((turn_of quantum machine left).over ≡ Some (Exited status))
-IsFound machine left (Killed signal) = (is_blocked machine ≡ false) × ((turn_of quantum machine left).over ≡ Some (Killed signal))
-IsFound machine left Budget = ⊥
-IsFound machine left Blocked = is_blocked machine ≡ true
+abbrev IsFound : ℕ → Machine → List ℕ → Finish → Type 0
+IsFound quantum machine left (Exited status) = (is_blocked machine ≡ false) × ((turn_of quantum machine left).over ≡ Some (Exited status))
+IsFound quantum machine left (Killed signal) = (is_blocked machine ≡ false) × ((turn_of quantum machine left).over ≡ Some (Killed signal))
+IsFound quantum machine left Budget = ⊥
+IsFound quantum machine left Blocked = is_blocked machine ≡ true
 
-found_awake : (machine : Machine) (left : List ℕ) (finish : Finish) → is_blocked machine ≡ false → (turn_of quantum machine left).over ≡ Some finish → IsFound machine left finish
-found_awake machine left (Exited status) awake over = (awake, over)
-found_awake machine left (Killed signal) awake over = (awake, over)
-found_awake machine left Budget awake over = own_end machine left Budget over
-found_awake machine left Blocked awake over = absurd (own_end machine left Blocked over)
+found_awake : (quantum : ℕ) (machine : Machine) (left : List ℕ) (finish : Finish) → is_blocked machine ≡ false → (turn_of quantum machine left).over ≡ Some finish → IsFound quantum machine left finish
+found_awake quantum machine left (Exited status) awake over = (awake, over)
+found_awake quantum machine left (Killed signal) awake over = (awake, over)
+found_awake quantum machine left Budget awake over = own_end quantum machine left Budget over
+found_awake quantum machine left Blocked awake over = absurd (own_end quantum machine left Blocked over)
 
-found_by : (machine : Machine) (left : List ℕ) (finish : Finish) (blocked : Bool) → is_blocked machine ≡ blocked → (unless_blocked quantum machine left blocked).over ≡ Some finish → IsFound machine left finish
-found_by machine left finish false awake over = found_awake machine left finish awake over
-found_by machine left finish true waits over = subst (λ (f : Finish). IsFound machine left f) (let same : Blocked ≡ finish = cc in same) waits
+found_by : (quantum : ℕ) (machine : Machine) (left : List ℕ) (finish : Finish) (blocked : Bool) → is_blocked machine ≡ blocked → (unless_blocked quantum machine left blocked).over ≡ Some finish → IsFound quantum machine left finish
+found_by quantum machine left finish false awake over = found_awake quantum machine left finish awake over
+found_by quantum machine left finish true waits over = subst (λ (f : Finish). IsFound quantum machine left f) (let same : Blocked ≡ finish = cc in same) waits
 
-found : (machine : Machine) (left : List ℕ) (finish : Finish) → (attempt_of quantum machine left).over ≡ Some finish → IsFound machine left finish
-found machine left finish over = found_by machine left finish (is_blocked machine) refl over
+found : (quantum : ℕ) (machine : Machine) (left : List ℕ) (finish : Finish) → (attempt_of quantum machine left).over ≡ Some finish → IsFound quantum machine left finish
+found quantum machine left finish over = found_by quantum machine left finish (is_blocked machine) refl over
 
-went_awake : (machine : Machine) (left : List ℕ) (blocked : Bool) → is_blocked machine ≡ blocked → (unless_blocked quantum machine left blocked).over ≡ None → is_blocked machine ≡ false
-went_awake machine left false awake over = awake
-went_awake machine left true waits over = absurd cc
+went_awake : (quantum : ℕ) (machine : Machine) (left : List ℕ) (blocked : Bool) → is_blocked machine ≡ blocked → (unless_blocked quantum machine left blocked).over ≡ None → is_blocked machine ≡ false
+went_awake quantum machine left false awake over = awake
+went_awake quantum machine left true waits over = absurd cc
 
-awake_is : (machine : Machine) (left : List ℕ) → is_blocked machine ≡ false → attempt_of quantum machine left ≡ turn_of quantum machine left
-awake_is machine left awake = ap (λ (b : Bool). unless_blocked quantum machine left b) awake
+awake_is : (quantum : ℕ) (machine : Machine) (left : List ℕ) → is_blocked machine ≡ false → attempt_of quantum machine left ≡ turn_of quantum machine left
+awake_is quantum machine left awake = ap (λ (b : Bool). unless_blocked quantum machine left b) awake
 
-blocked_is : (machine : Machine) (left : List ℕ) → is_blocked machine ≡ true → attempt_of quantum machine left ≡ unless_blocked quantum machine left true
-blocked_is machine left waits = ap (λ (b : Bool). unless_blocked quantum machine left b) waits
+blocked_is : (quantum : ℕ) (machine : Machine) (left : List ℕ) → is_blocked machine ≡ true → attempt_of quantum machine left ≡ unless_blocked quantum machine left true
+blocked_is quantum machine left waits = ap (λ (b : Bool). unless_blocked quantum machine left b) waits
 
 -- One more turn
 
-pub at_start : (machine : Machine) (left : List ℕ) (at : Contents) → at.left ≡ Some left → IsSoFar machine left 0 at at machine
+pub at_start : (quantum : ℕ) (machine : Machine) (left : List ℕ) (at : Contents) → at.left ≡ Some left → IsSoFar quantum machine left 0 at at machine
 unfolding reached
-at_start machine left at told = record {
+at_start quantum machine left at told = record {
   same = refl;
   alive = refl;
   first = λ j below. absurd (omega arith);
@@ -102,7 +101,7 @@ at_start machine left at told = record {
   to_err = GainsText-nothing at.err;
 }
 
-module _ (machine : Machine) (left : List ℕ) (k : ℕ) (before middle : Contents) (now : Machine) (so : IsSoFar machine left k before middle now) where
+module _ (quantum : ℕ) (machine : Machine) (left : List ℕ) (k : ℕ) (before middle : Contents) (now : Machine) (so : IsSoFar quantum machine left k before middle now) where
   abbrev at_k : Reached
   at_k = reached quantum machine left k
 
@@ -132,7 +131,7 @@ module _ (machine : Machine) (left : List ℕ) (k : ℕ) (before middle : Conten
     next = after_turn at_k.sent (turn_of quantum now at_k.left)
 
     of_turn : Turned (turn_of quantum now at_k.left) turn then middle after
-    of_turn = subst (λ (t : Turn). Turned t turn then middle after) (awake_is now at_k.left awake) turned
+    of_turn = subst (λ (t : Turn). Turned t turn then middle after) (awake_is quantum now at_k.left awake) turned
 
     next_over : (reached quantum machine left (k + 1)).over ≡ over_of turn
     next_over = ap (λ (r : Reached). r.over) (next_is awake) ∙ sym of_turn.came
@@ -149,12 +148,12 @@ module _ (machine : Machine) (left : List ℕ) (k : ℕ) (before middle : Conten
     next_err : GainsText before.err after.err (reached quantum machine left (k + 1)).sent.err
     next_err = subst (λ (r : Reached). GainsText before.err after.err r.sent.err) (sym (next_is awake)) (GainsText-then so.to_err of_turn.to_err)
 
-    ended_next : (budget : ℕ) (finish : Finish) → IsOverAt quantum machine left budget (k + 1) finish → IsOver machine left budget (k + 1) finish before after then
+    ended_next : (budget : ℕ) (finish : Finish) → IsOverAt quantum machine left budget (k + 1) finish → IsOver quantum machine left budget (k + 1) finish before after then
     ended_next budget finish over = record { over = over; leaves = next_machine; rest = next_left; to_out = next_out; to_err = next_err }
 
-  pub went_on : (after : Contents) (then : Machine) → Turned (attempt_of quantum now at_k.left) Went then middle after → IsSoFar machine left (k + 1) before after then
+  pub went_on : (after : Contents) (then : Machine) → Turned (attempt_of quantum now at_k.left) Went then middle after → IsSoFar quantum machine left (k + 1) before after then
   went_on after then turned =
-      let awake = went_awake now at_k.left (is_blocked now) refl (sym turned.came) in
+      let awake = went_awake quantum now at_k.left (is_blocked now) refl (sym turned.came) in
       record {
         same = sym (next_machine Went after then turned awake);
         alive = next_over Went after then turned awake;
@@ -165,9 +164,9 @@ module _ (machine : Machine) (left : List ℕ) (k : ℕ) (before middle : Conten
       }
 
   -- an attempt that finds the process blocked takes and sends nothing, and leaves the machine
-  blocked_over : (budget : ℕ) (after : Contents) (then : Machine) → k < budget → is_blocked now ≡ true → Turned (attempt_of quantum now at_k.left) (Ended Blocked) then middle after → IsOver machine left budget k Blocked before after then
+  blocked_over : (budget : ℕ) (after : Contents) (then : Machine) → k < budget → is_blocked now ≡ true → Turned (attempt_of quantum now at_k.left) (Ended Blocked) then middle after → IsOver quantum machine left budget k Blocked before after then
   blocked_over budget after then within waits turned =
-      let of_attempt = subst (λ (t : Turn). Turned t (Ended Blocked) then middle after) (blocked_is now at_k.left waits) turned in
+      let of_attempt = subst (λ (t : Turn). Turned t (Ended Blocked) then middle after) (blocked_is quantum now at_k.left waits) turned in
       record {
         over = (within, record { alive = so.alive; waits = ap (λ (m : Machine). is_blocked m) so.same ∙ waits; first = so.first });
         leaves = of_attempt.became ∙ sym so.same;
@@ -183,8 +182,8 @@ module _ (machine : Machine) (left : List ℕ) (k : ℕ) (before middle : Conten
   counted Budget = k + 1
   counted Blocked = k
 
-  over_by : (budget : ℕ) (finish : Finish) (after : Contents) (then : Machine) → k < budget → IsFound now at_k.left finish → Turned (attempt_of quantum now at_k.left) (Ended finish) then middle after
-      → IsOver machine left budget (counted finish) finish before after then
+  over_by : (budget : ℕ) (finish : Finish) (after : Contents) (then : Machine) → k < budget → IsFound quantum now at_k.left finish → Turned (attempt_of quantum now at_k.left) (Ended finish) then middle after
+      → IsOver quantum machine left budget (counted finish) finish before after then
   over_by budget (Exited status) after then within found turned =
       let least : k + 1 ≤ budget = omega arith in
       ended_next (Ended (Exited status)) after then turned found.0 budget (Exited status)
@@ -197,13 +196,13 @@ module _ (machine : Machine) (left : List ℕ) (k : ℕ) (before middle : Conten
   over_by budget Blocked after then within waits turned = blocked_over budget after then within waits turned
 
   pub is_over : (budget : ℕ) (finish : Finish) (after : Contents) (then : Machine) → k < budget → Turned (attempt_of quantum now at_k.left) (Ended finish) then middle after
-      → IsOver machine left budget (counted finish) finish before after then
-  is_over budget finish after then within turned = over_by budget finish after then within (found now at_k.left finish (sym turned.came)) turned
+      → IsOver quantum machine left budget (counted finish) finish before after then
+  is_over budget finish after then within turned = over_by budget finish after then within (found quantum now at_k.left finish (sym turned.came)) turned
 
   -- the next turn stopped early
-  pub is_cut : (after : Contents) → is_blocked now ≡ false → Stopped (attempt_of quantum now at_k.left) middle after → IsCut machine left k before after
+  pub is_cut : (after : Contents) → is_blocked now ≡ false → Stopped (attempt_of quantum now at_k.left) middle after → IsCut quantum machine left k before after
   is_cut after awake stopped =
-      let of_turn = subst (λ (t : Turn). Stopped t middle after) (awake_is now at_k.left awake) stopped in
+      let of_turn = subst (λ (t : Turn). Stopped t middle after) (awake_is quantum now at_k.left awake) stopped in
       record {
         running = runs_here awake;
         rest = elim of_turn.rest [
@@ -216,32 +215,32 @@ module _ (machine : Machine) (left : List ℕ) (k : ℕ) (before middle : Conten
 
 -- The same of an emulator whose quantum is known
 
-pub went_on_by : (machine : Machine) (left : List ℕ) (k q : ℕ) (before middle after : Contents) (now then : Machine) (turn : code.Turn) → q ≡ quantum → turn ≡ Went → IsSoFar machine left k before middle now
-    → ((left : List ℕ) → middle.left ≡ Some left → Turned (attempt_of q now left) turn then middle after) → IsSoFar machine left (k + 1) before after then
-went_on_by machine left k q before middle after now then turn same is so turned =
+pub went_on_by : (quantum : ℕ) (machine : Machine) (left : List ℕ) (k q : ℕ) (before middle after : Contents) (now then : Machine) (turn : code.Turn) → q ≡ quantum → turn ≡ Went → IsSoFar quantum machine left k before middle now
+    → ((left : List ℕ) → middle.left ≡ Some left → Turned (attempt_of q now left) turn then middle after) → IsSoFar quantum machine left (k + 1) before after then
+went_on_by quantum machine left k q before middle after now then turn same is so turned =
     let here = (reached quantum machine left k).left in
-    went_on machine left k before middle now so after then
+    went_on quantum machine left k before middle now so after then
     (subst (λ (t : code.Turn). Turned (attempt_of quantum now here) t then middle after) is
     (subst (λ (n : ℕ). Turned (attempt_of n now here) turn then middle after) same (turned here so.rest)))
 
-pub is_over_by : (machine : Machine) (left : List ℕ) (k q budget turns : ℕ) (before middle after : Contents) (now then : Machine) (turn : code.Turn) (finish : Finish) → q ≡ quantum → turn ≡ Ended finish → k < budget → turns ≡ k + turns_of (Ended finish)
-    → IsSoFar machine left k before middle now → ((left : List ℕ) → middle.left ≡ Some left → Turned (attempt_of q now left) turn then middle after) → IsOver machine left budget turns finish before after then
-is_over_by machine left k q budget turns before middle after now then turn finish same is within counts so turned =
+pub is_over_by : (quantum : ℕ) (machine : Machine) (left : List ℕ) (k q budget turns : ℕ) (before middle after : Contents) (now then : Machine) (turn : code.Turn) (finish : Finish) → q ≡ quantum → turn ≡ Ended finish → k < budget → turns ≡ k + turns_of (Ended finish)
+    → IsSoFar quantum machine left k before middle now → ((left : List ℕ) → middle.left ≡ Some left → Turned (attempt_of q now left) turn then middle after) → IsOver quantum machine left budget turns finish before after then
+is_over_by quantum machine left k q budget turns before middle after now then turn finish same is within counts so turned =
     let here = (reached quantum machine left k).left in
-    subst (λ (n : ℕ). IsOver machine left budget n finish before after then) (counted_is finish ∙ sym counts)
-    (is_over machine left k before middle now so budget finish after then within
+    subst (λ (n : ℕ). IsOver quantum machine left budget n finish before after then) (counted_is finish ∙ sym counts)
+    (is_over quantum machine left k before middle now so budget finish after then within
     (subst (λ (t : code.Turn). Turned (attempt_of quantum now here) t then middle after) is
     (subst (λ (n : ℕ). Turned (attempt_of n now here) turn then middle after) same (turned here so.rest))))
   where
-    counted_is : (finish : Finish) → counted machine left k before middle now so finish ≡ k + turns_of (Ended finish)
+    counted_is : (finish : Finish) → counted quantum machine left k before middle now so finish ≡ k + turns_of (Ended finish)
     counted_is (Exited status) = refl
     counted_is (Killed signal) = refl
     counted_is Budget = refl
     counted_is Blocked = sym (add-zero k)
 
-pub is_cut_by : (machine : Machine) (left : List ℕ) (k q : ℕ) (before middle after : Contents) (now : Machine) → q ≡ quantum → is_blocked now ≡ false → IsSoFar machine left k before middle now
-    → ((left : List ℕ) → middle.left ≡ Some left → Stopped (attempt_of q now left) middle after) → IsCut machine left k before after
-is_cut_by machine left k q before middle after now same awake so stopped =
+pub is_cut_by : (quantum : ℕ) (machine : Machine) (left : List ℕ) (k q : ℕ) (before middle after : Contents) (now : Machine) → q ≡ quantum → is_blocked now ≡ false → IsSoFar quantum machine left k before middle now
+    → ((left : List ℕ) → middle.left ≡ Some left → Stopped (attempt_of q now left) middle after) → IsCut quantum machine left k before after
+is_cut_by quantum machine left k q before middle after now same awake so stopped =
     let here = (reached quantum machine left k).left in
-    is_cut machine left k before middle now so after awake
+    is_cut quantum machine left k before middle now so after awake
     (subst (λ (n : ℕ). Stopped (attempt_of n now here) middle after) same (stopped here so.rest))

@@ -93,21 +93,21 @@ part_saves : (save : Option (List ℕ)) (tree : Tree) (old new : Stored) (end : 
 part_saves None tree old new end says saved = absurd saved
 part_saves (Some name) tree old new end says saved = changed_file old.files new.files name (StandsOrBegins (text_of tree)) (IsFileAfter end) says saved.files
 
-run_saves : (machine : Machine) (budget : ℕ) (names : Names) (old new : Seen) (turns : ℕ) (end : End) (host : Option Emulated) → Answers (Run machine budget) names old new turns end host
+run_saves : (quantum : ℕ) (machine : Machine) (budget : ℕ) (names : Names) (old new : Seen) (turns : ℕ) (end : End) (host : Option Emulated) → Answers (Run quantum machine budget) names old new turns end host
     → SavesTo names.save end old.store.files new.store.files
-run_saves machine budget names old new turns (Exited status) host answer = finish_saves names.save (final_tree answer.emulated.machine) old.store new.store (Exited status) (λ before after is. is) answer.saves
-run_saves machine budget names old new turns (Killed signal) host answer = finish_saves names.save (final_tree answer.emulated.machine) old.store new.store (Killed signal) (λ before after is. is) answer.saves
-run_saves machine budget names old new turns Budget host answer = finish_saves names.save (final_tree answer.emulated.machine) old.store new.store Budget (λ before after is. is) answer.saves
-run_saves machine budget names old new turns Blocked host answer = finish_saves names.save (final_tree answer.emulated.machine) old.store new.store Blocked (λ before after is. is) answer.saves
-run_saves machine budget names old new turns (Refused given) host answer = absurd answer
-run_saves machine budget names old new turns ReadFault host answer =
+run_saves quantum machine budget names old new turns (Exited status) host answer = finish_saves names.save (final_tree answer.emulated.machine) old.store new.store (Exited status) (λ before after is. is) answer.saves
+run_saves quantum machine budget names old new turns (Killed signal) host answer = finish_saves names.save (final_tree answer.emulated.machine) old.store new.store (Killed signal) (λ before after is. is) answer.saves
+run_saves quantum machine budget names old new turns Budget host answer = finish_saves names.save (final_tree answer.emulated.machine) old.store new.store Budget (λ before after is. is) answer.saves
+run_saves quantum machine budget names old new turns Blocked host answer = finish_saves names.save (final_tree answer.emulated.machine) old.store new.store Blocked (λ before after is. is) answer.saves
+run_saves quantum machine budget names old new turns (Refused given) host answer = absurd answer
+run_saves quantum machine budget names old new turns ReadFault host answer =
     stands_so ReadFault old.store.files new.store.files (λ file. refl) (ap (λ (s : Stored). s.files) answer.0.stands) names.save
-run_saves machine budget names old new turns WriteFault host answer =
+run_saves quantum machine budget names old new turns WriteFault host answer =
     elim answer as (λ _. SavesTo names.save WriteFault old.store.files new.store.files) [
       | inl in_run ↦ stands_so WriteFault old.store.files new.store.files (λ file. inl refl) (ap (λ (s : Stored). s.files) in_run.0.stands) names.save
       | inr at_save ↦ part_saves names.save (final_tree at_save.0.final) old.store new.store WriteFault (part_says (final_tree at_save.0.final)) at_save.0.saves
     ]
-run_saves machine budget names old new turns NoMemory host answer =
+run_saves quantum machine budget names old new turns NoMemory host answer =
     elim answer as (λ _. SavesTo names.save NoMemory old.store.files new.store.files) [
       | inl in_run ↦ stands_so NoMemory old.store.files new.store.files (λ file. inl refl) (ap (λ (s : Stored). s.files) in_run.stands) names.save
       | inr at_save ↦ part_saves names.save (final_tree at_save.final) old.store new.store NoMemory (part_says (final_tree at_save.final)) at_save.saves
@@ -118,7 +118,7 @@ run_saves machine budget names old new turns NoMemory host answer =
 asked_saves : (names : Names) (old new : Seen) (turns : ℕ) (end : End) (host : Option Emulated) (asked : Asked) → Answers asked names old new turns end host → SavesTo names.save end old.store.files new.store.files
 asked_saves names old new turns end host (Refuse refusal) answer =
     let stands = refused_stands refusal names old new turns end host answer in stands_so end old.store.files new.store.files stands.0 stands.1 names.save
-asked_saves names old new turns end host (Run machine budget) answer = run_saves machine budget names old new turns end host answer
+asked_saves names old new turns end host (Run quantum machine budget) answer = run_saves quantum machine budget names old new turns end host answer
 
 -- What an answer says, of the files alone.
 pub saves : (words : List (List ℕ)) (reading : Reading) (old new : Seen) (turns : ℕ) (end : End) (host : Option Emulated) → AnswersReading words reading old new turns end host

@@ -18,13 +18,14 @@ use Rattle.fs_image.specs.Meaning as images
 use Rattle.fs_image.specs.declared.refusal.ImageRefusal.{ImageRefusal}
 use Rattle.elf_image.specs.Loading.{plan_of}
 use Rattle.elf_image.specs.declared.load_plan.Plan.{Plan}
+use Rattle.schedule.specs.declared.Schedule.{Schedule}
 use Rattle.start_stack.specs.Stack.{start_size, start_limit}
 use Rattle.o32_machine.specs.Emulator.{Emulated}
 use Rattle.o32_model.specs.Turn.{Machine}
 use Rattle.o32_session.specs.Answers.{IsRefusal}
-use Rattle.o32_session.specs.Asked.{Asked, Refuse, Run, Names, names_of, Found, Bytes, found_at, IsOpened, IsOpenedBy, AsksOf, AsksUnless, AsksFor, arguments_of, asked_of_plan, asked_of_tree, first_machine, empty_tree, image_limit}
+use Rattle.o32_session.specs.Asked.{Asked, Refuse, Run, Names, names_of, Found, Bytes, found_at, IsOpened, IsOpenedBy, AsksOf, AsksOfPlan, AsksUnless, AsksFor, IsScheduled, arguments_of, asked_of_schedule, asked_of_tree, first_machine, empty_tree, image_limit, schedule_of_found}
 use Rattle.o32_session.specs.Saved.{SavesTree, SavesTreeInPart, Stored, after_turned, turned_by}
-use Rattle.o32_session.specs.Session.{Seen, DoesNothing, Answers, final_tree, IsEarly, Finishes, IsRun, IsPartOfRun, StopsAtSave, no_names, AnswersReading, AsksForRun, EndsAsRun, HasImage, IsRunEnd}
+use Rattle.o32_session.specs.Session.{Seen, DoesNothing, Answers, final_tree, IsEarly, Finishes, IsRun, IsPartOfRun, StopsAtSave, no_names, AnswersReading, AsksForRun, EndsAsRun, HasImage, HasSchedule, IsRunEnd}
 use Rattle.o32_session.specs.Words.{Line, Reading, Asks, WrongAt, read_words, word_at}
 use Rattle.o32_session.specs.inside.Ends.{end_of, end_of_stop}
 use Rattle.o32_session.specs.inside.Prepared.{EndsRefused, EndsWithoutRun, IsPrepared, turned_reading}
@@ -104,65 +105,65 @@ unrun words (Asks line) reasons.NoMemory end old err faults store host is so cau
 abbrev contents_of : Seen → Contents
 contents_of seen = record { left = seen.left; out = seen.out; err = seen.err }
 
-run_told : (machine : Machine) (budget turns : ℕ) (finish : Finish) (old new : Seen) (final : Machine) → RunsAs machine budget turns (Ok finish) (contents_of old) (contents_of new) final
-    → (left : List ℕ) → old.left ≡ Some left → IsRun machine left budget old new turns finish final
-run_told machine budget turns finish old new final runs left told =
+run_told : (quantum : ℕ) (machine : Machine) (budget turns : ℕ) (finish : Finish) (old new : Seen) (final : Machine) → RunsAs quantum machine budget turns (Ok finish) (contents_of old) (contents_of new) final
+    → (left : List ℕ) → old.left ≡ Some left → IsRun quantum machine left budget old new turns finish final
+run_told quantum machine budget turns finish old new final runs left told =
     let so = runs left told in
     record { over = so.over; wrote = record { to_out = so.to_out; to_err = so.to_err }; rest = so.rest; leaves = so.leaves }
 
-cut_told : (machine : Machine) (budget turns : ℕ) (stop : Stop) (old new : Seen) (final : Machine) → RunsAs machine budget turns (Err stop) (contents_of old) (contents_of new) final
-    → (left : List ℕ) → old.left ≡ Some left → IsPartOfRun machine left old new turns
-cut_told machine budget turns stop old new final runs left told =
+cut_told : (quantum : ℕ) (machine : Machine) (budget turns : ℕ) (stop : Stop) (old new : Seen) (final : Machine) → RunsAs quantum machine budget turns (Err stop) (contents_of old) (contents_of new) final
+    → (left : List ℕ) → old.left ≡ Some left → IsPartOfRun quantum machine left old new turns
+cut_told quantum machine budget turns stop old new final runs left told =
     let so = runs left told in record { running = so.running; to_out = so.to_out; to_err = so.to_err; rest = so.rest }
 
 -- the run stopped early
-pub cut_answer : (machine : Machine) (budget turns : ℕ) (names : Names) (stop : Stop) (old new : Seen) (final : Machine) (host : Option Emulated) → turns < budget → new.store ≡ old.store
-    → RunsAs machine budget turns (Err stop) (contents_of old) (contents_of new) final
+pub cut_answer : (quantum : ℕ) (machine : Machine) (budget turns : ℕ) (names : Names) (stop : Stop) (old new : Seen) (final : Machine) (host : Option Emulated) → turns < budget → new.store ≡ old.store
+    → RunsAs quantum machine budget turns (Err stop) (contents_of old) (contents_of new) final
     → (stop ≡ stops.ReadFault → Rose old.read_faults new.read_faults) → (stop ≡ stops.WriteFault → Rose old.out_faults new.out_faults ⊎ Rose old.err_faults new.err_faults)
-    → Answers (Run machine budget) names old new turns (end_of_stop stop) host
-cut_answer machine budget turns names stops.ReadFault old new final host within stands runs read write =
-    (record { within = within; stands = stands; told = cut_told machine budget turns stops.ReadFault old new final runs }, read refl)
-cut_answer machine budget turns names stops.WriteFault old new final host within stands runs read write =
-    inl (record { within = within; stands = stands; told = cut_told machine budget turns stops.WriteFault old new final runs }, write refl)
-cut_answer machine budget turns names stops.NoMemory old new final host within stands runs read write =
-    inl (record { within = within; stands = stands; told = cut_told machine budget turns stops.NoMemory old new final runs })
+    → Answers (Run quantum machine budget) names old new turns (end_of_stop stop) host
+cut_answer quantum machine budget turns names stops.ReadFault old new final host within stands runs read write =
+    (record { within = within; stands = stands; told = cut_told quantum machine budget turns stops.ReadFault old new final runs }, read refl)
+cut_answer quantum machine budget turns names stops.WriteFault old new final host within stands runs read write =
+    inl (record { within = within; stands = stands; told = cut_told quantum machine budget turns stops.WriteFault old new final runs }, write refl)
+cut_answer quantum machine budget turns names stops.NoMemory old new final host within stands runs read write =
+    inl (record { within = within; stands = stands; told = cut_told quantum machine budget turns stops.NoMemory old new final runs })
 
-finish_answers : (machine : Machine) (budget turns : ℕ) (names : Names) (finish : Finish) (old new : Seen) (host : Option Emulated) → Finishes machine budget names old new turns finish host
-    → Answers (Run machine budget) names old new turns (end_of finish) host
-finish_answers machine budget turns names (finishes.Exited status) old new host so = so
-finish_answers machine budget turns names (finishes.Killed signal) old new host so = so
-finish_answers machine budget turns names finishes.Budget old new host so = so
-finish_answers machine budget turns names finishes.Blocked old new host so = so
+finish_answers : (quantum : ℕ) (machine : Machine) (budget turns : ℕ) (names : Names) (finish : Finish) (old new : Seen) (host : Option Emulated) → Finishes quantum machine budget names old new turns finish host
+    → Answers (Run quantum machine budget) names old new turns (end_of finish) host
+finish_answers quantum machine budget turns names (finishes.Exited status) old new host so = so
+finish_answers quantum machine budget turns names (finishes.Killed signal) old new host so = so
+finish_answers quantum machine budget turns names finishes.Budget old new host so = so
+finish_answers quantum machine budget turns names finishes.Blocked old new host so = so
 
 -- the run is over, and what follows it says the answer
-pub run_answer : (machine : Machine) (budget turns : ℕ) (names : Names) (name : Option (List ℕ)) (finish : Finish) (emulated : Emulated) (answer : Answer) (old new : Seen) → names.save ≡ name → turns ≤ budget → emulated.turns ≡ turns
-    → RunsAs machine budget turns (Ok finish) (contents_of old) (contents_of new) emulated.machine → AnswersRun name emulated finish answer old.store new.store
-    → Answers (Run machine budget) names old new answer.turns answer.end answer.host
-run_answer machine budget turns names name finish emulated answer old new named within counted runs (inl done) =
+pub run_answer : (quantum : ℕ) (machine : Machine) (budget turns : ℕ) (names : Names) (name : Option (List ℕ)) (finish : Finish) (emulated : Emulated) (answer : Answer) (old new : Seen) → names.save ≡ name → turns ≤ budget → emulated.turns ≡ turns
+    → RunsAs quantum machine budget turns (Ok finish) (contents_of old) (contents_of new) emulated.machine → AnswersRun name emulated finish answer old.store new.store
+    → Answers (Run quantum machine budget) names old new answer.turns answer.end answer.host
+run_answer quantum machine budget turns names name finish emulated answer old new named within counted runs (inl done) =
     let same : answer.turns ≡ turns = done.turns ∙ counted in
-    let so : Finishes machine budget names old new turns finish answer.host = record {
+    let so : Finishes quantum machine budget names old new turns finish answer.host = record {
       within = within;
       emulated = emulated;
       hosted = done.host;
       turned = counted;
       saves = subst (λ (n : Option (List ℕ)). SavesTree n (final_tree emulated.machine) old.store new.store) (sym named) done.saves;
-      told = run_told machine budget turns finish old new emulated.machine runs;
+      told = run_told quantum machine budget turns finish old new emulated.machine runs;
     } in
-    subst (λ (n : ℕ). Answers (Run machine budget) names old new n answer.end answer.host) (sym same)
-    (subst (λ (e : End). Answers (Run machine budget) names old new turns e answer.host) (sym done.end) (finish_answers machine budget turns names finish old new answer.host so))
-run_answer machine budget turns names name finish emulated answer old new named within counted runs (inr failed) =
+    subst (λ (n : ℕ). Answers (Run quantum machine budget) names old new n answer.end answer.host) (sym same)
+    (subst (λ (e : End). Answers (Run quantum machine budget) names old new turns e answer.host) (sym done.end) (finish_answers quantum machine budget turns names finish old new answer.host so))
+run_answer quantum machine budget turns names name finish emulated answer old new named within counted runs (inr failed) =
     let same : answer.turns ≡ turns = failed.turns ∙ counted in
-    let so : StopsAtSave machine budget names old new turns = record {
+    let so : StopsAtSave quantum machine budget names old new turns = record {
       within = within;
       finish = finish;
       final = emulated.machine;
       saves = subst (λ (n : Option (List ℕ)). SavesTreeInPart n (final_tree emulated.machine) old.store new.store) (sym named) failed.saves;
-      told = run_told machine budget turns finish old new emulated.machine runs;
+      told = run_told quantum machine budget turns finish old new emulated.machine runs;
     } in
-    subst (λ (n : ℕ). Answers (Run machine budget) names old new n answer.end answer.host) (sym same)
-    (elim failed.end as (λ _. Answers (Run machine budget) names old new turns answer.end answer.host) [
-      | inl fault ↦ subst (λ (e : End). Answers (Run machine budget) names old new turns e answer.host) (sym fault.0) (inr (so, fault.1))
-      | inr memory ↦ subst (λ (e : End). Answers (Run machine budget) names old new turns e answer.host) (sym memory) (inr so)
+    subst (λ (n : ℕ). Answers (Run quantum machine budget) names old new n answer.end answer.host) (sym same)
+    (elim failed.end as (λ _. Answers (Run quantum machine budget) names old new turns answer.end answer.host) [
+      | inl fault ↦ subst (λ (e : End). Answers (Run quantum machine budget) names old new turns e answer.host) (sym fault.0) (inr (so, fault.1))
+      | inr memory ↦ subst (λ (e : End). Answers (Run quantum machine budget) names old new turns e answer.host) (sym memory) (inr so)
     ])
 
 -- a device that stopped the run
@@ -177,26 +178,26 @@ write_cause input out err stop old new cause is = subst (λ (s : Stop). StopsOnl
 
 -- There is a run, and the answer is what it came to.
 pub run_answers : (words : List (List ℕ)) (reading : Reading) (ready : Ready) (old new : Seen) (turns : ℕ) (end : End) (host : Option Emulated) (middle : Stored) → IsPrepared words reading old.store.files (Ok ready)
-    → ((names : Names) → names.save ≡ option_map (word_at words) ready.save → Answers (Run ready.emulator.machine ready.budget) names (record old { store = middle }) new turns end host)
+    → ((names : Names) → names.save ≡ option_map (word_at words) ready.save → Answers (Run ready.emulator.quantum ready.emulator.machine ready.budget) names (record old { store = middle }) new turns end host)
     → middle ≡ after_turned old.store (turned_reading {T = Ready} words reading (Ok ready)) → AnswersReading words reading old new turns end host
 run_answers words (WrongAt word) ready old new turns end host middle is runs loads = absurd is
 run_answers words (Asks line) ready old new turns end host middle is runs loads = inr (
-  Run ready.emulator.machine ready.budget,
+  Run ready.emulator.quantum ready.emulator.machine ready.budget,
   is.0,
-  subst (λ (s : Stored). Answers (Run ready.emulator.machine ready.budget) (names_of words line) (record old { store = s }) new turns end host) (loads ∙ none_turned old.store)
+  subst (λ (s : Stored). Answers (Run ready.emulator.quantum ready.emulator.machine ready.budget) (names_of words line) (record old { store = s }) new turns end host) (loads ∙ none_turned old.store)
       (runs (names_of words line) (ap (λ (n : Option ℕ). option_map (word_at words) n) (sym is.1))),
 )
 
 -- a run is not refused
-pub ran_on : (machine : Machine) (budget : ℕ) (names : Names) (old new : Seen) (turns : ℕ) (end : End) (host : Option Emulated) → Answers (Run machine budget) names old new turns end host → IsRefusal end → ⊥
-ran_on machine budget names old new turns (Exited status) host answer refused = refused
-ran_on machine budget names old new turns (Killed signal) host answer refused = refused
-ran_on machine budget names old new turns Budget host answer refused = refused
-ran_on machine budget names old new turns Blocked host answer refused = refused
-ran_on machine budget names old new turns (Refused given) host answer refused = answer
-ran_on machine budget names old new turns ReadFault host answer refused = refused
-ran_on machine budget names old new turns WriteFault host answer refused = refused
-ran_on machine budget names old new turns NoMemory host answer refused = refused
+pub ran_on : (quantum : ℕ) (machine : Machine) (budget : ℕ) (names : Names) (old new : Seen) (turns : ℕ) (end : End) (host : Option Emulated) → Answers (Run quantum machine budget) names old new turns end host → IsRefusal end → ⊥
+ran_on quantum machine budget names old new turns (Exited status) host answer refused = refused
+ran_on quantum machine budget names old new turns (Killed signal) host answer refused = refused
+ran_on quantum machine budget names old new turns Budget host answer refused = refused
+ran_on quantum machine budget names old new turns Blocked host answer refused = refused
+ran_on quantum machine budget names old new turns (Refused given) host answer refused = answer
+ran_on quantum machine budget names old new turns ReadFault host answer refused = refused
+ran_on quantum machine budget names old new turns WriteFault host answer refused = refused
+ran_on quantum machine budget names old new turns NoMemory host answer refused = refused
 
 -- A run is asked for
 
@@ -217,21 +218,21 @@ opens files None opened has is = (empty_tree, is)
 opens files (Some name) opened has is = opens_by files name is.0 opened is.1 has is.2
 
 -- where the answer is that of this run
-run_end_of : (machine : Machine) (budget : ℕ) (names : Names) (old new : Seen) (turns : ℕ) (end : End) (host : Option Emulated) (left : List ℕ) → old.left ≡ Some left →
-    Answers (Run machine budget) names old new turns end host → (end ≡ ReadFault → ⊥) → (Rose old.store.write_faults new.store.write_faults → ⊥) →
-    (Rose old.out_faults new.out_faults → ⊥) → (Rose old.err_faults new.err_faults → ⊥) → (end ≡ NoMemory) ⊎ IsRunEnd machine left budget turns end
-run_end_of machine budget names old new turns (Exited status) host left told answer read file out err = inr (answer.told left told).over
-run_end_of machine budget names old new turns (Killed signal) host left told answer read file out err = inr (answer.told left told).over
-run_end_of machine budget names old new turns Budget host left told answer read file out err = inr (answer.told left told).over
-run_end_of machine budget names old new turns Blocked host left told answer read file out err = inr (answer.told left told).over
-run_end_of machine budget names old new turns (Refused given) host left told answer read file out err = absurd answer
-run_end_of machine budget names old new turns ReadFault host left told answer read file out err = absurd (read refl)
-run_end_of machine budget names old new turns WriteFault host left told answer read file out err =
-    elim answer as (λ _. (WriteFault ≡ NoMemory) ⊎ IsRunEnd machine left budget turns WriteFault) [
+run_end_of : (quantum : ℕ) (machine : Machine) (budget : ℕ) (names : Names) (old new : Seen) (turns : ℕ) (end : End) (host : Option Emulated) (left : List ℕ) → old.left ≡ Some left →
+    Answers (Run quantum machine budget) names old new turns end host → (end ≡ ReadFault → ⊥) → (Rose old.store.write_faults new.store.write_faults → ⊥) →
+    (Rose old.out_faults new.out_faults → ⊥) → (Rose old.err_faults new.err_faults → ⊥) → (end ≡ NoMemory) ⊎ IsRunEnd quantum machine left budget turns end
+run_end_of quantum machine budget names old new turns (Exited status) host left told answer read file out err = inr (answer.told left told).over
+run_end_of quantum machine budget names old new turns (Killed signal) host left told answer read file out err = inr (answer.told left told).over
+run_end_of quantum machine budget names old new turns Budget host left told answer read file out err = inr (answer.told left told).over
+run_end_of quantum machine budget names old new turns Blocked host left told answer read file out err = inr (answer.told left told).over
+run_end_of quantum machine budget names old new turns (Refused given) host left told answer read file out err = absurd answer
+run_end_of quantum machine budget names old new turns ReadFault host left told answer read file out err = absurd (read refl)
+run_end_of quantum machine budget names old new turns WriteFault host left told answer read file out err =
+    elim answer as (λ _. (WriteFault ≡ NoMemory) ⊎ IsRunEnd quantum machine left budget turns WriteFault) [
       | inl in_run ↦ absurd (elim in_run.1 [ inl rose ↦ out rose | inr rose ↦ err rose ])
       | inr at_save ↦ absurd (file at_save.1)
     ]
-run_end_of machine budget names old new turns NoMemory host left told answer read file out err = inl refl
+run_end_of quantum machine budget names old new turns NoMemory host left told answer read file out err = inl refl
 
 early_end : (P : Type 0) (end : End) → IsEarly end → (end ≡ ReadFault → ⊥) → (end ≡ NoMemory) ⊎ P
 early_end P (Exited status) early read = absurd early
@@ -244,16 +245,29 @@ early_end P WriteFault early read = absurd early
 early_end P NoMemory early read = inl refl
 
 -- the arguments fit
-fits_run : (args : List (List ℕ)) (line : Line) (plan : Plan) (tree : Tree) → start_size args line.environment ≤ start_limit →
-    asked_of_tree args line plan tree ≡ Run (first_machine plan args line.environment tree) line.budget
-fits_run args line plan tree fits =
-    ap (λ (b : Bool). cond b (Refuse Start) (Run (first_machine plan args line.environment tree) line.budget))
+fits_run : (args : List (List ℕ)) (line : Line) (plan : Plan) (tree : Tree) (schedule : Schedule) → start_size args line.environment ≤ start_limit →
+    asked_of_schedule args line plan tree schedule ≡ Run schedule.quantum (first_machine plan args line.environment tree schedule) line.budget
+fits_run args line plan tree schedule fits =
+    ap (λ (b : Bool). cond b (Refuse Start) (Run schedule.quantum (first_machine plan args line.environment tree schedule) line.budget))
     (le-ltb start_limit (start_size args line.environment) fits)
+
+-- the schedule that is there is the one that is read
+scheduled : (files : Files) (name : Option (List ℕ)) (schedule : Schedule) (read : Result Schedule Refusal) → HasSchedule files name schedule
+    → IsScheduled (Some files) name read → read ≡ Ok schedule
+scheduled files None schedule read has is = is ∙ ap (λ (s : Schedule). let r : Result Schedule Refusal = Ok s in r) (sym has)
+scheduled files (Some name) schedule read has is = is.2 ∙ (ap schedule_of_found (is.1 ∙ has.1) ∙ has.2)
+
+-- what is asked for beside a tree is the run under that schedule
+runs_so : (args : List (List ℕ)) (line : Line) (names : Names) (files : Files) (plan : Plan) (tree : Tree) (schedule : Schedule) (asked : Asked)
+    → HasSchedule files names.schedule schedule → start_size args line.environment ≤ start_limit → AsksOfPlan args line names (Some files) plan (Ok tree) asked
+    → asked ≡ Run schedule.quantum (first_machine plan args line.environment tree schedule) line.budget
+runs_so args line names files plan tree schedule asked has fits asks =
+    asks.2 ∙ (ap (λ (r : Result Schedule Refusal). asked_of_tree args line plan tree r) (scheduled files names.schedule schedule asks.0 has asks.1) ∙ fits_run args line plan tree schedule fits)
 
 -- what is asked for is the run beside the tree that was opened
 asks_run : (words : List (List ℕ)) (told : Option Files) (run : AsksForRun words told) (asked : Asked) → AsksFor words run.line (Some run.files) asked
     → (tree : Tree) × IsOpened (Some run.files) (names_of words run.line).image (Ok tree)
-    × (asked ≡ Run (first_machine (plan_of run.bytes) (arguments_of words run.line) run.line.environment tree) run.line.budget)
+    × (asked ≡ Run run.schedule.quantum (first_machine (plan_of run.bytes) (arguments_of words run.line) run.line.environment tree run.schedule) run.line.budget)
 asks_run words told run asked asks =
     let args = arguments_of words run.line in
     let names = names_of words run.line in
@@ -264,7 +278,8 @@ asks_run words told run asked asks =
     let open_tree = opens run.files names.image of.0 run.image of.1 in (
       open_tree.0,
       subst (λ (o : Result Tree Refusal). IsOpened (Some run.files) names.image o) open_tree.1 of.1,
-      of.2 ∙ (ap (λ o. asked_of_plan args run.line plan o) open_tree.1 ∙ fits_run args run.line plan open_tree.0 run.fits),
+      runs_so args run.line names run.files plan open_tree.0 run.schedule asked run.scheduled run.fits
+          (subst (λ (o : Result Tree Refusal). AsksOfPlan args run.line names (Some run.files) plan o asked) open_tree.1 of.2),
     )
 
 -- Where a run is asked for and no count rose, the answer is the run's end, unless memory ran out.
@@ -278,7 +293,7 @@ complete words old new turns end host run left answer told read file out err =
       | inl early ↦ early_end (EndsAsRun words old.store.files run left turns end) end early.0 read
       | inr asked ↦
           let asks = asks_run words old.store.files run asked.0 (subst (λ f. AsksFor words run.line f asked.0) run.is_told asked.1) in
-          elim (run_end_of (first_machine (plan_of run.bytes) (arguments_of words run.line) run.line.environment asks.0) run.line.budget (names_of words run.line) old new turns end host left told
+          elim (run_end_of run.schedule.quantum (first_machine (plan_of run.bytes) (arguments_of words run.line) run.line.environment asks.0 run.schedule) run.line.budget (names_of words run.line) old new turns end host left told
           (subst (λ a. Answers a (names_of words run.line) old new turns end host) asks.2 asked.2) read file out err)
           as (λ _. (end ≡ NoMemory) ⊎ EndsAsRun words old.store.files run left turns end) [
             | inl memory ↦ inl memory

@@ -1,5 +1,5 @@
 -- What the words and the files that they name ask for: a refusal, or a run. This project's own.
-use Rattle.std.specs.Prelude.{ℕ, ◌≡◌, ⊤, List, [], ◌∷◌, length, drop, replicate, option_map, Option, Some, None, Result, Ok, Err, nat_lt, if◌then◌else◌, pos}
+use Rattle.std.specs.Prelude.{ℕ, ◌≡◌, ⊤, List, [], ◌∷◌, length, drop, option_map, Option, Some, None, Result, Ok, Err, nat_lt, if◌then◌else◌, pos}
 use Rattle.outside.specs.Files.{Files}
 use Rattle.kernel_core.specs.declared.tree.Tree.{Tree}
 use Rattle.kernel_core.specs.declared.tree.Node.{Node}
@@ -15,11 +15,17 @@ use Rattle.elf_image.specs.declared.load_plan.Plan.{Plan}
 use Rattle.start_stack.specs.Stack.{start_size, start_limit}
 use Rattle.start_stack.specs.Start.{start_memory, start_processor}
 use Rattle.o32_session.specs.Words.{Line, word_at}
-use Rattle.kernel_model.specs.Begin.{Settings, first_state}
+use Rattle.kernel_model.specs.Begin.{first_state}
+use Rattle.kernel_model.specs.System.{round}
+use Rattle.native_kernel.specs.Settings.{settings_of}
+use Rattle.schedule.specs.Grammar.{meaning_of, first_event_line}
+use Rattle.schedule.specs.declared.Schedule.{Schedule}
+use Rattle.schedule.specs.declared.refusal.ScheduleRefusal.{ScheduleRefusal}
 use Rattle.o32_machine.specs.Emulator as emulators
 use Rattle.o32_model.specs.Turn.{Machine}
 use Rattle.o32_session.specs.declared.answer.Refusal.{Refusal}
 use Rattle.o32_session.specs.declared.answer.Refusal.TheVariants.{Missing, TooLong, Elf, Image, Start}
+use Rattle.o32_session.specs.declared.answer.Refusal.TheVariants as refusals
 
 -- Files
 
@@ -30,6 +36,9 @@ program_file = 1
 abbrev pub image_file : ℕ
 image_file = 2
 
+abbrev pub schedule_file : ℕ
+schedule_file = 3
+
 -- the greatest length of a program's file: 64 MiB
 abbrev pub program_limit : ℕ
 program_limit = 67108864
@@ -38,16 +47,22 @@ program_limit = 67108864
 abbrev pub image_limit : ℕ
 image_limit = 671088640
 
--- the names of the files of a line: of the program, of the image, and of the file that the final tree is saved to
+-- the greatest length of a schedule: 16 MiB
+abbrev pub schedule_limit : ℕ
+schedule_limit = 16777216
+
+-- the names of the files of a line: of the program, of the image, of the schedule, and of the file that the final tree is saved to
 pub record Names : Type 0 where
   pub program : List ℕ
   pub image : Option (List ℕ)
+  pub schedule : Option (List ℕ)
   pub save : Option (List ℕ)
 
 abbrev pub names_of : List (List ℕ) → Line → Names
 names_of words line = record {
   program = word_at words line.program;
   image = option_map (word_at words) line.image;
+  schedule = option_map (word_at words) line.schedule;
   save = option_map (word_at words) line.save;
 }
 
@@ -98,47 +113,78 @@ abbrev pub IsOpened : Option Files → Option (List ℕ) → Result Tree Refusal
 IsOpened files None opened = opened ≡ Ok empty_tree
 IsOpened files (Some name) opened = (found : Found) × IsFound files image_limit name found × IsOpenedBy found opened
 
+-- The schedule
+
+-- the schedule of the empty text: a turn takes 1,000 nanoseconds, the clock begins at the epoch, the streams are no
+-- terminal, chance is zeros, and no signal comes from outside
+abbrev pub empty_schedule : Schedule
+empty_schedule = record { quantum = 1000; epoch_s = 0; epoch_n = 0; tty = None; random = 0 ∷ []; events = []; at = 0 }
+
+-- A line of an event is refused as rule 0, once the text breaks no other rule: no signal comes from outside so far.
+abbrev pub without_events : Option ℕ → Schedule → Result Schedule Refusal
+without_events None schedule = Ok schedule
+without_events (Some line) schedule = Err (refusals.Schedule (record { line = line; rule = 0 }))
+
+abbrev pub taken_schedule : Option ℕ → Result Schedule ScheduleRefusal → Result Schedule Refusal
+taken_schedule event (Err broken) = Err (refusals.Schedule broken)
+taken_schedule event (Ok schedule) = without_events event schedule
+
+-- a text's schedule, or why it is refused
+abbrev pub schedule_of_text : List ℕ → Result Schedule Refusal
+schedule_of_text text = taken_schedule (first_event_line text) (meaning_of text)
+
+-- what was found of a schedule comes to this
+abbrev pub schedule_of_found : Found → Result Schedule Refusal
+schedule_of_found Absent = Err (Missing schedule_file)
+schedule_of_found Long = Err (TooLong schedule_file)
+schedule_of_found (Bytes text) = schedule_of_text text
+
+-- the schedule of a run, or why its file gives none
+abbrev pub IsScheduled : Option Files → Option (List ℕ) → Result Schedule Refusal → Type 0
+IsScheduled files None scheduled = scheduled ≡ Ok empty_schedule
+IsScheduled files (Some name) scheduled =
+    (found : Found) × IsFound files schedule_limit name found × (scheduled ≡ schedule_of_found found)
+
 -- The run
 
--- sixteen random bytes for the guest, which are zeros so far
-abbrev pub random_bytes : List ℕ
-random_bytes = replicate 16 0
+-- the guest's sixteen random bytes are the first of chance, which is used round and round
+abbrev pub stack_chance : Schedule → List ℕ
+stack_chance schedule = round schedule.random 0 16
 
--- how many nanoseconds of the clock a turn with an instruction takes
-abbrev pub quantum : ℕ
-quantum = 1000
+-- the machine of a plan with these arguments and this environment, beside this tree of files, under this schedule
+abbrev pub first_machine : Plan → List (List ℕ) → List (List ℕ) → Tree → Schedule → Machine
+first_machine plan args env tree schedule =
+    emulators.first_machine (start_processor plan args env) (start_memory plan args env (stack_chance schedule))
+    (first_state tree (settings_of schedule))
 
--- the clock begins at the epoch, the streams are no terminal, and chance is zeros
-abbrev pub first_settings : Settings
-first_settings = record { epoch_seconds = 0; epoch_nanoseconds = 0; terminal = None; random = 0 ∷ [] }
-
--- the machine of a plan with these arguments and this environment, beside this tree of files
-abbrev pub first_machine : Plan → List (List ℕ) → List (List ℕ) → Tree → Machine
-first_machine plan args env tree =
-    emulators.first_machine (start_processor plan args env) (start_memory plan args env random_bytes) (first_state tree first_settings)
-
--- a refusal, or a run: its machine, and its budget
+-- a refusal, or a run: how many nanoseconds of the clock a turn with an instruction takes, its machine, and its budget
 pub data Asked : Type 0 where
   Refuse : Refusal → Asked
-  Run : Machine → ℕ → Asked
+  Run : ℕ → Machine → ℕ → Asked
 
--- what is asked for with this tree
-abbrev pub asked_of_tree : List (List ℕ) → Line → Plan → Tree → Asked
-asked_of_tree args line plan tree =
+-- what is asked for with this tree under this schedule
+abbrev pub asked_of_schedule : List (List ℕ) → Line → Plan → Tree → Schedule → Asked
+asked_of_schedule args line plan tree schedule =
     if nat_lt start_limit (start_size args line.environment)
     then Refuse Start
-    else Run (first_machine plan args line.environment tree) line.budget
+    else Run schedule.quantum (first_machine plan args line.environment tree schedule) line.budget
 
--- the image is looked at where the program has a plan, and before the start
-abbrev pub asked_of_plan : List (List ℕ) → Line → Plan → Result Tree Refusal → Asked
-asked_of_plan args line plan (Err refusal) = Refuse refusal
-asked_of_plan args line plan (Ok tree) = asked_of_tree args line plan tree
+-- the schedule is looked at where there is a tree, and before the start
+abbrev pub asked_of_tree : List (List ℕ) → Line → Plan → Tree → Result Schedule Refusal → Asked
+asked_of_tree args line plan tree (Err refusal) = Refuse refusal
+asked_of_tree args line plan tree (Ok schedule) = asked_of_schedule args line plan tree schedule
+
+-- the image is looked at where the program has a plan, and before the schedule
+abbrev pub AsksOfPlan : List (List ℕ) → Line → Names → Option Files → Plan → Result Tree Refusal → Asked → Type 0
+AsksOfPlan args line names files plan (Err refusal) asked = asked ≡ Refuse refusal
+AsksOfPlan args line names files plan (Ok tree) asked =
+    (scheduled : Result Schedule Refusal) × IsScheduled files names.schedule scheduled × (asked ≡ asked_of_tree args line plan tree scheduled)
 
 -- the program's first broken rule, or what its plan asks for
 abbrev pub AsksUnless : List (List ℕ) → Line → Names → Option Files → List ℕ → Option ElfRefusal → Asked → Type 0
 AsksUnless args line names files bytes (Some rule) asked = asked ≡ Refuse (Elf rule)
 AsksUnless args line names files bytes None asked =
-    (opened : Result Tree Refusal) × IsOpened files names.image opened × (asked ≡ asked_of_plan args line (plan_of bytes) opened)
+    (opened : Result Tree Refusal) × IsOpened files names.image opened × AsksOfPlan args line names files (plan_of bytes) opened asked
 
 -- what is asked for where this was found of the program
 abbrev pub AsksOf : List (List ℕ) → Line → Names → Option Files → Found → Asked → Type 0

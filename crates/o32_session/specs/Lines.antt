@@ -3,7 +3,7 @@ use Rattle.std.specs.Prelude.{ℕ, List, [], ◌∷◌, ◌++◌, codes}
 use Rattle.std.specs.Fmt.{decimal}
 use Rattle.elf_image.specs.Refusal.{elf_rule_number}
 use Rattle.o32_session.specs.declared.answer.Refusal.{Refusal}
-use Rattle.o32_session.specs.declared.answer.Refusal.TheVariants.{Usage, Missing, TooLong, Elf, Image, Start}
+use Rattle.o32_session.specs.declared.answer.Refusal.TheVariants.{Usage, Missing, TooLong, Elf, Image, Schedule, Start}
 
 -- what is said of a refusal, without the newline
 abbrev pub text_of : Refusal → List ℕ
@@ -12,6 +12,7 @@ text_of (Missing file) = codes "o32run: file " ++ decimal file ++ codes " missin
 text_of (TooLong file) = codes "o32run: file " ++ decimal file ++ codes " too long"
 text_of (Elf rule) = codes "o32run: elf rule " ++ decimal (elf_rule_number rule)
 text_of (Image broken) = codes "o32run: image rule " ++ decimal broken.rule ++ codes " at " ++ decimal broken.at
+text_of (Schedule broken) = codes "o32run: schedule rule " ++ decimal broken.rule ++ codes " line " ++ decimal broken.line
 text_of Start = codes "o32run: arguments too long"
 
 abbrev pub line_of : Refusal → List ℕ

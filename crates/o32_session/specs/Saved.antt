@@ -8,9 +8,9 @@ use Rattle.outside.specs.declared.errors.LoadError.TheVariants as loads
 use Rattle.kernel_core.specs.ValidTree.{IsValidTree}
 use Rattle.kernel_core.specs.declared.tree.Tree.{Tree}
 use Rattle.fs_image.specs.Text.{text_of}
-use Rattle.o32_session.specs.Asked.{Names, image_file, program_limit, image_limit}
+use Rattle.o32_session.specs.Asked.{Names, image_file, schedule_file, program_limit, image_limit, schedule_limit}
 use Rattle.o32_session.specs.declared.answer.Refusal.{Refusal}
-use Rattle.o32_session.specs.declared.answer.Refusal.TheVariants.{Usage, Missing, TooLong, Elf, Image, Start}
+use Rattle.o32_session.specs.declared.answer.Refusal.TheVariants.{Usage, Missing, TooLong, Elf, Image, Schedule, Start}
 
 -- what is seen of a store: its files, the names of those that it made, the loads that it turned away, and its count of
 -- faulty writes
@@ -37,7 +37,9 @@ abbrev pub load_of : Names → ℕ → LoadError → TurnedLoad
 load_of names file answer =
     if file == image_file
     then record { name = unwrap_or names.image []; limit = image_limit; answer = answer }
-    else record { name = names.program; limit = program_limit; answer = answer }
+    else (if file == schedule_file
+    then record { name = unwrap_or names.schedule []; limit = schedule_limit; answer = answer }
+    else record { name = names.program; limit = program_limit; answer = answer })
 
 -- the load that a refusal turned away
 abbrev pub turned_by : Names → Refusal → List TurnedLoad
@@ -46,6 +48,7 @@ turned_by names (TooLong file) = load_of names file loads.TooLong ∷ []
 turned_by names (Usage word) = []
 turned_by names (Elf rule) = []
 turned_by names (Image broken) = []
+turned_by names (Schedule broken) = []
 turned_by names Start = []
 
 -- the file has this text

@@ -11,8 +11,9 @@ use Rattle.fs_image.specs.Meaning as images
 use Rattle.elf_image.specs.Rules as elf
 use Rattle.elf_image.specs.Loading.{plan_of}
 use Rattle.start_stack.specs.Stack.{start_size, start_limit}
+use Rattle.schedule.specs.declared.Schedule.{Schedule}
 use Rattle.o32_session.specs.Words.{Line, Reading, Asks, WrongAt, read_words}
-use Rattle.o32_session.specs.Asked.{Asked, Refuse, Run, Names, names_of, Bytes, found_at, program_limit, image_limit, AsksFor, IsOpened, arguments_of, first_machine, quantum}
+use Rattle.o32_session.specs.Asked.{Asked, Refuse, Run, Names, names_of, Bytes, found_at, program_limit, image_limit, AsksFor, IsOpened, arguments_of, first_machine, schedule_limit, schedule_of_text, empty_schedule}
 use Rattle.o32_session.specs.Saved.{Stored, after_turned, turned_by, SavesTree, SavesTreeInPart}
 use Rattle.o32_model.specs.Runs.{IsOverAt, IsRunningAt, reached}
 use Rattle.o32_model.specs.Turn.{Machine}
@@ -77,7 +78,7 @@ pub record StopsAtLine (refusal : Refusal) (names : Names) (old new : Seen) (tur
 
 -- The run over this input is over so after these turns. What it sends was written, what it leaves of the input is left, and this is the machine
 -- that it leaves.
-pub record IsRun (machine : Machine) (left : List ℕ) (budget : ℕ) (old new : Seen) (turns : ℕ) (finish : Finish) (final : Machine) : Type 0 where
+pub record IsRun (quantum : ℕ) (machine : Machine) (left : List ℕ) (budget : ℕ) (old new : Seen) (turns : ℕ) (finish : Finish) (final : Machine) : Type 0 where
   pub over : IsOverAt quantum machine left budget turns finish
   pub wrote : Writes old new (reached quantum machine left turns).sent.out (reached quantum machine left turns).sent.err
   pub rest : new.left ≡ Some (reached quantum machine left turns).left
@@ -89,7 +90,7 @@ final_tree machine = saved machine.kernel.files.nodes
 
 -- The run goes on after these turns. What was written lies between what it has sent then and what it has one turn later, and of the input
 -- there is left what is left then or what is left one turn later.
-pub record IsPartOfRun (machine : Machine) (left : List ℕ) (old new : Seen) (turns : ℕ) : Type 0 where
+pub record IsPartOfRun (quantum : ℕ) (machine : Machine) (left : List ℕ) (old new : Seen) (turns : ℕ) : Type 0 where
   pub running : IsRunningAt quantum machine left turns
   pub to_out : GainsBetween old.out new.out (reached quantum machine left turns).sent.out (reached quantum machine left (turns + 1)).sent.out
   pub to_err : GainsBetween old.err new.err (reached quantum machine left turns).sent.err (reached quantum machine left (turns + 1)).sent.err
@@ -97,28 +98,28 @@ pub record IsPartOfRun (machine : Machine) (left : List ℕ) (old new : Seen) (t
 
 -- A run ended so, within the budget. The emulator is handed out, and its final tree was saved. Where the input tells what is left of it, the
 -- run is the machine's.
-pub record Finishes (machine : Machine) (budget : ℕ) (names : Names) (old new : Seen) (turns : ℕ) (finish : Finish) (host : Option Emulated) :
+pub record Finishes (quantum : ℕ) (machine : Machine) (budget : ℕ) (names : Names) (old new : Seen) (turns : ℕ) (finish : Finish) (host : Option Emulated) :
     Type 0 where
   pub within : turns ≤ budget
   pub emulated : Emulated
   pub hosted : host ≡ Some emulated
   pub turned : emulated.turns ≡ turns
   pub saves : SavesTree names.save (final_tree emulated.machine) old.store new.store
-  pub told : (left : List ℕ) → old.left ≡ Some left → IsRun machine left budget old new turns finish emulated.machine
+  pub told : (left : List ℕ) → old.left ≡ Some left → IsRun quantum machine left budget old new turns finish emulated.machine
 
 -- a run stopped early after these turns, which are fewer than the budget's; the store stands
-pub record StopsInRun (machine : Machine) (budget : ℕ) (old new : Seen) (turns : ℕ) : Type 0 where
+pub record StopsInRun (quantum : ℕ) (machine : Machine) (budget : ℕ) (old new : Seen) (turns : ℕ) : Type 0 where
   pub within : turns < budget
   pub stands : new.store ≡ old.store
-  pub told : (left : List ℕ) → old.left ≡ Some left → IsPartOfRun machine left old new turns
+  pub told : (left : List ℕ) → old.left ≡ Some left → IsPartOfRun quantum machine left old new turns
 
 -- a run ended, and at most a part of its final tree was saved
-pub record StopsAtSave (machine : Machine) (budget : ℕ) (names : Names) (old new : Seen) (turns : ℕ) : Type 0 where
+pub record StopsAtSave (quantum : ℕ) (machine : Machine) (budget : ℕ) (names : Names) (old new : Seen) (turns : ℕ) : Type 0 where
   pub within : turns ≤ budget
   pub finish : Finish
   pub final : Machine
   pub saves : SavesTreeInPart names.save (final_tree final) old.store new.store
-  pub told : (left : List ℕ) → old.left ≡ Some left → IsRun machine left budget old new turns finish final
+  pub told : (left : List ℕ) → old.left ≡ Some left → IsRun quantum machine left budget old new turns finish final
 
 -- What an end with its turns says where this was asked for, with these names of files: each refusal writes its line and
 -- nothing else, and each run is the machine's. A fault has its cause in the device or the file that it came from.
@@ -132,20 +133,20 @@ Answers (Refuse refusal) names old new turns (Exited status) host = ⊥
 Answers (Refuse refusal) names old new turns (Killed signal) host = ⊥
 Answers (Refuse refusal) names old new turns Budget host = ⊥
 Answers (Refuse refusal) names old new turns Blocked host = ⊥
-Answers (Run machine budget) names old new turns (Exited status) host =
-    Finishes machine budget names old new turns (finishes.Exited status) host
-Answers (Run machine budget) names old new turns (Killed signal) host =
-    Finishes machine budget names old new turns (finishes.Killed signal) host
-Answers (Run machine budget) names old new turns Budget host = Finishes machine budget names old new turns finishes.Budget host
-Answers (Run machine budget) names old new turns Blocked host = Finishes machine budget names old new turns finishes.Blocked host
-Answers (Run machine budget) names old new turns (Refused given) host = ⊥
-Answers (Run machine budget) names old new turns ReadFault host =
-    StopsInRun machine budget old new turns × Rose old.read_faults new.read_faults
-Answers (Run machine budget) names old new turns WriteFault host =
-    (StopsInRun machine budget old new turns × (Rose old.out_faults new.out_faults ⊎ Rose old.err_faults new.err_faults))
-    ⊎ (StopsAtSave machine budget names old new turns × Rose old.store.write_faults new.store.write_faults)
-Answers (Run machine budget) names old new turns NoMemory host =
-    StopsInRun machine budget old new turns ⊎ StopsAtSave machine budget names old new turns
+Answers (Run quantum machine budget) names old new turns (Exited status) host =
+    Finishes quantum machine budget names old new turns (finishes.Exited status) host
+Answers (Run quantum machine budget) names old new turns (Killed signal) host =
+    Finishes quantum machine budget names old new turns (finishes.Killed signal) host
+Answers (Run quantum machine budget) names old new turns Budget host = Finishes quantum machine budget names old new turns finishes.Budget host
+Answers (Run quantum machine budget) names old new turns Blocked host = Finishes quantum machine budget names old new turns finishes.Blocked host
+Answers (Run quantum machine budget) names old new turns (Refused given) host = ⊥
+Answers (Run quantum machine budget) names old new turns ReadFault host =
+    StopsInRun quantum machine budget old new turns × Rose old.read_faults new.read_faults
+Answers (Run quantum machine budget) names old new turns WriteFault host =
+    (StopsInRun quantum machine budget old new turns × (Rose old.out_faults new.out_faults ⊎ Rose old.err_faults new.err_faults))
+    ⊎ (StopsAtSave quantum machine budget names old new turns × Rose old.store.write_faults new.store.write_faults)
+Answers (Run quantum machine budget) names old new turns NoMemory host =
+    StopsInRun quantum machine budget old new turns ⊎ StopsAtSave quantum machine budget names old new turns
 
 -- a fault of a load, or want of memory
 abbrev pub IsEarly : End → Type 0
@@ -160,7 +161,7 @@ IsEarly WriteFault = ⊥
 
 -- a line that names no file
 abbrev pub no_names : Names
-no_names = record { program = []; image = None; save = None }
+no_names = record { program = []; image = None; schedule = None; save = None }
 
 -- The same by the reading of the words. Wrong words are refused before any load, so that want of memory alone may come
 -- first. Else a fault of a load or want of memory may come before all is loaded; or the answer is that of what the line
@@ -176,15 +177,15 @@ abbrev pub AnswersWords : List (List ℕ) → Seen → Seen → ℕ → End → 
 AnswersWords words old new turns end host = AnswersReading words (read_words words) old new turns end host
 
 -- the run's own end
-abbrev pub IsRunEnd : Machine → List ℕ → ℕ → ℕ → End → Type 0
-IsRunEnd machine left budget turns (Exited status) = IsOverAt quantum machine left budget turns (finishes.Exited status)
-IsRunEnd machine left budget turns (Killed signal) = IsOverAt quantum machine left budget turns (finishes.Killed signal)
-IsRunEnd machine left budget turns Budget = IsOverAt quantum machine left budget turns finishes.Budget
-IsRunEnd machine left budget turns Blocked = IsOverAt quantum machine left budget turns finishes.Blocked
-IsRunEnd machine left budget turns (Refused given) = ⊥
-IsRunEnd machine left budget turns ReadFault = ⊥
-IsRunEnd machine left budget turns WriteFault = ⊥
-IsRunEnd machine left budget turns NoMemory = ⊥
+abbrev pub IsRunEnd : ℕ → Machine → List ℕ → ℕ → ℕ → End → Type 0
+IsRunEnd quantum machine left budget turns (Exited status) = IsOverAt quantum machine left budget turns (finishes.Exited status)
+IsRunEnd quantum machine left budget turns (Killed signal) = IsOverAt quantum machine left budget turns (finishes.Killed signal)
+IsRunEnd quantum machine left budget turns Budget = IsOverAt quantum machine left budget turns finishes.Budget
+IsRunEnd quantum machine left budget turns Blocked = IsOverAt quantum machine left budget turns finishes.Blocked
+IsRunEnd quantum machine left budget turns (Refused given) = ⊥
+IsRunEnd quantum machine left budget turns ReadFault = ⊥
+IsRunEnd quantum machine left budget turns WriteFault = ⊥
+IsRunEnd quantum machine left budget turns NoMemory = ⊥
 
 -- the image that is named is there, in its limit and in its form
 abbrev pub HasImage : Files → Option (List ℕ) → Type 0
@@ -192,8 +193,14 @@ HasImage files None = ⊤
 HasImage files (Some name) =
     (bytes : List ℕ) × (found_at image_limit (files name) ≡ Bytes bytes) × (images.first_failure bytes ≡ None)
 
--- The words ask for a run: they are in order, the told store's file of PROGRAM is there, within its limit and breaks no rule, so is the image
--- where one is named, and the arguments fit.
+-- the schedule that is named is there, in its limit, in its form and without events; and where none is named it is that of the empty text
+abbrev pub HasSchedule : Files → Option (List ℕ) → Schedule → Type 0
+HasSchedule files None schedule = schedule ≡ empty_schedule
+HasSchedule files (Some name) schedule =
+    (text : List ℕ) × (found_at schedule_limit (files name) ≡ Bytes text) × (schedule_of_text text ≡ Ok schedule)
+
+-- The words ask for a run: they are in order, the told store's file of PROGRAM is there, within its limit and breaks no rule, so are the image
+-- and the schedule where one is named, and the arguments fit.
 pub record AsksForRun (words : List (List ℕ)) (told : Option Files) : Type 0 where
   pub line : Line
   pub files : Files
@@ -203,10 +210,13 @@ pub record AsksForRun (words : List (List ℕ)) (told : Option Files) : Type 0 w
   pub found : found_at program_limit (files (names_of words line).program) ≡ Bytes bytes
   pub formed : elf.first_failure bytes ≡ None
   pub image : HasImage files (names_of words line).image
+  pub schedule : Schedule
+  pub scheduled : HasSchedule files (names_of words line).schedule schedule
   pub fits : start_size (arguments_of words line) line.environment ≤ start_limit
 
--- this is the end of that run over this input, beside the image's tree
+-- this is the end of that run over this input, beside the image's tree and under the schedule
 abbrev pub EndsAsRun : (words : List (List ℕ)) (told : Option Files) → AsksForRun words told → List ℕ → ℕ → End → Type 0
 EndsAsRun words told run left turns end =
     (tree : Tree) × IsOpened (Some run.files) (names_of words run.line).image (Ok tree)
-    × IsRunEnd (first_machine (plan_of run.bytes) (arguments_of words run.line) run.line.environment tree) left run.line.budget turns end
+    × IsRunEnd run.schedule.quantum (first_machine (plan_of run.bytes) (arguments_of words run.line) run.line.environment tree run.schedule) left
+    run.line.budget turns end

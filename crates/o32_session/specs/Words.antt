@@ -1,12 +1,12 @@
 -- The words after the emulator's own name, as this project defines them:
 --
---     run [--image F] [--budget N] [--save F] [--env K=V].. PROGRAM [WORD..]
+--     run [--image F] [--schedule F] [--budget N] [--save F] [--env K=V].. PROGRAM [WORD..]
 --
 -- Square brackets hold what may be absent, and `..` follows what may stand any number of times. Options stand before
 -- PROGRAM in any order, each at most once but `--env`; a value is the next word, whatever it is. A word is given by its
 -- bytes. What is wrong is named by the index, from 0, of the first word at which a reading from the left fails, or by
 -- the number of words where one is missing. The names of files are compared last.
-use Rattle.std.specs.Prelude.{ℕ, ◌+◌, List, [], ◌∷◌, ◌++◌, map, Bool, false, ◌&&◌, not, if◌then◌else◌, nat_lt, nat_le, max, ◌==◌, slice_index, slice_index_or, drop, is_some, option_and_then, Option, Some, None, codes}
+use Rattle.std.specs.Prelude.{ℕ, ◌+◌, List, [], ◌∷◌, ◌++◌, map, Bool, false, ◌&&◌, not, if◌then◌else◌, nat_lt, nat_le, max, min, ◌==◌, slice_index, slice_index_or, drop, is_some, option_and_then, Option, Some, None, codes}
 use Rattle.std.specs.List.{list_any, list_all}
 use Rattle.std.specs.Option.{unwrap_or}
 use Rattle.std.specs.Str.{bytes_eq}
@@ -41,7 +41,7 @@ budget_of text = if is_plain_number text then up_to_greatest (digits_value 10 te
 abbrev pub is_setting : List ℕ → Bool
 is_setting text = not (has_nul text) && list_any (λ byte. byte == 61) (drop 1 text)
 
--- the name of a file: F of `--image F` and of `--save F`
+-- the name of a file: F of `--image F`, of `--schedule F` and of `--save F`
 abbrev pub is_file_name : List ℕ → Bool
 is_file_name [] = false
 is_file_name (first ∷ rest) = not (has_nul (first ∷ rest))
@@ -49,6 +49,7 @@ is_file_name (first ∷ rest) = not (has_nul (first ∷ rest))
 -- the role of a word in the place of an option
 pub data Role : Type 0 where
   ImageOption : Role
+  ScheduleOption : Role
   BudgetOption : Role
   SaveOption : Role
   EnvOption : Role
@@ -63,29 +64,32 @@ is_program (first ∷ rest) = not (first == 45) && not (has_nul (first ∷ rest)
 abbrev pub role_of : List ℕ → Role
 role_of word =
     if bytes_eq word (codes "--image") then ImageOption
+    else (if bytes_eq word (codes "--schedule") then ScheduleOption
     else (if bytes_eq word (codes "--budget") then BudgetOption
     else (if bytes_eq word (codes "--save") then SaveOption
     else (if bytes_eq word (codes "--env") then EnvOption
-    else (if is_program word then ProgramName else NoOption))))
+    else (if is_program word then ProgramName else NoOption)))))
 
--- the options that were read: N of `--budget`, each K=V in their order, and the indices of the names of `--image` and
--- `--save`
+-- the options that were read: N of `--budget`, each K=V in their order, and the indices of the names of `--image`,
+-- `--schedule` and `--save`
 pub record Options : Type 0 where
   pub image : Option ℕ
+  pub schedule : Option ℕ
   pub budget : Option ℕ
   pub save : Option ℕ
   pub environment : List (List ℕ)
 
 abbrev pub no_options : Options
-no_options = record { image = None; budget = None; save = None; environment = [] }
+no_options = record { image = None; schedule = None; budget = None; save = None; environment = [] }
 
 -- what the words ask for: the budget, the environment, the index of PROGRAM, the first of the guest's arguments, and the
--- indices of the names of the image and of the file that is saved, where there are
+-- indices of the names of the image, of the schedule and of the file that is saved, where there are
 pub record Line : Type 0 where
   pub budget : ℕ
   pub environment : List (List ℕ)
   pub program : ℕ
   pub image : Option ℕ
+  pub schedule : Option ℕ
   pub save : Option ℕ
 
 -- the budget of a run whose words give none
@@ -107,12 +111,14 @@ line_of options program = record {
   environment = options.environment;
   program = program;
   image = options.image;
+  schedule = options.schedule;
   save = options.save;
 }
 
 -- the last word of all
 abbrev pub read_last : ℕ → Options → Role → Reading
 read_last at options ImageOption = if is_some options.image then WrongAt at else WrongAt (at + 1)
+read_last at options ScheduleOption = if is_some options.schedule then WrongAt at else WrongAt (at + 1)
 read_last at options BudgetOption = if is_some options.budget then WrongAt at else WrongAt (at + 1)
 read_last at options SaveOption = if is_some options.save then WrongAt at else WrongAt (at + 1)
 read_last at options EnvOption = WrongAt (at + 1)
@@ -123,13 +129,16 @@ abbrev pub with_budget : ℕ → Options → Option ℕ → (Options → Reading
 with_budget at options None go_on = WrongAt (at + 1)
 with_budget at options (Some n) go_on = go_on (record options { budget = Some n })
 
--- A word with another after it, one case for each form of the line: `--image`, `--budget` or `--save` and its value, each
--- at most once; `--env` and its value; PROGRAM with the guest's words. Any other word is wrong, and so is a value that is
+-- A word with another after it, one case for each form of the line: `--image`, `--schedule`, `--budget` or `--save` and its value,
+-- each at most once; `--env` and its value; PROGRAM with the guest's words. Any other word is wrong, and so is a value that is
 -- none, at its own index. After a value the reading goes on.
 abbrev pub read_pair : ℕ → Options → Role → List ℕ → Reading → (Options → Reading) → Reading
 read_pair at options ImageOption value guest go_on =
     if is_some options.image then WrongAt at
     else (if is_file_name value then go_on (record options { image = Some (at + 1) }) else WrongAt (at + 1))
+read_pair at options ScheduleOption value guest go_on =
+    if is_some options.schedule then WrongAt at
+    else (if is_file_name value then go_on (record options { schedule = Some (at + 1) }) else WrongAt (at + 1))
 read_pair at options BudgetOption value guest go_on =
     if is_some options.budget then WrongAt at else with_budget at options (budget_of value) go_on
 read_pair at options SaveOption value guest go_on =
@@ -164,15 +173,18 @@ abbrev pub later_of_equal : List (List ℕ) → ℕ → ℕ → Option ℕ
 later_of_equal words one other =
     if bytes_eq (word_at words one) (word_at words other) then Some (max one other) else None
 
+-- the lesser of two indices, where there are
 abbrev pub first_of : Option ℕ → Option ℕ → Option ℕ
-first_of (Some at) second = Some at
-first_of None second = second
+first_of None other = other
+first_of (Some one) None = Some one
+first_of (Some one) (Some other) = Some (min one other)
 
 -- The first name of a file that equals an earlier one, where at least one of the two is written. The file of `--save`
--- alone is written, at `saved`; the others are the image and PROGRAM, which stands behind every option.
+-- alone is written, at `saved`; the others are the image, the schedule and PROGRAM.
 abbrev pub equal_to_saved : List (List ℕ) → Line → ℕ → Option ℕ
 equal_to_saved words line saved =
-    first_of (option_and_then (later_of_equal words saved) line.image) (later_of_equal words saved line.program)
+    first_of (option_and_then (later_of_equal words saved) line.image)
+    (first_of (option_and_then (later_of_equal words saved) line.schedule) (later_of_equal words saved line.program))
 
 abbrev pub equal_name : List (List ℕ) → Line → Option ℕ
 equal_name words line = option_and_then (equal_to_saved words line) line.save

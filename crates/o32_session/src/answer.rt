@@ -8,6 +8,7 @@ use elf_image::ElfRefusal;
 use fs_image::ImageRefusal;
 use kernel_core::Finish;
 use o32_machine::Emulator;
+use schedule::ScheduleRefusal;
 use std::fmt;
 
 /// Why nothing was run. The names and their numbers are this project's own.
@@ -16,15 +17,18 @@ pub enum Refusal {
     /// The words are not in the grammar: the index, from 0, of the first word at which a reading from the left fails,
     /// or the number of words where one is missing.
     Usage { word: usize },
-    /// There is no such file: 1 is the program, 2 the image.
+    /// There is no such file: 1 is the program, 2 the image, 3 the schedule.
     Missing { file: u8 },
-    /// The file is longer than its limit: 1 is the program, which has at most 64 MiB, and 2 the image, which has at most
-    /// 640 MiB.
+    /// The file is longer than its limit: 1 is the program, which has at most 64 MiB, 2 the image, which has at most
+    /// 640 MiB, and 3 the schedule, which has at most 16 MiB.
     TooLong { file: u8 },
     /// The program breaks this rule on executables.
     Elf(ElfRefusal),
     /// The image breaks this rule of its format, at this byte.
     Image(ImageRefusal),
+    /// The schedule breaks this rule of its format, at this line, counted from 1. Rule 0 stands at the first line of a
+    /// signal from outside, where the text breaks no other: no such signal comes so far.
+    Schedule(ScheduleRefusal),
     /// The guest's arguments and environment, with the words of its first stack, pass 131,072 bytes.
     Start,
 }
@@ -79,6 +83,11 @@ impl fmt::Display for Refusal {
                 let rule = broken.rule;
                 let at = broken.at;
                 write!(f, "o32run: image rule {rule} at {at}")
+            }
+            Refusal::Schedule(broken) => {
+                let rule = broken.rule;
+                let line = broken.line;
+                write!(f, "o32run: schedule rule {rule} line {line}")
             }
             Refusal::Start => write!(f, "o32run: arguments too long"),
         }

@@ -4,6 +4,7 @@ ghost use Rattle.o32_session.specs.Asked.{empty_tree};
 ghost use Rattle.o32_session.specs.inside.Prepared.{IsRead, IsTree, ReasonOnlyIfRose, turned_with, turned_if};
 ghost use Rattle.o32_session.specs.Saved.{stored_of, after_turned};
 ghost use Rattle.o32_session.specs.Words.{texts, word_at};
+ghost use Rattle.o32_session.specs.declared.load.SessionFile.TheVariants as which;
 
 use crate::load::{SessionFile, load_file};
 use crate::not_run::NotRun;
@@ -48,7 +49,7 @@ fn load_tree<F: Store>(alloc: Global, name: &str, files: &mut F) -> Result<Tree,
     ensures tree { IsTree (F.files files.old) (Some name.now) result }
     ensures turned { stored_of F.files F.created F.turned_away F.write_faults files.new
         ≡ after_turned (stored_of F.files F.created F.turned_away F.write_faults files.old)
-        (turned_if (turned_with (Some name.now)) result) }
+        (turned_if (turned_with which.Image (Some name.now)) result) }
     ensures cause { ReasonOnlyIfRose result (F.load_faults files.old) (F.load_faults files.new) }
     ensures later { F.load_faults files.old ≤ F.load_faults files.new }
 {
@@ -67,7 +68,7 @@ pub(crate) fn first_tree<F: Store>(
     ensures tree { IsTree (F.files files.old) (option_map (word_at (texts words.now)) image) result }
     ensures turned { stored_of F.files F.created F.turned_away F.write_faults files.new
         ≡ after_turned (stored_of F.files F.created F.turned_away F.write_faults files.old)
-        (turned_if (turned_with (option_map (word_at (texts words.now)) image)) result) }
+        (turned_if (turned_with which.Image (option_map (word_at (texts words.now)) image)) result) }
     ensures cause { ReasonOnlyIfRose result (F.load_faults files.old) (F.load_faults files.new) }
     ensures later { F.load_faults files.old ≤ F.load_faults files.new }
 {

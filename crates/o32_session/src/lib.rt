@@ -8,6 +8,7 @@ mod not_run;
 mod prepare;
 mod run;
 mod save;
+mod settings;
 mod top_call;
 mod words;
 

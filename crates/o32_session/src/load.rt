@@ -14,6 +14,8 @@ pub(crate) enum SessionFile {
     Program,
     /// The image.
     Image,
+    /// The schedule.
+    Schedule,
 }
 
 impl SessionFile {
@@ -24,16 +26,18 @@ impl SessionFile {
         match self {
             SessionFile::Program => 1,
             SessionFile::Image => 2,
+            SessionFile::Schedule => 3,
         }
     }
 
-    /// Its greatest length: 64 MiB for the program, 640 MiB for the image.
+    /// Its greatest length: 64 MiB for the program, 640 MiB for the image, 16 MiB for the schedule.
     fn limit(self) -> usize
         ensures { result ≡ limit_of self }
     {
         match self {
             SessionFile::Program => 67_108_864,
             SessionFile::Image => 671_088_640,
+            SessionFile::Schedule => 16_777_216,
         }
     }
 }

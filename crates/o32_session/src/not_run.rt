@@ -1,6 +1,6 @@
 //! Why nothing is run.
 ghost use Rattle.std.specs.Prelude.{◌≡◌};
-ghost use Rattle.o32_session.specs.inside.Prepared.{of_words, of_load, of_elf, of_image, of_start};
+ghost use Rattle.o32_session.specs.inside.Prepared.{of_words, of_load, of_elf, of_image, of_schedule, of_start};
 
 use crate::answer::Refusal;
 use crate::words::WordsError;
@@ -8,13 +8,14 @@ use elf_image::ElfError;
 use fs_image::ImageError;
 use kernel_core::NoMemory;
 use outside::LoadError;
+use schedule::ScheduleError;
 use start_stack::StartError;
 use std::alloc::AllocError;
 
 /// Why nothing is run.
 #[derive(Clone, Copy)]
 pub(crate) enum NotRun {
-    /// The words, the program or the image are refused.
+    /// The words, the program, the image, the schedule or the arguments are refused.
     Refused(Refusal),
     /// The store failed, and its count of faulty loads rose.
     ReadFault,
@@ -85,6 +86,17 @@ impl From<ImageError> for NotRun {
         match error {
             ImageError::Refused(broken) => NotRun::Refused(Refusal::Image(broken)),
             ImageError::NoMemory => NotRun::NoMemory,
+        }
+    }
+}
+
+impl From<ScheduleError> for NotRun {
+    ghost from_gives = { λ error reason. reason ≡ of_schedule error };
+
+    fn from(error: ScheduleError) -> NotRun {
+        match error {
+            ScheduleError::Refused(broken) => NotRun::Refused(Refusal::Schedule(broken)),
+            ScheduleError::NoMemory => NotRun::NoMemory,
         }
     }
 }

@@ -1,4 +1,4 @@
-//! The steps before a run: words, the program's plan, the tree of files, and the first machine.
+//! The steps before a run: words, the program's plan, the tree of files, the schedule, and the first machine.
 ghost use Rattle.std.specs.Prelude.{◌≡◌, ◌≤◌, ◌<◌, length, drop, IfOk, IfErr, None};
 ghost use Rattle.elf_image.specs.Rules.{first_failure};
 ghost use Rattle.elf_image.specs.Loading.{plan_of};
@@ -6,9 +6,8 @@ ghost use Rattle.elf_image.specs.Loading as plans;
 ghost use Rattle.kernel_core.specs.ValidTree as trees;
 ghost use Rattle.o32_session.specs.Words.{texts, read_words};
 ghost use Rattle.o32_session.specs.inside.Reader.{line_seen};
-ghost use Rattle.native_kernel.specs.Settings.{settings_of};
 ghost use Rattle.schedule.specs.Ranges.{IsGivenSchedule};
-ghost use Rattle.o32_session.specs.Asked.{asked_of_tree, first_settings, names_of, quantum, Run};
+ghost use Rattle.o32_session.specs.Asked.{asked_of_schedule, names_of, Run};
 ghost use Rattle.o32_session.specs.inside.Runs.{IsFresh};
 ghost use Rattle.o32_session.specs.inside.Prepared.{IsElfReason, IsPlanned, IsStartReason, IsPrepared, IsPreparedLine, ReasonOnlyIfRose, turned_at, turned_if, turned_reading};
 ghost use Rattle.o32_session.specs.Saved.{stored_of, after_turned, turned_by};
@@ -17,17 +16,15 @@ ghost use Rattle.o32_session.specs.declared.load.SessionFile.TheVariants as whic
 use crate::image::first_tree;
 use crate::load::{SessionFile, load_file};
 use crate::not_run::NotRun;
+use crate::settings::{run_schedule, stack_chance};
 use crate::words::{RunLine, read, word_at};
 use elf_image::{Plan, parse};
 use kernel_core::Tree;
 use o32_machine::Emulator;
 use outside::Store;
-use schedule::{Schedule, parse as parse_schedule};
+use schedule::Schedule;
 use start_stack::build;
 use std::alloc::Global;
-
-/// The guest's sixteen random bytes.
-const RANDOM_BYTES: [u8; 16] = [0; 16];
 
 /// An emulator that is ready to run.
 #[derive(Drop)]
@@ -61,40 +58,29 @@ fn load_plan<F: Store>(alloc: Global, name: &str, files: &mut F) -> Result<Plan,
     plan_of_file(alloc, &bytes)
 }
 
-/// The schedule of every run so far, that of an empty text.
-#[tactic(auto, unfolding(schedule::specs::Grammar::meaning_of))]
-fn first_schedule(alloc: Global) -> Result<Schedule, NotRun>
-    ensures given { IfOk result IsGivenSchedule }
-    ensures quantum { IfOk result (λ schedule. schedule.quantum ≡ quantum) }
-    ensures settings { IfOk result (λ schedule. settings_of schedule ≡ first_settings) }
-    ensures reason { IfErr result (λ reason. reason ≡ NotRun.NoMemory) }
-{
-    match parse_schedule(alloc, b"") {
-        Ok(schedule) => Ok(schedule),
-        Err(_) => Err(NotRun::NoMemory),
-    }
-}
-
-/// The emulator of a plan with these arguments, beside this tree of files.
+/// The emulator of a plan with these arguments, beside this tree of files, under this schedule.
 fn machine_of_plan(
     alloc: Global,
     args: &[String],
     line: RunLine,
     plan: &Plan,
     tree: Tree,
+    schedule: Schedule,
 ) -> Result<Ready, NotRun>
     requires named { 0 < length args.now }
     requires plan { plans.IsValidPlan plan.now }
     requires tree { trees.IsValidTree tree }
+    requires schedule { IsGivenSchedule schedule }
     requires bounded { line.budget ≤ 1_000_000_000_000 }
-    ensures ready { IfOk result (λ ready. asked_of_tree (texts args.now) (line_seen line) plan.now tree ≡ Run ready.emulator.machine ready.budget) }
+    ensures ready { IfOk result (λ ready. asked_of_schedule (texts args.now) (line_seen line) plan.now tree schedule ≡ Run ready.emulator.quantum ready.emulator.machine ready.budget) }
     ensures fresh { IfOk result (λ ready. IsFresh ready.emulator) }
     ensures bounded { IfOk result (λ ready. ready.budget ≤ 1_000_000_000_000) }
     ensures save { IfOk result (λ ready. ready.save ≡ line.save) }
-    ensures reason { IfErr result (IsStartReason (asked_of_tree (texts args.now) (line_seen line) plan.now tree)) }
+    ensures reason { IfErr result (IsStartReason (asked_of_schedule (texts args.now) (line_seen line) plan.now tree schedule)) }
 {
-    let start = build(alloc, plan, args, line.environment.as_slice(), RANDOM_BYTES)?;
-    let schedule = first_schedule(alloc)?;
+    let environment = line.environment.as_slice();
+    let chance = stack_chance(schedule.random.as_slice());
+    let start = build(alloc, plan, args, environment, chance)?;
     Ok(Ready {
         emulator: Emulator::new(alloc, start, tree, schedule)?,
         budget: line.budget,
@@ -102,7 +88,7 @@ fn machine_of_plan(
     })
 }
 
-/// What the words ask for, with the program and the image loaded and the first machine made.
+/// What the words ask for, with the program, the image and the schedule loaded and the first machine made.
 pub(crate) fn prepare<F: Store>(
     alloc: Global,
     words: &[String],
@@ -141,7 +127,15 @@ fn prepare_line<F: Store>(
 {
     let plan = load_plan(alloc, word_at(words, line.program), files)?;
     let tree = first_tree(alloc, words, line.image, files)?;
-    machine_of_plan(alloc, arguments(words, line.program), line, &plan, tree)
+    let schedule = run_schedule(alloc, words, line.schedule, files)?;
+    machine_of_plan(
+        alloc,
+        arguments(words, line.program),
+        line,
+        &plan,
+        tree,
+        schedule,
+    )
 }
 
 /// The words from an index on.

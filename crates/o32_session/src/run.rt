@@ -1,4 +1,4 @@
-//! A whole run, turn by turn.
+//! A whole run.
 ghost use Rattle.std.specs.Prelude.{◌≡◌, ◌≤◌};
 ghost use Rattle.kernel_model.specs.Stops.{StopsOnlyIfRose};
 ghost use Rattle.o32_session.specs.inside.Runs.{IsFresh, RunsAs, WithinBudget};
@@ -25,15 +25,16 @@ pub(crate) fn run<I: Source, O: Sink, E: Sink>(
 ) -> Ran
     requires fresh { IsFresh emulator.old }
     requires budget { budget ≤ 1_000_000_000_000 }
-    ensures run { RunsAs emulator.old.machine budget result.turns result.end
+    ensures run { RunsAs emulator.old.quantum emulator.old.machine budget result.turns result.end
         (contents I.left O.written E.written dev.old) (contents I.left O.written E.written dev.new) emulator.new.machine }
     ensures within { WithinBudget result.end result.turns budget }
     ensures turns { emulator.new.turns ≡ result.turns }
     ensures cause { StopsOnlyIfRose I.faults O.faults E.faults result.end dev.old dev.new }
     ensures counts { NoCountFell I.faults O.faults E.faults dev.old dev.new }
 {
-    for turn in 0..budget {
-        match emulator.turn(dev) {
+    while emulator.turns() < budget {
+        let left = budget - emulator.turns();
+        match emulator.next_turns(left, dev) {
             Ok(Turn::Went) => {}
             Ok(Turn::Ended(finish)) => {
                 return Ran {

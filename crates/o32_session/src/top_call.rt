@@ -100,8 +100,8 @@ fn end_without_run<E: Sink>(alloc: Global, reason: NotRun, err: &mut E) -> End
     }
 }
 
-/// One run of the emulator: reads the words after its own name, loads the program and the image that they name from
-/// `files`, runs the program over the devices, and saves the final tree of files where the words name a file for it.
+/// One run of the emulator: reads the words after its own name, loads the program, the image and the schedule that
+/// they name from `files`, runs the program over the devices, and saves the final tree of files where the words name a file for it.
 /// Every list of words, every file and every budget has an answer.
 ///
 /// What the program writes to standard output goes to `dev.out`, and the line of a refusal to `dev.err`. The answers,
@@ -186,7 +186,7 @@ fn run_ready<F: Store, I: Source, O: Sink, E: Sink>(
     requires fresh { IsFresh ready.emulator }
     requires bounded { ready.budget ≤ 1_000_000_000_000 }
     ensures run { (names : Names) → names.save ≡ option_map (word_at (texts words.now)) ready.save
-        → Answers (Run ready.emulator.machine ready.budget) names
+        → Answers (Run ready.emulator.quantum ready.emulator.machine ready.budget) names
         (seen_of I.left O.written E.written I.faults O.faults E.faults dev.old (stored_of F.files F.created F.turned_away F.write_faults files.old))
         (seen_of I.left O.written E.written I.faults O.faults E.faults dev.new (stored_of F.files F.created F.turned_away F.write_faults files.new))
         result.turns result.end result.host }

@@ -1,11 +1,11 @@
-//! The words after the emulator's own name: `run [--image F] [--budget N] [--save F]
+//! The words after the emulator's own name: `run [--image F] [--schedule F] [--budget N] [--save F]
 //! [--env K=V].. PROGRAM [WORD..]`.
 
-ghost use Rattle.std.specs.Prelude.{◌≡◌, ◌+◌, ◌<◌, ◌^◌, ◌==◌, length, drop, if◌then◌else◌, IfOk, IfErr, IfSome, Some, None};
+ghost use Rattle.std.specs.Prelude.{◌≡◌, ◌+◌, ◌<◌, ◌^◌, ◌==◌, length, drop, if◌then◌else◌, IfOk, IfErr, IfSome, Some, None, option_and_then};
 ghost use Rattle.std.specs.List.{list_any, list_all, position};
 ghost use Rattle.std.specs.String.{string_bytes};
 ghost use Rattle.std.specs.Char.{is_ascii_digit};
-ghost use Rattle.o32_session.specs.Words.{texts, read_words, read_line, read_guest, budget_of, is_setting, is_program, is_file_name, is_plain_number, has_nul, no_options, Line, line_of, Asks, word_at, later_of_equal, equal_to_saved, equal_name};
+ghost use Rattle.o32_session.specs.Words.{texts, read_words, read_line, read_guest, budget_of, is_setting, is_program, is_file_name, is_plain_number, has_nul, no_options, Line, line_of, Asks, word_at, later_of_equal, equal_to_saved, equal_name, first_of};
 ghost use Rattle.o32_session.specs.inside.Steps.{read_from, step_of, step_at_option, step_at_setting, Option_or_program};
 ghost use Rattle.o32_session.specs.declared.words.Expected.TheVariants.{OptionOrProgram};
 ghost use Rattle.o32_session.specs.declared.words.Step.TheVariants.{GoesOn, IsWrong};
@@ -24,6 +24,8 @@ pub(crate) struct RunLine {
     pub program: usize,
     /// The index of the image's name, where there is an image.
     pub image: Option<usize>,
+    /// The index of the schedule's name, where there is a schedule.
+    pub schedule: Option<usize>,
     /// The index of the name of the file that the final tree is saved to, where it is saved.
     pub save: Option<usize>,
 }
@@ -66,6 +68,7 @@ const GREATEST_BUDGET: u64 = 1_000_000_000_000;
 /// The role of a word in the place of an option.
 enum Role {
     Image,
+    Schedule,
     Budget,
     Save,
     Environment,
@@ -78,6 +81,7 @@ enum Role {
 enum Expected {
     OptionOrProgram,
     ImageValue,
+    ScheduleValue,
     BudgetValue,
     SaveValue,
     EnvironmentValue,
@@ -147,6 +151,8 @@ fn role_of(word: &str) -> Role
 {
     if word == "--image" {
         Role::Image
+    } else if word == "--schedule" {
+        Role::Schedule
     } else if word == "--budget" {
         Role::Budget
     } else if word == "--save" {
@@ -171,6 +177,7 @@ fn file_name(at: usize, word: &str) -> Option<usize>
 #[derive(Drop)]
 struct Options {
     image: Option<usize>,
+    schedule: Option<usize>,
     budget: Option<u64>,
     save: Option<usize>,
     environment: Vec<String>,
@@ -203,6 +210,7 @@ impl Options {
     {
         Options {
             image: None,
+            schedule: None,
             budget: None,
             save: None,
             environment: Vec::new(alloc),
@@ -222,6 +230,7 @@ impl Options {
         match expected {
             Expected::OptionOrProgram => Ok(self.step_at_option(role_of(word))),
             Expected::ImageValue => Ok(keep(&mut self.image, file_name(at, word))),
+            Expected::ScheduleValue => Ok(keep(&mut self.schedule, file_name(at, word))),
             Expected::BudgetValue => Ok(keep(&mut self.budget, budget(word))),
             Expected::SaveValue => Ok(keep(&mut self.save, file_name(at, word))),
             Expected::EnvironmentValue => self.step_at_setting(alloc, word),
@@ -234,6 +243,8 @@ impl Options {
         match role {
             Role::Image if self.image.is_some() => Step::IsWrong,
             Role::Image => Step::GoesOn(Expected::ImageValue),
+            Role::Schedule if self.schedule.is_some() => Step::IsWrong,
+            Role::Schedule => Step::GoesOn(Expected::ScheduleValue),
             Role::Budget if self.budget.is_some() => Step::IsWrong,
             Role::Budget => Step::GoesOn(Expected::BudgetValue),
             Role::Save if self.save.is_some() => Step::IsWrong,
@@ -292,16 +303,32 @@ fn later_of_equal(words: &[String], one: usize, other: usize) -> Option<usize>
     }
 }
 
-/// The first name that is equal to that of `--save`, which is at index `saved`, or else that one where it is the later.
+/// The lesser of two indices, where there are.
+fn first_of(one: Option<usize>, other: Option<usize>) -> Option<usize>
+    ensures { result ≡ first_of one other }
+{
+    match (one, other) {
+        (Some(one), Some(other)) => Some(one.min(other)),
+        (Some(one), None) => Some(one),
+        (None, other) => other,
+    }
+}
+
+/// The later of the name of `--save`, which is at index `saved`, and that of another option, where they are equal.
+fn later_of_named(words: &[String], saved: usize, named: Option<usize>) -> Option<usize>
+    ensures { result ≡ option_and_then (later_of_equal (texts words.now) saved) named }
+{
+    later_of_equal(words, saved, named?)
+}
+
+/// The first name that equals an earlier one, where one of the two is that of `--save`, which is at index `saved`.
 fn equal_to_saved(words: &[String], line: &RunLine, saved: usize) -> Option<usize>
     ensures { result ≡ equal_to_saved (texts words.now) (line_seen line.now) saved }
 {
-    if let Some(image) = line.image {
-        if let Some(at) = later_of_equal(words, saved, image) {
-            return Some(at);
-        }
-    }
-    later_of_equal(words, saved, line.program)
+    let image = later_of_named(words, saved, line.image);
+    let schedule = later_of_named(words, saved, line.schedule);
+    let program = later_of_equal(words, saved, line.program);
+    first_of(image, first_of(schedule, program))
 }
 
 /// The first name of a file that equals an earlier one, where at least one of the two is written.
@@ -379,6 +406,7 @@ fn finish(options: Options, program: usize, guest: &[String]) -> Result<RunLine,
         environment: options.environment,
         program,
         image: options.image,
+        schedule: options.schedule,
         save: options.save,
     })
 }

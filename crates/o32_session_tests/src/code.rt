@@ -22,6 +22,15 @@ pub(crate) const SET_A0: u32 = 0x2404_0000;
 /// `addiu $a0, $v0, 0`.
 pub(crate) const SET_A0_TO_V0: u32 = 0x2444_0000;
 
+/// `addiu $t0, $v0, 0`.
+pub(crate) const SET_T0_TO_V0: u32 = 0x2448_0000;
+
+/// `addiu $a0, $t0, 0`.
+pub(crate) const SET_A0_TO_T0: u32 = 0x2504_0000;
+
+/// `addiu $a0, $sp, 0`.
+pub(crate) const SET_A0_TO_SP: u32 = 0x27A4_0000;
+
 /// `addiu $a0, $a3, 0`.
 pub(crate) const SET_A0_TO_A3: u32 = 0x24E4_0000;
 
@@ -30,6 +39,9 @@ pub(crate) const SET_A0_TO_V1: u32 = 0x2464_0000;
 
 /// `addiu $a1, $sp, 0`.
 pub(crate) const SET_A1_TO_SP: u32 = 0x27A5_0000;
+
+/// `addiu $a2, $sp, 0`.
+pub(crate) const SET_A2_TO_SP: u32 = 0x27A6_0000;
 
 /// `lbu $a0, 0($sp)`.
 pub(crate) const LOAD_A0_FROM_SP: u32 = 0x93A4_0000;
@@ -107,6 +119,9 @@ pub(crate) const GETRLIMIT: u32 = 4076;
 
 /// readv(2).
 pub(crate) const READV: u32 = 4145;
+
+/// getrandom(2).
+pub(crate) const GETRANDOM: u32 = 4353;
 
 /// exit_group(2).
 pub(crate) const EXIT_GROUP: u32 = 4246;

@@ -1,38 +1,12 @@
 //! The files that a session loads, where one is missing or is refused.
 use crate::code::*;
 use crate::images::EMPTY_ROOT;
-use crate::sessions::{Given, NO_FAILURE, Wanted, add_file, comes_out, program_alone, texts};
+use crate::sessions::{add_file, is_refused, program_alone};
 use elf_image::ElfRefusal;
 use fs_image::ImageRefusal;
-use o32_session::{End, Refusal};
-use outside::NamedFile;
+use o32_session::Refusal;
 use std::alloc::Global;
 use std::test::Fail;
-
-/// Whether a session is refused so, with this line.
-fn is_refused(
-    alloc: Global,
-    words: &[&str],
-    files: Vec<NamedFile>,
-    refusal: Refusal,
-    line: &[u8],
-) -> Result<bool, Fail> {
-    let given = Given {
-        words: texts(alloc, words)?,
-        files,
-        input: &[],
-        failing: NO_FAILURE,
-    };
-    let wanted = Wanted {
-        end: End::Refused(refusal),
-        status: 125,
-        turns: 0,
-        out: &[],
-        err: line,
-        saved: None,
-    };
-    comes_out(alloc, given, &wanted)
-}
 
 /// Writes bytes over those at a place, as many as are there.
 fn write_at(file: &mut [u8], place: usize, bytes: &[u8]) {

@@ -12,6 +12,8 @@ mod programs;
 #[cfg(test)]
 mod saves;
 #[cfg(test)]
+mod schedules;
+#[cfg(test)]
 mod sessions;
 #[cfg(test)]
 mod words;

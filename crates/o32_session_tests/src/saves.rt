@@ -44,7 +44,7 @@ fn first_wrong(alloc: Global, program: &[u8], rows: &[Run]) -> Result<Option<usi
 fn saved_trees(rt: HostRuntime) -> Result<(), Fail> {
     let alloc = rt.alloc();
     let save = ["run", "--save", "s", "p"];
-    let image_alone = ["run", "--image", "i", "p"];
+    let image = ["run", "--image", "i", "p"];
     let both = ["run", "--save", "s", "--image", "i", "p"];
     let in_part = ["run", "--save", "s", "--budget", "5", "p"];
     // The loads of program and image are calls 1 and 2 on the store, `create` is call 3, `append` call 4.
@@ -64,15 +64,7 @@ fn saved_trees(rt: HostRuntime) -> Result<(), Fail> {
         ),
         (&both, NO_FAILURE, End::Exited(7), 7, 9, b"Hi\n", &ONE_FILE),
         (&in_part, NO_FAILURE, End::Budget, 124, 5, b"", &EMPTY_ROOT),
-        (
-            &image_alone,
-            NO_FAILURE,
-            End::Exited(7),
-            7,
-            9,
-            b"Hi\n",
-            b"old",
-        ),
+        (&image, NO_FAILURE, End::Exited(7), 7, 9, b"Hi\n", b"old"),
         (&both, load_program, End::ReadFault, 122, 0, b"", b"old"),
         (&both, load_image, End::ReadFault, 122, 0, b"", b"old"),
         (&both, create, End::WriteFault, 119, 9, b"Hi\n", b"old"),
@@ -83,32 +75,33 @@ fn saved_trees(rt: HostRuntime) -> Result<(), Fail> {
     Ok(())
 }
 
+/// A write of no byte, which makes no put; one of two bytes in turn 9; a read of two bytes in turn 13; and a write of
+/// these in turn 16.
+const READS_AND_WRITES: [u32; 19] = [
+    SET_V0 | WRITE,
+    SET_A0 | 1,
+    SET_A1_HIGH | 0x40,
+    OR_A1 | 0x100,
+    SET_A2,
+    SYSCALL,
+    SET_V0 | WRITE,
+    SET_A2 | 2,
+    SYSCALL,
+    SET_A0,
+    SET_A1_TO_SP,
+    SET_V0 | READ,
+    SYSCALL,
+    SET_A0 | 1,
+    SET_V0 | WRITE,
+    SYSCALL,
+    SET_A0_TO_V0,
+    SET_V0 | EXIT,
+    SYSCALL,
+];
+
 #[test]
 fn streams_that_fail(rt: HostRuntime) -> Result<(), Fail> {
     let alloc = rt.alloc();
-    // A write of no byte, which makes no put; one of two bytes in turn 9; a read of two bytes in turn 13; and a write of
-    // these in turn 16.
-    let code = [
-        SET_V0 | WRITE,
-        SET_A0 | 1,
-        SET_A1_HIGH | 0x40,
-        OR_A1 | 0x100,
-        SET_A2,
-        SYSCALL,
-        SET_V0 | WRITE,
-        SET_A2 | 2,
-        SYSCALL,
-        SET_A0,
-        SET_A1_TO_SP,
-        SET_V0 | READ,
-        SYSCALL,
-        SET_A0 | 1,
-        SET_V0 | WRITE,
-        SYSCALL,
-        SET_A0_TO_V0,
-        SET_V0 | EXIT,
-        SYSCALL,
-    ];
     let save = ["run", "--save", "s", "p"];
     let take: Failing = [&[1], &[], &[], &[]];
     let first_put: Failing = [&[], &[1], &[], &[]];
@@ -129,7 +122,7 @@ fn streams_that_fail(rt: HostRuntime) -> Result<(), Fail> {
         (&save, second_put, End::WriteFault, 119, 15, b"Hi", b"old"),
         (&["walk"], line, End::WriteFault, 119, 0, b"", b"old"),
     ];
-    let program = one_page(alloc, &code)?;
+    let program = one_page(alloc, &READS_AND_WRITES)?;
     assert_eq!(rt; first_wrong(alloc, &program, &rows)?, None);
     Ok(())
 }

@@ -1,5 +1,5 @@
 //! A session, and what it comes to.
-use o32_session::{Answer, End, session};
+use o32_session::{Answer, End, Refusal, session};
 use outside::{Devices, MemSink, MemSource, MemStore, NamedFile};
 use std::alloc::Global;
 use std::test::Fail;
@@ -128,4 +128,29 @@ fn is_right(done: &Done, wanted: &Wanted) -> bool {
 /// Whether a session comes out so.
 pub(crate) fn comes_out(alloc: Global, given: Given, wanted: &Wanted) -> Result<bool, Fail> {
     Ok(is_right(&carry_out(alloc, given)?, wanted))
+}
+
+/// Whether a session is refused so, with this line.
+pub(crate) fn is_refused(
+    alloc: Global,
+    words: &[&str],
+    files: Vec<NamedFile>,
+    refusal: Refusal,
+    line: &[u8],
+) -> Result<bool, Fail> {
+    let given = Given {
+        words: texts(alloc, words)?,
+        files,
+        input: &[],
+        failing: NO_FAILURE,
+    };
+    let wanted = Wanted {
+        end: End::Refused(refusal),
+        status: 125,
+        turns: 0,
+        out: &[],
+        err: line,
+        saved: None,
+    };
+    comes_out(alloc, given, &wanted)
 }

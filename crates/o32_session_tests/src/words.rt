@@ -54,18 +54,30 @@ fn refused_words(rt: HostRuntime) -> Result<(), Fail> {
 
 #[test]
 fn refused_names(rt: HostRuntime) -> Result<(), Fail> {
-    let rows: [(&[&str], usize); 14] = [
+    let rows: [(&[&str], usize); 20] = [
         (&["run", "--image"], 2),
+        (&["run", "--schedule"], 2),
+        (&["run", "--schedule", "", "p"], 2),
         (&["run", "--save"], 2),
         (&["run", "--image", "", "p"], 2),
         (&["run", "--save", "", "p"], 2),
         (&["run", "--image", "a\0", "p"], 2),
         (&["run", "--save", "a\0", "p"], 2),
         (&["run", "--image", "i", "--image", "j", "p"], 3),
+        (&["run", "--schedule", "i", "--schedule", "j", "p"], 3),
         (&["run", "--save", "s", "--save", "t", "p"], 3),
         (&["run", "--image", "x", "--save", "x", "p"], 4),
         (
             &["run", "--save", "x", "--budget", "1", "--image", "x", "p"],
+            6,
+        ),
+        (&["run", "--schedule", "x", "--save", "x", "p"], 4),
+        (
+            &["run", "--save", "x", "--schedule", "x", "--image", "x", "p"],
+            4,
+        ),
+        (
+            &["run", "--image", "x", "--schedule", "x", "--save", "x", "p"],
             6,
         ),
         (&["run", "--save", "p", "p"], 3),
@@ -109,94 +121,55 @@ fn first_wrong(alloc: Global, rows: &[Run]) -> Result<Option<usize>, Fail> {
 fn budgets(rt: HostRuntime) -> Result<(), Fail> {
     let alloc = rt.alloc();
     let hello = hello(alloc)?;
-    let faults = one_page(alloc, &[BREAK])?;
-    let blocks = one_page(
-        alloc,
-        &[
-            SET_V0 | PIPE,
-            SYSCALL,
-            SET_A0 | 3,
-            SET_A1_TO_SP,
-            SET_A2 | 8,
-            SET_V0 | READ,
-            SYSCALL,
-        ],
-    )?;
-    let rows: [Run; 9] = [
+    let of_5 = ["run", "--budget", "5", "p"];
+    let of_8 = ["run", "--budget", "8", "p"];
+    let of_9 = ["run", "--env", "A=b", "--budget", "9", "p", "-x"];
+    let greatest = ["run", "--budget", "1000000000000", "p"];
+    let rows: [Run; 5] = [
         (&["run", "p"], &hello, End::Exited(7), 7, 9, b"Hi\n", b""),
-        (
-            &["run", "--budget", "5", "p"],
-            &hello,
-            End::Budget,
-            124,
-            5,
-            b"",
-            b"",
-        ),
-        (
-            &["run", "--budget", "8", "p"],
-            &hello,
-            End::Budget,
-            124,
-            8,
-            b"Hi\n",
-            b"",
-        ),
-        (
-            &["run", "--env", "A=b", "--budget", "9", "p", "-x"],
-            &hello,
-            End::Exited(7),
-            7,
-            9,
-            b"Hi\n",
-            b"",
-        ),
-        (
-            &["run", "--budget", "1000000000000", "p"],
-            &hello,
-            End::Exited(7),
-            7,
-            9,
-            b"Hi\n",
-            b"",
-        ),
-        // The fault of the last turn kills in no further one, and no further attempt finds that the process is blocked.
-        (
-            &["run", "--budget", "1", "p"],
-            &faults,
-            End::Budget,
-            124,
-            1,
-            b"",
-            b"",
-        ),
-        (
-            &["run", "--budget", "2", "p"],
-            &faults,
-            End::Killed(5),
-            133,
-            2,
-            b"",
-            b"",
-        ),
-        (
-            &["run", "--budget", "7", "p"],
-            &blocks,
-            End::Budget,
-            124,
-            7,
-            b"",
-            b"",
-        ),
-        (
-            &["run", "--budget", "8", "p"],
-            &blocks,
-            End::Blocked,
-            123,
-            7,
-            b"",
-            b"",
-        ),
+        (&of_5, &hello, End::Budget, 124, 5, b"", b""),
+        (&of_8, &hello, End::Budget, 124, 8, b"Hi\n", b""),
+        (&of_9, &hello, End::Exited(7), 7, 9, b"Hi\n", b""),
+        (&greatest, &hello, End::Exited(7), 7, 9, b"Hi\n", b""),
+    ];
+    assert_eq!(rt; first_wrong(alloc, &rows)?, None);
+    Ok(())
+}
+
+#[test]
+fn budgets_of_a_fault(rt: HostRuntime) -> Result<(), Fail> {
+    let alloc = rt.alloc();
+    let faults = one_page(alloc, &[BREAK])?;
+    let of_1 = ["run", "--budget", "1", "p"];
+    let of_2 = ["run", "--budget", "2", "p"];
+    // The fault of the last turn kills in no further one.
+    let rows: [Run; 2] = [
+        (&of_1, &faults, End::Budget, 124, 1, b"", b""),
+        (&of_2, &faults, End::Killed(5), 133, 2, b"", b""),
+    ];
+    assert_eq!(rt; first_wrong(alloc, &rows)?, None);
+    Ok(())
+}
+
+#[test]
+fn budgets_of_a_wait(rt: HostRuntime) -> Result<(), Fail> {
+    let alloc = rt.alloc();
+    let waits = [
+        SET_V0 | PIPE,
+        SYSCALL,
+        SET_A0 | 3,
+        SET_A1_TO_SP,
+        SET_A2 | 8,
+        SET_V0 | READ,
+        SYSCALL,
+    ];
+    let blocks = one_page(alloc, &waits)?;
+    let of_7 = ["run", "--budget", "7", "p"];
+    let of_8 = ["run", "--budget", "8", "p"];
+    // Behind the budget's last turn no further attempt finds that the process is blocked.
+    let rows: [Run; 2] = [
+        (&of_7, &blocks, End::Budget, 124, 7, b"", b""),
+        (&of_8, &blocks, End::Blocked, 123, 7, b"", b""),
     ];
     assert_eq!(rt; first_wrong(alloc, &rows)?, None);
     Ok(())

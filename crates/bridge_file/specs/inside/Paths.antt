@@ -1,26 +1,16 @@
 -- An o32 call with paths that is one native call with the same paths, which stand in host memory. Where one of them can't be read, the call
 -- does nothing, and what was wrong is its outcome. (The form is this project's own.)
-use Rattle.std.specs.Prelude.{◌≡◌, ℕ, ◌-◌, ◌≤◌, List, ◌∷◌, ◌++◌, drop, Ok, Err}
+use Rattle.std.specs.Prelude.{◌≡◌, ℕ, List, Ok, Err}
 use Rattle.host_mem.specs.Memory.{first_address}
 use Rattle.kernel_core.specs.declared.error.Errno.{Errno}
-use Rattle.kernel_model.specs.Came.{refused}
 use Rattle.kernel_model.specs.State.{Kernel}
 use Rattle.native_calls.specs.Paths as native
 use Rattle.native_calls.specs.Step.{NativeStep}
 use Rattle.o32_model.specs.Paths as o32
-use Rattle.o32_model.specs.Step.{Guest, O32Step, gives}
+use Rattle.o32_model.specs.Step.{Guest, O32Step}
 use Rattle.bridge_log.specs.Mirrors.{Mirrors}
 use Rattle.bridge_log.specs.Outcomes.{by_reply}
-
--- a path stands in host memory from an address on, and a NUL behind it
-pub record HasPath (memory : List ℕ) (address : ℕ) (path : List ℕ) : Type 0 where
-  pub from : first_address ≤ address
-  pub behind : List ℕ
-  pub stands : drop (address - first_address) memory ≡ path ++ 0 ∷ behind
-
--- what was wrong is the outcome, and nothing was done
-abbrev pub Refuses : Guest → Kernel → Errno → List ℕ → O32Step → Type 0
-Refuses guest kernel error left step = step ≡ gives guest (refused kernel error) left
+use Rattle.bridge_paths.specs.Refusals.{Refuses}
 
 -- a call with one path, which then stands in host memory from its first address on
 pub record MirrorsPath (guest : Guest) (kernel : Kernel) (address : ℕ) (native_step : List ℕ → List ℕ → NativeStep) (step : List ℕ → O32Step) : Type 0 where

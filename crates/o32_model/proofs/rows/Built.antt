@@ -6,7 +6,7 @@ use Rattle.kernel_model.specs.Pipes.{nothing}
 use Rattle.kernel_model.specs.State.{Kernel}
 use Rattle.mips_exec.specs.Processor.{Processor}
 use Rattle.o32_model.proofs.rows.Small.{words, guest}
-use Rattle.o32_model.specs.Built.{built_of, built_call, built_seeing_of, time_numbers}
+use Rattle.o32_model.specs.Built.{built_of, built_call, built_seeing_of, file_numbers, time_numbers}
 use Rattle.o32_model.specs.Descriptors.{descriptor_calls}
 use Rattle.o32_model.specs.Mappings.{map_calls}
 use Rattle.o32_model.specs.Small.{small_calls}
@@ -43,7 +43,7 @@ small = refl
 mappings : in_built map_calls ≡ in_table map_calls
 mappings = refl
 
--- and of the calls on time
+-- and of the calls on files and on time
 
 abbrev numbers_in_table : List ℕ → List (Option O32Call)
 numbers_in_table [] = []
@@ -52,6 +52,9 @@ numbers_in_table (number ∷ more) = call_of number ∷ numbers_in_table more
 abbrev numbers_in_built : List ℕ → List (Option O32Call)
 numbers_in_built [] = []
 numbers_in_built (number ∷ more) = built_of number ∷ numbers_in_built more
+
+files : numbers_in_built file_numbers ≡ numbers_in_table file_numbers
+files = refl
 
 times : numbers_in_built time_numbers ≡ numbers_in_table time_numbers
 times = refl
@@ -77,12 +80,21 @@ module _ (seen : Seen) (kernel : Kernel) (processor : Processor) (memory : Memor
   abbrev not_built : O32Step
   not_built = record { kernel = kernel; left = left; memory = memory; processor = processor; sent = nothing; outcome = Error ENOSYS }
 
-  -- read, getpid and munmap
+  -- read, getpid, mkdir, open, getdents and munmap
   reads : built 4003 ≡ in_full 4003
   reads = refl
 
   tells_its_number : built 4020 ≡ in_full 4020
   tells_its_number = refl
+
+  makes_directory : built 4039 ≡ in_full 4039
+  makes_directory = refl
+
+  opens : built 4005 ≡ in_full 4005
+  opens = refl
+
+  lists : built 4141 ≡ in_full 4141
+  lists = refl
 
   unmaps : built 4091 ≡ in_full 4091
   unmaps = refl
@@ -94,10 +106,7 @@ module _ (seen : Seen) (kernel : Kernel) (processor : Processor) (memory : Memor
   tells_time : built 4263 ≡ in_full 4263
   tells_time = refl
 
-  -- open, alarm, kill and restart_syscall
-  opens : built 4005 ≡ not_built
-  opens = refl
-
+  -- alarm, kill and restart_syscall
   sets_no_timer : built 4027 ≡ not_built
   sets_no_timer = refl
 

@@ -16,11 +16,14 @@ use Rattle.elf_image.specs.declared.load_plan.Plan.{Plan}
 use Rattle.elf_image.specs.declared.refusal.ElfRefusal.{ElfRefusal}
 use Rattle.elf_image.specs.declared.refusal.ElfError.{ElfError}
 use Rattle.elf_image.specs.declared.refusal.ElfError.TheVariants as elf
+use Rattle.schedule.specs.declared.Schedule.{Schedule}
+use Rattle.schedule.specs.declared.refusal.ScheduleError.{ScheduleError}
+use Rattle.schedule.specs.declared.refusal.ScheduleError.TheVariants as schedules
 use Rattle.start_stack.specs.declared.error.StartError.{StartError}
 use Rattle.start_stack.specs.declared.error.StartError.TheVariants as start
 use Rattle.o32_session.specs.Lines.{line_of}
 use Rattle.o32_session.specs.Words.{Line, Reading, Asks, WrongAt}
-use Rattle.o32_session.specs.Asked.{Asked, Refuse, Run, Absent, Long, Bytes, IsFound, IsReadAs, IsOpened, AsksFor, names_of, program_file, image_file, program_limit, image_limit}
+use Rattle.o32_session.specs.Asked.{Asked, Refuse, Run, Absent, Long, Bytes, IsFound, IsReadAs, IsOpened, IsScheduled, AsksFor, names_of, schedule_of_text, program_file, image_file, schedule_file, program_limit, image_limit, schedule_limit}
 use Rattle.o32_session.specs.Saved.{turned_by}
 use Rattle.o32_session.specs.declared.answer.Refusal.{Refusal}
 use Rattle.o32_session.specs.declared.answer.Refusal.TheVariants as refusals
@@ -53,6 +56,10 @@ abbrev pub of_image : ImageError → NotRun
 of_image (images.Refused broken) = Refused (refusals.Image broken)
 of_image images.NoMemory = NoMemory
 
+abbrev pub of_schedule : ScheduleError → NotRun
+of_schedule (schedules.Refused broken) = Refused (refusals.Schedule broken)
+of_schedule schedules.NoMemory = NoMemory
+
 abbrev pub of_start : StartError → NotRun
 of_start start.TooLong = Refused refusals.Start
 of_start start.NoMemory = NoMemory
@@ -69,10 +76,12 @@ ReasonOnlyIfRose (Err NoMemory) before now = ⊤
 abbrev pub number_of : SessionFile → ℕ
 number_of files.Program = program_file
 number_of files.Image = image_file
+number_of files.Schedule = schedule_file
 
 abbrev pub limit_of : SessionFile → ℕ
 limit_of files.Program = program_limit
 limit_of files.Image = image_limit
+limit_of files.Schedule = schedule_limit
 
 -- what was loaded, or what was found in its place; a fault or want of memory says nothing of the file
 abbrev pub IsLoaded : {A : Type 0} → Option Files → SessionFile → List ℕ → Result (Vec ℕ A) NotRun → Type 0
@@ -84,6 +93,7 @@ IsLoaded told file name (Err (Refused (refusals.TooLong number))) =
 IsLoaded told file name (Err (Refused (refusals.Usage word))) = ⊥
 IsLoaded told file name (Err (Refused (refusals.Elf rule))) = ⊥
 IsLoaded told file name (Err (Refused (refusals.Image broken))) = ⊥
+IsLoaded told file name (Err (Refused (refusals.Schedule broken))) = ⊥
 IsLoaded told file name (Err (Refused refusals.Start)) = ⊥
 IsLoaded told file name (Err ReadFault) = ⊤
 IsLoaded told file name (Err NoMemory) = ⊤
@@ -95,6 +105,7 @@ turned_at file name (refusals.TooLong number) = record { name = name; limit = li
 turned_at file name (refusals.Usage word) = []
 turned_at file name (refusals.Elf rule) = []
 turned_at file name (refusals.Image broken) = []
+turned_at file name (refusals.Schedule broken) = []
 turned_at file name refusals.Start = []
 
 -- the loads that were turned away, by the loads that each refusal turns away
@@ -103,6 +114,11 @@ turned_if turned (Ok value) = []
 turned_if turned (Err (Refused refusal)) = turned refusal
 turned_if turned (Err ReadFault) = []
 turned_if turned (Err NoMemory) = []
+
+-- the same of a file that is loaded where it has a name
+abbrev pub turned_with : SessionFile → Option (List ℕ) → Refusal → List TurnedLoad
+turned_with file None refusal = []
+turned_with file (Some name) refusal = turned_at file name refusal
 
 -- The program
 
@@ -150,9 +166,21 @@ IsTree told name (Err (Refused refusal)) = IsOpened told name (Err refusal)
 IsTree told name (Err ReadFault) = ⊤
 IsTree told name (Err NoMemory) = ⊤
 
-abbrev pub turned_with : Option (List ℕ) → Refusal → List TurnedLoad
-turned_with None refusal = []
-turned_with (Some name) refusal = turned_at files.Image name refusal
+-- The schedule
+
+-- what a text's schedule was read as; want of memory says nothing
+abbrev pub IsTaken : List ℕ → Result Schedule NotRun → Type 0
+IsTaken text (Ok schedule) = schedule_of_text text ≡ Ok schedule
+IsTaken text (Err (Refused refusal)) = schedule_of_text text ≡ Err refusal
+IsTaken text (Err ReadFault) = ⊥
+IsTaken text (Err NoMemory) = ⊤
+
+-- the schedule of a run; a fault or want of memory says nothing
+abbrev pub IsScheduledAs : Option Files → Option (List ℕ) → Result Schedule NotRun → Type 0
+IsScheduledAs told name (Ok schedule) = IsScheduled told name (Ok schedule)
+IsScheduledAs told name (Err (Refused refusal)) = IsScheduled told name (Err refusal)
+IsScheduledAs told name (Err ReadFault) = ⊤
+IsScheduledAs told name (Err NoMemory) = ⊤
 
 -- The first machine
 
@@ -166,7 +194,7 @@ IsStartReason asked NoMemory = ⊤
 -- what is asked for by a line is ready, with the index of the file that its tree is saved to
 abbrev pub IsPreparedLine : List (List ℕ) → Line → Option Files → Result Ready NotRun → Type 0
 IsPreparedLine words line told (Ok ready) =
-    AsksFor words line told (Run ready.emulator.machine ready.budget) × (ready.save ≡ line.save)
+    AsksFor words line told (Run ready.emulator.quantum ready.emulator.machine ready.budget) × (ready.save ≡ line.save)
 IsPreparedLine words line told (Err (Refused refusal)) = AsksFor words line told (Refuse refusal)
 IsPreparedLine words line told (Err ReadFault) = ⊤
 IsPreparedLine words line told (Err NoMemory) = ⊤

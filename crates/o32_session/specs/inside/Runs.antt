@@ -11,7 +11,6 @@ use Rattle.kernel_core.specs.declared.tree.Tree.{Tree}
 use Rattle.o32_machine.specs.Emulator.{Emulated}
 use Rattle.o32_model.specs.Runs.{IsOverAt, IsRunningAt, reached}
 use Rattle.o32_model.specs.Turn.{Machine}
-use Rattle.o32_session.specs.Asked.{quantum}
 use Rattle.o32_session.specs.Saved.{Stored, SavesTree, SavesTreeInPart}
 use Rattle.o32_session.specs.Session.{final_tree}
 use Rattle.o32_session.specs.inside.Ends.{end_of}
@@ -20,12 +19,11 @@ use Rattle.o32_session.specs.declared.answer.End.TheVariants as ends
 
 -- an emulator that has taken no turn
 pub record IsFresh (emulated : Emulated) : Type 0 where
-  pub long : emulated.quantum ≡ quantum
   pub none : emulated.turns ≡ 0
   pub on : emulated.over ≡ false
 
 -- after these turns the run goes on so, or waits: what was taken and written since the start, and the machine
-pub record IsSoFar (machine : Machine) (left : List ℕ) (turns : ℕ) (before after : Contents) (now : Machine) : Type 0 where
+pub record IsSoFar (quantum : ℕ) (machine : Machine) (left : List ℕ) (turns : ℕ) (before after : Contents) (now : Machine) : Type 0 where
   pub same : (reached quantum machine left turns).machine ≡ now
   pub alive : (reached quantum machine left turns).over ≡ None
   pub first : (j : ℕ) → j < turns → IsRunningAt quantum machine left j
@@ -33,11 +31,11 @@ pub record IsSoFar (machine : Machine) (left : List ℕ) (turns : ℕ) (before a
   pub to_out : GainsText before.out after.out (reached quantum machine left turns).sent.out
   pub to_err : GainsText before.err after.err (reached quantum machine left turns).sent.err
 
-abbrev pub GoesSo : Machine → ℕ → Contents → Contents → Machine → Type 0
-GoesSo machine turns before after now = (left : List ℕ) → before.left ≡ Some left → IsSoFar machine left turns before after now
+abbrev pub GoesSo : ℕ → Machine → ℕ → Contents → Contents → Machine → Type 0
+GoesSo quantum machine turns before after now = (left : List ℕ) → before.left ≡ Some left → IsSoFar quantum machine left turns before after now
 
 -- the run is over so
-pub record IsOver (machine : Machine) (left : List ℕ) (budget turns : ℕ) (finish : Finish) (before after : Contents) (final : Machine) : Type 0 where
+pub record IsOver (quantum : ℕ) (machine : Machine) (left : List ℕ) (budget turns : ℕ) (finish : Finish) (before after : Contents) (final : Machine) : Type 0 where
   pub over : IsOverAt quantum machine left budget turns finish
   pub leaves : final ≡ (reached quantum machine left turns).machine
   pub rest : after.left ≡ Some (reached quantum machine left turns).left
@@ -45,19 +43,19 @@ pub record IsOver (machine : Machine) (left : List ℕ) (budget turns : ℕ) (fi
   pub to_err : GainsText before.err after.err (reached quantum machine left turns).sent.err
 
 -- the run stopped in the turn after these
-pub record IsCut (machine : Machine) (left : List ℕ) (turns : ℕ) (before after : Contents) : Type 0 where
+pub record IsCut (quantum : ℕ) (machine : Machine) (left : List ℕ) (turns : ℕ) (before after : Contents) : Type 0 where
   pub running : IsRunningAt quantum machine left turns
   pub rest : (after.left ≡ Some (reached quantum machine left turns).left) ⊎ (after.left ≡ Some (reached quantum machine left (turns + 1)).left)
   pub to_out : GainsBetween before.out after.out (reached quantum machine left turns).sent.out (reached quantum machine left (turns + 1)).sent.out
   pub to_err : GainsBetween before.err after.err (reached quantum machine left turns).sent.err (reached quantum machine left (turns + 1)).sent.err
 
-abbrev pub RunsTo : Machine → List ℕ → ℕ → ℕ → Result Finish Stop → Contents → Contents → Machine → Type 0
-RunsTo machine left budget turns (Ok finish) before after final = IsOver machine left budget turns finish before after final
-RunsTo machine left budget turns (Err stop) before after final = IsCut machine left turns before after
+abbrev pub RunsTo : ℕ → Machine → List ℕ → ℕ → ℕ → Result Finish Stop → Contents → Contents → Machine → Type 0
+RunsTo quantum machine left budget turns (Ok finish) before after final = IsOver quantum machine left budget turns finish before after final
+RunsTo quantum machine left budget turns (Err stop) before after final = IsCut quantum machine left turns before after
 
-abbrev pub RunsAs : Machine → ℕ → ℕ → Result Finish Stop → Contents → Contents → Machine → Type 0
-RunsAs machine budget turns end before after final =
-    (left : List ℕ) → before.left ≡ Some left → RunsTo machine left budget turns end before after final
+abbrev pub RunsAs : ℕ → Machine → ℕ → ℕ → Result Finish Stop → Contents → Contents → Machine → Type 0
+RunsAs quantum machine budget turns end before after final =
+    (left : List ℕ) → before.left ≡ Some left → RunsTo quantum machine left budget turns end before after final
 
 -- a run that stopped early has turns left
 abbrev pub WithinBudget : Result Finish Stop → ℕ → ℕ → Type 0

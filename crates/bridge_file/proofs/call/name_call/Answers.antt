@@ -1,9 +1,9 @@
 -- Each arm makes the row of its number.
 use Rattle.std.proofs.Common.{◌≡◌, refl, rules}
-use Rattle.bridge_file.specs.Found.{found}
+use Rattle.bridge_paths.specs.Found.{found}
 use Rattle.o32_model.specs.Names.{link_row}
 use Rattle.outside.specs.Streams.{contents}
-use Rattle.bridge_file.proofs.ByNumber.{by_number, by_number_kept}
+use Rattle.bridge_paths.proofs.ByNumber.{by_number, by_number_kept}
 use Rattle.bridge_file.proofs.call.name_call.Goals as goal
 
 pub returns-in-4009-clause-row : goal.returns-in-4009-clause-row

@@ -1,8 +1,8 @@
 -- Each arm makes the row of its number.
 use Rattle.std.proofs.Common.{◌≡◌, refl, rules}
-use Rattle.bridge_file.specs.Found.{found}
+use Rattle.bridge_paths.specs.Found.{found}
 use Rattle.outside.specs.Streams.{contents}
-use Rattle.bridge_file.proofs.ByNumber.{by_number}
+use Rattle.bridge_paths.proofs.ByNumber.{by_number}
 use Rattle.bridge_file.proofs.call.node_call.Goals as goal
 
 pub returns-in-4012-clause-row : goal.returns-in-4012-clause-row
@@ -22,6 +22,12 @@ returns-in-4033-clause-row g c = λ left told.
     let guest = found c.args.args.now c.args.cpu.now c.args.space.now in
     by_number 4033 c.args.k.now guest left c.access.result c.access.new.k c.args.space.now c.args.cpu.now (contents g.I.Source.left g.O.Sink.written g.E.Sink.written c.args.dev.now) (contents g.I.Source.left g.O.Sink.written g.E.Sink.written c.access.new.dev) c.in-4033.is
     (c.access.ensures.row guest refl refl left told)
+
+pub returns-in-4060-clause-row : goal.returns-in-4060-clause-row
+returns-in-4060-clause-row g c = λ left told.
+    let guest = found c.args.args.now c.args.cpu.now c.args.space.now in
+    by_number 4060 c.args.k.now guest left c.umask.result c.umask.new.k c.args.space.now c.args.cpu.now (contents g.I.Source.left g.O.Sink.written g.E.Sink.written c.args.dev.now) (contents g.I.Source.left g.O.Sink.written g.E.Sink.written c.umask.new.dev) c.in-4060.is
+    (c.umask.ensures.row guest refl left told)
 
 pub returns-in-4094-clause-row : goal.returns-in-4094-clause-row
 returns-in-4094-clause-row g c = λ left told.
@@ -52,6 +58,12 @@ returns-in-4299-clause-row g c = λ left told.
     let guest = found c.args.args.now c.args.cpu.now c.args.space.now in
     by_number 4299 c.args.k.now guest left c.chmod-in-4299.result c.chmod-in-4299.new.k c.args.space.now c.args.cpu.now (contents g.I.Source.left g.O.Sink.written g.E.Sink.written c.args.dev.now) (contents g.I.Source.left g.O.Sink.written g.E.Sink.written c.chmod-in-4299.new.dev) c.in-4299.is
     (c.chmod-in-4299.ensures.row guest refl refl left told)
+
+pub returns-in-4316-clause-row : goal.returns-in-4316-clause-row
+returns-in-4316-clause-row g c = λ left told.
+    let guest = found c.args.args.now c.args.cpu.now c.args.space.now in
+    by_number 4316 c.args.k.now guest left c.utimensat.result c.utimensat.new.k c.args.space.now c.args.cpu.now (contents g.I.Source.left g.O.Sink.written g.E.Sink.written c.args.dev.now) (contents g.I.Source.left g.O.Sink.written g.E.Sink.written c.utimensat.new.dev) c.in-4316.is
+    (c.utimensat.ensures.row guest refl refl left told)
 
 pub returns-in_default-clause-row : goal.returns-in_default-clause-row
 returns-in_default-clause-row g c = λ left told.

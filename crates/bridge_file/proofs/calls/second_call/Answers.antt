@@ -9,7 +9,7 @@ use Rattle.outside.specs.Streams.{contents}
 use Rattle.bridge_log.proofs.Ends.{fails_before, still_called, still_keeps}
 use Rattle.bridge_log.specs.Mirrors.{Mirrors}
 use Rattle.bridge_log.specs.Outcomes.{by_reply}
-use Rattle.bridge_file.proofs.Refusing.{still_of}
+use Rattle.bridge_paths.proofs.Refusing.{still_of}
 use Rattle.bridge_file.proofs.calls.second_call.Goals as goal
 
 pub put_two-requires : goal.put_two-requires

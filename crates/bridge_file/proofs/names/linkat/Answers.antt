@@ -8,7 +8,7 @@ use Rattle.o32_model.specs.declared.outcome.Outcome.TheVariants.{Error}
 use Rattle.outside.specs.Streams.{contents}
 use Rattle.bridge_log.proofs.Ends.{still_called, still_keeps}
 use Rattle.bridge_log.specs.Keeping.{Keeps, KeepsCall}
-use Rattle.bridge_file.proofs.Refusing.{still_of}
+use Rattle.bridge_paths.proofs.Refusing.{still_of}
 use Rattle.bridge_file.proofs.names.linkat.Goals as goal
 
 pub returns-in-Some-clause-row : goal.returns-in-Some-clause-row

@@ -8,7 +8,7 @@ use Rattle.o32_model.specs.Step.{O32Step}
 use Rattle.o32_model.specs.Transfers.{small_file_limit}
 use Rattle.outside.specs.Streams.{contents}
 use Rattle.bridge_log.specs.Keeping.{Keeps}
-use Rattle.bridge_io.proofs.Unmoving.{kept_then, row_then, still_told}
+use Rattle.bridge_log.proofs.Looking.{kept_then, row_then, still_told}
 use Rattle.bridge_io.proofs.WritevMirrors.{all_short, writev_is}
 use Rattle.bridge_io.specs.inside.Rooms.{IsRoom}
 use Rattle.bridge_io.specs.inside.Written.{write_of}

@@ -1,7 +1,7 @@
 -- The reply tells whether bytes are ready.
 use Rattle.std.proofs.Common.{◌∙◌, ap}
 use Rattle.kernel_model.specs.Descriptions.{opened}
-use Rattle.bridge_io.proofs.Unmoving.{looked_stop}
+use Rattle.bridge_log.proofs.Looking.{looked_stop}
 use Rattle.bridge_io.proofs.LookMirrors.{ready_look, ready_reply, ready_told}
 use Rattle.bridge_io.specs.inside.Rooms.{is_fault}
 use Rattle.bridge_io.proofs.looking.is_ready.Goals as goal

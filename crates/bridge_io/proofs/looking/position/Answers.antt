@@ -1,7 +1,7 @@
 -- The reply tells the position.
 use Rattle.std.proofs.Common.{◌∙◌, ap}
 use Rattle.kernel_model.specs.Descriptions.{opened}
-use Rattle.bridge_io.proofs.Unmoving.{looked_stop}
+use Rattle.bridge_log.proofs.Looking.{looked_stop}
 use Rattle.bridge_io.proofs.LookMirrors.{position_look, position_reply, position_told}
 use Rattle.bridge_io.specs.inside.Rooms.{number_in}
 use Rattle.bridge_io.proofs.looking.position.Goals as goal

@@ -4,7 +4,7 @@ use Rattle.kernel_model.specs.Descriptions.{opened}
 use Rattle.kernel_model.specs.State.{Kernel}
 use Rattle.o32_model.specs.Transfers.{small_file_limit}
 use Rattle.outside.specs.Streams.{contents}
-use Rattle.bridge_io.proofs.Unmoving.{looked_then, still_told}
+use Rattle.bridge_log.proofs.Looking.{looked_then, still_told}
 use Rattle.bridge_io.specs.inside.Rooms.{IsRoom, flags_there}
 use Rattle.bridge_io.proofs.looking.room.Goals as goal
 

@@ -3,7 +3,7 @@ use Rattle.std.proofs.Common.{◌≡◌, ◌∙◌, ap, length, refl}
 use Rattle.std.proofs.lemmas.List.{length-replicate}
 use Rattle.std.specs.Prelude.{ℕ, List}
 use Rattle.kernel_model.specs.Descriptions.{opened}
-use Rattle.bridge_io.proofs.Unmoving.{looked_stop}
+use Rattle.bridge_log.proofs.Looking.{looked_stop}
 use Rattle.bridge_io.proofs.LookMirrors.{size_found, size_look, size_memory, size_reply, status_there}
 use Rattle.bridge_io.specs.inside.Rooms.{size_in}
 use Rattle.bridge_io.proofs.looking.size.Goals as goal

@@ -1,7 +1,7 @@
 -- The reply tells the flags.
 use Rattle.std.proofs.Common.{◌∙◌, ap}
 use Rattle.kernel_model.specs.Descriptions.{opened}
-use Rattle.bridge_io.proofs.Unmoving.{looked_stop}
+use Rattle.bridge_log.proofs.Looking.{looked_stop}
 use Rattle.bridge_io.proofs.LookMirrors.{flags_look, flags_reply, flags_told}
 use Rattle.bridge_io.specs.inside.Rooms.{flags_in}
 use Rattle.bridge_io.proofs.looking.write_flags.Goals as goal

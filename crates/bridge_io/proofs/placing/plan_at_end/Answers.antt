@@ -6,7 +6,7 @@ use Rattle.kernel_model.specs.State.{Kernel}
 use Rattle.o32_model.specs.Transfers.{small_file_limit}
 use Rattle.outside.specs.Streams.{contents}
 use Rattle.bridge_io.proofs.Plans.{size_none_plan}
-use Rattle.bridge_io.proofs.Unmoving.{looked_then, still_told}
+use Rattle.bridge_log.proofs.Looking.{looked_then, still_told}
 use Rattle.bridge_io.specs.inside.Plans.{IsPlan}
 use Rattle.bridge_io.specs.inside.Rooms.{flags_there, size_there}
 use Rattle.bridge_io.proofs.placing.plan_at_end.Goals as goal

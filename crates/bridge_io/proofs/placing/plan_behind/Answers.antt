@@ -2,7 +2,7 @@
 use Rattle.std.proofs.Common.{sym}
 use Rattle.outside.specs.Streams.{contents}
 use Rattle.bridge_io.proofs.Plans.{size_past_plan, size_room_plan}
-use Rattle.bridge_io.proofs.Unmoving.{unmoved_none}
+use Rattle.bridge_log.proofs.Looking.{unmoved_none}
 use Rattle.bridge_io.proofs.placing.plan_behind.Goals as goal
 
 pub returns-then-size-lt-SMALL_FILE_LIMIT-clause-looks : goal.returns-then-size-lt-SMALL_FILE_LIMIT-clause-looks

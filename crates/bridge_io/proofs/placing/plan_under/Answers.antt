@@ -2,7 +2,7 @@
 use Rattle.std.proofs.Common.{◌^◌, lit<, lit≤}
 use Rattle.outside.specs.Streams.{contents}
 use Rattle.bridge_io.proofs.Plans.{far_plan, large_plan, place_plan}
-use Rattle.bridge_io.proofs.Unmoving.{unmoved_none}
+use Rattle.bridge_log.proofs.Looking.{unmoved_none}
 use Rattle.bridge_io.proofs.placing.plan_under.Goals as goal
 
 pub returns-then-flags-clause-looks : goal.returns-then-flags-clause-looks

@@ -9,7 +9,7 @@ use Rattle.o32_model.specs.Transfers.{small_file_limit}
 use Rattle.outside.specs.Streams.{contents}
 use Rattle.bridge_log.specs.Keeping.{Keeps}
 use Rattle.bridge_io.proofs.PwriteMirrors.{pwrite_is}
-use Rattle.bridge_io.proofs.Unmoving.{kept_then, row_then, still_told}
+use Rattle.bridge_log.proofs.Looking.{kept_then, row_then, still_told}
 use Rattle.bridge_io.specs.inside.Plans.{IsPlan}
 use Rattle.bridge_io.specs.inside.Written.{place_write_of}
 use Rattle.bridge_io.proofs.placing.write_at.Goals as goal

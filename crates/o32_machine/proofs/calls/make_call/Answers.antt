@@ -2,7 +2,7 @@
 use Rattle.std.proofs.Common.{OnOk, sym, subst, ◌∙◌}
 use Rattle.outside.specs.Streams.{contents}
 use Rattle.bridge_log.specs.Keeping.{Keeps}
-use Rattle.o32_machine.proofs.Numbering.{io_call_same, map_call_same, small_call_same, time_call_same}
+use Rattle.o32_machine.proofs.Numbering.{file_call_same, io_call_same, map_call_same, small_call_same, time_call_same}
 use Rattle.o32_machine.specs.inside.Plain.{found}
 use Rattle.o32_model.specs.Answered.{Answers}
 use Rattle.o32_model.specs.Step.{O32Step}
@@ -21,6 +21,19 @@ returns-then-is_io_call-clause-kept g c = λ left told.
     subst (λ (s : O32Step). OnOk c.io_call.result (Keeps s c.args.k.now left guest c.args.log.now c.io_call.new.log))
     (io_call_same c.args.seen.now c.args.k.now guest left (sym c.is_io_call.ensures ∙ c.if-is_io_call.true)) (c.io_call.ensures.kept left told)
 
+pub returns-then-is_file_call-clause-row : goal.returns-then-is_file_call-clause-row
+returns-then-is_file_call-clause-row g c = λ left told.
+    let guest = found c.args.args.now c.args.cpu.now c.args.space.now in
+    subst (λ (s : O32Step). Answers s c.call_on_files.result c.call_on_files.new.k c.call_on_files.new.space c.call_on_files.new.cpu
+    (contents g.I.Source.left g.O.Sink.written g.E.Sink.written c.args.dev.now) (contents g.I.Source.left g.O.Sink.written g.E.Sink.written c.call_on_files.new.dev))
+    (file_call_same c.args.seen.now c.args.k.now guest left (sym c.is_file_call.ensures ∙ c.if-is_file_call.true)) (c.call_on_files.ensures.row left told)
+
+pub returns-then-is_file_call-clause-kept : goal.returns-then-is_file_call-clause-kept
+returns-then-is_file_call-clause-kept g c = λ left told.
+    let guest = found c.args.args.now c.args.cpu.now c.args.space.now in
+    subst (λ (s : O32Step). OnOk c.call_on_files.result (Keeps s c.args.k.now left guest c.args.log.now c.call_on_files.new.log))
+    (file_call_same c.args.seen.now c.args.k.now guest left (sym c.is_file_call.ensures ∙ c.if-is_file_call.true)) (c.call_on_files.ensures.kept left told)
+
 pub returns-then-is_map_call-clause-row : goal.returns-then-is_map_call-clause-row
 returns-then-is_map_call-clause-row g c = λ left told.
     let guest = found c.args.args.now c.args.cpu.now c.args.space.now in
@@ -34,6 +47,19 @@ returns-then-is_map_call-clause-kept g c = λ left told.
     subst (λ (s : O32Step). OnOk c.map_call.result (Keeps s c.args.k.now left guest c.args.log.now c.map_call.new.log))
     (map_call_same c.args.seen.now c.args.k.now guest left (sym c.is_map_call.ensures ∙ c.if-is_map_call.true)) (c.map_call.ensures.kept left told)
 
+pub returns-clause-row : goal.returns-clause-row
+returns-clause-row g c = λ left told.
+    let guest = found c.args.args.now c.args.cpu.now c.args.space.now in
+    subst (λ (s : O32Step). Answers s c.small_call.result c.small_call.new.k c.small_call.new.space c.small_call.new.cpu
+    (contents g.I.Source.left g.O.Sink.written g.E.Sink.written c.args.dev.now) (contents g.I.Source.left g.O.Sink.written g.E.Sink.written c.small_call.new.dev))
+    (small_call_same c.args.seen.now c.args.k.now guest left (sym c.is_io_call.ensures ∙ c.if-is_io_call.false) (sym c.is_file_call.ensures ∙ c.if-is_file_call.false) (sym c.is_time_call.ensures ∙ c.if-is_time_call.false) (sym c.is_map_call.ensures ∙ c.if-is_map_call.false)) (c.small_call.ensures.row left told)
+
+pub returns-clause-kept : goal.returns-clause-kept
+returns-clause-kept g c = λ left told.
+    let guest = found c.args.args.now c.args.cpu.now c.args.space.now in
+    subst (λ (s : O32Step). OnOk c.small_call.result (Keeps s c.args.k.now left guest c.args.log.now c.small_call.new.log))
+    (small_call_same c.args.seen.now c.args.k.now guest left (sym c.is_io_call.ensures ∙ c.if-is_io_call.false) (sym c.is_file_call.ensures ∙ c.if-is_file_call.false) (sym c.is_time_call.ensures ∙ c.if-is_time_call.false) (sym c.is_map_call.ensures ∙ c.if-is_map_call.false)) (c.small_call.ensures.kept left told)
+
 pub returns-then-is_time_call-clause-row : goal.returns-then-is_time_call-clause-row
 returns-then-is_time_call-clause-row g c = λ left told.
     let guest = found c.args.args.now c.args.cpu.now c.args.space.now in
@@ -46,16 +72,3 @@ returns-then-is_time_call-clause-kept g c = λ left told.
     let guest = found c.args.args.now c.args.cpu.now c.args.space.now in
     subst (λ (s : O32Step). OnOk c.wait_call.result (Keeps s c.args.k.now left guest c.args.log.now c.wait_call.new.log))
     (time_call_same c.args.seen.now c.args.k.now guest left (sym c.is_time_call.ensures ∙ c.if-is_time_call.true)) (c.wait_call.ensures.kept left told)
-
-pub returns-clause-row : goal.returns-clause-row
-returns-clause-row g c = λ left told.
-    let guest = found c.args.args.now c.args.cpu.now c.args.space.now in
-    subst (λ (s : O32Step). Answers s c.small_call.result c.small_call.new.k c.small_call.new.space c.small_call.new.cpu
-    (contents g.I.Source.left g.O.Sink.written g.E.Sink.written c.args.dev.now) (contents g.I.Source.left g.O.Sink.written g.E.Sink.written c.small_call.new.dev))
-    (small_call_same c.args.seen.now c.args.k.now guest left (sym c.is_io_call.ensures ∙ c.if-is_io_call.false) (sym c.is_map_call.ensures ∙ c.if-is_map_call.false) (sym c.is_time_call.ensures ∙ c.if-is_time_call.false)) (c.small_call.ensures.row left told)
-
-pub returns-clause-kept : goal.returns-clause-kept
-returns-clause-kept g c = λ left told.
-    let guest = found c.args.args.now c.args.cpu.now c.args.space.now in
-    subst (λ (s : O32Step). OnOk c.small_call.result (Keeps s c.args.k.now left guest c.args.log.now c.small_call.new.log))
-    (small_call_same c.args.seen.now c.args.k.now guest left (sym c.is_io_call.ensures ∙ c.if-is_io_call.false) (sym c.is_map_call.ensures ∙ c.if-is_map_call.false) (sym c.is_time_call.ensures ∙ c.if-is_time_call.false)) (c.small_call.ensures.kept left told)

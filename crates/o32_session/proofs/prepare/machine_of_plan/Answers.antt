@@ -1,9 +1,9 @@
-use Rattle.std.proofs.Common.{◌≡◌, ◌<◌, ℕ, List, ap, subst}
-use Rattle.native_kernel.specs.Settings.{settings_of}
+use Rattle.std.proofs.Common.{◌≡◌, ◌<◌, ℕ, List, ap, subst, ◌∙◌}
+use Rattle.kernel_model.specs.System.{round}
 use Rattle.o32_machine.specs.Emulator.{Emulated}
 use Rattle.start_stack.specs.Stack.{start_size, start_limit}
 use Rattle.start_stack.specs.Start.{start_memory, start_processor}
-use Rattle.o32_session.specs.Asked.{random_bytes}
+use Rattle.o32_session.specs.Asked.{stack_chance}
 use Rattle.o32_session.specs.Words.{texts}
 use Rattle.o32_session.specs.inside.Reader.{line_seen}
 use Rattle.o32_session.proofs.Preparing.{machine_ready}
@@ -12,10 +12,14 @@ use Rattle.o32_session.proofs.prepare.machine_of_plan.Goals as goal
 pub returns-clause-ready : goal.returns-clause-ready
 returns-clause-ready c =
     let args = texts c.args.args.now in
-    let env_is : texts c.as_slice.result.now ≡ texts c.args.line.environment.items = ap texts c.as_slice.ensures.value in
-    machine_ready args (line_seen c.args.line) c.args.plan.now c.args.tree c.in_ok-start.start.cpu c.in_ok-start.start.space (settings_of c.in_ok-schedule.schedule) c.in_ok-new.field-0.machine
+    let plan = c.args.plan.now in
+    let start = c.in_ok-start.start in
+    let env_is : texts c.as_slice-environment.result.now ≡ texts c.args.line.environment.items = ap texts c.as_slice-environment.ensures.value in
+    let chance_is : c.stack_chance-chance.result ≡ stack_chance c.args.schedule = c.stack_chance-chance.ensures ∙ ap (λ (bytes : List ℕ). round bytes 0 16) c.as_slice.ensures in
+    machine_ready args (line_seen c.args.line) plan c.args.tree c.args.schedule start.cpu start.space c.in_ok-new.field-0.quantum c.in_ok-new.field-0.machine
     (subst (λ (env : List (List ℕ)). start_limit < start_size args env → ⊥) env_is (λ over. let wrong = c.in_ok-start.ensures.too_long.1 over in cc))
-    (subst (λ (env : List (List ℕ)). c.in_ok-start.start.cpu ≡ start_processor c.args.plan.now args env) env_is c.in_ok-start.ensures.cpu)
-    (subst (λ (env : List (List ℕ)). c.in_ok-start.start.space ≡ start_memory c.args.plan.now args env random_bytes) env_is c.in_ok-start.ensures.space)
-    c.in_ok-schedule.ensures.settings
+    (subst (λ (env : List (List ℕ)). start.cpu ≡ start_processor plan args env) env_is c.in_ok-start.ensures.cpu)
+    (subst (λ (chance : List ℕ). start.space ≡ start_memory plan args (texts c.args.line.environment.items) chance) chance_is
+    (subst (λ (env : List (List ℕ)). start.space ≡ start_memory plan args env c.stack_chance-chance.result) env_is c.in_ok-start.ensures.space))
+    (ap (λ (e : Emulated). e.quantum) c.in_ok-new.ensures.first)
     (ap (λ (e : Emulated). e.machine) c.in_ok-new.ensures.first)

@@ -1,48 +1,68 @@
-use Rattle.std.proofs.Common.{◌≡◌, ℕ, ap, arith, subst, sym, ◌∙◌, ◌+◌, add-zero}
+use Rattle.std.proofs.Common.{◌≡◌, ◌+◌, ◌-◌, ◌<◌, ℕ, ap, arith, refl, subst, sym, ◌∙◌}
 use Rattle.outside.specs.Streams.{contents}
 use Rattle.o32_machine.specs.Answered.{is_end, turns_of}
 use Rattle.o32_machine.specs.declared.turn.Turn as code
-use Rattle.o32_machine.specs.declared.turn.Turn.TheVariants.{Ended}
-use Rattle.o32_session.specs.inside.Runs.{IsCut}
-use Rattle.o32_session.proofs.RunLemmas.{at_start, is_cut_by, is_over_by, went_on_by}
+use Rattle.o32_session.specs.inside.Runs.{IsCut, IsOver, IsSoFar}
+use Rattle.o32_session.proofs.QuietTurns.{is_cut_after, is_done, is_over_after, went_after}
+use Rattle.o32_session.proofs.RunLemmas.{at_start}
 use Rattle.o32_session.proofs.run.run.Goals as goal
 
-pub loop-turn-init : goal.loop-turn-init
-loop-turn-init g c = record {
-  counted = c.requires.fresh.none;
+pub loop-emulator-init : goal.loop-emulator-init
+loop-emulator-init g c = record {
+  most = omega (arith, c.requires.fresh.none);
   on = c.requires.fresh.on;
-  long = c.requires.fresh.long;
-  so = λ left told. at_start c.args.emulator.now.machine left (contents g.I.Source.left g.O.Sink.written g.E.Sink.written c.args.dev.now) told;
+  long = refl;
+  so = λ left told.
+      let at = contents g.I.Source.left g.O.Sink.written g.E.Sink.written c.args.dev.now in
+      let e = c.args.emulator.now in
+      subst (λ (n : ℕ). IsSoFar e.quantum e.machine left n at at e.machine) (sym c.requires.fresh.none) (at_start e.quantum e.machine left at told);
   later = record { input_later = omega arith; out_later = omega arith; err_later = omega arith };
 }
 
-pub loop-turn-preserved : goal.loop-turn-preserved
-loop-turn-preserved g c =
-    let i = c.loop-turn.invariant in
+pub loop-emulator-preserved : goal.loop-emulator-preserved
+loop-emulator-preserved g c =
+    let i = c.loop-emulator.invariant in
+    let turned = c.in-Ok-Went.ensures.turns in
+    let counts : c.next_turns.new.self.turns ≡ c.loop-emulator.emulator.turns + turned.quiet + 1 =
+    turned.counted ∙ ap (λ (t : code.Turn). c.loop-emulator.emulator.turns + turned.quiet + turns_of t) c.in-Ok-Went.field-0-is in
     record {
-      counted = c.in-Ok-Went.ensures.turns ∙ ap (λ (t : code.Turn). c.loop-turn.emulator.turns + turns_of t) c.in-Ok-Went.field-0-is ∙ ap (λ n. n + 1) i.counted;
+      most = omega (arith, turned.within, counts);
       on = c.in-Ok-Went.ensures.over ∙ ap is_end c.in-Ok-Went.field-0-is;
-      long = c.turn.ensures.quantum ∙ i.long;
+      long = c.next_turns.ensures.quantum ∙ i.long;
       so = λ left told.
-          went_on_by c.args.emulator.now.machine left c.loop-turn.turn c.loop-turn.emulator.quantum (contents g.I.Source.left g.O.Sink.written g.E.Sink.written c.args.dev.now) (contents g.I.Source.left g.O.Sink.written g.E.Sink.written c.loop-turn.dev) (contents g.I.Source.left g.O.Sink.written g.E.Sink.written c.turn.new.dev) c.loop-turn.emulator.machine c.turn.new.self.machine c.in-Ok-Went.field-0 i.long c.in-Ok-Went.field-0-is (i.so left told) c.in-Ok-Went.ensures.turn;
+          went_after c.args.emulator.now.quantum c.args.emulator.now.machine left c.loop-emulator.emulator.turns c.loop-emulator.emulator.quantum (c.args.budget - c.turns-in-loop-emulator.result) (contents g.I.Source.left g.O.Sink.written g.E.Sink.written c.args.dev.now) (contents g.I.Source.left g.O.Sink.written g.E.Sink.written c.loop-emulator.dev) (contents g.I.Source.left g.O.Sink.written g.E.Sink.written c.next_turns.new.dev) c.loop-emulator.emulator.machine c.next_turns.new.self.machine c.next_turns.new.self.turns i.long (i.so left told) c.in-Ok-Went.field-0 c.in-Ok-Went.field-0-is turned;
       later = record {
-        input_later = omega (arith, i.later.input_later, c.turn.ensures.counts.input_later);
-        out_later = omega (arith, i.later.out_later, c.turn.ensures.counts.out_later);
-        err_later = omega (arith, i.later.err_later, c.turn.ensures.counts.err_later);
+        input_later = omega (arith, i.later.input_later, c.next_turns.ensures.counts.input_later);
+        out_later = omega (arith, i.later.out_later, c.next_turns.ensures.counts.out_later);
+        err_later = omega (arith, i.later.err_later, c.next_turns.ensures.counts.err_later);
       };
     }
 
+pub loop-emulator-smaller : goal.loop-emulator-smaller
+loop-emulator-smaller g c =
+    let turned = c.in-Ok-Went.ensures.turns in
+    let counts : c.next_turns.new.self.turns ≡ c.loop-emulator.emulator.turns + turned.quiet + 1 =
+    turned.counted ∙ ap (λ (t : code.Turn). c.loop-emulator.emulator.turns + turned.quiet + turns_of t) c.in-Ok-Went.field-0-is in
+    omega (arith, counts)
+
 pub returns-in-Ok-Ended-clause-run : goal.returns-in-Ok-Ended-clause-run
 returns-in-Ok-Ended-clause-run g c = λ left told.
-    let i = c.loop-turn.invariant in
-    let counts : c.turns.result ≡ c.loop-turn.turn + turns_of (Ended c.in-Ok-Ended.finish) =
-    c.turns.ensures ∙ c.in-Ok-Ended.ensures.turns ∙ ap (λ (t : code.Turn). c.loop-turn.emulator.turns + turns_of t) c.in-Ok-Ended.field-0-is ∙ ap (λ n. n + turns_of (Ended c.in-Ok-Ended.finish)) i.counted in
-    is_over_by c.args.emulator.now.machine left c.loop-turn.turn c.loop-turn.emulator.quantum c.args.budget c.turns.result (contents g.I.Source.left g.O.Sink.written g.E.Sink.written c.args.dev.now) (contents g.I.Source.left g.O.Sink.written g.E.Sink.written c.loop-turn.dev) (contents g.I.Source.left g.O.Sink.written g.E.Sink.written c.turn.new.dev) c.loop-turn.emulator.machine c.turn.new.self.machine c.in-Ok-Ended.field-0 c.in-Ok-Ended.finish i.long c.in-Ok-Ended.field-0-is (omega arith) counts (i.so left told) c.in-Ok-Ended.ensures.turn
+    let i = c.loop-emulator.invariant in
+    let below : c.loop-emulator.emulator.turns < c.args.budget = omega arith in
+    let room : c.args.budget - c.turns-in-loop-emulator.result ≡ c.args.budget - c.loop-emulator.emulator.turns = ap (λ (n : ℕ). c.args.budget - n) c.turns-in-loop-emulator.ensures in
+    subst (λ (n : ℕ). IsOver c.args.emulator.now.quantum c.args.emulator.now.machine left c.args.budget n c.in-Ok-Ended.finish (contents g.I.Source.left g.O.Sink.written g.E.Sink.written c.args.dev.now) (contents g.I.Source.left g.O.Sink.written g.E.Sink.written c.next_turns.new.dev) c.next_turns.new.self.machine) (sym c.turns-in-Ok-Ended.ensures)
+    (is_over_after c.args.emulator.now.quantum c.args.emulator.now.machine left c.loop-emulator.emulator.turns c.loop-emulator.emulator.quantum (c.args.budget - c.turns-in-loop-emulator.result) (contents g.I.Source.left g.O.Sink.written g.E.Sink.written c.args.dev.now) (contents g.I.Source.left g.O.Sink.written g.E.Sink.written c.loop-emulator.dev) (contents g.I.Source.left g.O.Sink.written g.E.Sink.written c.next_turns.new.dev) c.loop-emulator.emulator.machine c.next_turns.new.self.machine c.next_turns.new.self.turns i.long (i.so left told)
+    c.args.budget c.in-Ok-Ended.field-0 c.in-Ok-Ended.finish c.in-Ok-Ended.field-0-is below room c.in-Ok-Ended.ensures.turns)
 
 pub returns-in-Err-clause-run : goal.returns-in-Err-clause-run
 returns-in-Err-clause-run g c = λ left told.
-    let i = c.loop-turn.invariant in
-    let counts : c.turns-in-Err.result ≡ c.loop-turn.turn =
-    c.turns-in-Err.ensures ∙ c.in-Err.ensures.turns ∙ add-zero c.loop-turn.emulator.turns ∙ i.counted in
-    subst (λ (n : ℕ). IsCut c.args.emulator.now.machine left n (contents g.I.Source.left g.O.Sink.written g.E.Sink.written c.args.dev.now) (contents g.I.Source.left g.O.Sink.written g.E.Sink.written c.turn.new.dev)) (sym counts)
-    (is_cut_by c.args.emulator.now.machine left c.loop-turn.turn c.loop-turn.emulator.quantum (contents g.I.Source.left g.O.Sink.written g.E.Sink.written c.args.dev.now) (contents g.I.Source.left g.O.Sink.written g.E.Sink.written c.loop-turn.dev) (contents g.I.Source.left g.O.Sink.written g.E.Sink.written c.turn.new.dev) c.loop-turn.emulator.machine i.long c.in-Err.ensures.awake (i.so left told) c.in-Err.ensures.turn)
+    let i = c.loop-emulator.invariant in
+    subst (λ (n : ℕ). IsCut c.args.emulator.now.quantum c.args.emulator.now.machine left n (contents g.I.Source.left g.O.Sink.written g.E.Sink.written c.args.dev.now) (contents g.I.Source.left g.O.Sink.written g.E.Sink.written c.next_turns.new.dev)) (sym c.turns-in-Err.ensures)
+    (is_cut_after c.args.emulator.now.quantum c.args.emulator.now.machine left c.loop-emulator.emulator.turns c.loop-emulator.emulator.quantum (c.args.budget - c.turns-in-loop-emulator.result) (contents g.I.Source.left g.O.Sink.written g.E.Sink.written c.args.dev.now) (contents g.I.Source.left g.O.Sink.written g.E.Sink.written c.loop-emulator.dev) (contents g.I.Source.left g.O.Sink.written g.E.Sink.written c.next_turns.new.dev) c.loop-emulator.emulator.machine c.next_turns.new.self.machine c.next_turns.new.self.turns i.long (i.so left told)
+    c.in-Err.stop c.in-Err.ensures.turns)
+
+pub returns-clause-run : goal.returns-clause-run
+returns-clause-run g c = λ left told.
+    let i = c.loop-emulator.invariant in
+    let full : c.loop-emulator.emulator.turns ≡ c.args.budget = omega (arith, i.most) in
+    is_done c.args.emulator.now.quantum c.args.emulator.now.machine left c.loop-emulator.emulator.turns c.args.budget c.turns-2.result (contents g.I.Source.left g.O.Sink.written g.E.Sink.written c.args.dev.now) (contents g.I.Source.left g.O.Sink.written g.E.Sink.written c.loop-emulator.dev) c.loop-emulator.emulator.machine (i.so left told) full c.turns-2.ensures

@@ -1,14 +1,16 @@
-use Rattle.std.proofs.Common.{◌≡◌, false}
+use Rattle.std.proofs.Common.{◌≡◌, ◌≤◌, ◌-◌, false}
 use Rattle.outside.specs.Streams.{NoCountFell, contents}
-use Rattle.o32_session.specs.Asked.{quantum}
 use Rattle.o32_session.specs.inside.Runs.{GoesSo}
 use Rattle.o32_session.proofs.run.run.Given as goal
 
-abbrev pub invariant-loop-turn : goal.invariant-loop-turn
-invariant-loop-turn g l = record {
-  counted : l.emulator.turns ≡ l.turn;
+abbrev pub invariant-loop-emulator : goal.invariant-loop-emulator
+invariant-loop-emulator g l = record {
+  most : l.emulator.turns ≤ l.budget;
   on : l.emulator.over ≡ false;
-  long : l.emulator.quantum ≡ quantum;
-  so : GoesSo l.fn.emulator.machine l.turn (contents g.I.Source.left g.O.Sink.written g.E.Sink.written l.fn.dev) (contents g.I.Source.left g.O.Sink.written g.E.Sink.written l.dev) l.emulator.machine;
+  long : l.emulator.quantum ≡ l.fn.emulator.quantum;
+  so : GoesSo l.fn.emulator.quantum l.fn.emulator.machine l.emulator.turns (contents g.I.Source.left g.O.Sink.written g.E.Sink.written l.fn.dev) (contents g.I.Source.left g.O.Sink.written g.E.Sink.written l.dev) l.emulator.machine;
   later : NoCountFell g.I.Source.faults g.O.Sink.faults g.E.Sink.faults l.fn.dev l.dev;
 }
+
+abbrev pub decreases-loop-emulator : goal.decreases-loop-emulator
+decreases-loop-emulator g l = l.budget - l.emulator.turns

@@ -27,8 +27,8 @@ returns-in-Err-clause-answer g c =
 
 pub returns-in-Ok-clause-input : goal.returns-in-Ok-clause-input
 returns-in-Ok-clause-input g c refused =
-    let names : Names = record { program = []; image = None; save = option_map (word_at (texts c.args.words.now)) c.in-Ok.ready.save } in
-    absurd (ran_on c.in-Ok.ready.emulator.machine c.in-Ok.ready.budget names
+    let names : Names = record { program = []; image = None; schedule = None; save = option_map (word_at (texts c.args.words.now)) c.in-Ok.ready.save } in
+    absurd (ran_on c.in-Ok.ready.emulator.quantum c.in-Ok.ready.emulator.machine c.in-Ok.ready.budget names
     (seen_of g.I.Source.left g.O.Sink.written g.E.Sink.written g.I.Source.faults g.O.Sink.faults g.E.Sink.faults c.args.dev.now (stored_of g.F.Store.files g.F.Store.created g.F.Store.turned_away g.F.Store.write_faults c.prepare.new.files))
     (seen_of g.I.Source.left g.O.Sink.written g.E.Sink.written g.I.Source.faults g.O.Sink.faults g.E.Sink.faults c.run_ready.new.dev (stored_of g.F.Store.files g.F.Store.created g.F.Store.turned_away g.F.Store.write_faults c.run_ready.new.files))
     c.run_ready.result.turns c.run_ready.result.end c.run_ready.result.host (c.run_ready.ensures.run names refl) refused)

@@ -14,26 +14,28 @@ use Rattle.o32_session.proofs.top_call.run_ready.Goals as goal
 
 pub returns-in-Ok-clause-run : goal.returns-in-Ok-clause-run
 returns-in-Ok-clause-run g c = λ names named.
+    let quantum = c.args.ready.emulator.quantum in
     let machine = c.args.ready.emulator.machine in
     let budget = c.args.ready.budget in
-    run_answer machine budget c.run-ran.result.turns names (option_map (word_at (texts c.args.words.now)) c.args.ready.save) c.in-Ok.finish c.run-ran.new.emulator c.answer_run.result
+    run_answer quantum machine budget c.run-ran.result.turns names (option_map (word_at (texts c.args.words.now)) c.args.ready.save) c.in-Ok.finish c.run-ran.new.emulator c.answer_run.result
     (seen_of g.I.Source.left g.O.Sink.written g.E.Sink.written g.I.Source.faults g.O.Sink.faults g.E.Sink.faults c.args.dev.now (stored_of g.F.Store.files g.F.Store.created g.F.Store.turned_away g.F.Store.write_faults c.args.files.now)) (seen_of g.I.Source.left g.O.Sink.written g.E.Sink.written g.I.Source.faults g.O.Sink.faults g.E.Sink.faults c.run-ran.new.dev (stored_of g.F.Store.files g.F.Store.created g.F.Store.turned_away g.F.Store.write_faults c.answer_run.new.files)) named
     (subst (λ (e : Result Finish Stop). WithinBudget e c.run-ran.result.turns budget) c.in-Ok.is c.run-ran.ensures.within) c.run-ran.ensures.turns
-    (subst (λ (e : Result Finish Stop). RunsAs machine budget c.run-ran.result.turns e (contents g.I.Source.left g.O.Sink.written g.E.Sink.written c.args.dev.now) (contents g.I.Source.left g.O.Sink.written g.E.Sink.written c.run-ran.new.dev) c.run-ran.new.emulator.machine) c.in-Ok.is c.run-ran.ensures.run)
+    (subst (λ (e : Result Finish Stop). RunsAs quantum machine budget c.run-ran.result.turns e (contents g.I.Source.left g.O.Sink.written g.E.Sink.written c.args.dev.now) (contents g.I.Source.left g.O.Sink.written g.E.Sink.written c.run-ran.new.dev) c.run-ran.new.emulator.machine) c.in-Ok.is c.run-ran.ensures.run)
     c.answer_run.ensures.answer
 
 pub returns-in-Err-clause-run : goal.returns-in-Err-clause-run
 returns-in-Err-clause-run g c = λ names named.
+    let quantum = c.args.ready.emulator.quantum in
     let machine = c.args.ready.emulator.machine in
     let budget = c.args.ready.budget in
     let old = seen_of g.I.Source.left g.O.Sink.written g.E.Sink.written g.I.Source.faults g.O.Sink.faults g.E.Sink.faults c.args.dev.now (stored_of g.F.Store.files g.F.Store.created g.F.Store.turned_away g.F.Store.write_faults c.args.files.now) in
     let new = seen_of g.I.Source.left g.O.Sink.written g.E.Sink.written g.I.Source.faults g.O.Sink.faults g.E.Sink.faults c.run-ran.new.dev (stored_of g.F.Store.files g.F.Store.created g.F.Store.turned_away g.F.Store.write_faults c.args.files.now) in
     let answer = c.answer_of.result in
     let cause = subst (λ (e : Result Finish Stop). StopsOnlyIfRose {T = Finish} g.I.Source.faults g.O.Sink.faults g.E.Sink.faults e c.args.dev.now c.run-ran.new.dev) c.in-Err.is c.run-ran.ensures.cause in
-    subst (λ (n : ℕ). Answers (Run machine budget) names old new n answer.end answer.host) (sym c.answer_of.ensures.turns)
-    (subst (λ (e : End). Answers (Run machine budget) names old new c.run-ran.result.turns e answer.host) (sym (c.answer_of.ensures.end ∙ c.from.ensures))
-    (cut_answer machine budget c.run-ran.result.turns names c.in-Err.stop old new c.run-ran.new.emulator.machine answer.host
+    subst (λ (n : ℕ). Answers (Run quantum machine budget) names old new n answer.end answer.host) (sym c.answer_of.ensures.turns)
+    (subst (λ (e : End). Answers (Run quantum machine budget) names old new c.run-ran.result.turns e answer.host) (sym (c.answer_of.ensures.end ∙ c.from.ensures))
+    (cut_answer quantum machine budget c.run-ran.result.turns names c.in-Err.stop old new c.run-ran.new.emulator.machine answer.host
     (subst (λ (e : Result Finish Stop). WithinBudget e c.run-ran.result.turns budget) c.in-Err.is c.run-ran.ensures.within) refl
-    (subst (λ (e : Result Finish Stop). RunsAs machine budget c.run-ran.result.turns e (contents g.I.Source.left g.O.Sink.written g.E.Sink.written c.args.dev.now) (contents g.I.Source.left g.O.Sink.written g.E.Sink.written c.run-ran.new.dev) c.run-ran.new.emulator.machine) c.in-Err.is c.run-ran.ensures.run)
+    (subst (λ (e : Result Finish Stop). RunsAs quantum machine budget c.run-ran.result.turns e (contents g.I.Source.left g.O.Sink.written g.E.Sink.written c.args.dev.now) (contents g.I.Source.left g.O.Sink.written g.E.Sink.written c.run-ran.new.dev) c.run-ran.new.emulator.machine) c.in-Err.is c.run-ran.ensures.run)
     (read_cause g.I.Source.faults g.O.Sink.faults g.E.Sink.faults c.in-Err.stop c.args.dev.now c.run-ran.new.dev cause)
     (write_cause g.I.Source.faults g.O.Sink.faults g.E.Sink.faults c.in-Err.stop c.args.dev.now c.run-ran.new.dev cause)))

@@ -1,0 +1,12 @@
+pub mod AnswerLemmas
+pub mod ByNumber
+pub mod EntriesFound
+pub mod Lookups
+pub mod Moves
+pub mod NarrowCalls
+pub mod Narrowing
+pub mod Quietly
+pub mod RecordLemmas
+pub mod Settling
+pub mod ShownLemmas
+pub mod WideCalls

@@ -1,0 +1,179 @@
+//! Listing a directory: getdents(2), getdents64(2).
+ghost use Rattle.std.specs.Prelude.{◌≡◌, ◌≤◌, OnOk, take};
+ghost use Rattle.bridge_entries.specs.inside.Answers.{IsGiven, narrow};
+ghost use Rattle.bridge_entries.specs.inside.Passing.{GoesTo};
+ghost use Rattle.bridge_log.specs.Fills.{bytes_back};
+ghost use Rattle.bridge_log.specs.Keeping.{KeepsCall, reached};
+ghost use Rattle.guest_space.specs.Access.{user_end};
+ghost use Rattle.kernel_model.specs.ContentRows.{entries};
+ghost use Rattle.kernel_model.specs.Pipes.{Sent};
+ghost use Rattle.kernel_model.specs.Stops.{StopsOnlyIfRose};
+ghost use Rattle.kernel_model.specs.Whole.{with_files};
+ghost use Rattle.mips_exec.specs.Processor.{Processor};
+ghost use Rattle.o32_model.specs.Answered.{IsCall};
+ghost use Rattle.o32_model.specs.Effects.{Effected};
+ghost use Rattle.o32_model.specs.Entries.{entry_form, entry64_form, getdents_row};
+ghost use Rattle.o32_model.specs.GuestBytes.{with_stored};
+ghost use Rattle.o32_model.specs.Step.{Guest};
+ghost use Rattle.outside.specs.Streams.{NoCountFell, contents};
+
+use crate::answers::{Answer, answer_to};
+use crate::numbers::GETDENTS64;
+use crate::passing::{list, position, put_position};
+use crate::records::Form;
+use crate::showing::show_all;
+use bridge_log::{native, outcome_of, put};
+use bridge_mem::fresh_room;
+use guest_space::Space;
+use host_mem::{FIRST_ADDRESS, HostMem};
+use kernel_core::{NoMemory, Reply, Stop};
+use native_kernel::NativeKernel;
+use o32_model::{CallWords, Log, Outcome};
+use outside::{Devices, Sink, Source};
+use std::alloc::Global;
+
+/// How many bytes a record of getdents(2) has at most.
+const LONGEST_NARROW: u32 = 268;
+
+/// getdents64(2): EBADF, ENOTDIR, ENOENT, EINVAL, EFAULT. The records of the native call have the program's
+/// lengths; their numbers have the other order of bytes.
+pub(crate) fn getdents64<I: Source, O: Sink, E: Sink>(
+    alloc: Global,
+    words: &CallWords,
+    fd: u32,
+    buffer: u32,
+    size: u32,
+    space: &mut Space,
+    k: &mut NativeKernel,
+    mem: &mut HostMem,
+    dev: &mut Devices<I, O, E>,
+    log: &mut Log,
+) -> Result<Outcome, Stop>
+    ensures row { (guest : Guest) → guest.words ≡ words.now → guest.memory ≡ space.old
+        → IsCall (getdents_row entry64_form k.old guest fd buffer size) result k.new space.new guest.processor
+        (contents I.left O.written E.written dev.old) (contents I.left O.written E.written dev.new) }
+    ensures kept { (guest : Guest) → guest.words ≡ words.now → guest.memory ≡ space.old
+        → KeepsCall (getdents_row entry64_form k.old guest fd buffer size) result k.old guest (I.left dev.old.input) log.old log.new }
+    ensures cause { StopsOnlyIfRose I.faults O.faults E.faults result dev.old dev.new }
+    ensures counts { NoCountFell I.faults O.faults E.faults dev.old dev.new }
+{
+    k.files_valid();
+    let room = space.writable(buffer, size);
+    fresh_room(mem, room)?;
+    let args = [u64::from(fd), FIRST_ADDRESS, u64::from(size), 0, 0, 0];
+    let reply = native(k, GETDENTS64, args, mem, dev, log)?;
+    let shown = show_all(alloc, Form::Wide, room as usize, 0, given(mem, reply))?;
+    put_some(space, buffer, shown.bytes.as_slice(), log)?;
+    Ok(outcome_of(words, reply))
+}
+
+/// getdents(2): EBADF, ENOTDIR, ENOENT, EINVAL, EOVERFLOW, EFAULT. A native record has at most twice the bytes of the
+/// program's, so the native call is asked for twice as many bytes; the position is then put to the last entry that the
+/// program is given, or where it was.
+pub(crate) fn getdents<I: Source, O: Sink, E: Sink>(
+    alloc: Global,
+    words: &CallWords,
+    fd: u32,
+    buffer: u32,
+    size: u32,
+    space: &mut Space,
+    k: &mut NativeKernel,
+    mem: &mut HostMem,
+    dev: &mut Devices<I, O, E>,
+    log: &mut Log,
+) -> Result<Outcome, Stop>
+    ensures row { (guest : Guest) → guest.words ≡ words.now → guest.memory ≡ space.old
+        → IsCall (getdents_row entry_form k.old guest fd buffer size) result k.new space.new guest.processor
+        (contents I.left O.written E.written dev.old) (contents I.left O.written E.written dev.new) }
+    ensures kept { (guest : Guest) → guest.words ≡ words.now → guest.memory ≡ space.old
+        → KeepsCall (getdents_row entry_form k.old guest fd buffer size) result k.old guest (I.left dev.old.input) log.old log.new }
+    ensures cause { StopsOnlyIfRose I.faults O.faults E.faults result dev.old dev.new }
+    ensures counts { NoCountFell I.faults O.faults E.faults dev.old dev.new }
+{
+    k.files_valid();
+    let room = space.writable(buffer, size);
+    let answer = answer_call(alloc, words, fd, size, room, k, mem, dev, log)?;
+    put_some(space, buffer, answer.bytes.as_slice(), log)?;
+    Ok(answer.outcome)
+}
+
+/// What the program's call comes to, where so many bytes of its buffer can be stored. The position is then as after
+/// the call.
+fn answer_call<I: Source, O: Sink, E: Sink>(
+    alloc: Global,
+    words: &CallWords,
+    fd: u32,
+    size: u32,
+    room: u32,
+    k: &mut NativeKernel,
+    mem: &mut HostMem,
+    dev: &mut Devices<I, O, E>,
+    log: &mut Log,
+) -> Result<Answer, Stop>
+    requires { room ≤ user_end }
+    ensures goes { GoesTo (IsGiven words.now (entries k.old.files fd narrow size room).came) result k.old
+        (with_files k.old (entries k.old.files fd narrow size room).state) k.new
+        (contents I.left O.written E.written dev.old) (contents I.left O.written E.written dev.new) log.old log.new }
+    ensures cause { StopsOnlyIfRose I.faults O.faults E.faults result dev.old dev.new }
+    ensures counts { NoCountFell I.faults O.faults E.faults dev.old dev.new }
+{
+    k.files_valid();
+    let asked = size.min(room + LONGEST_NARROW);
+    let before = position(k, fd, mem, dev, log)?;
+    let reply = list(k, fd, 2 * asked, mem, dev, log)?;
+    let answer = answer_to(
+        alloc,
+        words,
+        asked,
+        room,
+        before.unwrap_or(0),
+        reply,
+        given(mem, reply),
+    )?;
+    match answer.place {
+        None => Ok(answer),
+        Some(place) => {
+            put_position(k, fd, place, mem, dev, log)?;
+            Ok(answer)
+        }
+    }
+}
+
+/// The bytes of host memory that a reply says were put there.
+fn given(mem: &HostMem, reply: Reply) -> &[u8]
+    ensures { result.now ≡ bytes_back mem.now reply }
+{
+    match reply {
+        Reply::Done(count) => {
+            if count > 0 {
+                first_bytes(mem, count as u64)
+            } else {
+                &[]
+            }
+        }
+        Reply::Sleep(_) => &[],
+    }
+}
+
+/// The first bytes of host memory, at most so many.
+fn first_bytes(mem: &HostMem, count: u64) -> &[u8]
+    ensures { result.now ≡ take count mem.now }
+{
+    let bytes = mem.as_slice();
+    let there = bytes.len().min(count as usize);
+    &bytes[..there]
+}
+
+/// Writes the bytes to the program's memory, from `address` on, where there are any and each may be stored to.
+fn put_some(space: &mut Space, address: u32, bytes: &[u8], log: &mut Log) -> Result<(), NoMemory>
+    ensures stored { OnOk result (space.new ≡ with_stored space.old address bytes.now) }
+    ensures effects { OnOk result ((processor : Processor) (sent : Sent)
+        → Effected log.old.effects log.new.effects (reached processor space.old.pages sent) (reached processor space.new.pages sent)) }
+    ensures native { log.new.native ≡ log.old.native }
+{
+    if bytes.is_empty() {
+        return Ok(());
+    }
+    put(space, address, bytes, log)?;
+    Ok(())
+}

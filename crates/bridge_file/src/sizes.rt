@@ -1,0 +1,71 @@
+//! The calls on the size of a file: truncate(2), ftruncate(2), and their forms with sizes of 64 bits. A size is
+//! a signed number (off_t, loff_t).
+ghost use Rattle.std.specs.Prelude.{◌≡◌};
+ghost use Rattle.std.specs.Int.{cast_signed, w64};
+ghost use Rattle.bridge_log.specs.Keeping.{KeepsCall};
+ghost use Rattle.kernel_model.specs.Stops.{StopsOnlyIfRose};
+ghost use Rattle.o32_model.specs.Answered.{IsCall};
+ghost use Rattle.o32_model.specs.NodeCalls.{ftruncate_row, truncate_row};
+ghost use Rattle.o32_model.specs.Step.{Guest};
+ghost use Rattle.outside.specs.Streams.{NoCountFell, contents};
+
+use crate::calls::path_call;
+use crate::numbers::{FTRUNCATE, TRUNCATE};
+use bridge_log::number_call;
+use guest_space::Space;
+use host_mem::{FIRST_ADDRESS, HostMem};
+use kernel_core::Stop;
+use native_kernel::NativeKernel;
+use o32_model::{CallWords, Log, Outcome};
+use outside::{Devices, Sink, Source};
+use std::alloc::Global;
+
+/// truncate(2), truncate64(2), by the bits of the size: what is wrong with the path; EINVAL for a size below 0
+/// and for what is no file, EISDIR, EFBIG.
+pub(crate) fn truncate<I: Source, O: Sink, E: Sink>(
+    alloc: Global,
+    words: &CallWords,
+    address: u32,
+    size: u64,
+    space: &Space,
+    k: &mut NativeKernel,
+    mem: &mut HostMem,
+    dev: &mut Devices<I, O, E>,
+    log: &mut Log,
+) -> Result<Outcome, Stop>
+    ensures row { (guest : Guest) → guest.words ≡ words.now → guest.memory ≡ space.now
+        → IsCall (truncate_row k.old guest address (cast_signed w64 size)) result k.new guest.memory guest.processor
+        (contents I.left O.written E.written dev.old) (contents I.left O.written E.written dev.new) }
+    ensures kept { (guest : Guest) → guest.words ≡ words.now → guest.memory ≡ space.now
+        → KeepsCall (truncate_row k.old guest address (cast_signed w64 size)) result k.old guest (I.left dev.old.input) log.old log.new }
+    ensures cause { StopsOnlyIfRose I.faults O.faults E.faults result dev.old dev.new }
+    ensures counts { NoCountFell I.faults O.faults E.faults dev.old dev.new }
+{
+    let args = [FIRST_ADDRESS, size, 0, 0, 0, 0];
+    path_call(
+        alloc, words, address, space, k, TRUNCATE, args, mem, dev, log,
+    )
+}
+
+/// ftruncate(2), ftruncate64(2), by the bits of the size: EBADF; EINVAL for a size below 0, for a descriptor
+/// that is not open for writing, and for what is no file; EFBIG.
+pub(crate) fn ftruncate<I: Source, O: Sink, E: Sink>(
+    words: &CallWords,
+    fd: u32,
+    size: u64,
+    k: &mut NativeKernel,
+    mem: &mut HostMem,
+    dev: &mut Devices<I, O, E>,
+    log: &mut Log,
+) -> Result<Outcome, Stop>
+    ensures row { (guest : Guest) → guest.words ≡ words.now
+        → IsCall (ftruncate_row k.old guest fd (cast_signed w64 size)) result k.new guest.memory guest.processor
+        (contents I.left O.written E.written dev.old) (contents I.left O.written E.written dev.new) }
+    ensures kept { (guest : Guest) → guest.words ≡ words.now
+        → KeepsCall (ftruncate_row k.old guest fd (cast_signed w64 size)) result k.old guest (I.left dev.old.input) log.old log.new }
+    ensures cause { StopsOnlyIfRose I.faults O.faults E.faults result dev.old dev.new }
+    ensures counts { NoCountFell I.faults O.faults E.faults dev.old dev.new }
+{
+    let args = [u64::from(fd), size, 0, 0, 0, 0];
+    number_call(words, k, FTRUNCATE, args, mem, dev, log)
+}

@@ -1,0 +1,166 @@
+//! Calls that are one native call which tells a text or a place.
+ghost use Rattle.std.specs.Prelude.{◌≡◌, ◌-◌, ℕ, List, IfOk, OnOk, drop, take};
+ghost use Rattle.bridge_file.specs.inside.Tells.{Tells, bytes_told, memory_told, outcome_stored, outcome_told, value_told};
+ghost use Rattle.bridge_log.specs.Keeping.{KeepsCall, reached};
+ghost use Rattle.host_mem.specs.Memory.{first_address};
+ghost use Rattle.kernel_model.specs.Pipes.{Sent};
+ghost use Rattle.kernel_model.specs.Stops.{StopsOnlyIfRose};
+ghost use Rattle.mips_exec.specs.Processor.{Processor};
+ghost use Rattle.native_calls.specs.Table.{native_call};
+ghost use Rattle.native_kernel.specs.Built.{built_call};
+ghost use Rattle.o32_model.specs.Answered.{IsCall};
+ghost use Rattle.o32_model.specs.Effects.{Effected};
+ghost use Rattle.o32_model.specs.GuestBytes.{with_stored};
+ghost use Rattle.o32_model.specs.Opening.{place_bytes};
+ghost use Rattle.o32_model.specs.Step.{Guest, O32Step};
+ghost use Rattle.outside.specs.Streams.{NoCountFell, contents};
+
+use bridge_log::{native, outcome_of, put};
+use guest_space::Space;
+use host_mem::{FIRST_ADDRESS, HostMem};
+use kernel_core::{Errno, NoMemory, Reply, Stop};
+use native_kernel::NativeKernel;
+use o32_model::{CallWords, Log, Outcome};
+use outside::{Devices, Sink, Source};
+
+/// What a call tells of what the native kernel replied.
+#[derive(Clone, Copy)]
+pub(crate) enum Told {
+    /// As many bytes of host memory as the reply says, from this address on. The result is their number.
+    Text(u64),
+    /// The reply's number, as a place in a file (loff_t). The result is 0.
+    Place,
+}
+
+/// Makes the native call that a call of the program is, where it tells something, which goes to the
+/// program's memory, whole or with EFAULT. `row` and `kept` hold of every o32 call that this native call
+/// tells for.
+pub(crate) fn tell_call<I: Source, O: Sink, E: Sink>(
+    words: &CallWords,
+    address: u32,
+    told: Told,
+    space: &mut Space,
+    k: &mut NativeKernel,
+    nr: u64,
+    args: [u64; 6],
+    mem: &mut HostMem,
+    dev: &mut Devices<I, O, E>,
+    log: &mut Log,
+) -> Result<Outcome, Stop>
+    requires built { built_call nr ≡ native_call nr }
+    ensures row { (guest : Guest) (step : List ℕ → O32Step) → guest.words ≡ words.now → guest.memory ≡ space.old
+        → ((left : List ℕ) → Tells guest address told (native_call nr args k.old mem.old left) (step left))
+        → IsCall step result k.new space.new guest.processor
+        (contents I.left O.written E.written dev.old) (contents I.left O.written E.written dev.new) }
+    ensures kept { (guest : Guest) (step : List ℕ → O32Step) → guest.words ≡ words.now → guest.memory ≡ space.old
+        → ((left : List ℕ) → Tells guest address told (native_call nr args k.old mem.old left) (step left))
+        → KeepsCall step result k.old guest (I.left dev.old.input) log.old log.new }
+    ensures cause { StopsOnlyIfRose I.faults O.faults E.faults result dev.old dev.new }
+    ensures counts { NoCountFell I.faults O.faults E.faults dev.old dev.new }
+{
+    let reply = native(k, nr, args, mem, dev, log)?;
+    let outcome = tell(words, address, told, mem, reply, space, log)?;
+    Ok(outcome)
+}
+
+/// What the call comes to by a reply: what was told is stored, or nothing after an error.
+fn tell(
+    words: &CallWords,
+    address: u32,
+    told: Told,
+    mem: &HostMem,
+    reply: Reply,
+    space: &mut Space,
+    log: &mut Log,
+) -> Result<Outcome, NoMemory>
+    ensures outcome { IfOk result (λ outcome. outcome ≡ outcome_told words.now space.old address told mem.now reply) }
+    ensures stored { OnOk result (space.new ≡ memory_told space.old address told mem.now reply) }
+    ensures effects { OnOk result ((processor : Processor) (sent : Sent)
+        → Effected log.old.effects log.new.effects (reached processor space.old.pages sent) (reached processor space.new.pages sent)) }
+    ensures native { log.new.native ≡ log.old.native }
+{
+    match reply {
+        Reply::Done(number) if number >= 0 => {
+            tell_number(address, told, mem, number as u64, space, log)
+        }
+        _ => Ok(outcome_of(words, reply)),
+    }
+}
+
+/// Stores what the number of a reply tells.
+fn tell_number(
+    address: u32,
+    told: Told,
+    mem: &HostMem,
+    number: u64,
+    space: &mut Space,
+    log: &mut Log,
+) -> Result<Outcome, NoMemory>
+    ensures outcome { IfOk result (λ outcome. outcome ≡ outcome_stored space.old address (bytes_told told mem.now number) (value_told told number)) }
+    ensures stored { OnOk result (space.new ≡ with_stored space.old address (bytes_told told mem.now number)) }
+    ensures effects { OnOk result ((processor : Processor) (sent : Sent)
+        → Effected log.old.effects log.new.effects (reached processor space.old.pages sent) (reached processor space.new.pages sent)) }
+    ensures native { log.new.native ≡ log.old.native }
+{
+    match told {
+        Told::Text(at) => {
+            let result = (number % (1 << 32)) as u32;
+            store(address, text_at(mem, at, number), result, space, log)
+        }
+        Told::Place => store(address, &place_bytes(number), 0, space, log),
+    }
+}
+
+/// Stores bytes whole, which gives a result, or nothing, which is EFAULT.
+fn store(
+    address: u32,
+    bytes: &[u8],
+    value: u32,
+    space: &mut Space,
+    log: &mut Log,
+) -> Result<Outcome, NoMemory>
+    ensures outcome { IfOk result (λ outcome. outcome ≡ outcome_stored space.old address bytes.now value) }
+    ensures stored { OnOk result (space.new ≡ with_stored space.old address bytes.now) }
+    ensures effects { OnOk result ((processor : Processor) (sent : Sent)
+        → Effected log.old.effects log.new.effects (reached processor space.old.pages sent) (reached processor space.new.pages sent)) }
+    ensures native { log.new.native ≡ log.old.native }
+{
+    if put(space, address, bytes, log)? {
+        Ok(Outcome::Value(value))
+    } else {
+        Ok(Outcome::Error(Errno::EFAULT))
+    }
+}
+
+/// The first bytes of host memory from an address on, at most so many.
+fn text_at(mem: &HostMem, at: u64, count: u64) -> &[u8]
+    ensures { result.now ≡ take count (drop (at - first_address) mem.now) }
+{
+    first_of(
+        behind(mem.as_slice(), at.saturating_sub(FIRST_ADDRESS)),
+        count,
+    )
+}
+
+/// The bytes behind the first ones.
+fn behind(bytes: &[u8], place: u64) -> &[u8]
+    ensures { result.now ≡ drop place bytes.now }
+{
+    let from = bytes.len().min(place as usize);
+    &bytes[from..]
+}
+
+/// The first bytes, at most so many.
+fn first_of(bytes: &[u8], count: u64) -> &[u8]
+    ensures { result.now ≡ take count bytes.now }
+{
+    let there = bytes.len().min(count as usize);
+    &bytes[..there]
+}
+
+/// A place in a file in the program's memory.
+fn place_bytes(place: u64) -> [u8; 8]
+    ensures { result ≡ place_bytes place }
+{
+    place.to_be_bytes()
+}

@@ -1,0 +1,151 @@
+//! The calls that tell a text: readlink(2), readlinkat(2), getcwd(2).
+ghost use Rattle.std.specs.Prelude.{◌≡◌, ◌<◌, None, Ok, length, position};
+ghost use Rattle.std.specs.Int.{cast_signed, w32};
+ghost use Rattle.bridge_log.specs.Keeping.{KeepsCall};
+ghost use Rattle.kernel_model.specs.Stops.{StopsOnlyIfRose};
+ghost use Rattle.o32_model.specs.Answered.{IsCall};
+ghost use Rattle.o32_model.specs.Names.{readlink_row};
+ghost use Rattle.o32_model.specs.NodeCalls.{getcwd_row};
+ghost use Rattle.o32_model.specs.PathArguments.{base};
+ghost use Rattle.o32_model.specs.Paths.{is_nul, path_at, path_limit};
+ghost use Rattle.o32_model.specs.Step.{Guest};
+ghost use Rattle.outside.specs.Streams.{NoCountFell, contents};
+ghost use Rattle.bridge_file.specs.inside.Tells.{size_room};
+
+use crate::numbers::{GETCWD, READLINKAT};
+use crate::telling::{Told, tell_call};
+use bridge_mem::fresh_room;
+use bridge_paths::{put_room, read_path};
+use guest_space::Space;
+use host_mem::{FIRST_ADDRESS, HostMem};
+use kernel_core::{Bytes, Stop};
+use native_kernel::NativeKernel;
+use o32_model::{CallWords, Log, Outcome};
+use outside::{Devices, Sink, Source};
+use std::alloc::Global;
+
+/// From here on a size is one below 0 (ssize_t).
+const FIRST_NEGATIVE: u32 = 1 << 31;
+
+/// readlink(2), readlinkat(2): what is wrong with the path; EINVAL for a size below 1 and for what is no link;
+/// EFAULT.
+pub(crate) fn readlink<I: Source, O: Sink, E: Sink>(
+    alloc: Global,
+    words: &CallWords,
+    directory: u32,
+    address: u32,
+    buffer: u32,
+    size: u32,
+    space: &mut Space,
+    k: &mut NativeKernel,
+    mem: &mut HostMem,
+    dev: &mut Devices<I, O, E>,
+    log: &mut Log,
+) -> Result<Outcome, Stop>
+    ensures row { (guest : Guest) → guest.words ≡ words.now → guest.memory ≡ space.old
+        → IsCall (readlink_row k.old guest (base directory) address buffer (cast_signed w32 size)) result k.new space.new guest.processor
+        (contents I.left O.written E.written dev.old) (contents I.left O.written E.written dev.new) }
+    ensures kept { (guest : Guest) → guest.words ≡ words.now → guest.memory ≡ space.old
+        → KeepsCall (readlink_row k.old guest (base directory) address buffer (cast_signed w32 size)) result k.old guest (I.left dev.old.input) log.old log.new }
+    ensures cause { StopsOnlyIfRose I.faults O.faults E.faults result dev.old dev.new }
+    ensures counts { NoCountFell I.faults O.faults E.faults dev.old dev.new }
+{
+    match read_path(alloc, space, address)? {
+        Err(error) => Ok(Outcome::Error(error)),
+        Ok(path) => link_text(
+            words, directory, address, &path, buffer, size, space, k, mem, dev, log,
+        ),
+    }
+}
+
+/// The same once the path is read.
+fn link_text<I: Source, O: Sink, E: Sink>(
+    words: &CallWords,
+    directory: u32,
+    address: u32,
+    path: &Bytes,
+    buffer: u32,
+    size: u32,
+    space: &mut Space,
+    k: &mut NativeKernel,
+    mem: &mut HostMem,
+    dev: &mut Devices<I, O, E>,
+    log: &mut Log,
+) -> Result<Outcome, Stop>
+    requires found { path_at space.old address ≡ Ok path.now }
+    requires short { length path.now < path_limit }
+    requires plain { position is_nul path.now ≡ None }
+    ensures row { (guest : Guest) → guest.words ≡ words.now → guest.memory ≡ space.old
+        → IsCall (readlink_row k.old guest (base directory) address buffer (cast_signed w32 size)) result k.new space.new guest.processor
+        (contents I.left O.written E.written dev.old) (contents I.left O.written E.written dev.new) }
+    ensures kept { (guest : Guest) → guest.words ≡ words.now → guest.memory ≡ space.old
+        → KeepsCall (readlink_row k.old guest (base directory) address buffer (cast_signed w32 size)) result k.old guest (I.left dev.old.input) log.old log.new }
+    ensures cause { StopsOnlyIfRose I.faults O.faults E.faults result dev.old dev.new }
+    ensures counts { NoCountFell I.faults O.faults E.faults dev.old dev.new }
+{
+    let room = space.writable(buffer, size_room(size));
+    let at = put_room(mem, path, room)?;
+    let args = [
+        u64::from(directory),
+        FIRST_ADDRESS,
+        at,
+        u64::from(size),
+        0,
+        0,
+    ];
+    tell_call(
+        words,
+        buffer,
+        Told::Text(at),
+        space,
+        k,
+        READLINKAT,
+        args,
+        mem,
+        dev,
+        log,
+    )
+}
+
+/// How many bytes a text has at most by a size: none by one below 0.
+fn size_room(size: u32) -> u32
+    ensures { result ≡ size_room size }
+{
+    if size < FIRST_NEGATIVE { size } else { 0 }
+}
+
+/// getcwd(2): ENOENT where the directory was removed, ERANGE for a size that its path with the NUL passes,
+/// EFAULT. The result counts the NUL.
+pub(crate) fn getcwd<I: Source, O: Sink, E: Sink>(
+    words: &CallWords,
+    buffer: u32,
+    size: u32,
+    space: &mut Space,
+    k: &mut NativeKernel,
+    mem: &mut HostMem,
+    dev: &mut Devices<I, O, E>,
+    log: &mut Log,
+) -> Result<Outcome, Stop>
+    ensures row { (guest : Guest) → guest.words ≡ words.now → guest.memory ≡ space.old
+        → IsCall (getcwd_row k.old guest buffer size) result k.new space.new guest.processor
+        (contents I.left O.written E.written dev.old) (contents I.left O.written E.written dev.new) }
+    ensures kept { (guest : Guest) → guest.words ≡ words.now → guest.memory ≡ space.old
+        → KeepsCall (getcwd_row k.old guest buffer size) result k.old guest (I.left dev.old.input) log.old log.new }
+    ensures cause { StopsOnlyIfRose I.faults O.faults E.faults result dev.old dev.new }
+    ensures counts { NoCountFell I.faults O.faults E.faults dev.old dev.new }
+{
+    fresh_room(mem, space.writable(buffer, size))?;
+    let args = [FIRST_ADDRESS, u64::from(size), 0, 0, 0, 0];
+    tell_call(
+        words,
+        buffer,
+        Told::Text(FIRST_ADDRESS),
+        space,
+        k,
+        GETCWD,
+        args,
+        mem,
+        dev,
+        log,
+    )
+}

@@ -1,0 +1,48 @@
+-- Flags that are none are refused without a native call.
+use Rattle.std.proofs.Common.{Option, sym, subst, ◌∙◌}
+use Rattle.kernel_core.specs.OpenSet.{OpenSet}
+use Rattle.kernel_core.specs.declared.error.Errno.TheVariants.{EINVAL}
+use Rattle.number_tables.specs.OpenNumbers.{open_of_o32}
+use Rattle.number_tables.specs.inside.OpenLaws.{o32_open_listed}
+use Rattle.o32_model.specs.Answered.{Answers}
+use Rattle.o32_model.specs.Opening.{open_row}
+use Rattle.o32_model.specs.PathArguments.{base}
+use Rattle.o32_model.specs.declared.outcome.Outcome.TheVariants.{Error}
+use Rattle.outside.specs.Streams.{contents}
+use Rattle.std.specs.Prelude.{OnOk}
+use Rattle.bridge_log.proofs.Ends.{Still, still_called, still_keeps}
+use Rattle.bridge_log.specs.Keeping.{Keeps}
+use Rattle.bridge_open.proofs.OpenRows.{open_unlisted}
+use Rattle.bridge_paths.proofs.Refusing.{still_of}
+use Rattle.bridge_open.proofs.opening.open.Goals as goal
+
+pub open_listed-requires : goal.open_listed-requires
+open_listed-requires g c = record { listed = o32_open_listed c.args.flags c.in-Some.flags (sym c.of_o32.ensures ∙ c.in-Some.is) }
+
+pub returns-in-None-clause-row : goal.returns-in-None-clause-row
+returns-in-None-clause-row g c = λ guest same memory left told.
+    let at = contents g.I.Source.left g.O.Sink.written g.E.Sink.written c.args.dev.now in
+    let none = sym c.in-None.is ∙ c.of_o32.ensures in
+    let step = open_row c.args.k.now guest (base c.args.directory) c.args.address (open_of_o32 c.args.flags) c.args.mode left in
+    still_called guest c.args.k.now left (Error EINVAL) step at told
+    (subst (λ (f : Option OpenSet). Still guest c.args.k.now left (Error EINVAL) (open_row c.args.k.now guest (base c.args.directory) c.args.address f c.args.mode left)) none
+    (still_of guest c.args.k.now EINVAL left _ (open_unlisted guest c.args.k.now (base c.args.directory) c.args.address c.args.mode left)))
+
+pub returns-in-None-clause-kept : goal.returns-in-None-clause-kept
+returns-in-None-clause-kept g c = λ guest same memory left told.
+    let none = sym c.in-None.is ∙ c.of_o32.ensures in
+    let step = open_row c.args.k.now guest (base c.args.directory) c.args.address (open_of_o32 c.args.flags) c.args.mode left in
+    still_keeps guest c.args.k.now left (Error EINVAL) step c.args.log.now
+    (subst (λ (f : Option OpenSet). Still guest c.args.k.now left (Error EINVAL) (open_row c.args.k.now guest (base c.args.directory) c.args.address f c.args.mode left)) none
+    (still_of guest c.args.k.now EINVAL left _ (open_unlisted guest c.args.k.now (base c.args.directory) c.args.address c.args.mode left)))
+
+pub returns-in-Some-clause-row : goal.returns-in-Some-clause-row
+returns-in-Some-clause-row g c = λ guest same memory left told.
+    subst (λ (f : Option OpenSet). Answers (open_row c.args.k.now guest (base c.args.directory) c.args.address f c.args.mode left) c.open_listed.result c.open_listed.new.k guest.memory guest.processor
+    (contents g.I.Source.left g.O.Sink.written g.E.Sink.written c.args.dev.now) (contents g.I.Source.left g.O.Sink.written g.E.Sink.written c.open_listed.new.dev)) (sym c.in-Some.is ∙ c.of_o32.ensures)
+    (c.open_listed.ensures.row guest same memory left told)
+
+pub returns-in-Some-clause-kept : goal.returns-in-Some-clause-kept
+returns-in-Some-clause-kept g c = λ guest same memory left told.
+    subst (λ (f : Option OpenSet). OnOk c.open_listed.result (Keeps (open_row c.args.k.now guest (base c.args.directory) c.args.address f c.args.mode left) c.args.k.now left guest c.args.log.now c.open_listed.new.log)) (sym c.in-Some.is ∙ c.of_o32.ensures)
+    (c.open_listed.ensures.kept guest same memory left told)

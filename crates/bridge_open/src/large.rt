@@ -1,0 +1,77 @@
+//! Files that are too large to be opened without O_LARGEFILE.
+ghost use Rattle.std.specs.Prelude.{◌≡◌, ℕ, Ok, Some};
+ghost use Rattle.bridge_log.specs.Keeping.{KeepsCall};
+ghost use Rattle.bridge_open.specs.inside.Openings.{IsTooLarge, is_no_entry, outcome_of_large};
+ghost use Rattle.kernel_model.specs.Stops.{StopsOnlyIfRose};
+ghost use Rattle.o32_model.specs.Answered.{IsCall};
+ghost use Rattle.o32_model.specs.Opening.{open_row};
+ghost use Rattle.o32_model.specs.PathArguments.{base};
+ghost use Rattle.o32_model.specs.Paths.{path_at};
+ghost use Rattle.o32_model.specs.Step.{Guest};
+ghost use Rattle.outside.specs.Streams.{NoCountFell, contents};
+
+use crate::numbers::OPENAT;
+use bridge_log::{native, outcome_of};
+use guest_space::Space;
+use host_mem::{FIRST_ADDRESS, HostMem};
+use kernel_core::{Bytes, Errno, OpenFlags, Reply, Stop};
+use native_kernel::NativeKernel;
+use o32_model::{CallWords, Log, Outcome};
+use outside::{Devices, Sink, Source};
+
+/// The native number of ENOENT with its sign turned (Linux `include/uapi/asm-generic/errno-base.h`).
+const NO_ENTRY: i64 = -2;
+
+/// What a file that is too large comes to: EMFILE where there is no free descriptor, and else EOVERFLOW.
+/// That there is one is told by opening the empty path, which is ENOENT then, wherever a path begins.
+pub(crate) fn too_large<I: Source, O: Sink, E: Sink>(
+    words: &CallWords,
+    address: u32,
+    path: &Bytes,
+    flags: OpenFlags,
+    space: &Space,
+    k: &mut NativeKernel,
+    mem: &mut HostMem,
+    dev: &mut Devices<I, O, E>,
+    log: &mut Log,
+) -> Result<Outcome, Stop>
+    requires found { path_at space.now address ≡ Ok path.now }
+    ensures row { (guest : Guest) (directory mode : ℕ) → guest.words ≡ words.now → guest.memory ≡ space.now
+        → IsTooLarge k.old.files (base directory) path.now flags
+        → IsCall (open_row k.old guest (base directory) address (Some flags) mode) result
+        k.new guest.memory guest.processor
+        (contents I.left O.written E.written dev.old) (contents I.left O.written E.written dev.new) }
+    ensures kept { (guest : Guest) (directory mode : ℕ) → guest.words ≡ words.now → guest.memory ≡ space.now
+        → IsTooLarge k.old.files (base directory) path.now flags
+        → KeepsCall (open_row k.old guest (base directory) address (Some flags) mode) result k.old guest
+        (I.left dev.old.input) log.old log.new }
+    ensures cause { StopsOnlyIfRose I.faults O.faults E.faults result dev.old dev.new }
+    ensures counts { NoCountFell I.faults O.faults E.faults dev.old dev.new }
+{
+    mem.clear();
+    mem.push_zeros(1)?;
+    let args = [0, FIRST_ADDRESS, 0, 0, 0, 0];
+    let reply = native(k, OPENAT, args, mem, dev, log)?;
+    Ok(outcome_of_large(words, reply))
+}
+
+/// What a file that is too large comes to by that reply.
+fn outcome_of_large(words: &CallWords, reply: Reply) -> Outcome
+    ensures { result ≡ outcome_of_large words.now reply }
+{
+    if is_no_entry(reply) {
+        Outcome::Error(Errno::EOVERFLOW)
+    } else {
+        outcome_of(words, reply)
+    }
+}
+
+/// Whether a reply is ENOENT.
+fn is_no_entry(reply: Reply) -> bool
+    ensures { result ≡ is_no_entry reply }
+{
+    match reply {
+        Reply::Done(number) => number == NO_ENTRY,
+        Reply::Sleep(_) => false,
+    }
+}

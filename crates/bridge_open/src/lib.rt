@@ -1,0 +1,10 @@
+//! The calls of an o32 program that open files, made by native calls.
+#![tactic(auto)]
+
+mod call;
+mod large;
+mod numbers;
+mod opening;
+mod sizes;
+
+pub use call::open_call;

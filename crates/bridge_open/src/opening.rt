@@ -1,0 +1,248 @@
+//! The calls that open files: open(2), openat(2), creat(2). For a program a file of more than 2^31 - 1 bytes
+//! is opened with O_LARGEFILE alone, which the native kernel does not ask for. So its size is looked at
+//! first.
+ghost use Rattle.std.specs.Prelude.{◌≡◌, ◌<◌, ◌&&◌, IsTrue, None, Ok, Some, false, length, position};
+ghost use Rattle.bridge_log.specs.Keeping.{KeepsCall};
+ghost use Rattle.bridge_open.specs.inside.Openings.{Unlimited, is_unlimited, size_led};
+ghost use Rattle.kernel_model.specs.Opening.{follows};
+ghost use Rattle.kernel_model.specs.Stops.{StopsOnlyIfRose};
+ghost use Rattle.number_tables.specs.OpenNumbers.{is_synced, open_of_o32};
+ghost use Rattle.o32_model.specs.Answered.{IsCall};
+ghost use Rattle.o32_model.specs.Opening.{open_row};
+ghost use Rattle.o32_model.specs.PathArguments.{base};
+ghost use Rattle.o32_model.specs.Paths.{is_nul, path_at, path_limit};
+ghost use Rattle.o32_model.specs.Step.{Guest};
+ghost use Rattle.outside.specs.Streams.{NoCountFell, contents};
+
+use crate::large::too_large;
+use crate::numbers::OPENAT;
+use crate::sizes::size_led;
+use bridge_log::number_call;
+use bridge_paths::{put_one, read_path};
+use guest_space::Space;
+use host_mem::{FIRST_ADDRESS, HostMem};
+use kernel_core::{Bytes, Errno, OpenFlags, Stop};
+use native_kernel::NativeKernel;
+use number_tables::{NativeNumber, O32Number};
+use o32_model::{CallWords, Log, Outcome};
+use outside::{Devices, Sink, Source};
+use std::alloc::Global;
+
+/// The greatest size of a file that is opened without O_LARGEFILE, in bytes (open(2): what an off_t of 32
+/// bits holds).
+const SMALL_FILE_LIMIT: u64 = 0x7FFF_FFFF;
+
+/// open(2), openat(2), and creat(2) by its flags: EINVAL for flags that are none, and for O_CREAT with
+/// O_DIRECTORY; what is wrong with the path; EMFILE, EEXIST, EISDIR, ENOTDIR, ELOOP, ENOSPC; EOVERFLOW for a
+/// file of more than 2^31 - 1 bytes without O_LARGEFILE.
+pub(crate) fn open<I: Source, O: Sink, E: Sink>(
+    alloc: Global,
+    words: &CallWords,
+    directory: u32,
+    address: u32,
+    flags: u32,
+    mode: u32,
+    space: &Space,
+    k: &mut NativeKernel,
+    mem: &mut HostMem,
+    dev: &mut Devices<I, O, E>,
+    log: &mut Log,
+) -> Result<Outcome, Stop>
+    ensures row { (guest : Guest) → guest.words ≡ words.now → guest.memory ≡ space.now
+        → IsCall (open_row k.old guest (base directory) address (open_of_o32 flags) mode) result
+        k.new guest.memory guest.processor
+        (contents I.left O.written E.written dev.old) (contents I.left O.written E.written dev.new) }
+    ensures kept { (guest : Guest) → guest.words ≡ words.now → guest.memory ≡ space.now
+        → KeepsCall (open_row k.old guest (base directory) address (open_of_o32 flags) mode) result k.old guest
+        (I.left dev.old.input) log.old log.new }
+    ensures cause { StopsOnlyIfRose I.faults O.faults E.faults result dev.old dev.new }
+    ensures counts { NoCountFell I.faults O.faults E.faults dev.old dev.new }
+{
+    match OpenFlags::of_o32(flags) {
+        None => Ok(Outcome::Error(Errno::EINVAL)),
+        Some(flags) => open_listed(
+            alloc, words, directory, address, flags, mode, space, k, mem, dev, log,
+        ),
+    }
+}
+
+/// The same with flags that are listed.
+fn open_listed<I: Source, O: Sink, E: Sink>(
+    alloc: Global,
+    words: &CallWords,
+    directory: u32,
+    address: u32,
+    flags: OpenFlags,
+    mode: u32,
+    space: &Space,
+    k: &mut NativeKernel,
+    mem: &mut HostMem,
+    dev: &mut Devices<I, O, E>,
+    log: &mut Log,
+) -> Result<Outcome, Stop>
+    requires listed { IsTrue (is_synced flags) }
+    ensures row { (guest : Guest) → guest.words ≡ words.now → guest.memory ≡ space.now
+        → IsCall (open_row k.old guest (base directory) address (Some flags) mode) result
+        k.new guest.memory guest.processor
+        (contents I.left O.written E.written dev.old) (contents I.left O.written E.written dev.new) }
+    ensures kept { (guest : Guest) → guest.words ≡ words.now → guest.memory ≡ space.now
+        → KeepsCall (open_row k.old guest (base directory) address (Some flags) mode) result k.old guest
+        (I.left dev.old.input) log.old log.new }
+    ensures cause { StopsOnlyIfRose I.faults O.faults E.faults result dev.old dev.new }
+    ensures counts { NoCountFell I.faults O.faults E.faults dev.old dev.new }
+{
+    if makes_directory(flags) {
+        return Ok(Outcome::Error(Errno::EINVAL));
+    }
+    match read_path(alloc, space, address)? {
+        Err(error) => Ok(Outcome::Error(error)),
+        Ok(path) => open_path(
+            words, directory, address, &path, flags, mode, space, k, mem, dev, log,
+        ),
+    }
+}
+
+/// Whether O_CREAT stands with O_DIRECTORY.
+fn makes_directory(flags: OpenFlags) -> bool
+    ensures { result ≡ (flags.creat && flags.directory) }
+{
+    flags.creat() && flags.directory()
+}
+
+/// The same once the path is read.
+fn open_path<I: Source, O: Sink, E: Sink>(
+    words: &CallWords,
+    directory: u32,
+    address: u32,
+    path: &Bytes,
+    flags: OpenFlags,
+    mode: u32,
+    space: &Space,
+    k: &mut NativeKernel,
+    mem: &mut HostMem,
+    dev: &mut Devices<I, O, E>,
+    log: &mut Log,
+) -> Result<Outcome, Stop>
+    requires listed { IsTrue (is_synced flags) }
+    requires found { path_at space.now address ≡ Ok path.now }
+    requires short { length path.now < path_limit }
+    requires plain { position is_nul path.now ≡ None }
+    ensures row { (guest : Guest) → guest.words ≡ words.now → guest.memory ≡ space.now
+        → IsCall (open_row k.old guest (base directory) address (Some flags) mode) result
+        k.new guest.memory guest.processor
+        (contents I.left O.written E.written dev.old) (contents I.left O.written E.written dev.new) }
+    ensures kept { (guest : Guest) → guest.words ≡ words.now → guest.memory ≡ space.now
+        → KeepsCall (open_row k.old guest (base directory) address (Some flags) mode) result k.old guest
+        (I.left dev.old.input) log.old log.new }
+    ensures cause { StopsOnlyIfRose I.faults O.faults E.faults result dev.old dev.new }
+    ensures counts { NoCountFell I.faults O.faults E.faults dev.old dev.new }
+{
+    if is_unlimited(flags) {
+        return open_now(
+            words, directory, address, path, flags, mode, space, k, mem, dev, log,
+        );
+    }
+    let size = size_led(k, directory, path, follows(flags), mem, dev, log)?;
+    open_sized(
+        words, directory, address, path, flags, mode, size, space, k, mem, dev, log,
+    )
+}
+
+/// Whether the flags say by themselves that no size limits the opening.
+fn is_unlimited(flags: OpenFlags) -> bool
+    ensures { result ≡ is_unlimited flags }
+{
+    flags.largefile() || flags.directory() || flags.creat() && flags.excl()
+}
+
+/// Whether a last link is followed.
+fn follows(flags: OpenFlags) -> bool
+    ensures { result ≡ follows flags }
+{
+    !(flags.nofollow() || flags.creat() && flags.excl())
+}
+
+/// The same, by the size of what the path leads to.
+fn open_sized<I: Source, O: Sink, E: Sink>(
+    words: &CallWords,
+    directory: u32,
+    address: u32,
+    path: &Bytes,
+    flags: OpenFlags,
+    mode: u32,
+    size: u64,
+    space: &Space,
+    k: &mut NativeKernel,
+    mem: &mut HostMem,
+    dev: &mut Devices<I, O, E>,
+    log: &mut Log,
+) -> Result<Outcome, Stop>
+    requires listed { IsTrue (is_synced flags) }
+    requires found { path_at space.now address ≡ Ok path.now }
+    requires short { length path.now < path_limit }
+    requires plain { position is_nul path.now ≡ None }
+    requires limited { is_unlimited flags ≡ false }
+    ensures row { (guest : Guest) → guest.words ≡ words.now → guest.memory ≡ space.now
+        → size ≡ size_led k.old.files (base directory) path.now (follows flags)
+        → IsCall (open_row k.old guest (base directory) address (Some flags) mode) result
+        k.new guest.memory guest.processor
+        (contents I.left O.written E.written dev.old) (contents I.left O.written E.written dev.new) }
+    ensures kept { (guest : Guest) → guest.words ≡ words.now → guest.memory ≡ space.now
+        → size ≡ size_led k.old.files (base directory) path.now (follows flags)
+        → KeepsCall (open_row k.old guest (base directory) address (Some flags) mode) result k.old guest
+        (I.left dev.old.input) log.old log.new }
+    ensures cause { StopsOnlyIfRose I.faults O.faults E.faults result dev.old dev.new }
+    ensures counts { NoCountFell I.faults O.faults E.faults dev.old dev.new }
+{
+    k.files_valid();
+    if size > SMALL_FILE_LIMIT {
+        too_large(words, address, path, flags, space, k, mem, dev, log)
+    } else {
+        open_now(
+            words, directory, address, path, flags, mode, space, k, mem, dev, log,
+        )
+    }
+}
+
+/// Opens where no size limits it.
+fn open_now<I: Source, O: Sink, E: Sink>(
+    words: &CallWords,
+    directory: u32,
+    address: u32,
+    path: &Bytes,
+    flags: OpenFlags,
+    mode: u32,
+    space: &Space,
+    k: &mut NativeKernel,
+    mem: &mut HostMem,
+    dev: &mut Devices<I, O, E>,
+    log: &mut Log,
+) -> Result<Outcome, Stop>
+    requires listed { IsTrue (is_synced flags) }
+    requires found { path_at space.now address ≡ Ok path.now }
+    requires short { length path.now < path_limit }
+    requires plain { position is_nul path.now ≡ None }
+    ensures row { (guest : Guest) → guest.words ≡ words.now → guest.memory ≡ space.now
+        → Unlimited k.old.files (base directory) path.now flags
+        → IsCall (open_row k.old guest (base directory) address (Some flags) mode) result
+        k.new guest.memory guest.processor
+        (contents I.left O.written E.written dev.old) (contents I.left O.written E.written dev.new) }
+    ensures kept { (guest : Guest) → guest.words ≡ words.now → guest.memory ≡ space.now
+        → Unlimited k.old.files (base directory) path.now flags
+        → KeepsCall (open_row k.old guest (base directory) address (Some flags) mode) result k.old guest
+        (I.left dev.old.input) log.old log.new }
+    ensures cause { StopsOnlyIfRose I.faults O.faults E.faults result dev.old dev.new }
+    ensures counts { NoCountFell I.faults O.faults E.faults dev.old dev.new }
+{
+    k.whole();
+    put_one(mem, path)?;
+    let args = [
+        u64::from(directory),
+        FIRST_ADDRESS,
+        flags.to_native(),
+        u64::from(mode),
+        0,
+        0,
+    ];
+    number_call(words, k, OPENAT, args, mem, dev, log)
+}

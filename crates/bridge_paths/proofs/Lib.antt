@@ -1,0 +1,4 @@
+pub mod ByNumber
+pub mod HostPaths
+pub mod Refusing
+pub mod Rows

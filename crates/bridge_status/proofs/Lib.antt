@@ -1,0 +1,4 @@
+pub mod Flags
+pub mod Shown
+pub mod StatusRows
+pub mod TellMirrors

@@ -1,0 +1,3 @@
+pub mod StatusCalls
+pub mod Statuses
+pub mod Tells

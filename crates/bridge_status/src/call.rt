@@ -1,0 +1,124 @@
+//! A call by its number.
+ghost use Rattle.std.specs.Prelude.{◌≡◌, IsTrue};
+ghost use Rattle.bridge_log.specs.Keeping.{KeepsCall};
+ghost use Rattle.bridge_paths.specs.Found.{found};
+ghost use Rattle.bridge_status.specs.Numbers.{is_status_call};
+ghost use Rattle.kernel_model.specs.Stops.{StopsOnlyIfRose};
+ghost use Rattle.o32_model.specs.Answered.{IsCall};
+ghost use Rattle.o32_model.specs.Table.{o32_call};
+ghost use Rattle.outside.specs.Streams.{NoCountFell, contents};
+
+use crate::status::{fstat, fstatat};
+use crate::structures::Form;
+use guest_space::Space;
+use host_mem::HostMem;
+use kernel_core::Stop;
+use mips_exec::Cpu;
+use native_kernel::NativeKernel;
+use o32_model::{CallWords, Log, Outcome, Seen};
+use outside::{Devices, Sink, Source};
+use std::alloc::Global;
+
+/// AT_FDCWD, as an int (Linux `include/uapi/linux/fcntl.h`): a path begins at the working directory.
+const WORKING: u32 = 0xFFFF_FF9C;
+
+/// AT_SYMLINK_NOFOLLOW (Linux `include/uapi/linux/fcntl.h`): a last link is not followed.
+const NOFOLLOW: u32 = 0x100;
+
+/// Makes a call of the program on status, by its words: stat(2), lstat(2), fstat(2) in the old structure, and
+/// stat64, lstat64, fstat64, fstatat64 in that of 64 bits. It stops early for want of memory, or by a device.
+pub fn status_call<I: Source, O: Sink, E: Sink>(
+    alloc: Global,
+    args: &CallWords,
+    cpu: &mut Cpu,
+    space: &mut Space,
+    k: &mut NativeKernel,
+    mem: &mut HostMem,
+    dev: &mut Devices<I, O, E>,
+    log: &mut Log,
+    _seen: &Seen,
+) -> Result<Outcome, Stop>
+    requires { IsTrue (is_status_call args.now.nr) }
+    ensures row { IsCall (o32_call k.old (found args.now cpu.old space.old)) result k.new space.new cpu.new
+        (contents I.left O.written E.written dev.old) (contents I.left O.written E.written dev.new) }
+    ensures kept { KeepsCall (o32_call k.old (found args.now cpu.old space.old)) result k.old
+        (found args.now cpu.old space.old) (I.left dev.old.input) log.old log.new }
+    ensures cause { StopsOnlyIfRose I.faults O.faults E.faults result dev.old dev.new }
+    ensures counts { NoCountFell I.faults O.faults E.faults dev.old dev.new }
+{
+    let [a0, a1, a2, a3] = args.reg;
+    match args.nr {
+        4106 => fstatat(
+            alloc,
+            args,
+            WORKING,
+            a0,
+            a1,
+            0,
+            Form::Old,
+            space,
+            k,
+            mem,
+            dev,
+            log,
+        ),
+        4107 => fstatat(
+            alloc,
+            args,
+            WORKING,
+            a0,
+            a1,
+            NOFOLLOW,
+            Form::Old,
+            space,
+            k,
+            mem,
+            dev,
+            log,
+        ),
+        4108 => fstat(args, a0, a1, Form::Old, space, k, mem, dev, log),
+        4213 => fstatat(
+            alloc,
+            args,
+            WORKING,
+            a0,
+            a1,
+            0,
+            Form::Wide,
+            space,
+            k,
+            mem,
+            dev,
+            log,
+        ),
+        4214 => fstatat(
+            alloc,
+            args,
+            WORKING,
+            a0,
+            a1,
+            NOFOLLOW,
+            Form::Wide,
+            space,
+            k,
+            mem,
+            dev,
+            log,
+        ),
+        4215 => fstat(args, a0, a1, Form::Wide, space, k, mem, dev, log),
+        _ => fstatat(
+            alloc,
+            args,
+            a0,
+            a1,
+            a2,
+            a3,
+            Form::Wide,
+            space,
+            k,
+            mem,
+            dev,
+            log,
+        ),
+    }
+}

@@ -1,0 +1,136 @@
+//! The calls on status: stat(2), lstat(2), fstat(2), fstatat(2), in the old structure and in that of 64 bits.
+ghost use Rattle.std.specs.Prelude.{◌≡◌, ◌<◌, None, Ok, length, position};
+ghost use Rattle.bridge_log.specs.Keeping.{KeepsCall};
+ghost use Rattle.bridge_status.specs.inside.StatusCalls.{is_listed, open_status, path_status};
+ghost use Rattle.kernel_model.specs.Stops.{StopsOnlyIfRose};
+ghost use Rattle.o32_model.specs.Answered.{IsCall};
+ghost use Rattle.o32_model.specs.PathArguments.{base};
+ghost use Rattle.o32_model.specs.Paths.{is_nul, path_at, path_limit};
+ghost use Rattle.o32_model.specs.Step.{Guest};
+ghost use Rattle.outside.specs.Streams.{NoCountFell, contents};
+
+use crate::numbers::{FSTAT, NEWFSTATAT};
+use crate::structures::Form;
+use crate::telling::{STATUS_SIZE, tell_call};
+use bridge_mem::fresh_room;
+use bridge_paths::{put_behind, read_path};
+use guest_space::Space;
+use host_mem::{FIRST_ADDRESS, HostMem};
+use kernel_core::{Bytes, Errno, Stop};
+use native_kernel::NativeKernel;
+use o32_model::{CallWords, Log, Outcome};
+use outside::{Devices, Sink, Source};
+use std::alloc::Global;
+
+/// AT_SYMLINK_NOFOLLOW, AT_NO_AUTOMOUNT and AT_EMPTY_PATH (Linux `include/uapi/linux/fcntl.h`).
+const FLAGS: u32 = 0x1900;
+
+/// fstat(2), fstat64(2): EBADF; EOVERFLOW for a status that the old structure can't hold; EFAULT.
+pub(crate) fn fstat<I: Source, O: Sink, E: Sink>(
+    words: &CallWords,
+    fd: u32,
+    buffer: u32,
+    form: Form,
+    space: &mut Space,
+    k: &mut NativeKernel,
+    mem: &mut HostMem,
+    dev: &mut Devices<I, O, E>,
+    log: &mut Log,
+) -> Result<Outcome, Stop>
+    ensures row { (guest : Guest) → guest.words ≡ words.now → guest.memory ≡ space.old
+        → IsCall (open_status form k.old guest fd buffer) result k.new space.new guest.processor
+        (contents I.left O.written E.written dev.old) (contents I.left O.written E.written dev.new) }
+    ensures kept { (guest : Guest) → guest.words ≡ words.now → guest.memory ≡ space.old
+        → KeepsCall (open_status form k.old guest fd buffer) result k.old guest (I.left dev.old.input) log.old log.new }
+    ensures cause { StopsOnlyIfRose I.faults O.faults E.faults result dev.old dev.new }
+    ensures counts { NoCountFell I.faults O.faults E.faults dev.old dev.new }
+{
+    k.files_valid();
+    fresh_room(mem, STATUS_SIZE)?;
+    let args = [u64::from(fd), FIRST_ADDRESS, 0, 0, 0, 0];
+    tell_call(words, buffer, form, space, k, FSTAT, args, mem, dev, log)
+}
+
+/// fstatat(2), of which stat(2) and lstat(2) are forms: EINVAL for flags other than AT_SYMLINK_NOFOLLOW,
+/// AT_NO_AUTOMOUNT and AT_EMPTY_PATH; what is wrong with the path; EOVERFLOW for a status that the old structure
+/// can't hold; EFAULT.
+pub(crate) fn fstatat<I: Source, O: Sink, E: Sink>(
+    alloc: Global,
+    words: &CallWords,
+    directory: u32,
+    address: u32,
+    buffer: u32,
+    flags: u32,
+    form: Form,
+    space: &mut Space,
+    k: &mut NativeKernel,
+    mem: &mut HostMem,
+    dev: &mut Devices<I, O, E>,
+    log: &mut Log,
+) -> Result<Outcome, Stop>
+    ensures row { (guest : Guest) → guest.words ≡ words.now → guest.memory ≡ space.old
+        → IsCall (path_status form k.old guest (base directory) address buffer flags) result k.new space.new guest.processor
+        (contents I.left O.written E.written dev.old) (contents I.left O.written E.written dev.new) }
+    ensures kept { (guest : Guest) → guest.words ≡ words.now → guest.memory ≡ space.old
+        → KeepsCall (path_status form k.old guest (base directory) address buffer flags) result k.old guest (I.left dev.old.input) log.old log.new }
+    ensures cause { StopsOnlyIfRose I.faults O.faults E.faults result dev.old dev.new }
+    ensures counts { NoCountFell I.faults O.faults E.faults dev.old dev.new }
+{
+    if !is_listed(flags) {
+        return Ok(Outcome::Error(Errno::EINVAL));
+    }
+    match read_path(alloc, space, address)? {
+        Err(error) => Ok(Outcome::Error(error)),
+        Ok(path) => path_status(
+            words, directory, address, &path, buffer, flags, form, space, k, mem, dev, log,
+        ),
+    }
+}
+
+/// Whether a number has no flags but those three.
+fn is_listed(flags: u32) -> bool
+    ensures { result ≡ is_listed flags }
+{
+    flags & FLAGS == flags
+}
+
+/// The same once the path is read.
+fn path_status<I: Source, O: Sink, E: Sink>(
+    words: &CallWords,
+    directory: u32,
+    address: u32,
+    path: &Bytes,
+    buffer: u32,
+    flags: u32,
+    form: Form,
+    space: &mut Space,
+    k: &mut NativeKernel,
+    mem: &mut HostMem,
+    dev: &mut Devices<I, O, E>,
+    log: &mut Log,
+) -> Result<Outcome, Stop>
+    requires found { path_at space.old address ≡ Ok path.now }
+    requires short { length path.now < path_limit }
+    requires plain { position is_nul path.now ≡ None }
+    ensures row { (guest : Guest) → guest.words ≡ words.now → guest.memory ≡ space.old
+        → IsCall (path_status form k.old guest (base directory) address buffer flags) result k.new space.new guest.processor
+        (contents I.left O.written E.written dev.old) (contents I.left O.written E.written dev.new) }
+    ensures kept { (guest : Guest) → guest.words ≡ words.now → guest.memory ≡ space.old
+        → KeepsCall (path_status form k.old guest (base directory) address buffer flags) result k.old guest (I.left dev.old.input) log.old log.new }
+    ensures cause { StopsOnlyIfRose I.faults O.faults E.faults result dev.old dev.new }
+    ensures counts { NoCountFell I.faults O.faults E.faults dev.old dev.new }
+{
+    k.files_valid();
+    let at = put_behind(mem, STATUS_SIZE, path)?;
+    let args = [
+        u64::from(directory),
+        at,
+        FIRST_ADDRESS,
+        u64::from(flags),
+        0,
+        0,
+    ];
+    tell_call(
+        words, buffer, form, space, k, NEWFSTATAT, args, mem, dev, log,
+    )
+}

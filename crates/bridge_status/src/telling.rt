@@ -1,0 +1,166 @@
+//! Calls that are one native call which tells a status.
+ghost use Rattle.std.specs.Prelude.{◌≡◌, ℕ, List, IfOk, IfSome, OnOk, Some, length, option_map};
+ghost use Rattle.bridge_log.specs.Keeping.{KeepsCall, reached};
+ghost use Rattle.bridge_status.specs.inside.Statuses.{shape_of, shown};
+ghost use Rattle.bridge_status.specs.inside.Tells.{Tells, memory_by, memory_told, outcome_by, outcome_told, status_there};
+ghost use Rattle.kernel_model.specs.Pipes.{Sent};
+ghost use Rattle.kernel_model.specs.Stops.{StopsOnlyIfRose};
+ghost use Rattle.mips_exec.specs.Processor.{Processor};
+ghost use Rattle.native_calls.specs.Table.{native_call};
+ghost use Rattle.native_kernel.specs.Built.{built_call};
+ghost use Rattle.o32_model.specs.Answered.{IsCall};
+ghost use Rattle.o32_model.specs.Effects.{Effected};
+ghost use Rattle.o32_model.specs.GuestBytes.{with_stored};
+ghost use Rattle.o32_model.specs.Step.{Guest, O32Step, stored};
+ghost use Rattle.outside.specs.Streams.{NoCountFell, contents};
+
+use crate::structures::{Form, is_too_wide, old_bytes, wide_bytes};
+use bridge_log::{native, outcome_of, put};
+use guest_space::Space;
+use host_mem::{FIRST_ADDRESS, HostMem};
+use kernel_core::{Errno, NoMemory, Reply, Stop};
+use native_kernel::NativeKernel;
+use o32_model::{CallWords, Log, Outcome};
+use outside::{Devices, Sink, Source};
+
+/// How many bytes a native status has (struct stat of Linux `include/uapi/asm-generic/stat.h`).
+pub(crate) const STATUS_SIZE: u32 = 128;
+
+/// Makes the native call that a call of the program is, where it tells a status at the first address of host memory,
+/// from where it then goes to the program's memory, whole or with EFAULT; one that the structure can't hold is
+/// EOVERFLOW. `row` and `kept` hold of every o32 call that this native call tells for.
+pub(crate) fn tell_call<I: Source, O: Sink, E: Sink>(
+    words: &CallWords,
+    address: u32,
+    form: Form,
+    space: &mut Space,
+    k: &mut NativeKernel,
+    nr: u64,
+    args: [u64; 6],
+    mem: &mut HostMem,
+    dev: &mut Devices<I, O, E>,
+    log: &mut Log,
+) -> Result<Outcome, Stop>
+    requires built { built_call nr ≡ native_call nr }
+    ensures row { (guest : Guest) (step : List ℕ → O32Step) → guest.words ≡ words.now → guest.memory ≡ space.old
+        → ((left : List ℕ) → Tells guest address form (native_call nr args k.old mem.old left) (step left))
+        → IsCall step result k.new space.new guest.processor
+        (contents I.left O.written E.written dev.old) (contents I.left O.written E.written dev.new) }
+    ensures kept { (guest : Guest) (step : List ℕ → O32Step) → guest.words ≡ words.now → guest.memory ≡ space.old
+        → ((left : List ℕ) → Tells guest address form (native_call nr args k.old mem.old left) (step left))
+        → KeepsCall step result k.old guest (I.left dev.old.input) log.old log.new }
+    ensures cause { StopsOnlyIfRose I.faults O.faults E.faults result dev.old dev.new }
+    ensures counts { NoCountFell I.faults O.faults E.faults dev.old dev.new }
+{
+    let reply = native(k, nr, args, mem, dev, log)?;
+    let outcome = tell(words, address, form, mem, reply, space, log)?;
+    Ok(outcome)
+}
+
+/// What the call comes to by a reply: the status is stored, or nothing after an error.
+fn tell(
+    words: &CallWords,
+    address: u32,
+    form: Form,
+    mem: &HostMem,
+    reply: Reply,
+    space: &mut Space,
+    log: &mut Log,
+) -> Result<Outcome, NoMemory>
+    ensures outcome { IfOk result (λ outcome. outcome ≡ outcome_told words.now space.old address form mem.now reply) }
+    ensures stored { OnOk result (space.new ≡ memory_told space.old address form mem.now reply) }
+    ensures effects { OnOk result ((processor : Processor) (sent : Sent)
+        → Effected log.old.effects log.new.effects (reached processor space.old.pages sent) (reached processor space.new.pages sent)) }
+    ensures native { log.new.native ≡ log.old.native }
+{
+    match reply {
+        Reply::Done(number) if number >= 0 => tell_there(address, form, mem, space, log),
+        _ => Ok(outcome_of(words, reply)),
+    }
+}
+
+/// What the call comes to by what stands in host memory.
+fn tell_there(
+    address: u32,
+    form: Form,
+    mem: &HostMem,
+    space: &mut Space,
+    log: &mut Log,
+) -> Result<Outcome, NoMemory>
+    ensures outcome { IfOk result (λ outcome. outcome ≡ outcome_by space.old address form (status_there mem.now)) }
+    ensures stored { OnOk result (space.new ≡ memory_by space.old address form (status_there mem.now)) }
+    ensures effects { OnOk result ((processor : Processor) (sent : Sent)
+        → Effected log.old.effects log.new.effects (reached processor space.old.pages sent) (reached processor space.new.pages sent)) }
+    ensures native { log.new.native ≡ log.old.native }
+{
+    match status_there(mem) {
+        Some(status) => tell_status(address, form, status, space, log),
+        None => Ok(Outcome::Error(Errno::EFAULT)),
+    }
+}
+
+/// The status that stands in host memory; None where it has too few bytes.
+fn status_there(mem: &HostMem) -> Option<&[u8]>
+    ensures there { option_map (λ status. status.now) result ≡ status_there mem.now }
+    ensures long { IfSome result (λ status. length status.now ≡ 128) }
+{
+    mem.read(FIRST_ADDRESS, u64::from(STATUS_SIZE))
+}
+
+/// What the call comes to by a status.
+fn tell_status(
+    address: u32,
+    form: Form,
+    status: &[u8],
+    space: &mut Space,
+    log: &mut Log,
+) -> Result<Outcome, NoMemory>
+    requires { length status.now ≡ 128 }
+    ensures outcome { IfOk result (λ outcome. outcome ≡ outcome_by space.old address form (Some status.now)) }
+    ensures stored { OnOk result (space.new ≡ memory_by space.old address form (Some status.now)) }
+    ensures effects { OnOk result ((processor : Processor) (sent : Sent)
+        → Effected log.old.effects log.new.effects (reached processor space.old.pages sent) (reached processor space.new.pages sent)) }
+    ensures native { log.new.native ≡ log.old.native }
+{
+    if is_too_wide(form, status) {
+        Ok(Outcome::Error(Errno::EOVERFLOW))
+    } else {
+        store_status(address, form, status, space, log)
+    }
+}
+
+/// Stores a status as a structure of the program.
+fn store_status(
+    address: u32,
+    form: Form,
+    status: &[u8],
+    space: &mut Space,
+    log: &mut Log,
+) -> Result<Outcome, NoMemory>
+    requires { length status.now ≡ 128 }
+    ensures outcome { IfOk result (λ outcome. outcome ≡ stored space.old address (shown (shape_of form) status.now)) }
+    ensures stored { OnOk result (space.new ≡ with_stored space.old address (shown (shape_of form) status.now)) }
+    ensures effects { OnOk result ((processor : Processor) (sent : Sent)
+        → Effected log.old.effects log.new.effects (reached processor space.old.pages sent) (reached processor space.new.pages sent)) }
+    ensures native { log.new.native ≡ log.old.native }
+{
+    match form {
+        Form::Old => store(address, &old_bytes(status), space, log),
+        Form::Wide => store(address, &wide_bytes(status), space, log),
+    }
+}
+
+/// Stores bytes whole, or nothing, which is EFAULT.
+fn store(address: u32, bytes: &[u8], space: &mut Space, log: &mut Log) -> Result<Outcome, NoMemory>
+    ensures outcome { IfOk result (λ outcome. outcome ≡ stored space.old address bytes.now) }
+    ensures stored { OnOk result (space.new ≡ with_stored space.old address bytes.now) }
+    ensures effects { OnOk result ((processor : Processor) (sent : Sent)
+        → Effected log.old.effects log.new.effects (reached processor space.old.pages sent) (reached processor space.new.pages sent)) }
+    ensures native { log.new.native ≡ log.old.native }
+{
+    if put(space, address, bytes, log)? {
+        Ok(Outcome::Value(0))
+    } else {
+        Ok(Outcome::Error(Errno::EFAULT))
+    }
+}
