@@ -1,8 +1,9 @@
 -- Turns that begin while a call waits.
-use Rattle.std.proofs.Common.{◌≡◌, ℕ, ◌+◌, ◌-◌, ◌^◌, ◌≤◌, Bool, true, false, List, [], Option, Some, None, refl, sym, ap, ◌∙◌, arith}
+use Rattle.std.proofs.Common.{◌≡◌, ℕ, ◌+◌, ◌-◌, ◌^◌, ◌≤◌, Bool, true, false, List, [], Option, Some, None, Result, Ok, refl, sym, ap, subst, ◌∙◌, arith}
 use Rattle.std.proofs.lemmas.Bool.Decides.{nat_tests}
-use Rattle.std.specs.Prelude.{IfSome, is_some, min, nat_le, if◌then◌else◌}
+use Rattle.std.specs.Prelude.{IfSome, ◌&&◌, is_none, is_some, min, nat_le, if◌then◌else◌}
 use Rattle.guest_space.specs.Memory.{Memory}
+use Rattle.kernel_core.specs.declared.core_error.NoMemory.{NoMemory}
 use Rattle.kernel_core.specs.declared.finish.Finish.TheVariants.{Killed}
 use Rattle.kernel_core.specs.declared.signal.Sig.{Sig}
 use Rattle.kernel_model.proofs.Advances.{clock_at}
@@ -17,7 +18,7 @@ use Rattle.number_tables.specs.Signals.{o32_signal}
 use Rattle.o32_machine.proofs.Turning.{moved, timed_is}
 use Rattle.o32_machine.specs.Answered.{attempt_of, unless_blocked}
 use Rattle.o32_machine.specs.Emulator.{machine_at}
-use Rattle.o32_machine.specs.inside.Stepping.{Steps}
+use Rattle.o32_machine.specs.inside.Stepping.{Goes, GoesThen, Steps}
 use Rattle.o32_model.specs.Turn.{Machine, Turn, after_fault, after_step, at_time, ends, executed, goes_on, is_blocked, is_over_at, jump_to, jumped, jumped_at, next_by, sooner, timed, turn_of, unless_asleep, wakes, woken, woken_by}
 use Rattle.o32_model.specs.declared.wait.Wait.{Wait}
 
@@ -130,3 +131,23 @@ pub jumps_so : (clock to : ℕ) (machine counted : Machine) (next : Option ℕ) 
 jumps_so clock to machine counted next next_is to_is counted_is =
     ap (machine_at to) counted_is
     ∙ ap (jumped_at (machine_at clock machine)) (to_is ∙ ap (jump_to clock) (next_is ∙ sym (next_at clock machine machine.wait)))
+
+-- a process to which something can come is not blocked
+
+nothing_both : (one : Bool) → (one && false) ≡ false
+nothing_both true = refl
+nothing_both false = refl
+
+pub awake_at : (clock : ℕ) (machine : Machine) → is_none (next_by machine machine.wait) ≡ false → is_blocked (machine_at clock machine) ≡ false
+awake_at clock machine some =
+    ap (λ (b : Bool). is_some machine.wait && b) (ap (λ (o : Option ℕ). is_none o) (next_at clock machine machine.wait) ∙ some) ∙ nothing_both (is_some machine.wait)
+
+-- one instruction alone
+pub steps_once : (k : ℕ) (processor : Processor) (memory : Memory) (result : Result Stepped NoMemory) (came : Stepped) (next : Processor) (stored : Memory) → k ≤ 0 → result ≡ Ok came
+    → GoesThen k processor memory result next stored → Steps processor memory came next stored
+unfolding Goes
+steps_once k processor memory result came next stored few is goes =
+    let none : k ≡ 0 = omega arith in
+    let at_once = subst (λ (n : ℕ). GoesThen n processor memory (Ok came) next stored) none (subst (λ (r : Result Stepped NoMemory). GoesThen k processor memory r next stored) is goes) in
+    subst (λ (p : Processor). Steps p memory came next stored) (sym at_once.2.0)
+    (subst (λ (m : Memory). Steps at_once.0 m came next stored) (sym at_once.2.1) at_once.3)

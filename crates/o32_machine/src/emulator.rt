@@ -205,7 +205,7 @@ impl Emulator {
         }
         let came = self.process.run(0).came?;
         let turn = self.process.end_turn(came, self.clock, dev)?;
-        self.clock += self.quantum;
+        self.clock = later(self.clock, self.quantum, 1);
         self.turns += 1;
         Ok(turn)
     }

@@ -21,9 +21,10 @@ use Rattle.o32_machine.specs.declared.turn.Turn.TheVariants.{Went, Ended}
 use Rattle.o32_model.specs.Built.{built_call}
 use Rattle.o32_model.specs.Runs.{IsOverAt, IsRunningAt, Reached, after_turn, reached, unless_blocked as or_blocked, unless_over}
 use Rattle.o32_model.specs.Step.{O32Step}
-use Rattle.o32_model.specs.Turn.{Machine, Turn, after_fault, after_outcome, after_step, guest_of, is_blocked, timed, turn_of}
+use Rattle.o32_model.specs.Turn.{Machine, Turn, after_fault, after_outcome, after_step, guest_of, is_blocked, seen_of, timed, turn_of, unless_asleep, woken}
 use Rattle.o32_model.specs.declared.outcome.Outcome.{Outcome}
 use Rattle.o32_model.specs.declared.outcome.Outcome.TheVariants as outcomes
+use Rattle.o32_model.specs.declared.wait.Wait.{Wait}
 use Rattle.o32_session.specs.inside.Runs.{IsCut, IsOver, IsSoFar}
 
 -- How a turn ends the process: by an exit or a signal alone
@@ -34,28 +35,32 @@ IsOwnEnd (Killed signal) = ⊤
 IsOwnEnd Budget = ⊥
 IsOwnEnd Blocked = ⊥
 
-own_end_of_outcome : (step : O32Step) (outcome : Outcome) (finish : Finish) → (after_outcome step outcome).over ≡ Some finish → IsOwnEnd finish
-own_end_of_outcome step (outcomes.Value value) finish over = absurd cc
-own_end_of_outcome step (outcomes.Pair first second) finish over = absurd cc
-own_end_of_outcome step (outcomes.Error error) finish over = absurd cc
-own_end_of_outcome step (outcomes.Sleep wait) finish over = absurd cc
-own_end_of_outcome step outcomes.Frame finish over = absurd cc
-own_end_of_outcome step (outcomes.Exit status) finish over = subst IsOwnEnd (let same : Exited status ≡ finish = cc in same) tt
+own_end_of_outcome : (idle : ℕ) (step : O32Step) (outcome : Outcome) (finish : Finish) → (after_outcome idle step outcome).over ≡ Some finish → IsOwnEnd finish
+own_end_of_outcome idle step (outcomes.Value value) finish over = absurd cc
+own_end_of_outcome idle step (outcomes.Pair first second) finish over = absurd cc
+own_end_of_outcome idle step (outcomes.Error error) finish over = absurd cc
+own_end_of_outcome idle step (outcomes.Sleep wait) finish over = absurd cc
+own_end_of_outcome idle step outcomes.Frame finish over = absurd cc
+own_end_of_outcome idle step (outcomes.Exit status) finish over = subst IsOwnEnd (let same : Exited status ≡ finish = cc in same) tt
 
-own_end_of_step : (processor : Processor) (memory : Memory) (kernel : Kernel) (left : List ℕ) (came : Stepped) (finish : Finish) → (after_step processor memory kernel left came).over ≡ Some finish → IsOwnEnd finish
-own_end_of_step processor memory kernel left Next finish over = absurd cc
-own_end_of_step processor memory kernel left Syscall finish over =
-    let step = built_call kernel (guest_of processor memory) left in own_end_of_outcome step step.outcome finish over
-own_end_of_step processor memory kernel left (Fault signal code address) finish over = absurd cc
+own_end_of_step : (idle : ℕ) (processor : Processor) (memory : Memory) (kernel : Kernel) (left : List ℕ) (came : Stepped) (finish : Finish) → (after_step idle processor memory kernel left came).over ≡ Some finish → IsOwnEnd finish
+own_end_of_step idle processor memory kernel left Next finish over = absurd cc
+own_end_of_step idle processor memory kernel left Syscall finish over =
+    let step = built_call (seen_of idle kernel) kernel (guest_of processor memory) left in own_end_of_outcome idle step step.outcome finish over
+own_end_of_step idle processor memory kernel left (Fault signal code address) finish over = absurd cc
 
 own_end_of_fault : (later : ℕ) (machine : Machine) (left : List ℕ) (fault : Option Sig) (finish : Finish) → (after_fault later machine left fault).over ≡ Some finish → IsOwnEnd finish
 own_end_of_fault later machine left None finish over =
-    let step = step_of machine.processor machine.memory in own_end_of_step step.processor step.memory machine.kernel left step.came finish over
+    let step = step_of machine.processor machine.memory in own_end_of_step machine.idle step.processor step.memory machine.kernel left step.came finish over
 own_end_of_fault later machine left (Some signal) finish over = subst IsOwnEnd (let same : Killed (o32_signal signal) ≡ finish = cc in same) tt
+
+own_end_asleep : (later : ℕ) (machine : Machine) (left : List ℕ) (wait : Option Wait) (finish : Finish) → (unless_asleep later machine left wait).over ≡ Some finish → IsOwnEnd finish
+own_end_asleep later machine left None finish over = own_end_of_fault later machine left machine.fault finish over
+own_end_asleep later machine left (Some wait) finish over = absurd cc
 
 own_end : (quantum : ℕ) (machine : Machine) (left : List ℕ) (finish : Finish) → (turn_of quantum machine left).over ≡ Some finish → IsOwnEnd finish
 unfolding turn_of
-own_end quantum machine left finish over = own_end_of_fault (machine.kernel.clock + quantum) (timed machine) left machine.fault finish over
+own_end quantum machine left finish over = own_end_asleep (machine.kernel.clock + quantum) (woken (timed machine)) left (woken (timed machine)).wait finish over
 
 -- what an attempt finds, by how it ends
 
