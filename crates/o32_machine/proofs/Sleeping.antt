@@ -138,9 +138,13 @@ nothing_both : (one : Bool) → (one && false) ≡ false
 nothing_both true = refl
 nothing_both false = refl
 
-pub awake_at : (clock : ℕ) (machine : Machine) → is_none (next_by machine machine.wait) ≡ false → is_blocked (machine_at clock machine) ≡ false
-awake_at clock machine some =
-    ap (λ (b : Bool). is_some machine.wait && b) (ap (λ (o : Option ℕ). is_none o) (next_at clock machine machine.wait) ∙ some) ∙ nothing_both (is_some machine.wait)
+some_is_there : (found : Option ℕ) → is_some found ≡ true → is_none found ≡ false
+some_is_there None there = absurd cc
+some_is_there (Some time) there = refl
+
+pub awake_at : (clock : ℕ) (machine : Machine) → is_some (next_by machine machine.wait) ≡ true → is_blocked (machine_at clock machine) ≡ false
+awake_at clock machine there =
+    ap (λ (b : Bool). is_some machine.wait && b) (ap (λ (o : Option ℕ). is_none o) (next_at clock machine machine.wait) ∙ some_is_there (next_by machine machine.wait) there) ∙ nothing_both (is_some machine.wait)
 
 -- one instruction alone
 pub steps_once : (k : ℕ) (processor : Processor) (memory : Memory) (result : Result Stepped NoMemory) (came : Stepped) (next : Processor) (stored : Memory) → k ≤ 0 → result ≡ Ok came

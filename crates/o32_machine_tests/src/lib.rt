@@ -10,4 +10,6 @@ mod mappings;
 #[cfg(test)]
 mod runs;
 #[cfg(test)]
+mod sleeping;
+#[cfg(test)]
 mod words;

@@ -144,6 +144,8 @@ pub(crate) const MSYNC: u32 = 4144;
 
 pub(crate) const READV: u32 = 4145;
 
+pub(crate) const NANOSLEEP: u32 = 4166;
+
 pub(crate) const MREMAP: u32 = 4167;
 
 pub(crate) const MMAP2: u32 = 4210;
@@ -151,6 +153,8 @@ pub(crate) const MMAP2: u32 = 4210;
 pub(crate) const MADVISE: u32 = 4218;
 
 pub(crate) const EXIT_GROUP: u32 = 4246;
+
+pub(crate) const CLOCK_GETTIME: u32 = 4263;
 
 pub(crate) const SET_THREAD_AREA: u32 = 4283;
 

@@ -1,6 +1,6 @@
 -- A turn that begins while a call waits.
 use Rattle.std.proofs.Common.{◌≡◌, ◌∙◌, ℕ, ◌+◌, Option, ap, arith, subst, sym}
-use Rattle.std.specs.Prelude.{is_none}
+use Rattle.std.specs.Prelude.{is_some, not}
 use Rattle.outside.specs.Streams.{contents}
 use Rattle.o32_machine.proofs.Sleeping.{awake_at, executes_awake, jumps, kills_awake, steps_once}
 use Rattle.o32_machine.proofs.Turning.{at_time_answers, at_time_stopped, no_wait, quiet_turn, stops}
@@ -15,7 +15,7 @@ pub returns-then-waits-clause-turn : goal.returns-then-waits-clause-turn
 returns-then-waits-clause-turn g c = λ left told.
     let machine = c.self.inside.process in
     let clock = c.self.inside.clock in
-    let awake = awake_at clock machine (sym (c.is_none.ensures ∙ ap (λ (o : Option ℕ). is_none o) c.next_time.ensures.time) ∙ c.if-is_none.false) in
+    let awake = awake_at clock machine (sym (ap (λ (o : Option ℕ). is_some o) c.next_time.ensures.time) ∙ c.is_none.ensures ∙ ap not c.if-is_none.false) in
     let is = ap (λ (e : Emulated). attempt_of e.quantum e.machine left) (sym c.self.view_is)
     ∙ jumps clock machine c.advance.new.self c.wake.new.self c.in_ok-advance.ensures.moved c.wake.ensures.woken c.self.inside.quantum left awake (sym c.waits.ensures ∙ c.if-waits.true) in
     quiet_turn (attempt_of c.args.self.now.quantum c.args.self.now.machine left) Went c.jump.new.self.machine (contents g.I.Source.left g.O.Sink.written g.E.Sink.written c.args.dev.now) left told
@@ -25,7 +25,7 @@ pub returns-in-Some-clause-turn : goal.returns-in-Some-clause-turn
 returns-in-Some-clause-turn g c = λ left told.
     let machine = c.self.inside.process in
     let clock = c.self.inside.clock in
-    let awake = awake_at clock machine (sym (c.is_none.ensures ∙ ap (λ (o : Option ℕ). is_none o) c.next_time.ensures.time) ∙ c.if-is_none.false) in
+    let awake = awake_at clock machine (sym (ap (λ (o : Option ℕ). is_some o) c.next_time.ensures.time) ∙ c.is_none.ensures ∙ ap not c.if-is_none.false) in
     let up = no_wait c.wake.new.self.wait (sym c.waits.ensures ∙ c.if-waits.false) in
     let is = ap (λ (e : Emulated). attempt_of e.quantum e.machine left) (sym c.self.view_is)
     ∙ kills_awake clock machine c.advance.new.self c.wake.new.self c.in_ok-advance.ensures.moved c.wake.ensures.woken c.self.inside.quantum left awake up c.take_fault.new.self c.in-Some.signal c.to_o32.result
@@ -41,7 +41,7 @@ pub returns-in_err-turn-clause-turn : goal.returns-in_err-turn-clause-turn
 returns-in_err-turn-clause-turn g c = λ left told.
     let machine = c.self.inside.process in
     let clock = c.self.inside.clock in
-    let awake = awake_at clock machine (sym (c.is_none.ensures ∙ ap (λ (o : Option ℕ). is_none o) c.next_time.ensures.time) ∙ c.if-is_none.false) in
+    let awake = awake_at clock machine (sym (ap (λ (o : Option ℕ). is_some o) c.next_time.ensures.time) ∙ c.is_none.ensures ∙ ap not c.if-is_none.false) in
     let up = no_wait c.wake.new.self.wait (sym c.waits.ensures ∙ c.if-waits.false) in
     let ran = c.run.new.self in
     let step = steps_once c.run.result.quiet c.take_fault.new.self.processor c.take_fault.new.self.memory c.run.result.came c.in_ok-came.came ran.processor ran.memory c.run.ensures.few c.in_ok-came.was c.run.ensures.last in
@@ -58,7 +58,7 @@ pub returns-clause-turn : goal.returns-clause-turn
 returns-clause-turn g c = λ left told.
     let machine = c.self.inside.process in
     let clock = c.self.inside.clock in
-    let awake = awake_at clock machine (sym (c.is_none.ensures ∙ ap (λ (o : Option ℕ). is_none o) c.next_time.ensures.time) ∙ c.if-is_none.false) in
+    let awake = awake_at clock machine (sym (ap (λ (o : Option ℕ). is_some o) c.next_time.ensures.time) ∙ c.is_none.ensures ∙ ap not c.if-is_none.false) in
     let up = no_wait c.wake.new.self.wait (sym c.waits.ensures ∙ c.if-waits.false) in
     let ran = c.run.new.self in
     let step = steps_once c.run.result.quiet c.take_fault.new.self.processor c.take_fault.new.self.memory c.run.result.came c.in_ok-came.came ran.processor ran.memory c.run.ensures.few c.in_ok-came.was c.run.ensures.last in
