@@ -1,106 +1,159 @@
-//! The image that programs run over, byte by byte as `docs/RULES.md` has it.
+//! The images that programs run over, byte by byte as `docs/RULES.md` has them.
+//!
+//! A tree is the number of its nodes, and each node its number, its kind, its mode and when it was modified, in seconds; then of a
+//! directory the number of its entries, and of each its cookie, its name and its node; of a file its size and what it begins with,
+//! or `-`; and of a link its text.
+use crate::numbers::number_of;
 use std::alloc::{AllocError, Global};
-
-/// An entry of a directory: its cookie, its name and the number of its node.
-pub(crate) type Entry = (u32, &'static str, u64);
-
-/// What a node of an image is.
-#[derive(Clone, Copy)]
-pub(crate) enum Content {
-    /// A regular file of this size that begins with these bytes, at most one block of them.
-    File(u64, &'static [u8]),
-    Directory(&'static [Entry]),
-    /// A symbolic link to this text.
-    Link(&'static str),
-}
-
-/// A node: its number, its mode, when it was modified, in seconds, and what it is.
-pub(crate) type Node = (u64, u16, i64, Content);
-
-const BLOCK: usize = 4096;
+use std::test::Fail;
 
 /// The tree of most programs: two files and an empty one in a directory `d`, links, a file whose number takes more than 32 bits, and
 /// one of 2^31 bytes.
-pub(crate) static TREE: [Node; 9] = [
-    (
-        1,
-        0o755,
-        1,
-        Content::Directory(&[
-            (3, "d", 2),
-            (4, "f", 3),
-            (5, "l", 4),
-            (6, "o", 5),
-            (7, "big", 6),
-            (8, "wide", 0x1_0000_0001),
-        ]),
-    ),
-    (
-        2,
-        0o755,
-        1,
-        Content::Directory(&[(3, "a", 7), (4, "bb", 8)]),
-    ),
-    (3, 0o644, 1, Content::File(5, b"hello")),
-    (4, 0o777, 1, Content::Link("f")),
-    (5, 0o777, 1, Content::Link("o")),
-    (6, 0o644, 1, Content::File(0x8000_0000, b"")),
-    (7, 0o600, 1, Content::File(0, b"")),
-    (8, 0o600, 1, Content::File(0, b"")),
-    (0x1_0000_0001, 0o644, 1, Content::File(0, b"")),
-];
+pub(crate) const TREE: &str = "9
+    1 directory 0o755 1 6 3 d 2 4 f 3 5 l 4 6 o 5 7 big 6 8 wide 0x100000001
+    2 directory 0o755 1 2 3 a 7 4 bb 8
+    3 file 0o644 1 5 hello
+    4 link 0o777 1 f
+    5 link 0o777 1 o
+    6 file 0o644 1 0x80000000 -
+    7 file 0o600 1 0 -
+    8 file 0o600 1 0 -
+    0x100000001 file 0o644 1 0 -
+";
 
-fn push_file(image: &mut Vec<u8>, size: u64, bytes: &[u8]) -> Result<(), AllocError> {
-    image.extend_from_slice(&size.to_be_bytes())?;
-    if bytes.is_empty() {
-        return image.extend_from_slice(&[0; 4]);
+const BLOCK: usize = 4096;
+
+/// The words of a tree that are left.
+#[derive(Drop)]
+struct Words<'a> {
+    words: &'a [&'a str],
+    place: usize,
+}
+
+impl<'a> Words<'a> {
+    fn next(&mut self) -> Result<&'a str, Fail> {
+        let word = *self.words.get(self.place).ok_or("a word is missing")?;
+        self.place = self.place.saturating_add(1);
+        Ok(word)
     }
+
+    fn number(&mut self) -> Result<u64, Fail> {
+        let word = self.next()?;
+        Ok(number_of(word).ok_or("no number")?)
+    }
+}
+
+/// The low four bytes of a number.
+fn push_word(image: &mut Vec<u8>, number: u64) -> Result<(), AllocError> {
+    image.extend_from_slice(&((number % 0x1_0000_0000) as u32).to_be_bytes())
+}
+
+/// The low two bytes of a number.
+fn push_half(image: &mut Vec<u8>, number: u64) -> Result<(), AllocError> {
+    image.extend_from_slice(&((number % 0x1_0000) as u16).to_be_bytes())
+}
+
+/// One block, with zeros behind the text.
+fn push_block(image: &mut Vec<u8>, text: &str) -> Result<(), AllocError> {
     image.extend_from_slice(&[0, 0, 0, 1, 0, 0, 0, 0])?;
     let end = image.len().saturating_add(BLOCK);
-    image.extend_from_slice(bytes)?;
+    image.extend_from_slice(text.as_bytes())?;
     image.resize(end, 0)
 }
 
-fn push_directory(image: &mut Vec<u8>, entries: &[Entry]) -> Result<(), AllocError> {
-    image.extend_from_slice(&(entries.len() as u32).to_be_bytes())?;
-    for (cookie, name, node) in entries {
-        image.extend_from_slice(&cookie.to_be_bytes())?;
-        image.push((name.len() % 256) as u8)?;
-        image.extend_from_slice(name.as_bytes())?;
-        image.extend_from_slice(&node.to_be_bytes())?;
+fn push_file(image: &mut Vec<u8>, words: &mut Words) -> Result<(), Fail> {
+    let size = words.number()?;
+    let text = words.next()?;
+    image.extend_from_slice(&size.to_be_bytes())?;
+    if text == "-" {
+        push_word(image, 0)?;
+    } else {
+        push_block(image, text)?;
     }
     Ok(())
 }
 
-fn push_link(image: &mut Vec<u8>, target: &str) -> Result<(), AllocError> {
-    image.extend_from_slice(&((target.len() % 0x1_0000) as u16).to_be_bytes())?;
-    image.extend_from_slice(target.as_bytes())
+fn push_named(image: &mut Vec<u8>, cookie: u64, name: &str, node: u64) -> Result<(), AllocError> {
+    push_word(image, cookie)?;
+    image.push((name.len() % 256) as u8)?;
+    image.extend_from_slice(name.as_bytes())?;
+    image.extend_from_slice(&node.to_be_bytes())
 }
 
-fn push_node(image: &mut Vec<u8>, node: &Node) -> Result<(), AllocError> {
-    let (number, mode, modified, content) = *node;
-    let kind = match content {
-        Content::File(..) => 1,
-        Content::Directory(_) => 2,
-        Content::Link(_) => 3,
-    };
-    image.extend_from_slice(&number.to_be_bytes())?;
-    image.push(kind)?;
-    image.extend_from_slice(&mode.to_be_bytes())?;
-    image.extend_from_slice(&modified.to_be_bytes())?;
-    match content {
-        Content::File(size, bytes) => push_file(image, size, bytes),
-        Content::Directory(entries) => push_directory(image, entries),
-        Content::Link(target) => push_link(image, target),
+fn push_entry(image: &mut Vec<u8>, words: &mut Words) -> Result<(), Fail> {
+    let cookie = words.number()?;
+    let name = words.next()?;
+    let node = words.number()?;
+    push_named(image, cookie, name, node)?;
+    Ok(())
+}
+
+fn push_directory(image: &mut Vec<u8>, words: &mut Words) -> Result<(), Fail> {
+    let count = words.number()?;
+    push_word(image, count)?;
+    for _ in 0..count {
+        push_entry(image, words)?;
+    }
+    Ok(())
+}
+
+fn push_link(image: &mut Vec<u8>, words: &mut Words) -> Result<(), Fail> {
+    let target = words.next()?;
+    push_half(image, target.len() as u64)?;
+    image.extend_from_slice(target.as_bytes())?;
+    Ok(())
+}
+
+/// The number of a kind.
+fn kind_of(word: &str) -> u8 {
+    if word == "file" {
+        1
+    } else if word == "directory" {
+        2
+    } else {
+        3
     }
 }
 
-/// The image of these nodes.
-pub(crate) fn image_of(alloc: Global, nodes: &[Node]) -> Result<Vec<u8>, AllocError> {
+/// What each node begins with.
+fn push_head(
+    image: &mut Vec<u8>,
+    number: u64,
+    kind: u8,
+    mode: u64,
+    modified: u64,
+) -> Result<(), AllocError> {
+    image.extend_from_slice(&number.to_be_bytes())?;
+    image.push(kind)?;
+    push_half(image, mode)?;
+    image.extend_from_slice(&modified.to_be_bytes())
+}
+
+fn push_node(image: &mut Vec<u8>, words: &mut Words) -> Result<(), Fail> {
+    let number = words.number()?;
+    let kind = kind_of(words.next()?);
+    let mode = words.number()?;
+    let modified = words.number()?;
+    push_head(image, number, kind, mode, modified)?;
+    match kind {
+        1 => push_file(image, words),
+        2 => push_directory(image, words),
+        _ => push_link(image, words),
+    }
+}
+
+/// The image of a tree.
+pub(crate) fn image_of(alloc: Global, tree: &str) -> Result<Vec<u8>, Fail> {
+    let items: Vec<&str> = tree.split_whitespace().collect(alloc)?;
+    let mut words = Words {
+        words: items.as_slice(),
+        place: 0,
+    };
     let mut image = Vec::from_slice(alloc, b"O32IMG1\n")?;
-    image.extend_from_slice(&(nodes.len() as u32).to_be_bytes())?;
-    for node in nodes {
-        push_node(&mut image, node)?;
+    let count = words.number()?;
+    push_word(&mut image, count)?;
+    for _ in 0..count {
+        push_node(&mut image, &mut words)?;
     }
     Ok(image)
 }

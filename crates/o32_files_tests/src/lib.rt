@@ -1,12 +1,12 @@
-//! Tests of the calls on files: programs that make them, over an image, by whole sessions.
+//! Tests of the calls on files, clocks and sleep: programs that make them, over an image, by whole sessions.
 #![tactic(auto)]
 
 #[cfg(test)]
-mod calls;
+mod clock;
 #[cfg(test)]
 mod entries;
 #[cfg(test)]
-mod errors;
+mod guest;
 #[cfg(test)]
 mod image;
 #[cfg(test)]
@@ -20,7 +20,7 @@ mod numbers;
 #[cfg(test)]
 mod opening;
 #[cfg(test)]
-mod paths;
+mod script;
 #[cfg(test)]
 mod sessions;
 #[cfg(test)]

@@ -1,102 +1,112 @@
-//! The numbers of calls (Linux `arch/mips/include/uapi/asm/unistd.h`, the o32 table).
+//! What the words of a script and of a tree stand for.
 
-pub(crate) const READ: u32 = 4003;
+/// Names, each with its number behind it: calls (Linux `arch/mips/include/uapi/asm/unistd.h`, the o32 table); errors (Linux
+/// `include/uapi/asm-generic/errno-base.h`, `arch/mips/include/uapi/asm/errno.h`); flags (Linux `arch/mips/include/uapi/asm/fcntl.h`
+/// and `mman.h`, `include/uapi/linux/fcntl.h`); and places in a program's data.
+const NAMES: &str = "
+    time 4013 gettimeofday 4078 nanosleep 4166 exit_group 4246 clock_gettime 4263 clock_getres 4264 clock_nanosleep 4265
+    read 4003 write 4004 open 4005 close 4006 creat 4008 link 4009 unlink 4010 chdir 4012 chmod 4015 lseek 4019
+    access 4033 rename 4038 mkdir 4039 rmdir 4040 pipe 4042 brk 4045 ioctl 4054 umask 4060 symlink 4083 readlink 4085
+    munmap 4091 truncate 4092 ftruncate 4093 fchmod 4094 stat 4106 lstat 4107 fstat 4108 fsync 4118 fchdir 4133
+    llseek 4140 getdents 4141 writev 4146 fdatasync 4152 getcwd 4203 mmap2 4210 truncate64 4211 ftruncate64 4212
+    stat64 4213 lstat64 4214 fstat64 4215 getdents64 4219 set_tid_address 4252 set_thread_area 4283 openat 4288
+    mkdirat 4289 fstatat64 4293 unlinkat 4294 renameat 4295 linkat 4296 symlinkat 4297 readlinkat 4298 fchmodat 4299
+    faccessat 4300 utimensat 4316
 
-pub(crate) const WRITE: u32 = 4004;
+    eperm 1 enoent 2 ebadf 9 eacces 13 efault 14 ebusy 16 eexist 17 enodev 19 enotdir 20 eisdir 21 einval 22 emfile 24
+    enotty 25 efbig 27 espipe 29 erange 34 enametoolong 78 eoverflow 79 eloop 90 enotempty 93
 
-pub(crate) const OPEN: u32 = 4005;
+    o_wronly 1 o_rdwr 2 o_creat 0x100 o_trunc 0x200 o_excl 0x400 o_largefile 0x2000 o_directory 0x10000 o_nofollow 0x20000
+    map_shared 1 map_private 2 at_fdcwd 0xFFFFFF9C at_symlink_nofollow 0x100 at_removedir 0x200 at_symlink_follow 0x400
+    at_no_automount 0x800 at_empty_path 0x1000
 
-pub(crate) const CLOSE: u32 = 4006;
+    long 0x410800 times 0x410C00 now_and_leave 0x410C10 wrong_times 0x410C20 second 0x410C28 room 0x411000 no_nul 0x412000 end 0x413000
+";
 
-pub(crate) const CREAT: u32 = 4008;
+/// Paths. The empty one stands at the beginning of a program's data, and behind it each of these in a place of 32 bytes.
+pub(crate) const PATHS: &str = "
+    / /f /d /d/a /d/bb /d/n /d/ /d/. /d/.. /f/ /f/x /l /l/ /o /n /n/ /m /big /wide /none /none/x a f n ..
+";
 
-pub(crate) const LINK: u32 = 4009;
+/// The page where a program's data begin.
+pub(crate) const DATA: u32 = 0x41_0000;
 
-pub(crate) const UNLINK: u32 = 4010;
+/// What a digit stands for, up to 15.
+pub(crate) fn digit(byte: u8) -> Option<u8> {
+    match byte {
+        b'0'..=b'9' => Some(byte - b'0'),
+        b'a'..=b'f' => Some(byte - b'a' + 10),
+        b'A'..=b'F' => Some(byte - b'A' + 10),
+        _ => None,
+    }
+}
 
-pub(crate) const CHDIR: u32 = 4012;
+/// A number in digits of a radix.
+fn of_digits(digits: &str, radix: u64) -> Option<u64> {
+    if digits.is_empty() {
+        return None;
+    }
+    let mut number: u64 = 0;
+    for byte in digits.as_bytes() {
+        let next = u64::from(digit(*byte)?);
+        if next >= radix {
+            return None;
+        }
+        number = number.wrapping_mul(radix).wrapping_add(next);
+    }
+    Some(number)
+}
 
-pub(crate) const CHMOD: u32 = 4015;
+/// A number in decimal digits, in hexadecimal ones behind `0x`, or in octal ones behind `0o`.
+pub(crate) fn number_of(word: &str) -> Option<u64> {
+    if let Some(digits) = word.strip_prefix("0x") {
+        return of_digits(digits, 16);
+    }
+    if let Some(digits) = word.strip_prefix("0o") {
+        return of_digits(digits, 8);
+    }
+    of_digits(word, 10)
+}
 
-pub(crate) const LSEEK: u32 = 4019;
+/// The low half of a number.
+fn low(number: u64) -> u32 {
+    (number % 0x1_0000_0000) as u32
+}
 
-pub(crate) const ACCESS: u32 = 4033;
+/// The number of a name.
+fn named(word: &str) -> Option<u32> {
+    let mut is_next = false;
+    for item in NAMES.split_whitespace() {
+        if is_next {
+            return Some(low(number_of(item)?));
+        }
+        is_next = item == word;
+    }
+    None
+}
 
-pub(crate) const RENAME: u32 = 4038;
+/// The address of a path.
+fn address_of(path: &str) -> Option<u32> {
+    let mut address = DATA;
+    if path.is_empty() {
+        return Some(address);
+    }
+    for item in PATHS.split_whitespace() {
+        address = address.saturating_add(0x20);
+        if item == path {
+            return Some(address);
+        }
+    }
+    None
+}
 
-pub(crate) const MKDIR: u32 = 4039;
-
-pub(crate) const RMDIR: u32 = 4040;
-
-pub(crate) const PIPE: u32 = 4042;
-
-pub(crate) const UMASK: u32 = 4060;
-
-pub(crate) const SYMLINK: u32 = 4083;
-
-pub(crate) const READLINK: u32 = 4085;
-
-pub(crate) const MUNMAP: u32 = 4091;
-
-pub(crate) const TRUNCATE: u32 = 4092;
-
-pub(crate) const FTRUNCATE: u32 = 4093;
-
-pub(crate) const FCHMOD: u32 = 4094;
-
-pub(crate) const STAT: u32 = 4106;
-
-pub(crate) const LSTAT: u32 = 4107;
-
-pub(crate) const FSTAT: u32 = 4108;
-
-pub(crate) const FSYNC: u32 = 4118;
-
-pub(crate) const FCHDIR: u32 = 4133;
-
-pub(crate) const LLSEEK: u32 = 4140;
-
-pub(crate) const GETDENTS: u32 = 4141;
-
-pub(crate) const FDATASYNC: u32 = 4152;
-
-pub(crate) const GETCWD: u32 = 4203;
-
-pub(crate) const MMAP2: u32 = 4210;
-
-pub(crate) const TRUNCATE64: u32 = 4211;
-
-pub(crate) const FTRUNCATE64: u32 = 4212;
-
-pub(crate) const STAT64: u32 = 4213;
-
-pub(crate) const LSTAT64: u32 = 4214;
-
-pub(crate) const FSTAT64: u32 = 4215;
-
-pub(crate) const GETDENTS64: u32 = 4219;
-
-pub(crate) const OPENAT: u32 = 4288;
-
-pub(crate) const MKDIRAT: u32 = 4289;
-
-pub(crate) const FSTATAT64: u32 = 4293;
-
-pub(crate) const UNLINKAT: u32 = 4294;
-
-pub(crate) const RENAMEAT: u32 = 4295;
-
-pub(crate) const LINKAT: u32 = 4296;
-
-pub(crate) const SYMLINKAT: u32 = 4297;
-
-pub(crate) const READLINKAT: u32 = 4298;
-
-pub(crate) const FCHMODAT: u32 = 4299;
-
-pub(crate) const FACCESSAT: u32 = 4300;
-
-pub(crate) const UTIMENSAT: u32 = 4316;
-
-/// AT_FDCWD (Linux `include/uapi/linux/fcntl.h`): a path begins at the working directory.
-pub(crate) const HERE: u32 = 0xFFFF_FF9C;
+/// What a word stands for: the address of the path behind `'`, a number, or a name.
+pub(crate) fn value(word: &str) -> Option<u32> {
+    if let Some(path) = word.strip_prefix("'") {
+        return address_of(path);
+    }
+    match number_of(word) {
+        Some(number) => Some(low(number)),
+        None => named(word),
+    }
+}

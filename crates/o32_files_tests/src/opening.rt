@@ -1,262 +1,149 @@
 //! open(2), openat(2), creat(2), and places in files: lseek(2), _llseek(2).
-use crate::calls::{Call, Gives, TAKE_ALL_DESCRIPTORS};
-use crate::errors::{
-    EBADF, EEXIST, EFAULT, EFBIG, EINVAL, EISDIR, ELOOP, EMFILE, ENAMETOOLONG, ENOENT, ENOTDIR,
-    EOVERFLOW, ESPIPE,
-};
-use crate::image::{Content, Node, TREE};
-use crate::numbers::{
-    CLOSE, CREAT, FSTAT, FSTAT64, HERE, LLSEEK, LSEEK, OPEN, OPENAT, PIPE, READ, UMASK, UNLINK,
-    WRITE,
-};
-use crate::paths::{
-    BELOW_FILE, BELOW_NONE, BIG, DIRECTORY, EMPTY, END, FILE, FILE_FROM_HERE, FILE_SLASH,
-    FIRST_FROM_HERE, FIRST_IN_DIRECTORY, LONG_NAME, NEW, NO_NUL, NONE, OTHER, ROOM, TO_FILE,
-    TO_ITSELF,
-};
-use crate::sessions::{Run, first_wrong, first_wrong_behind};
-use Gives::{Error, Value};
+use crate::guest::TAKE_ALL_DESCRIPTORS;
+use crate::image::TREE;
+use crate::sessions::{first_wrong, first_wrong_saving};
 use std::test::Fail;
-
-// Flags (Linux `arch/mips/include/uapi/asm/fcntl.h`).
-
-const WRITING: u32 = 1;
-
-const BOTH: u32 = 2;
-
-const CREATE: u32 = 0x100;
-
-const TRUNCATE: u32 = 0x200;
-
-const EXCLUSIVE: u32 = 0x400;
-
-const LARGE: u32 = 0x2000;
-
-const DIRECTORY_ALONE: u32 = 0x1_0000;
-
-const NO_FOLLOW: u32 = 0x2_0000;
 
 /// A new descriptor is the least that is free. EINVAL comes for the access mode 3, a flag that is none, and O_CREAT with O_DIRECTORY,
 /// before what is wrong with the path.
-static OPENED: [Call; 16] = [
-    (OPEN, [FILE, 0, 0, 0, 0, 0], Value(3)),
-    (OPEN, [TO_FILE, BOTH, 0, 0, 0, 0], Value(4)),
-    (CLOSE, [3, 0, 0, 0, 0, 0], Value(0)),
-    (OPEN, [DIRECTORY, 0, 0, 0, 0, 0], Value(3)),
-    (OPENAT, [3, FIRST_FROM_HERE, 0, 0, 0, 0], Value(5)),
-    (OPENAT, [HERE, FILE_FROM_HERE, 0, 0, 0, 0], Value(6)),
-    (OPENAT, [99, FILE, 0, 0, 0, 0], Value(7)),
-    (OPENAT, [99, FILE_FROM_HERE, 0, 0, 0, 0], Error(EBADF)),
-    (OPENAT, [4, FILE_FROM_HERE, 0, 0, 0, 0], Error(ENOTDIR)),
-    (READ, [4, ROOM, 9, 0, 0, 0], Value(5)),
-    (WRITE, [1, ROOM, 5, 0, 0, 0], Value(5)),
-    (OPEN, [END, 3, 0, 0, 0, 0], Error(EINVAL)),
-    (OPEN, [END, 0x20, 0, 0, 0, 0], Error(EINVAL)),
-    (
-        OPEN,
-        [END, CREATE | DIRECTORY_ALONE, 0, 0, 0, 0],
-        Error(EINVAL),
-    ),
-    (OPEN, [END, 0, 0, 0, 0, 0], Error(EFAULT)),
-    (OPEN, [EMPTY, 0, 0, 0, 0, 0], Error(ENOENT)),
-];
+const OPENED: &str = "
+    open '/f = 3
+    open '/l o_rdwr = 4
+    close 3 = 0
+    open '/d = 3
+    openat 3 'a = 5
+    openat at_fdcwd 'f = 6
+    openat 99 '/f = 7
+    openat 99 'f ! ebadf
+    openat 4 'f ! enotdir
+    read 4 room 9 = 5
+    show room 5 : 68656c6c6f
+    open end 3 ! einval
+    open end 0x20 ! einval
+    open end o_creat + o_directory ! einval
+    open end ! efault
+    open ' ! enoent
+";
 
 /// Paths that lead nowhere. A path has at most 4095 bytes before its NUL; one that ends at a page that is not there is no path.
-static NOT_FOUND: [Call; 11] = [
-    (OPEN, [NONE, 0, 0, 0, 0, 0], Error(ENOENT)),
-    (
-        OPEN,
-        [BELOW_NONE, CREATE | WRITING, 0o644, 0, 0, 0],
-        Error(ENOENT),
-    ),
-    (OPEN, [BELOW_FILE, 0, 0, 0, 0, 0], Error(ENOTDIR)),
-    (OPEN, [FILE_SLASH, 0, 0, 0, 0, 0], Error(ENOTDIR)),
-    (OPEN, [TO_ITSELF, 0, 0, 0, 0, 0], Error(ELOOP)),
-    (OPEN, [TO_FILE, NO_FOLLOW, 0, 0, 0, 0], Error(ELOOP)),
-    (OPEN, [TO_FILE, DIRECTORY_ALONE, 0, 0, 0, 0], Error(ENOTDIR)),
-    (
-        OPEN,
-        [TO_FILE, NO_FOLLOW | DIRECTORY_ALONE, 0, 0, 0, 0],
-        Error(ENOTDIR),
-    ),
-    (OPEN, [LONG_NAME, 0, 0, 0, 0, 0], Error(ENAMETOOLONG)),
-    (OPEN, [NO_NUL, 0, 0, 0, 0, 0], Error(ENAMETOOLONG)),
-    (OPEN, [NO_NUL + 1, 0, 0, 0, 0, 0], Error(EFAULT)),
-];
+const NOT_FOUND: &str = "
+    open '/none ! enoent
+    open '/none/x o_creat + o_wronly 0o644 ! enoent
+    open '/f/x ! enotdir
+    open '/f/ ! enotdir
+    open '/o ! eloop
+    open '/l o_nofollow ! eloop
+    open '/l o_directory ! enotdir
+    open '/l o_nofollow + o_directory ! enotdir
+    open long ! enametoolong
+    open no_nul ! enametoolong
+    open no_nul + 1 ! efault
+";
 
 /// What kind of node may be opened how, and what a refusal leaves: nothing is cut off and nothing made.
-static KINDS: [Call; 14] = [
-    (OPEN, [DIRECTORY, WRITING, 0, 0, 0, 0], Error(EISDIR)),
-    (OPEN, [DIRECTORY, TRUNCATE, 0, 0, 0, 0], Error(EISDIR)),
-    (OPEN, [DIRECTORY, CREATE, 0o644, 0, 0, 0], Error(EISDIR)),
-    (
-        OPEN,
-        [
-            FILE,
-            CREATE | EXCLUSIVE | TRUNCATE | WRITING,
-            0o644,
-            0,
-            0,
-            0,
-        ],
-        Error(EEXIST),
-    ),
-    (
-        OPEN,
-        [TO_FILE, CREATE | EXCLUSIVE, 0o644, 0, 0, 0],
-        Error(EEXIST),
-    ),
-    (
-        OPEN,
-        [FILE, DIRECTORY_ALONE | TRUNCATE | BOTH, 0, 0, 0, 0],
-        Error(ENOTDIR),
-    ),
-    (OPEN, [BIG, 0, 0, 0, 0, 0], Error(EOVERFLOW)),
-    (OPEN, [BIG, TRUNCATE | BOTH, 0, 0, 0, 0], Error(EOVERFLOW)),
-    (
-        OPEN,
-        [BIG, CREATE | TRUNCATE | BOTH, 0o644, 0, 0, 0],
-        Error(EOVERFLOW),
-    ),
-    (
-        OPEN,
-        [BIG, CREATE | EXCLUSIVE | WRITING, 0o644, 0, 0, 0],
-        Error(EEXIST),
-    ),
-    (OPEN, [BIG, DIRECTORY_ALONE, 0, 0, 0, 0], Error(ENOTDIR)),
-    (CREAT, [BIG, 0o644, 0, 0, 0, 0], Error(EOVERFLOW)),
-    (CREAT, [DIRECTORY, 0o644, 0, 0, 0, 0], Error(EISDIR)),
-    (OPEN, [BIG, LARGE, 0, 0, 0, 0], Value(3)),
-];
+const KINDS: &str = "
+    open '/d o_wronly ! eisdir
+    open '/d o_trunc ! eisdir
+    open '/d o_creat 0o644 ! eisdir
+    open '/f o_creat + o_excl + o_trunc + o_wronly 0o644 ! eexist
+    open '/l o_creat + o_excl 0o644 ! eexist
+    open '/f o_directory + o_trunc + o_rdwr ! enotdir
+    open '/big ! eoverflow
+    open '/big o_trunc + o_rdwr ! eoverflow
+    open '/big o_creat + o_trunc + o_rdwr 0o644 ! eoverflow
+    open '/big o_creat + o_excl + o_wronly 0o644 ! eexist
+    open '/big o_directory ! enotdir
+    creat '/big 0o644 ! eoverflow
+    creat '/d 0o644 ! eisdir
+    open '/big o_largefile = 3
+";
 
 /// A file is made with the mode's bits that the umask leaves, 022 at first. O_TRUNC cuts a file off, also a large one with O_LARGEFILE.
-static MADE: [Call; 14] = [
-    (OPEN, [NEW, CREATE | WRITING, 0o4666, 0, 0, 0], Value(3)),
-    (FSTAT, [3, ROOM, 0, 0, 0, 0], Value(0)),
-    (WRITE, [1, ROOM + 20, 4, 0, 0, 0], Value(4)),
-    (WRITE, [3, FILE, 2, 0, 0, 0], Value(2)),
-    (OPEN, [BIG, LARGE | TRUNCATE | BOTH, 0, 0, 0, 0], Value(4)),
-    (FSTAT64, [4, ROOM, 0, 0, 0, 0], Value(0)),
-    (WRITE, [1, ROOM + 56, 8, 0, 0, 0], Value(8)),
-    (UMASK, [0o77, 0, 0, 0, 0, 0], Value(0o22)),
-    (CREAT, [OTHER, 0o7777, 0, 0, 0, 0], Value(5)),
-    (READ, [5, ROOM, 1, 0, 0, 0], Error(EBADF)),
-    (CREAT, [FIRST_IN_DIRECTORY, 0o7777, 0, 0, 0, 0], Value(6)),
-    (UNLINK, [OTHER, 0, 0, 0, 0, 0], Value(0)),
-    (WRITE, [5, FILE, 2, 0, 0, 0], Value(2)),
-    (UMASK, [0xFFFF_FFFF, 0, 0, 0, 0, 0], Value(0o77)),
-];
+const MADE: &str = "
+    open '/n o_creat + o_wronly 0o4666 = 3
+    fstat 3 room = 0
+    show room + 20 4 : 000089a4
+    write 3 '/f 2 = 2
+    open '/big o_largefile + o_trunc + o_rdwr = 4
+    fstat64 4 room = 0
+    show room + 56 8 : 0000000000000000
+    umask 0o77 = 0o22
+    creat '/m 0o7777 = 5
+    read 5 room 1 ! ebadf
+    creat '/d/a 0o7777 = 6
+    unlink '/m = 0
+    write 5 '/f 2 = 2
+    umask 0xFFFFFFFF = 0o77
+";
 
-/// What is left of the tree then: the files that changed are of the beginning of time, since the clock begins there.
-static MADE_TREE: [Node; 10] = [
-    (
-        1,
-        0o755,
-        0,
-        Content::Directory(&[
-            (3, "d", 2),
-            (4, "f", 3),
-            (5, "l", 4),
-            (6, "o", 5),
-            (7, "big", 6),
-            (8, "wide", 0x1_0000_0001),
-            (9, "n", 9),
-        ]),
-    ),
-    (
-        2,
-        0o755,
-        1,
-        Content::Directory(&[(3, "a", 7), (4, "bb", 8)]),
-    ),
-    (3, 0o644, 1, Content::File(5, b"hello")),
-    (4, 0o777, 1, Content::Link("f")),
-    (5, 0o777, 1, Content::Link("o")),
-    (6, 0o644, 0, Content::File(0, b"")),
-    (7, 0o600, 0, Content::File(0, b"")),
-    (8, 0o600, 1, Content::File(0, b"")),
-    (9, 0o4644, 0, Content::File(2, b"/f")),
-    (0x1_0000_0001, 0o644, 1, Content::File(0, b"")),
-];
+/// What is left of the tree then: what changed is of the beginning of time, since the clock begins there.
+const MADE_TREE: &str = "10
+    1 directory 0o755 0 7 3 d 2 4 f 3 5 l 4 6 o 5 7 big 6 8 wide 0x100000001 9 n 9
+    2 directory 0o755 1 2 3 a 7 4 bb 8
+    3 file 0o644 1 5 hello
+    4 link 0o777 1 f
+    5 link 0o777 1 o
+    6 file 0o644 0 0 -
+    7 file 0o600 0 0 -
+    8 file 0o600 1 0 -
+    9 file 0o4644 0 2 /f
+    0x100000001 file 0o644 1 0 -
+";
 
 /// Where no descriptor is free, EMFILE comes before the path is walked, and for a large file too; nothing is made.
-static NO_DESCRIPTOR: [Call; 6] = [
-    (OPEN, [FILE, 0, 0, 0, 0, 0], Error(EMFILE)),
-    (OPEN, [NONE, 0, 0, 0, 0, 0], Error(EMFILE)),
-    (OPEN, [BIG, 0, 0, 0, 0, 0], Error(EMFILE)),
-    (CREAT, [NEW, 0o644, 0, 0, 0, 0], Error(EMFILE)),
-    (OPEN, [END, 0, 0, 0, 0, 0], Error(EFAULT)),
-    (OPEN, [FILE, 3, 0, 0, 0, 0], Error(EINVAL)),
-];
+const NO_DESCRIPTOR: &str = "
+    open '/f ! emfile
+    open '/none ! emfile
+    open '/big ! emfile
+    creat '/n 0o644 ! emfile
+    open end ! efault
+    open '/f 3 ! einval
+";
 
 /// Origins are 0 for the beginning, 1 for the place and 2 for the end (lseek(2)).
-static PLACES: [Call; 21] = [
-    (OPEN, [FILE, BOTH, 0, 0, 0, 0], Value(3)),
-    (LSEEK, [3, 2, 0, 0, 0, 0], Value(2)),
-    (LSEEK, [3, 1, 1, 0, 0, 0], Value(3)),
-    (LSEEK, [3, 0xFFFF_FFFF, 2, 0, 0, 0], Value(4)),
-    (LSEEK, [3, 0xFFFF_FFFA, 2, 0, 0, 0], Error(EINVAL)),
-    (LSEEK, [3, 0, 3, 0, 0, 0], Error(EINVAL)),
-    (READ, [3, ROOM, 9, 0, 0, 0], Value(1)),
-    (WRITE, [1, ROOM, 1, 0, 0, 0], Value(1)),
-    (LSEEK, [9, 0, 0, 0, 0, 0], Error(EBADF)),
-    (LSEEK, [1, 0, 0, 0, 0, 0], Error(ESPIPE)),
-    (PIPE, [0, 0, 0, 0, 0, 0], Value(4)),
-    (LSEEK, [4, 0, 0, 0, 0, 0], Error(ESPIPE)),
-    (OPEN, [DIRECTORY, 0, 0, 0, 0, 0], Value(6)),
-    (LSEEK, [6, 0, 2, 0, 0, 0], Error(EINVAL)),
-    (LSEEK, [6, 3, 0, 0, 0, 0], Value(3)),
-    (LLSEEK, [3, 0x1000, 0, ROOM, 0, 0], Value(0)),
-    (WRITE, [1, ROOM, 8, 0, 0, 0], Value(8)),
-    (LLSEEK, [3, 0x1000, 1, ROOM, 0, 0], Error(EINVAL)),
-    (
-        LLSEEK,
-        [3, 0xFFFF_FFFF, 0xFFFF_FFFF, ROOM, 0, 0],
-        Error(EINVAL),
-    ),
-    (LLSEEK, [3, 0, 2, END - 7, 0, 0], Error(EFAULT)),
-    (LLSEEK, [1, 0, 0, ROOM, 0, 0], Error(ESPIPE)),
-];
+const PLACES: &str = "
+    open '/f o_rdwr = 3
+    lseek 3 2 = 2
+    lseek 3 1 1 = 3
+    lseek 3 0xFFFFFFFF 2 = 4
+    lseek 3 0xFFFFFFFA 2 ! einval
+    lseek 3 0 3 ! einval
+    read 3 room 9 = 1
+    show room 1 : 6f
+    lseek 9 ! ebadf
+    lseek 1 ! espipe
+    pipe 0 = 4
+    lseek 4 ! espipe
+    open '/d = 6
+    lseek 6 0 2 ! einval
+    lseek 6 3 = 3
+    llseek 3 0x1000 0 room = 0
+    show room 8 : 0000100000000000
+    llseek 3 0x1000 1 room ! einval
+    llseek 3 0xFFFFFFFF 0xFFFFFFFF room ! einval
+    llseek 3 0 2 end - 7 ! efault
+    llseek 1 0 0 room ! espipe
+";
 
 /// A large file: the place is past what the result of lseek(2) holds, and the position has moved. A descriptor without O_LARGEFILE writes
 /// up to 2^31 - 1 alone.
-static LARGE_PLACES: [Call; 10] = [
-    (OPEN, [BIG, LARGE, 0, 0, 0, 0], Value(3)),
-    (LSEEK, [3, 0, 2, 0, 0, 0], Error(EOVERFLOW)),
-    (LLSEEK, [3, 0, 0, ROOM, 1, 0], Value(0)),
-    (WRITE, [1, ROOM, 8, 0, 0, 0], Value(8)),
-    (LSEEK, [3, 0xFFFF_FFFF, 1, 0, 0, 0], Value(0x7FFF_FFFF)),
-    (OPEN, [FILE, WRITING, 0, 0, 0, 0], Value(4)),
-    (LSEEK, [4, 0x7FFF_FFFD, 0, 0, 0, 0], Value(0x7FFF_FFFD)),
-    (WRITE, [4, FILE, 4, 0, 0, 0], Value(2)),
-    (LSEEK, [4, 0, 1, 0, 0, 0], Value(0x7FFF_FFFF)),
-    (WRITE, [4, FILE, 4, 0, 0, 0], Error(EFBIG)),
-];
-
-/// Nothing but the output is looked at.
-const fn over_tree(out: &'static [u8]) -> Run<'static> {
-    Run {
-        tree: &TREE,
-        input: b"",
-        out,
-        saved: None,
-    }
-}
-
-/// The tree stays.
-const fn unchanged(out: &'static [u8]) -> Run<'static> {
-    Run {
-        tree: &TREE,
-        input: b"",
-        out,
-        saved: Some(&TREE),
-    }
-}
+const LARGE_PLACES: &str = "
+    open '/big o_largefile = 3
+    lseek 3 0 2 ! eoverflow
+    llseek 3 0 0 room 1 = 0
+    show room 8 : 0000000080000000
+    lseek 3 0xFFFFFFFF 1 = 0x7FFFFFFF
+    open '/f o_wronly = 4
+    lseek 4 0x7FFFFFFD = 0x7FFFFFFD
+    write 4 '/f 4 = 2
+    lseek 4 0 1 = 0x7FFFFFFF
+    write 4 '/f 4 ! efbig
+";
 
 #[test]
 fn opened(rt: HostRuntime) -> Result<(), Fail> {
     assert_eq!(rt;
-        first_wrong(rt.alloc(), &OPENED, unchanged(b"hello"))?,
+        first_wrong_saving(rt.alloc(), &[], OPENED, TREE, TREE)?,
         Some(0)
     );
     Ok(())
@@ -265,7 +152,7 @@ fn opened(rt: HostRuntime) -> Result<(), Fail> {
 #[test]
 fn not_found(rt: HostRuntime) -> Result<(), Fail> {
     assert_eq!(rt;
-        first_wrong(rt.alloc(), &NOT_FOUND, unchanged(b""))?,
+        first_wrong_saving(rt.alloc(), &[], NOT_FOUND, TREE, TREE)?,
         Some(0)
     );
     Ok(())
@@ -273,38 +160,35 @@ fn not_found(rt: HostRuntime) -> Result<(), Fail> {
 
 #[test]
 fn kinds(rt: HostRuntime) -> Result<(), Fail> {
-    assert_eq!(rt; first_wrong(rt.alloc(), &KINDS, unchanged(b""))?, Some(0));
+    assert_eq!(rt;
+        first_wrong_saving(rt.alloc(), &[], KINDS, TREE, TREE)?,
+        Some(0)
+    );
     Ok(())
 }
 
 #[test]
 fn made(rt: HostRuntime) -> Result<(), Fail> {
-    let given = Run {
-        tree: &TREE,
-        input: b"",
-        out: b"\0\0\x89\xA4\0\0\0\0\0\0\0\0",
-        saved: Some(&MADE_TREE),
-    };
-    assert_eq!(rt; first_wrong(rt.alloc(), &MADE, given)?, Some(0));
+    assert_eq!(rt;
+        first_wrong_saving(rt.alloc(), &[], MADE, TREE, MADE_TREE)?,
+        Some(0)
+    );
     Ok(())
 }
 
 #[test]
 fn no_descriptor(rt: HostRuntime) -> Result<(), Fail> {
-    let wrong = first_wrong_behind(
-        rt.alloc(),
-        &TAKE_ALL_DESCRIPTORS,
-        &NO_DESCRIPTOR,
-        unchanged(b""),
-    )?;
-    assert_eq!(rt; wrong, Some(0));
+    assert_eq!(rt;
+        first_wrong_saving(rt.alloc(), &TAKE_ALL_DESCRIPTORS, NO_DESCRIPTOR, TREE, TREE)?,
+        Some(0)
+    );
     Ok(())
 }
 
 #[test]
 fn places(rt: HostRuntime) -> Result<(), Fail> {
     assert_eq!(rt;
-        first_wrong(rt.alloc(), &PLACES, unchanged(b"o\0\0\x10\0\0\0\0\0"))?,
+        first_wrong_saving(rt.alloc(), &[], PLACES, TREE, TREE)?,
         Some(0)
     );
     Ok(())
@@ -312,10 +196,6 @@ fn places(rt: HostRuntime) -> Result<(), Fail> {
 
 #[test]
 fn large_places(rt: HostRuntime) -> Result<(), Fail> {
-    let out = b"\0\0\0\0\x80\0\0\0";
-    assert_eq!(rt;
-        first_wrong(rt.alloc(), &LARGE_PLACES, over_tree(out))?,
-        Some(0)
-    );
+    assert_eq!(rt; first_wrong(rt.alloc(), LARGE_PLACES, TREE)?, Some(0));
     Ok(())
 }

@@ -1,21 +1,11 @@
 //! Sessions of programs over an image.
-use crate::calls::{Call, code_of, executable};
-use crate::image::{Node, image_of};
+use crate::guest::{code_of, data, executable};
+use crate::image::image_of;
+use crate::script::{Script, read};
 use o32_session::{End, session};
 use outside::{Devices, MemSink, MemSource, MemStore, NamedFile};
 use std::alloc::Global;
 use std::test::Fail;
-
-/// What a program is run over, and what comes of it.
-#[derive(Clone, Copy)]
-pub(crate) struct Run<'a> {
-    pub(crate) tree: &'a [Node],
-    pub(crate) input: &'a [u8],
-    /// What it writes to standard output.
-    pub(crate) out: &'a [u8],
-    /// The tree that it leaves, where that is looked at.
-    pub(crate) saved: Option<&'a [Node]>,
-}
 
 /// The end of a session, its turns, what it wrote to standard output, and what it saved.
 #[derive(Drop)]
@@ -26,78 +16,159 @@ pub(crate) struct Came {
     pub(crate) saved: Vec<u8>,
 }
 
-fn add_file(
-    alloc: Global,
-    files: &mut Vec<NamedFile>,
-    name: &str,
-    bytes: Vec<u8>,
-) -> Result<(), Fail> {
-    let file = NamedFile {
+/// A file of a store.
+fn file(alloc: Global, name: &str, bytes: Vec<u8>) -> Result<NamedFile, Fail> {
+    Ok(NamedFile {
         name: String::from_str(alloc, name)?,
         bytes,
-    };
-    files.push(file).ok().ok_or("no memory")?;
-    Ok(())
+    })
 }
 
-/// Runs the program of this file over the tree.
-pub(crate) fn run_file(
+/// The program `p`, the image `i` and the schedule `c`.
+fn files(
     alloc: Global,
     program: Vec<u8>,
-    tree: &[Node],
-    input: &[u8],
-) -> Result<Came, Fail> {
+    image: Vec<u8>,
+    schedule: &str,
+) -> Result<Vec<NamedFile>, Fail> {
     let mut files = Vec::new(alloc);
-    add_file(alloc, &mut files, "p", program)?;
-    add_file(alloc, &mut files, "i", image_of(alloc, tree)?)?;
+    files
+        .push(file(alloc, "p", program)?)
+        .ok()
+        .ok_or("no memory")?;
+    files
+        .push(file(alloc, "i", image)?)
+        .ok()
+        .ok_or("no memory")?;
+    let text = schedule.as_bytes().to_vec(alloc)?;
+    files.push(file(alloc, "c", text)?).ok().ok_or("no memory")?;
+    Ok(files)
+}
+
+/// The words that run the program over the image under the schedule, and save the tree in `s`.
+fn words(alloc: Global) -> Result<Vec<String>, Fail> {
     let mut words = Vec::new(alloc);
-    for word in ["run", "--image", "i", "--save", "s", "p"] {
+    for word in "run --image i --schedule c --save s p".split_whitespace() {
         words
             .push(String::from_str(alloc, word)?)
             .ok()
             .ok_or("no memory")?;
     }
-    let mut store = MemStore::new(alloc, files, Vec::new(alloc));
-    let mut dev = Devices {
-        input: MemSource::new(input.to_vec(alloc)?, Vec::new(alloc)),
+    Ok(words)
+}
+
+/// Streams with one byte of input, `x`.
+fn streams(alloc: Global) -> Result<Devices<MemSource, MemSink, MemSink>, Fail> {
+    let mut input = Vec::new(alloc);
+    input.push(b'x')?;
+    Ok(Devices {
+        input: MemSource::new(input, Vec::new(alloc)),
         out: MemSink::new(alloc, Vec::new(alloc)),
         err: MemSink::new(alloc, Vec::new(alloc)),
-    };
-    let answer = session(alloc, &words, &mut store, &mut dev);
-    let saved = match store.file("s") {
-        Some(bytes) => bytes.to_vec(alloc)?,
-        None => Vec::new(alloc),
-    };
-    Ok(Came {
-        end: answer.end,
-        turns: answer.turns,
-        out: dev.out.bytes().to_vec(alloc)?,
-        saved,
     })
 }
 
-/// The place of the first call that gives anything else, counted from 1, or 0; None where the program ends otherwise, writes
-/// anything else, or leaves another tree. The program makes the calls behind these first words.
-pub(crate) fn first_wrong_behind(
-    alloc: Global,
-    first: &[u32],
-    calls: &[Call],
-    given: Run,
-) -> Result<Option<u8>, Fail> {
-    let code = code_of(alloc, first, calls)?;
-    let came = run_file(alloc, executable(alloc, &code)?, given.tree, given.input)?;
-    let is_saved = match given.saved {
-        Some(tree) => image_of(alloc, tree)?.as_slice() == came.saved.as_slice(),
-        None => true,
-    };
-    match came.end {
-        End::Exited(place) if place > 0 || is_saved && came.out.as_slice() == given.out => Ok(Some(
-            place,
-        )),
-        _ => Ok(None),
+/// What stands in the file `s`.
+fn saved(alloc: Global, store: &MemStore) -> Result<Vec<u8>, Fail> {
+    match store.file("s") {
+        Some(bytes) => Ok(bytes.to_vec(alloc)?),
+        None => Ok(Vec::new(alloc)),
     }
 }
 
-pub(crate) fn first_wrong(alloc: Global, calls: &[Call], given: Run) -> Result<Option<u8>, Fail> {
-    first_wrong_behind(alloc, &[], calls, given)
+/// Carries out a session, and tells its end and its turns.
+fn carry_out(
+    alloc: Global,
+    words: &[String],
+    store: &mut MemStore,
+    dev: &mut Devices<MemSource, MemSink, MemSink>,
+) -> (End, u64) {
+    let answer = session(alloc, words, store, dev);
+    (answer.end, answer.turns)
+}
+
+/// Runs the program of this file over a tree, under a schedule.
+pub(crate) fn run(
+    alloc: Global,
+    program: Vec<u8>,
+    tree: &str,
+    schedule: &str,
+) -> Result<Came, Fail> {
+    let image = image_of(alloc, tree)?;
+    let words = words(alloc)?;
+    let mut dev = streams(alloc)?;
+    let mut store = MemStore::new(
+        alloc,
+        files(alloc, program, image, schedule)?,
+        Vec::new(alloc),
+    );
+    let (end, turns) = carry_out(alloc, &words, &mut store, &mut dev);
+    Ok(Came {
+        end,
+        turns,
+        out: dev.out.bytes().to_vec(alloc)?,
+        saved: saved(alloc, &store)?,
+    })
+}
+
+/// The place of the first call that gives anything else, counted from 1, or 0; None where the program ends otherwise or writes
+/// anything else.
+pub(crate) fn place_of(came: &Came, out: &[u8]) -> Option<u8> {
+    match came.end {
+        End::Exited(place) if place > 0 || came.out.as_slice() == out => Some(place),
+        _ => None,
+    }
+}
+
+/// Runs the program of a script over a tree. It has the first words before the calls.
+fn run_script(
+    alloc: Global,
+    first: &[u32],
+    script: &Script,
+    tree: &str,
+    schedule: &str,
+) -> Result<Came, Fail> {
+    let code = code_of(alloc, first, &script.calls)?;
+    run(
+        alloc,
+        executable(alloc, &code, &data(alloc)?)?,
+        tree,
+        schedule,
+    )
+}
+
+/// The place of the first call of a script that gives anything else, over a tree.
+pub(crate) fn first_wrong(alloc: Global, text: &str, tree: &str) -> Result<Option<u8>, Fail> {
+    let script = read(alloc, text)?;
+    let came = run_script(alloc, &[], &script, tree, "")?;
+    Ok(place_of(&came, &script.out))
+}
+
+/// The same, and the tree that is left has to be another one, or None.
+pub(crate) fn first_wrong_saving(
+    alloc: Global,
+    first: &[u32],
+    text: &str,
+    tree: &str,
+    left: &str,
+) -> Result<Option<u8>, Fail> {
+    let script = read(alloc, text)?;
+    let came = run_script(alloc, first, &script, tree, "")?;
+    let wanted = image_of(alloc, left)?;
+    if came.saved.as_slice() != wanted.as_slice() {
+        return Ok(None);
+    }
+    Ok(place_of(&came, &script.out))
+}
+
+/// The same under a schedule, whatever tree is left.
+pub(crate) fn first_wrong_under(
+    alloc: Global,
+    schedule: &str,
+    text: &str,
+    tree: &str,
+) -> Result<Option<u8>, Fail> {
+    let script = read(alloc, text)?;
+    let came = run_script(alloc, &[], &script, tree, schedule)?;
+    Ok(place_of(&came, &script.out))
 }
