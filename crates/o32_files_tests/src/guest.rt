@@ -177,7 +177,7 @@ pub(crate) fn straight_code(alloc: Global, first: &[u32], calls: &str) -> Result
         } else {
             code.extend_from_slice(&set(register(place), word))?;
         }
-        place = (place + 1) % 5;
+        place = place.saturating_add(1) % 5;
         if place == 0 {
             code.extend_from_slice(&[SET_V0 | number, SYSCALL])?;
         }
@@ -231,7 +231,7 @@ pub(crate) fn executable(alloc: Global, code: &[u32], data: &[u8]) -> Result<Vec
         file.extend_from_slice(&u32::to_be_bytes(word))?;
     }
     file.extend_from_slice(&[0, 52, 0, 32, 0, 1, 0, 0, 0, 0, 0, 0])?;
-    let size = (data.len() as u32).saturating_add(DATA - CODE);
+    let size = ((data.len() % 0x100_0000) as u32).saturating_add(DATA - CODE);
     for word in [1, 0x1000, CODE, CODE, size, size, 7, 0x1000] {
         file.extend_from_slice(&u32::to_be_bytes(word))?;
     }
