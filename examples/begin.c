@@ -28,7 +28,7 @@ static int set_up(void)
 
     if (short_call(CALL_SET_THREAD_AREA, (long)thread_block, 0, 0).failed)
         return 0;
-    if (short_call(CALL_SET_TID_ADDRESS, (long)&thread_id, 0, 0).result <= 0)
+    if (short_call(CALL_SET_TID_ADDRESS, (long)&thread_id, 0, 0).failed)
         return 0;
     short_call(CALL_IOCTL, STANDARD_OUTPUT, TIOCGWINSZ, (long)window);
     first = short_call(CALL_BRK, 0, 0, 0);

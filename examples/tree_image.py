@@ -1,7 +1,7 @@
 #!/usr/bin/env python3
 """Packs a folder of the host into a file image of o32run, and unpacks one.
 
-This is a tool beside the product: plain Python, run by hand, not proved and not part of the tests.
+This is a tool beside the product: plain Python, run by hand and by the tests of the examples, and not proved.
 
     tree_image.py pack FOLDER IMAGE
     tree_image.py unpack IMAGE FOLDER

@@ -28,6 +28,11 @@ const CLOCKS: &str = "
     time = 2
     clock_nanosleep 1 1 second = 0
     time = 2
+    clock_nanosleep 1 1 times = 0
+    time = 5
+    clock_nanosleep 0 1 times = 0
+    clock_nanosleep 7 0 second = 0
+    time = 6
     clock_nanosleep 1 2 second ! einval
     clock_nanosleep 8 0 second ! einval
     clock_nanosleep 1 0 end ! efault
@@ -58,12 +63,25 @@ const OF_THE_PROCESSOR: &str = "
     exit_group 0 0 0 0
 ";
 
-/// Whether a program writes these bytes and exits after 41 turns.
-fn tells(alloc: Global, calls: &str, time: &[u8]) -> Result<bool, Fail> {
+/// A clock alone, and what it tells.
+const REAL_TIME: &str = "
+    clock_gettime 0 room 0 0
+    write 1 room 8 0
+    exit_group 0 0 0 0
+";
+
+/// Whether a program writes these bytes and exits after so many turns.
+fn tells(
+    alloc: Global,
+    schedule: &str,
+    calls: &str,
+    turns: u64,
+    time: &[u8],
+) -> Result<bool, Fail> {
     let code = straight_code(alloc, &[], calls)?;
     let file = executable(alloc, &code, &data(alloc)?)?;
-    let came = run(alloc, file, TREE, "")?;
-    Ok(came.end == End::Exited(0) && came.turns == 41 && came.out.as_slice() == time)
+    let came = run(alloc, file, TREE, schedule)?;
+    Ok(came.end == End::Exited(0) && came.turns == turns && came.out.as_slice() == time)
 }
 
 #[test]
@@ -85,7 +103,7 @@ fn far(rt: HostRuntime) -> Result<(), Fail> {
 #[test]
 fn monotonic(rt: HostRuntime) -> Result<(), Fail> {
     // 1 s and 18,000 ns.
-    let right = tells(rt.alloc(), MONOTONIC, b"\0\0\0\x01\0\0\x46\x50")?;
+    let right = tells(rt.alloc(), "", MONOTONIC, 41, b"\0\0\0\x01\0\0\x46\x50")?;
     assert_eq!(rt; right, true);
     Ok(())
 }
@@ -93,7 +111,22 @@ fn monotonic(rt: HostRuntime) -> Result<(), Fail> {
 #[test]
 fn of_the_processor(rt: HostRuntime) -> Result<(), Fail> {
     // 19,000 ns.
-    let right = tells(rt.alloc(), OF_THE_PROCESSOR, b"\0\0\0\0\0\0\x4A\x38")?;
+    let right = tells(
+        rt.alloc(),
+        "",
+        OF_THE_PROCESSOR,
+        41,
+        b"\0\0\0\0\0\0\x4A\x38",
+    )?;
+    assert_eq!(rt; right, true);
+    Ok(())
+}
+
+#[test]
+fn under_a_schedule(rt: HostRuntime) -> Result<(), Fail> {
+    // 3 s and 4 ns, and nine turns of 7 ns.
+    let schedule = "quantum 7\nepoch 3 4\n";
+    let right = tells(rt.alloc(), schedule, REAL_TIME, 30, b"\0\0\0\x03\0\0\0\x43")?;
     assert_eq!(rt; right, true);
     Ok(())
 }
