@@ -20,6 +20,8 @@ mod numbers;
 #[cfg(test)]
 mod opening;
 #[cfg(test)]
+mod refusals;
+#[cfg(test)]
 mod script;
 #[cfg(test)]
 mod sessions;

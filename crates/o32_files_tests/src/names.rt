@@ -101,6 +101,7 @@ const MOVES: &str = "
     rename '/none end ! efault
     mkdir '/m 0o755 = 0
     rename '/m '/d ! enotempty
+    renameat at_fdcwd '/m at_fdcwd '/d ! enotempty
     open '/d = 3
     renameat 3 'a at_fdcwd '/f = 0
     renameat 9 'a at_fdcwd '/f ! ebadf

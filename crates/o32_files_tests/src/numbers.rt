@@ -6,9 +6,9 @@
 const NAMES: &str = "
     time 4013 gettimeofday 4078 nanosleep 4166 exit_group 4246 clock_gettime 4263 clock_getres 4264 clock_nanosleep 4265
     read 4003 write 4004 open 4005 close 4006 creat 4008 link 4009 unlink 4010 chdir 4012 chmod 4015 lseek 4019
-    access 4033 rename 4038 mkdir 4039 rmdir 4040 pipe 4042 brk 4045 ioctl 4054 umask 4060 symlink 4083 readlink 4085
+    access 4033 rename 4038 mkdir 4039 rmdir 4040 pipe 4042 brk 4045 ioctl 4054 umask 4060 symlink 4083 readlink 4085 mmap 4090
     munmap 4091 truncate 4092 ftruncate 4093 fchmod 4094 stat 4106 lstat 4107 fstat 4108 fsync 4118 fchdir 4133
-    llseek 4140 getdents 4141 writev 4146 fdatasync 4152 getcwd 4203 mmap2 4210 truncate64 4211 ftruncate64 4212
+    llseek 4140 getdents 4141 writev 4146 fdatasync 4152 pread64 4200 pwrite64 4201 getcwd 4203 mmap2 4210 truncate64 4211 ftruncate64 4212
     stat64 4213 lstat64 4214 fstat64 4215 getdents64 4219 set_tid_address 4252 set_thread_area 4283 openat 4288
     mkdirat 4289 fstatat64 4293 unlinkat 4294 renameat 4295 linkat 4296 symlinkat 4297 readlinkat 4298 fchmodat 4299
     faccessat 4300 utimensat 4316
@@ -25,7 +25,7 @@ const NAMES: &str = "
 
 /// Paths. The empty one stands at the beginning of a program's data, and behind it each of these in a place of 32 bytes.
 pub(crate) const PATHS: &str = "
-    / /f /d /d/a /d/bb /d/n /d/ /d/. /d/.. /f/ /f/x /l /l/ /o /n /n/ /m /big /wide /none /none/x a f n ..
+    / /f /d /d/a /d/bb /d/n /d/ /d/. /d/.. /f/ /f/x /l /l/ /o /o/x /n /n/ /m /big /wide /none /none/x a f n ..
 ";
 
 /// The page where a program's data begin.
