@@ -14,7 +14,7 @@ const NAMES: &str = "
     faccessat 4300 utimensat 4316
 
     eperm 1 enoent 2 ebadf 9 eacces 13 efault 14 ebusy 16 eexist 17 enodev 19 enotdir 20 eisdir 21 einval 22 emfile 24
-    enotty 25 efbig 27 espipe 29 erange 34 enametoolong 78 eoverflow 79 eloop 90 enotempty 93
+    enotty 25 efbig 27 enospc 28 espipe 29 erange 34 enametoolong 78 eoverflow 79 eloop 90 enotempty 93
 
     o_wronly 1 o_rdwr 2 o_creat 0x100 o_trunc 0x200 o_excl 0x400 o_largefile 0x2000 o_directory 0x10000 o_nofollow 0x20000
     map_shared 1 map_private 2 at_fdcwd 0xFFFFFF9C at_symlink_nofollow 0x100 at_removedir 0x200 at_symlink_follow 0x400

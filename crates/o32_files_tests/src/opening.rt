@@ -96,6 +96,7 @@ const NO_DESCRIPTOR: &str = "
     open '/none ! emfile
     open '/big ! emfile
     creat '/n 0o644 ! emfile
+    openat at_fdcwd '/f ! emfile
     open end ! efault
     open '/f 3 ! einval
 ";

@@ -143,6 +143,30 @@ const OTHERS: &str = "
     clock_nanosleep 2 0 second ! einval
 ";
 
+/// A root directory that has given out its last cookie, 2^31 - 1, so that it takes no further name (this project's own).
+const FULL_TREE: &str = "3
+    1 directory 0o755 1 2 0x7FFFFFFE d 2 0x7FFFFFFF f 3
+    2 directory 0o755 1 0
+    3 file 0o644 1 0 -
+";
+
+/// Every call that makes a name or moves one.
+const NEW_NAMES: &str = "
+    open '/n o_creat 0o644 ! enospc
+    creat '/n 0o644 ! enospc
+    openat at_fdcwd '/n o_creat 0o644 ! enospc
+    mkdir '/n 0o755 ! enospc
+    mkdirat at_fdcwd '/n 0o755 ! enospc
+    symlink '/f '/n ! enospc
+    symlinkat '/f at_fdcwd '/n ! enospc
+    link '/f '/n ! enospc
+    linkat at_fdcwd '/f at_fdcwd '/n ! enospc
+    rename '/f '/n ! enospc
+    renameat at_fdcwd '/d at_fdcwd '/n ! enospc
+    open '/n ! enoent
+    open '/f = 3
+";
+
 /// `addiu $sp, $zero, 0`: nothing is mapped where the arguments on the stack would stand.
 const NO_STACK: u32 = 0x241D_0000;
 
@@ -223,6 +247,15 @@ fn at_forms(rt: HostRuntime) -> Result<(), Fail> {
 #[test]
 fn others(rt: HostRuntime) -> Result<(), Fail> {
     assert!(rt; are_refused(rt.alloc(), OTHERS, "", "")?);
+    Ok(())
+}
+
+#[test]
+fn new_names(rt: HostRuntime) -> Result<(), Fail> {
+    assert_eq!(rt;
+        first_wrong_saving(rt.alloc(), &[], NEW_NAMES, FULL_TREE, FULL_TREE)?,
+        Some(0)
+    );
     Ok(())
 }
 
