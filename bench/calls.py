@@ -1,9 +1,9 @@
 #!/usr/bin/env python3
 """Measures how many system calls the emulator carries out in a second.
 
-Six guest programs, each one loop, are built and run: getpid(2); write(2) of 1 and of 4096 bytes to standard output, which is
-the null device; write(2) of as many bytes into a pipe, and read(2) of them; and mmap2(2) of one page, a store to it and
-munmap(2). Each program exits with 0 where no call failed, in just the turns that are counted, and not in one less; what
+Eight guest programs, each one loop, are built and run: getpid(2); write(2) of 1 and of 4096 bytes to standard output, which is
+the null device; write(2) of as many bytes to a file, and lseek(2) back to its beginning; write(2) of them into a pipe, and read(2)
+of them; and mmap2(2) of one page, a store to it and munmap(2). Each program exits with 0 where no call failed, in just the turns that are counted, and not in one less; what
 a short form of it writes has to have the right length.
 
 A rate is that of the best run, by the processor's seconds that the run took, user and system, the instructions of the
@@ -46,7 +46,14 @@ from processes import processor_name, run  # noqa: E402
 from words import a_count, an_executable, default_emulator  # noqa: E402
 
 # asm/unistd.h of MIPS Linux, o32.
-READ_CALL, WRITE_CALL, GETPID_CALL, PIPE_CALL, MUNMAP_CALL = 4003, 4004, 4020, 4042, 4091
+READ_CALL, WRITE_CALL, OPEN_CALL, LSEEK_CALL, GETPID_CALL, PIPE_CALL, MUNMAP_CALL = 4003, 4004, 4005, 4019, 4020, 4042, 4091
+
+# asm/fcntl.h of MIPS Linux: O_CREAT and O_RDWR.
+MADE_TO_READ_AND_WRITE = 0x102
+OWN_MODE = 0o600
+
+# The path of the file that is written, at DATA.
+FILE_PATH = b"/file\0"
 
 STANDARD_OUTPUT = 1
 BUDGET_STATUS = 124
@@ -69,8 +76,8 @@ def go_round(words):
 class Loop:
     """A program of a loop, how many calls a round of it makes, and how many bytes a round writes to standard output."""
 
-    def __init__(self, name, setup, round_words, calls=1, written=0):
-        self.program = Program(name, setup, go_round(round_words), FAILED)
+    def __init__(self, name, setup, round_words, calls=1, written=0, data=b""):
+        self.program = Program(name, setup, go_round(round_words), FAILED, data=data)
         self.calls = calls
         self.written = written
 
@@ -78,6 +85,19 @@ class Loop:
 def write_loop(count):
     setup = [addiu(A0, ZERO, STANDARD_OUTPUT), *load_constant(A1, DATA), addiu(A2, ZERO, count)]
     return Loop(f"write of {count}", setup, call(WRITE_CALL), written=count)
+
+
+def file_loop(count):
+    setup = [
+        *load_constant(A0, DATA),
+        addiu(A1, ZERO, MADE_TO_READ_AND_WRITE),
+        addiu(A2, ZERO, OWN_MODE),
+        *call(OPEN_CALL),
+        addu(A0, V0, ZERO),
+    ]
+    written = [*load_constant(A1, DATA), addiu(A2, ZERO, count), *call(WRITE_CALL)]
+    back = [addu(A1, ZERO, ZERO), addu(A2, ZERO, ZERO), *call(LSEEK_CALL)]
+    return Loop(f"write of {count} and lseek, file", setup, written + back, calls=2, data=FILE_PATH)
 
 
 def pipe_loop(count):
@@ -99,7 +119,16 @@ def mapping_loop():
     return Loop("mmap2, store, munmap", setup, [*mmap2(), sw(V0, 0, V0), *unmapped], calls=2)
 
 
-LOOPS = [Loop("getpid", [], call(GETPID_CALL)), write_loop(1), write_loop(4096), pipe_loop(1), pipe_loop(4096), mapping_loop()]
+LOOPS = [
+    Loop("getpid", [], call(GETPID_CALL)),
+    write_loop(1),
+    write_loop(4096),
+    file_loop(1),
+    file_loop(4096),
+    pipe_loop(1),
+    pipe_loop(4096),
+    mapping_loop(),
+]
 
 
 def written_by(emulator, path, turns):
@@ -134,7 +163,7 @@ def measure(emulator, loop, path, calls, times):
         used.append(done.used)
     rate = rounds * loop.calls / min(used)
     print(
-        f"{program.name:26} {rate:12,.0f} calls a processor's second, {1e6 / rate:6.3f} microseconds a call,"
+        f"{program.name:30} {rate:12,.0f} calls a processor's second, {1e6 / rate:6.3f} microseconds a call,"
         f" {program.per_round() / loop.calls:4.1f} turns a call",
         flush=True,
     )
