@@ -9,6 +9,8 @@ ghost use Rattle.bridge_wait.specs.Numbers as wait;
 ghost use Rattle.o32_model.specs.Built.{is_file_call_built};
 ghost use Rattle.o32_model.specs.Table as table;
 
+use bridge_file::is_call_there;
+
 pub(crate) const UNAME: u64 = 160;
 
 pub(crate) const PRLIMIT64: u64 = 261;
@@ -60,52 +62,7 @@ pub(crate) fn is_map_call(nr: u32) -> bool
 pub(crate) fn is_file_call(nr: u32) -> bool
     ensures { result ≡ is_file_call_built nr }
 {
-    match nr {
-        4009 => true,
-        4010 => true,
-        4038 => true,
-        4039 => true,
-        4040 => true,
-        4083 => true,
-        4289 => true,
-        4294 => true,
-        4295 => true,
-        4296 => true,
-        4297 => true,
-        4012 => true,
-        4015 => true,
-        4033 => true,
-        4060 => true,
-        4094 => true,
-        4118 => true,
-        4133 => true,
-        4152 => true,
-        4299 => true,
-        4300 => true,
-        4316 => true,
-        4085 => true,
-        4203 => true,
-        4298 => true,
-        4092 => true,
-        4093 => true,
-        4211 => true,
-        4212 => true,
-        4019 => true,
-        4140 => true,
-        4005 => true,
-        4008 => true,
-        4288 => true,
-        4106 => true,
-        4107 => true,
-        4108 => true,
-        4213 => true,
-        4214 => true,
-        4215 => true,
-        4293 => true,
-        4141 => true,
-        4219 => true,
-        _ => false,
-    }
+    is_call_there(nr) || is_open_call(nr) || is_status_call(nr) || is_entries_call(nr)
 }
 
 /// Whether a number is that of a call that opens a file.
