@@ -1,9 +1,8 @@
-//! Programs, and what comes of their runs.
+//! Emulators of programs in instruction words, and their runs.
 ghost use Rattle.std.specs.Prelude.{IfOk};
 ghost use Rattle.kernel_core.specs.ValidTree.{IsValidTree};
 ghost use Rattle.schedule.specs.Ranges.{IsGivenSchedule};
 
-use crate::words::{CODE, DATA};
 use guest_space::Space;
 use kernel_core::{Finish, Items, Kind, Node, Tree};
 use mips_exec::Cpu;
@@ -17,50 +16,13 @@ use std::test::Fail;
 /// The streams of a test.
 pub(crate) type Streams = Devices<MemSource, MemSink, MemSink>;
 
+/// Where a program's code begins, and its data.
+const CODE: u32 = 0x40_0000;
+
+const DATA: u32 = 0x41_0000;
+
 /// How many turns a test waits for the end.
 const PATIENCE: u64 = 2000;
-
-/// A program, and how its run ends.
-#[derive(Clone, Copy)]
-pub(crate) struct Program {
-    /// What it does.
-    pub(crate) code: &'static [u32],
-    /// What its input has.
-    pub(crate) input: &'static [u8],
-    pub(crate) finish: Finish,
-    /// How many turns it takes.
-    pub(crate) turns: u64,
-    /// What it writes to standard output.
-    pub(crate) out: &'static [u8],
-    /// What it writes to standard error.
-    pub(crate) err: &'static [u8],
-}
-
-/// What is run.
-#[derive(Clone, Copy)]
-pub(crate) enum Row {
-    /// A program without input that only exits, its status, and its turns.
-    Exits(&'static [u32], u8, u64),
-    /// Any program.
-    Runs(Program),
-}
-
-impl Row {
-    /// The program, and how its run ends.
-    fn program(self) -> Program {
-        match self {
-            Row::Exits(code, status, turns) => Program {
-                code,
-                input: b"",
-                finish: Finish::Exited(status),
-                turns,
-                out: b"",
-                err: b"",
-            },
-            Row::Runs(program) => program,
-        }
-    }
-}
 
 /// The tree of one empty root directory.
 fn empty_tree(alloc: Global) -> Result<Tree, AllocError>
@@ -143,28 +105,4 @@ pub(crate) fn run(emulator: &mut Emulator, streams: &mut Streams) -> Option<Fini
         }
     }
     None
-}
-
-/// Whether a program ends as it says.
-fn is_right(alloc: Global, program: Program) -> Result<bool, Fail> {
-    let mut emulator = new_emulator(alloc, program.code)?;
-    let mut streams = new_streams(alloc, program.input, &[])?;
-    let finish = run(&mut emulator, &mut streams);
-    Ok(
-        finish == Some(program.finish)
-            && emulator.is_over()
-            && emulator.turns() == program.turns
-            && streams.out.bytes() == program.out
-            && streams.err.bytes() == program.err,
-    )
-}
-
-/// The first row whose program does not end so, counted from 0.
-pub(crate) fn first_wrong(alloc: Global, rows: &[Row]) -> Result<Option<usize>, Fail> {
-    for (place, row) in rows.iter().enumerate() {
-        if !is_right(alloc, row.program())? {
-            return Ok(Some(place));
-        }
-    }
-    Ok(None)
 }

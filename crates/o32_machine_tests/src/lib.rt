@@ -6,10 +6,20 @@ mod calls;
 #[cfg(test)]
 mod emulators;
 #[cfg(test)]
+mod guest;
+#[cfg(test)]
+mod instructions;
+#[cfg(test)]
 mod mappings;
+#[cfg(test)]
+mod numbers;
+#[cfg(test)]
+mod programs;
+#[cfg(test)]
+mod requests;
 #[cfg(test)]
 mod runs;
 #[cfg(test)]
-mod sleeping;
+mod script;
 #[cfg(test)]
-mod words;
+mod sleeping;

@@ -1,22 +1,17 @@
 //! Turns that stop early, and what an emulator tells.
 
 use crate::emulators::{new_emulator, new_streams};
-use crate::words::{DATA_HIGH, SET_A0, SET_A1_HIGH, SET_A2, SET_V0, SYSCALL, WRITE};
+use crate::instructions::code_of;
 use kernel_core::Stop;
 use o32_machine::{Emulator, Turn};
 use outside::{Sink, Source};
 use std::test::Fail;
 
 /// A line to standard output, again and again.
-static LINES: [u32; 7] = [
-    SET_A0 | 1,
-    SET_A1_HIGH | DATA_HIGH,
-    SET_A2 | 3,
-    SET_V0 | WRITE,
-    SYSCALL,
-    SET_V0 | WRITE,
-    SYSCALL,
-];
+const LINES: &str = "
+    addiu $a0 $zero 1  lui $a1 data_high  addiu $a2 $zero 3  addiu $v0 $zero write  syscall
+    addiu $v0 $zero write  syscall
+";
 
 /// Takes so many turns; whether the process went on in each.
 fn goes_on<I: Source, O: Sink, E: Sink>(
@@ -38,7 +33,7 @@ fn goes_on<I: Source, O: Sink, E: Sink>(
 /// The second put fails: the turn of the second write stops, and is none.
 #[test]
 fn a_write_that_fails(rt: HostRuntime) -> Result<(), Fail> {
-    let mut emulator = new_emulator(rt.alloc(), &LINES)?;
+    let mut emulator = new_emulator(rt.alloc(), &code_of(rt.alloc(), LINES)?)?;
     let mut streams = new_streams(rt.alloc(), b"", &[2])?;
     assert!(rt; goes_on(&mut emulator, &mut streams, 6));
     assert!(rt; emulator.is_running());
@@ -56,7 +51,7 @@ fn a_write_that_fails(rt: HostRuntime) -> Result<(), Fail> {
 /// The tree of a program that changed nothing is the one that it was given.
 #[test]
 fn the_tree(rt: HostRuntime) -> Result<(), Fail> {
-    let emulator = new_emulator(rt.alloc(), &LINES)?;
+    let emulator = new_emulator(rt.alloc(), &code_of(rt.alloc(), LINES)?)?;
     let Ok(tree) = emulator.tree() else {
         return Err(Fail::from("no memory"));
     };
