@@ -1,11 +1,11 @@
 -- Quiet turns, as turns of the machine that is defined.
-use Rattle.std.proofs.Common.{◌≡◌, ℕ, zero, suc, ◌+◌, ◌-◌, ◌*◌, ◌^◌, ◌<◌, ◌≤◌, inl, inr, Bool, true, false, List, [], Option, Some, None, Result, Ok, Err, IsErr, OnErr, arith, refl, sym, ap, subst, ◌∙◌}
+use Rattle.std.proofs.Common.{◌≡◌, ℕ, zero, suc, ◌+◌, ◌*◌, ◌^◌, ◌<◌, ◌≤◌, inl, inr, Bool, false, List, [], Option, Some, None, Result, Ok, Err, IsErr, OnErr, arith, refl, sym, ap, subst, ◌∙◌}
 use Rattle.std.proofs.lemmas.Bool.{cases_eq}
 use Rattle.std.specs.Prelude.{◌⊎◌, is_some}
 use Rattle.guest_space.specs.Memory.{Memory}
 use Rattle.kernel_core.specs.declared.core_error.NoMemory.{NoMemory}
 use Rattle.kernel_core.specs.declared.core_error.Stop.{Stop}
-use Rattle.kernel_core.specs.declared.finish.Finish.TheVariants.{Killed, Blocked}
+use Rattle.kernel_core.specs.declared.finish.Finish.TheVariants.{Killed}
 use Rattle.kernel_core.specs.declared.signal.Sig.{Sig}
 use Rattle.kernel_model.proofs.Advances.{advance_twice}
 use Rattle.kernel_model.specs.Pipes.{nothing}

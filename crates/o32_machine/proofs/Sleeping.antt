@@ -1,5 +1,5 @@
 -- Turns that begin while a call waits.
-use Rattle.std.proofs.Common.{◌≡◌, ℕ, ◌+◌, ◌-◌, ◌^◌, ◌≤◌, Bool, true, false, List, [], Option, Some, None, Result, Ok, refl, sym, ap, subst, ◌∙◌, arith}
+use Rattle.std.proofs.Common.{◌≡◌, ℕ, ◌+◌, ◌-◌, ◌^◌, ◌≤◌, Bool, true, false, List, Option, Some, None, Result, Ok, refl, sym, ap, subst, ◌∙◌, arith}
 use Rattle.std.proofs.lemmas.Bool.Decides.{nat_tests}
 use Rattle.std.specs.Prelude.{IfSome, ◌&&◌, is_none, is_some, min, nat_le, if◌then◌else◌}
 use Rattle.guest_space.specs.Memory.{Memory}
@@ -15,11 +15,11 @@ use Rattle.mips_exec.specs.Processor.{Processor}
 use Rattle.mips_exec.specs.Step.{Step}
 use Rattle.mips_exec.specs.declared.Stepped.{Stepped}
 use Rattle.number_tables.specs.Signals.{o32_signal}
-use Rattle.o32_machine.proofs.Turning.{moved, timed_is}
+use Rattle.o32_machine.proofs.Turning.{timed_is}
 use Rattle.o32_machine.specs.Answered.{attempt_of, unless_blocked}
 use Rattle.o32_machine.specs.Emulator.{machine_at}
 use Rattle.o32_machine.specs.inside.Stepping.{Goes, GoesThen, Steps}
-use Rattle.o32_model.specs.Turn.{Machine, Turn, after_fault, after_step, at_time, ends, executed, goes_on, is_blocked, is_over_at, jump_to, jumped, jumped_at, next_by, sooner, timed, turn_of, unless_asleep, wakes, woken, woken_by}
+use Rattle.o32_model.specs.Turn.{Machine, after_fault, after_step, at_time, ends, executed, goes_on, is_blocked, is_over_at, jump_to, jumped, jumped_at, next_by, sooner, timed, turn_of, unless_asleep, wakes, woken, woken_by}
 use Rattle.o32_model.specs.declared.wait.Wait.{Wait}
 
 -- a call that ends leaves the kernel, its time and what the clock jumped

@@ -11,6 +11,10 @@ pub goes_nowhere : (processor : Processor) (memory : Memory) → Goes 0 processo
 unfolding Goes
 goes_nowhere processor memory = (refl, refl)
 
+-- a number of instructions may be written otherwise
+pub goes_as : (k other : ℕ) (processor : Processor) (memory : Memory) (next : Processor) (stored : Memory) → other ≡ k → Goes k processor memory next stored → Goes other processor memory next stored
+goes_as k other processor memory next stored same goes = subst (λ (n : ℕ). Goes n processor memory next stored) (sym same) goes
+
 -- what is said of an instruction, by what it came to
 abbrev pub IsStep : Processor → Memory → Result Stepped NoMemory → Processor → Memory → Type 0
 IsStep processor memory result next stored = IfOk result (λ came. Steps processor memory came next stored)

@@ -19,7 +19,7 @@ use Rattle.o32_machine.specs.inside.Plain.{found}
 use Rattle.o32_model.specs.Answered as o32
 use Rattle.o32_model.specs.Built.{built_call}
 use Rattle.o32_model.specs.Step.{O32Step}
-use Rattle.o32_model.specs.Turn.{Machine, Turn, after_call, after_fault, after_outcome, at_time, called, ends, executed, is_blocked, next_by, seen_of, timed, turn_of, unless_asleep, woken, woken_by}
+use Rattle.o32_model.specs.Turn.{Machine, Turn, after_call, after_fault, after_outcome, at_time, called, ends, is_blocked, next_by, seen_of, timed, turn_of, unless_asleep, woken, woken_by}
 use Rattle.o32_model.specs.Words.{call_words}
 use Rattle.o32_model.specs.declared.call_words.CallWords.{CallWords}
 use Rattle.o32_model.specs.declared.outcome.Outcome.{Outcome}

@@ -16,17 +16,22 @@ pub(crate) struct Ran {
 }
 
 /// Carries out instructions: at most `most` that make no call and meet no fault, and one more. The loop stands alone,
-/// so that what it counts stays in registers.
+/// so that what it counts stays in registers, and counts down, which is the shorter test.
 #[inline(never)]
 pub(crate) fn run(cpu: &mut Cpu, space: &mut Space, most: u64) -> Ran
     ensures last { GoesThen result.quiet cpu.old space.old result.came cpu.new space.new }
     ensures few { result.quiet ≤ most }
 {
-    let mut quiet = 0;
+    let mut left = most;
     loop {
         match step(cpu, space) {
-            Ok(Stepped::Next) if quiet < most => quiet += 1,
-            came => return Ran { quiet, came },
+            Ok(Stepped::Next) if left > 0 => left -= 1,
+            came => {
+                return Ran {
+                    quiet: most - left,
+                    came,
+                };
+            }
         }
     }
 }

@@ -8,7 +8,7 @@ use Rattle.o32_machine.specs.Answered.{Stopped, Turned, attempt_of}
 use Rattle.o32_machine.specs.Emulator.{Emulated, machine_at}
 use Rattle.o32_machine.specs.declared.turn.Turn.TheVariants.{Ended, Went}
 use Rattle.kernel_core.specs.declared.finish.Finish.TheVariants.{Killed}
-use Rattle.o32_model.specs.Turn.{Machine, Turn, after_step, at_time}
+use Rattle.o32_model.specs.Turn.{Machine, Turn, after_step}
 use Rattle.o32_machine.proofs.emulator.Emulator.turn_asleep.Goals as goal
 
 pub returns-then-waits-clause-turn : goal.returns-then-waits-clause-turn
