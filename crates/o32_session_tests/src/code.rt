@@ -1,146 +1,99 @@
-//! Programs that are built here from instruction words.
+//! Programs that are built here from instructions.
+//!
+//! Instructions stand one behind the other, with `;` between them. Each is its mnemonic and its operands, as an assembler has them,
+//! without commas and brackets: `lw $v0 0 $sp`.
+use crate::numbers::{number_of, value};
+use crate::reading::Words;
 use std::alloc::Global;
 use std::test::Fail;
 
 /// The address of a program's one segment.
 const BASE: u32 = 0x0040_0000;
 
-// Instruction words (MIPS32 Architecture for Programmers, Volume II). Where an instruction takes a number, `|` puts it in.
-
-/// `addiu $v0, $zero, 0`.
-pub(crate) const SET_V0: u32 = 0x2402_0000;
-
-/// `addiu $v0, $t0, 0`.
-pub(crate) const SET_V0_TO_T0: u32 = 0x2502_0000;
-
-/// `lw $v0, 0($sp)`.
-pub(crate) const LOAD_V0_FROM_SP: u32 = 0x8FA2_0000;
-
-/// `addiu $a0, $zero, 0`.
-pub(crate) const SET_A0: u32 = 0x2404_0000;
-
-/// `addiu $a0, $v0, 0`.
-pub(crate) const SET_A0_TO_V0: u32 = 0x2444_0000;
-
-/// `addiu $t0, $v0, 0`.
-pub(crate) const SET_T0_TO_V0: u32 = 0x2448_0000;
-
-/// `addiu $a0, $t0, 0`.
-pub(crate) const SET_A0_TO_T0: u32 = 0x2504_0000;
-
-/// `addiu $a0, $sp, 0`.
-pub(crate) const SET_A0_TO_SP: u32 = 0x27A4_0000;
-
-/// `addiu $a0, $a3, 0`.
-pub(crate) const SET_A0_TO_A3: u32 = 0x24E4_0000;
-
-/// `addiu $a0, $v1, 0`.
-pub(crate) const SET_A0_TO_V1: u32 = 0x2464_0000;
-
-/// `addiu $a1, $sp, 0`.
-pub(crate) const SET_A1_TO_SP: u32 = 0x27A5_0000;
-
-/// `addiu $a2, $sp, 0`.
-pub(crate) const SET_A2_TO_SP: u32 = 0x27A6_0000;
-
-/// `lbu $a0, 0($sp)`.
-pub(crate) const LOAD_A0_FROM_SP: u32 = 0x93A4_0000;
-
-/// `addiu $a1, $zero, 0`.
-pub(crate) const SET_A1: u32 = 0x2405_0000;
-
-/// `lui $a1, 0`.
-pub(crate) const SET_A1_HIGH: u32 = 0x3C05_0000;
-
-/// `ori $a1, $a1, 0`.
-pub(crate) const OR_A1: u32 = 0x34A5_0000;
-
-/// `addiu $a2, $zero, 0`.
-pub(crate) const SET_A2: u32 = 0x2406_0000;
-
-/// `lw $t0, 0($zero)`.
-pub(crate) const LOAD_T0_FROM_ZERO: u32 = 0x8C08_0000;
-
-/// `ll $t0, 0($sp)`.
-pub(crate) const LOAD_LINKED_T0: u32 = 0xC3A8_0000;
-
-/// `sc $t0, 0($sp)`.
-pub(crate) const STORE_CONDITIONAL_T0: u32 = 0xE3A8_0000;
-
-/// `syscall`.
-pub(crate) const SYSCALL: u32 = 0x0000_000C;
-
-/// `nop`.
-pub(crate) const NOP: u32 = 0x0000_0000;
-
-/// `break 0`.
-pub(crate) const BREAK: u32 = 0x0000_000D;
-
-/// `break 7`, which a compiler writes for a division by zero.
-pub(crate) const BREAK_7: u32 = 0x0007_000D;
-
-/// `teq $zero, $zero, 7`, for the same.
-pub(crate) const TRAP_7: u32 = 0x0000_01F4;
-
-/// `rdhwr $v0, $29`.
-pub(crate) const READ_THREAD_POINTER: u32 = 0x7C02_E83B;
-
-/// `movf $zero, $zero, $fcc0`, an instruction of the floating point unit.
-pub(crate) const MOVE_ON_FLOAT: u32 = 0x0000_0001;
-
-// The numbers of calls (asm/unistd.h of MIPS Linux, o32).
-
-/// exit(2).
-pub(crate) const EXIT: u32 = 4001;
-
-/// write(2).
-pub(crate) const WRITE: u32 = 4004;
-
-/// set_tid_address(2).
-pub(crate) const SET_TID_ADDRESS: u32 = 4252;
-
-/// set_thread_area(2).
-pub(crate) const SET_THREAD_AREA: u32 = 4283;
-
-/// set_robust_list(2).
-pub(crate) const SET_ROBUST_LIST: u32 = 4309;
-
-/// read(2).
-pub(crate) const READ: u32 = 4003;
-
-/// pipe(2).
-pub(crate) const PIPE: u32 = 4042;
-
-/// ioctl(2).
-pub(crate) const IOCTL: u32 = 4054;
-
-/// getrlimit(2).
-pub(crate) const GETRLIMIT: u32 = 4076;
-
-/// readv(2).
-pub(crate) const READV: u32 = 4145;
-
-/// getrandom(2).
-pub(crate) const GETRANDOM: u32 = 4353;
-
-/// exit_group(2).
-pub(crate) const EXIT_GROUP: u32 = 4246;
+/// The instructions (MIPS32 Architecture for Programmers, Volume II): the mnemonic of each, its word with no operand, and the
+/// fields that its operands go to. A compiler writes `break 7` or `teq $zero $zero 7` for a division by zero, `rdhwr $v0 $29` reads
+/// the thread pointer, and `movf` is an instruction of the floating point unit.
+const INSTRUCTIONS: &str = "
+    addiu 0x24000000 rt rs immediate
+    lui 0x3C000000 rt immediate
+    ori 0x34000000 rt rs immediate
+    lw 0x8C000000 rt immediate rs
+    lbu 0x90000000 rt immediate rs
+    ll 0xC0000000 rt immediate rs
+    sc 0xE0000000 rt immediate rs
+    syscall 0x0000000C
+    nop 0x00000000
+    break 0x0000000D code
+    teq 0x00000034 rs rt trap
+    rdhwr 0x7C00003B rt rd
+    movf 0x00000001 rd rs condition
+";
 
 /// The length of a page.
 const PAGE: usize = 0x1000;
 
 /// `Hi` and a newline from 0x00400100, then exit with 7.
-const HELLO: [u32; 9] = [
-    SET_V0 | WRITE,
-    SET_A0 | 1,
-    SET_A1_HIGH | 0x40,
-    OR_A1 | 0x100,
-    SET_A2 | 3,
-    SYSCALL,
-    SET_V0 | EXIT,
-    SET_A0 | 7,
-    SYSCALL,
-];
+const HELLO: &str = "
+    addiu $v0 $zero write; addiu $a0 $zero 1; lui $a1 0x40; ori $a1 $a1 0x100; addiu $a2 $zero 3; syscall;
+    addiu $v0 $zero exit; addiu $a0 $zero 7; syscall
+";
+
+/// The word and the fields of an instruction.
+fn form_of(mnemonic: &str) -> Option<&'static str> {
+    for line in INSTRUCTIONS.lines() {
+        if let Some((name, form)) = line.trim().split_once(' ')
+            && name == mnemonic
+        {
+            return Some(form);
+        }
+    }
+    None
+}
+
+/// An operand in its field, None where it has more bits than this.
+fn in_field(field: &str, operand: u32) -> Option<u32> {
+    match field {
+        "rs" if operand < 0x20 => Some(operand << 21),
+        "rt" if operand < 0x20 => Some(operand << 16),
+        "rd" if operand < 0x20 => Some(operand << 11),
+        "immediate" if operand < 0x1_0000 => Some(operand),
+        "code" if operand < 0x400 => Some(operand << 16),
+        "trap" if operand < 0x400 => Some(operand << 6),
+        "condition" if operand < 8 => Some(operand << 18),
+        _ => None,
+    }
+}
+
+/// A word of a form: the instruction's own, or the next operand in its field.
+fn part_of(form: &str, words: &mut Words) -> Result<u32, Fail> {
+    if let Some(number) = number_of(form) {
+        return Ok(u32::try_from(number).ok().ok_or("no word")?);
+    }
+    let operand = value(words.next()?).ok_or("no operand")?;
+    let operand = u32::try_from(operand).ok().ok_or("no operand")?;
+    Ok(in_field(form, operand).ok_or("no such operand")?)
+}
+
+/// The word of an instruction.
+fn word_of(alloc: Global, instruction: &str) -> Result<u32, Fail> {
+    let items: Vec<&str> = instruction.split_whitespace().collect(alloc)?;
+    let mut words = Words::new(items.as_slice());
+    let form = form_of(words.next()?).ok_or("no instruction")?;
+    let mut word = 0;
+    for part in form.split_whitespace() {
+        word |= part_of(part, &mut words)?;
+    }
+    words.end()?;
+    Ok(word)
+}
+
+/// Puts instructions behind those of a program.
+pub(crate) fn push_code(alloc: Global, code: &mut Vec<u32>, text: &str) -> Result<(), Fail> {
+    for instruction in text.split(';') {
+        code.push(word_of(alloc, instruction)?)?;
+    }
+    Ok(())
+}
 
 /// An executable of one segment with these bytes, which can be loaded from and executed, and which begins at 0x00400000.
 fn executable(alloc: Global, segment: &[u8]) -> Result<Vec<u8>, Fail> {
@@ -182,5 +135,7 @@ pub(crate) fn one_page(alloc: Global, code: &[u32]) -> Result<Vec<u8>, Fail> {
 
 /// The program that writes `Hi` and a newline and exits with 7, in nine turns.
 pub(crate) fn hello(alloc: Global) -> Result<Vec<u8>, Fail> {
-    executable(alloc, &segment(alloc, &HELLO)?)
+    let mut code = Vec::new(alloc);
+    push_code(alloc, &mut code, HELLO)?;
+    executable(alloc, &segment(alloc, &code)?)
 }

@@ -1,164 +1,133 @@
 //! The files that a session loads, where one is missing or is refused.
-use crate::code::*;
-use crate::images::EMPTY_ROOT;
-use crate::sessions::{add_file, is_refused, program_alone};
-use elf_image::ElfRefusal;
-use fs_image::ImageRefusal;
-use o32_session::Refusal;
-use std::alloc::Global;
+use crate::script::first_wrong;
 use std::test::Fail;
 
-/// Writes bytes over those at a place, as many as are there.
-fn write_at(file: &mut [u8], place: usize, bytes: &[u8]) {
-    for (old, new) in file.iter_mut().skip(place).zip(bytes) {
-        *old = *new;
-    }
-}
+/// The program that writes `Hi`.
+const HELLO: &str = r"
+    file p @hello
+";
 
-/// The words of a session whose store has the program that writes `Hi` as `p`, why it is refused, and its line.
-type Missing<'a> = (&'a [&'a str], Refusal, &'a [u8]);
+/// In the last row: a value is the next word, whatever it is.
+const MISSING_FILES: &str = r"
+    o32run run q ! missing 1 : o32run: file 1 missing
+    o32run run --image i p ! missing 2 : o32run: file 2 missing
+    o32run run --image --save p ! missing 2 : o32run: file 2 missing
+";
 
-/// The first session that is not refused so, counted from 0.
-fn first_not_missing(alloc: Global, rows: &[Missing]) -> Result<Option<usize>, Fail> {
-    let hello = hello(alloc)?;
-    for (place, (words, refusal, line)) in rows.iter().enumerate() {
-        let files = program_alone(alloc, &hello)?;
-        if !is_refused(alloc, words, files, *refusal, line)? {
-            return Ok(Some(place));
-        }
-    }
-    Ok(None)
-}
+/// The program that writes `Hi`. A second header asks for the same segment, which is looked at where the number of headers is 2.
+const TWO_HEADERS: &str = r"
+    file p @hello
+    copy 52 84 84
+";
+
+/// A place of the program's file, what is written there, the rule that this breaks, and its number.
+const REFUSED_PROGRAMS: &str = r"
+    change 0 \0
+    o32run run p ! elf magic : o32run: elf rule 2
+
+    change 4 \x02
+    o32run run p ! elf class : o32run: elf rule 3
+
+    change 5 \x01
+    o32run run p ! elf order : o32run: elf rule 4
+
+    change 23 \x02
+    o32run run p ! elf version : o32run: elf rule 5
+
+    change 17 \x03
+    o32run run p ! elf type : o32run: elf rule 6
+
+    change 19 \x03
+    o32run run p ! elf machine : o32run: elf rule 7
+
+    change 39 \x20
+    o32run run p ! elf abi : o32run: elf rule 8
+
+    change 43 \x1F
+    o32run run p ! elf table : o32run: elf rule 9
+
+    change 55 \x03
+    o32run run p ! elf interp : o32run: elf rule 10
+
+    change 71 \x04
+    o32run run p ! elf outside : o32run: elf rule 11
+
+    change 75 \x02
+    o32run run p ! elf sizes : o32run: elf rule 12
+
+    change 61 \0
+    o32run run p ! elf address : o32run: elf rule 13
+
+    change 63 \x04
+    o32run run p ! elf offset : o32run: elf rule 14
+
+    change 45 \x02
+    o32run run p ! elf overlap : o32run: elf rule 15
+
+    change 45 \0
+    o32run run p ! elf no_load : o32run: elf rule 16
+
+    change 72 \x1D\x4C\x10\0
+    o32run run p ! elf pages : o32run: elf rule 17
+";
+
+/// The last program and its image are empty: a program is looked at before its image.
+const REFUSED_IMAGES: &str = r"
+    file p @hello
+    file i
+    o32run run --save s --image i p ! image 1 0 : o32run: image rule 1 at 0
+
+    file p @hello
+    file i @hello
+    o32run run --save s --image i p ! image 2 0 : o32run: image rule 2 at 0
+
+    file p @hello
+    file i @empty_root
+    change 20 \x01
+    o32run run --save s --image i p ! image 5 20 : o32run: image rule 5 at 20
+
+    file p @hello
+    file i @empty_root
+    more \0
+    o32run run --save s --image i p ! image 14 35 : o32run: image rule 14 at 35
+
+    file p
+    file i
+    o32run run --save s --image i p ! elf short : o32run: elf rule 1
+";
+
+/// The argument is too long, which is looked at behind the image.
+const IMAGE_BEFORE_THE_START: &str = r"
+    file i
+    o32run run --image i p a*131072 ! image 1 0 : o32run: image rule 1 at 0
+";
 
 #[test]
 fn missing_files(rt: HostRuntime) -> Result<(), Fail> {
-    let program = Refusal::Missing { file: 1 };
-    let image = Refusal::Missing { file: 2 };
-    let rows: [Missing; 3] = [
-        (&["run", "q"], program, b"o32run: file 1 missing\n"),
-        (
-            &["run", "--image", "i", "p"],
-            image,
-            b"o32run: file 2 missing\n",
-        ),
-        // A value is the next word, whatever it is.
-        (
-            &["run", "--image", "--save", "p"],
-            image,
-            b"o32run: file 2 missing\n",
-        ),
-    ];
-    assert_eq!(rt; first_not_missing(rt.alloc(), &rows)?, None);
+    assert_eq!(rt; first_wrong(rt.alloc(), HELLO, MISSING_FILES)?, None);
     Ok(())
-}
-
-/// The program that writes `Hi`, with these bytes at a place. A second header asks for the same segment, which is looked at
-/// where the number of headers is 2.
-fn changed_hello(alloc: Global, place: usize, bytes: &[u8]) -> Result<Vec<u8>, Fail> {
-    let mut file = hello(alloc)?;
-    let header = file.get(52..84).ok_or("short")?.to_vec(alloc)?;
-    write_at(&mut file, 84, &header);
-    write_at(&mut file, place, bytes);
-    Ok(file)
-}
-
-/// A place of the program's file, what is written there, the rule that this breaks, and its number.
-type Broken<'a> = (usize, &'a [u8], ElfRefusal, u8);
-
-/// The first program that is not refused by its rule, counted from 0.
-fn first_unbroken(alloc: Global, rows: &[Broken]) -> Result<Option<usize>, Fail> {
-    for (at, (place, bytes, rule, number)) in rows.iter().enumerate() {
-        let program = changed_hello(alloc, *place, bytes)?;
-        let files = program_alone(alloc, &program)?;
-        let line = format!(in alloc; "o32run: elf rule {number}\n")?;
-        if !is_refused(
-            alloc,
-            &["run", "p"],
-            files,
-            Refusal::Elf(*rule),
-            line.as_bytes(),
-        )? {
-            return Ok(Some(at));
-        }
-    }
-    Ok(None)
 }
 
 #[test]
 fn refused_programs(rt: HostRuntime) -> Result<(), Fail> {
-    let rows: [Broken; 16] = [
-        (0, &[0], ElfRefusal::Magic, 2),
-        (4, &[2], ElfRefusal::Class, 3),
-        (5, &[1], ElfRefusal::Order, 4),
-        (23, &[2], ElfRefusal::Version, 5),
-        (17, &[3], ElfRefusal::Type, 6),
-        (19, &[3], ElfRefusal::Machine, 7),
-        (39, &[0x20], ElfRefusal::Abi, 8),
-        (43, &[31], ElfRefusal::Table, 9),
-        (55, &[3], ElfRefusal::Interp, 10),
-        (71, &[4], ElfRefusal::Outside, 11),
-        (75, &[2], ElfRefusal::Sizes, 12),
-        (61, &[0], ElfRefusal::Address, 13),
-        (63, &[4], ElfRefusal::Offset, 14),
-        (45, &[2], ElfRefusal::Overlap, 15),
-        (45, &[0], ElfRefusal::NoLoad, 16),
-        (72, &[0x1D, 0x4C, 0x10, 0], ElfRefusal::Pages, 17),
-    ];
-    assert_eq!(rt; first_unbroken(rt.alloc(), &rows)?, None);
+    assert_eq!(rt;
+        first_wrong(rt.alloc(), TWO_HEADERS, REFUSED_PROGRAMS)?,
+        None
+    );
     Ok(())
-}
-
-/// PROGRAM's file, the image, why the session is refused, and its line.
-type Image<'a> = (&'a [u8], &'a [u8], Refusal, &'a [u8]);
-
-/// The first session that is not refused so, counted from 0.
-fn first_read(alloc: Global, words: &[&str], rows: &[Image]) -> Result<Option<usize>, Fail> {
-    for (place, (program, image, refusal, line)) in rows.iter().enumerate() {
-        let mut files = program_alone(alloc, program)?;
-        add_file(alloc, &mut files, "i", image)?;
-        if !is_refused(alloc, words, files, *refusal, line)? {
-            return Ok(Some(place));
-        }
-    }
-    Ok(None)
 }
 
 #[test]
 fn refused_images(rt: HostRuntime) -> Result<(), Fail> {
-    let alloc = rt.alloc();
-    let hello = hello(alloc)?;
-    let mut longer = EMPTY_ROOT.to_vec(alloc)?;
-    longer.push(0)?;
-    let mut file_as_root = EMPTY_ROOT.to_vec(alloc)?;
-    write_at(&mut file_as_root, 20, &[1]);
-    let short = Refusal::Image(ImageRefusal { rule: 1, at: 0 });
-    let magic = Refusal::Image(ImageRefusal { rule: 2, at: 0 });
-    let kind = Refusal::Image(ImageRefusal { rule: 5, at: 20 });
-    let rest = Refusal::Image(ImageRefusal { rule: 14, at: 35 });
-    // A program is looked at before its image.
-    let program = Refusal::Elf(ElfRefusal::Short);
-    let rows: [Image; 5] = [
-        (&hello, b"", short, b"o32run: image rule 1 at 0\n"),
-        (&hello, &hello, magic, b"o32run: image rule 2 at 0\n"),
-        (&hello, &file_as_root, kind, b"o32run: image rule 5 at 20\n"),
-        (&hello, &longer, rest, b"o32run: image rule 14 at 35\n"),
-        (b"", b"", program, b"o32run: elf rule 1\n"),
-    ];
-    let words = ["run", "--save", "s", "--image", "i", "p"];
-    assert_eq!(rt; first_read(alloc, &words, &rows)?, None);
+    assert_eq!(rt; first_wrong(rt.alloc(), "", REFUSED_IMAGES)?, None);
     Ok(())
 }
 
 #[test]
 fn image_before_the_start(rt: HostRuntime) -> Result<(), Fail> {
-    let alloc = rt.alloc();
-    let hello = hello(alloc)?;
-    let long = String::from_utf8(vec![in alloc; b'a'; 131_072]?)
-        .ok()
-        .ok_or("no text")?;
-    let refusal = Refusal::Image(ImageRefusal { rule: 1, at: 0 });
-    let rows: [Image; 1] = [(&hello, b"", refusal, b"o32run: image rule 1 at 0\n")];
-    let words = ["run", "--image", "i", "p", long.as_str()];
-    assert_eq!(rt; first_read(alloc, &words, &rows)?, None);
+    assert_eq!(rt;
+        first_wrong(rt.alloc(), HELLO, IMAGE_BEFORE_THE_START)?,
+        None
+    );
     Ok(())
 }

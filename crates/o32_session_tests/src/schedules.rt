@@ -1,237 +1,167 @@
 //! The schedule of a run: what its settings do, and how it is refused.
-use crate::code::*;
-use crate::sessions::{
-    Given, NO_FAILURE, Wanted, add_file, comes_out, is_refused, program_alone, texts,
-};
-use fs_image::ImageRefusal;
-use o32_session::{End, Refusal};
-use schedule::ScheduleRefusal;
-use std::alloc::Global;
+use crate::script::first_wrong;
 use std::test::Fail;
 
-/// A schedule, a program, how its session ends, its status, the turns, and what it writes to standard output.
-type Scheduled<'a> = (&'a [u8], &'a [u32], End, u8, u64, &'a [u8]);
-
-/// The first session that does not come out so, counted from 0. The file `p` of its store is the program, and `t` the
-/// schedule.
-fn first_wrong(alloc: Global, rows: &[Scheduled]) -> Result<Option<usize>, Fail> {
-    for (place, (text, code, end, status, turns, out)) in rows.iter().enumerate() {
-        let program = one_page(alloc, code)?;
-        let mut files = program_alone(alloc, &program)?;
-        add_file(alloc, &mut files, "t", text)?;
-        let given = Given {
-            words: texts(alloc, &["run", "--schedule", "t", "p"])?,
-            files,
-            input: &[],
-            failing: NO_FAILURE,
-        };
-        let wanted = Wanted {
-            end: *end,
-            status: *status,
-            turns: *turns,
-            out,
-            err: &[],
-            saved: None,
-        };
-        if !comes_out(alloc, given, &wanted)? {
-            return Ok(Some(place));
-        }
-    }
-    Ok(None)
-}
-
 /// Four bytes of getrandom(2), which are written to standard output.
-const FOUR_BYTES_OF_CHANCE: [u32; 13] = [
-    SET_A0_TO_SP,
-    SET_A1 | 4,
-    SET_A2,
-    SET_V0 | GETRANDOM,
-    SYSCALL,
-    SET_A0 | 1,
-    SET_A1_TO_SP,
-    SET_A2 | 4,
-    SET_V0 | WRITE,
-    SYSCALL,
-    SET_A0_TO_V0,
-    SET_V0 | EXIT,
-    SYSCALL,
-];
+const FOUR_BYTES_OF_CHANCE: &str = r"
+    addiu $a0 $sp 0; addiu $a1 $zero 4; addiu $a2 $zero 0; addiu $v0 $zero getrandom; syscall
+    addiu $a0 $zero 1; addiu $a1 $sp 0; addiu $a2 $zero 4; addiu $v0 $zero write; syscall
+    addiu $a0 $v0 0; addiu $v0 $zero exit; syscall
+";
+
+/// The first stack takes the first sixteen bytes, and getrandom(2) goes on behind them.
+const CHANCE_OF_A_CALL: &str = r"
+    file t random 0102\n
+    out \x01\x02\x01\x02
+    o32run run --schedule t p = exited 4 4 13
+
+    file t random 000102030405060708090a0b0c0d0e0f10\n
+    out \x10\0\x01\x02
+    o32run run --schedule t p = exited 4 4 13
+
+    file t
+    out \0\0\0\0
+    o32run run --schedule t p = exited 4 4 13
+";
 
 /// The sixteen bytes of AT_RANDOM, which are written to standard output. Behind one argument and no environment the first
 /// stack has 38 words, which begin at a multiple of 16, so that these bytes stand 160 bytes behind their beginning.
-const BYTES_OF_THE_START: [u32; 8] = [
-    SET_A0 | 1,
-    SET_A1_TO_SP | 160,
-    SET_A2 | 16,
-    SET_V0 | WRITE,
-    SYSCALL,
-    SET_A0_TO_V0,
-    SET_V0 | EXIT,
-    SYSCALL,
-];
+const BYTES_OF_THE_START: &str = r"
+    addiu $a0 $zero 1; addiu $a1 $sp 160; addiu $a2 $zero 16; addiu $v0 $zero write; syscall
+    addiu $a0 $v0 0; addiu $v0 $zero exit; syscall
+";
+
+const CHANCE_OF_THE_START: &str = r"
+    file t random 010203\n
+    out \x01\x02\x03\x01\x02\x03\x01\x02\x03\x01\x02\x03\x01\x02\x03\x01
+    o32run run --schedule t p = exited 16 16 8
+
+    file t
+    out \0\0\0\0\0\0\0\0\0\0\0\0\0\0\0\0
+    o32run run --schedule t p = exited 16 16 8
+";
+
+/// TIOCGWINSZ on standard output, whose first four bytes are written there; it exits with what the call gave.
+const SIZE_OF_THE_TERMINAL: &str = r"
+    addiu $a0 $zero 1; lui $a1 0x4008; ori $a1 $a1 0x7468; addiu $a2 $sp 0; addiu $v0 $zero ioctl; syscall
+    addiu $t0 $v0 0
+    addiu $a0 $zero 1; addiu $a1 $sp 0; addiu $a2 $zero 4; addiu $v0 $zero write; syscall
+    addiu $a0 $t0 0; addiu $v0 $zero exit; syscall
+";
+
+/// ENOTTY is 25. Where it comes, the first four bytes at $sp are the number of arguments.
+const SETTINGS: &str = r"
+    file t quantum 7\nepoch 3 4\ntty 25 80\n
+    out \0\x19\0\x50
+    o32run run --schedule t p = exited 0 0 15
+
+    file t epoch 3 4\n
+    out \0\0\0\x01
+    o32run run --schedule t p = exited 25 25 15
+";
+
+/// The program that writes `Hi`.
+const HELLO: &str = r"
+    file p @hello
+";
+
+/// The last two break no rule: no signal comes from outside yet, which is looked at behind the rules.
+const REFUSED_SCHEDULES: &str = r"
+    file t quantum\t1\n
+    o32run run --schedule t p ! schedule 1 1 : o32run: schedule rule 1 line 1
+
+    file t tty 1 1\nQuantum 1\n
+    o32run run --schedule t p ! schedule 2 2 : o32run: schedule rule 2 line 2
+
+    file t random 0\n
+    o32run run --schedule t p ! schedule 3 1 : o32run: schedule rule 3 line 1
+
+    file t quantum 0\n
+    o32run run --schedule t p ! schedule 4 1 : o32run: schedule rule 4 line 1
+
+    file t epoch 1 0\nepoch 1 0\n
+    o32run run --schedule t p ! schedule 5 2 : o32run: schedule rule 5 line 2
+
+    file t at 1 kill 1\nquantum 1\n
+    o32run run --schedule t p ! schedule 6 2 : o32run: schedule rule 6 line 2
+
+    file t at 5 kill 14\nat 4 kill 14\n
+    o32run run --schedule t p ! schedule 7 2 : o32run: schedule rule 7 line 2
+
+    file t at 5 kill 14
+    o32run run --schedule t p ! schedule 8 1 : o32run: schedule rule 8 line 1
+
+    file t quantum 1\nat 5 kill 14\nat 6 kill 14\n
+    o32run run --schedule t p ! schedule 0 2 : o32run: schedule rule 0 line 2
+
+    file t at 0 queue 33 9\n
+    o32run run --schedule t p ! schedule 0 1 : o32run: schedule rule 0 line 1
+";
+
+const MISSING_SCHEDULE: &str = r"
+    o32run run --schedule t p ! missing 3 : o32run: file 3 missing
+";
+
+const SCHEDULE_BEHIND_THE_IMAGE: &str = r"
+    file i
+    file t quantum 0\n
+    o32run run --schedule t --image i p ! image 1 0 : o32run: image rule 1 at 0
+";
+
+/// The argument is too long, which is looked at behind the schedule.
+const SCHEDULE_BEFORE_THE_START: &str = r"
+    file t quantum 0\n
+    o32run run --schedule t p a*131072 ! schedule 4 1 : o32run: schedule rule 4 line 1
+";
 
 #[test]
 fn chance(rt: HostRuntime) -> Result<(), Fail> {
-    // The first stack takes the first sixteen bytes, and getrandom(2) goes on behind them.
-    let round = b"random 0102\n";
-    let of_17 = b"random 000102030405060708090a0b0c0d0e0f10\n";
-    let rows: [Scheduled; 5] = [
-        (
-            round,
-            &FOUR_BYTES_OF_CHANCE,
-            End::Exited(4),
-            4,
-            13,
-            &[1, 2, 1, 2],
-        ),
-        (
-            of_17,
-            &FOUR_BYTES_OF_CHANCE,
-            End::Exited(4),
-            4,
-            13,
-            &[16, 0, 1, 2],
-        ),
-        (b"", &FOUR_BYTES_OF_CHANCE, End::Exited(4), 4, 13, &[0; 4]),
-        (
-            b"random 010203\n",
-            &BYTES_OF_THE_START,
-            End::Exited(16),
-            16,
-            8,
-            &[1, 2, 3, 1, 2, 3, 1, 2, 3, 1, 2, 3, 1, 2, 3, 1],
-        ),
-        (b"", &BYTES_OF_THE_START, End::Exited(16), 16, 8, &[0; 16]),
-    ];
-    assert_eq!(rt; first_wrong(rt.alloc(), &rows)?, None);
+    assert_eq!(rt;
+        first_wrong(rt.alloc(), FOUR_BYTES_OF_CHANCE, CHANCE_OF_A_CALL)?,
+        None
+    );
+    assert_eq!(rt;
+        first_wrong(rt.alloc(), BYTES_OF_THE_START, CHANCE_OF_THE_START)?,
+        None
+    );
     Ok(())
 }
-
-/// TIOCGWINSZ on standard output, whose first four bytes are written there; it exits with what the call gave.
-const SIZE_OF_THE_TERMINAL: [u32; 15] = [
-    SET_A0 | 1,
-    SET_A1_HIGH | 0x4008,
-    OR_A1 | 0x7468,
-    SET_A2_TO_SP,
-    SET_V0 | IOCTL,
-    SYSCALL,
-    SET_T0_TO_V0,
-    SET_A0 | 1,
-    SET_A1_TO_SP,
-    SET_A2 | 4,
-    SET_V0 | WRITE,
-    SYSCALL,
-    SET_A0_TO_T0,
-    SET_V0 | EXIT,
-    SYSCALL,
-];
 
 #[test]
 fn settings(rt: HostRuntime) -> Result<(), Fail> {
-    // ENOTTY is 25. Where it comes, the first four bytes at $sp are the number of arguments.
-    let tty = b"quantum 7\nepoch 3 4\ntty 25 80\n";
-    let rows: [Scheduled; 2] = [
-        (
-            tty,
-            &SIZE_OF_THE_TERMINAL,
-            End::Exited(0),
-            0,
-            15,
-            &[0, 25, 0, 80],
-        ),
-        (
-            b"epoch 3 4\n",
-            &SIZE_OF_THE_TERMINAL,
-            End::Exited(25),
-            25,
-            15,
-            &[0, 0, 0, 1],
-        ),
-    ];
-    assert_eq!(rt; first_wrong(rt.alloc(), &rows)?, None);
+    assert_eq!(rt;
+        first_wrong(rt.alloc(), SIZE_OF_THE_TERMINAL, SETTINGS)?,
+        None
+    );
     Ok(())
-}
-
-/// A schedule, and the rule and the line of its refusal.
-type Broken<'a> = (&'a [u8], u8, u64);
-
-/// The first schedule that is not refused so, counted from 0.
-fn first_accepted(alloc: Global, rows: &[Broken]) -> Result<Option<usize>, Fail> {
-    for (place, (text, rule, line)) in rows.iter().enumerate() {
-        let mut files = program_alone(alloc, &hello(alloc)?)?;
-        add_file(alloc, &mut files, "t", text)?;
-        let refusal = Refusal::Schedule(ScheduleRefusal {
-            line: *line,
-            rule: *rule,
-        });
-        let told = format!(in alloc; "o32run: schedule rule {rule} line {line}\n")?;
-        if !is_refused(
-            alloc,
-            &["run", "--schedule", "t", "p"],
-            files,
-            refusal,
-            told.as_bytes(),
-        )? {
-            return Ok(Some(place));
-        }
-    }
-    Ok(None)
 }
 
 #[test]
 fn refused_schedules(rt: HostRuntime) -> Result<(), Fail> {
-    let rows: [Broken; 10] = [
-        (b"quantum\t1\n", 1, 1),
-        (b"tty 1 1\nQuantum 1\n", 2, 2),
-        (b"random 0\n", 3, 1),
-        (b"quantum 0\n", 4, 1),
-        (b"epoch 1 0\nepoch 1 0\n", 5, 2),
-        (b"at 1 kill 1\nquantum 1\n", 6, 2),
-        (b"at 5 kill 14\nat 4 kill 14\n", 7, 2),
-        (b"at 5 kill 14", 8, 1),
-        // No signal comes from outside yet, which is looked at behind the rules.
-        (b"quantum 1\nat 5 kill 14\nat 6 kill 14\n", 0, 2),
-        (b"at 0 queue 33 9\n", 0, 1),
-    ];
-    assert_eq!(rt; first_accepted(rt.alloc(), &rows)?, None);
+    assert_eq!(rt; first_wrong(rt.alloc(), HELLO, REFUSED_SCHEDULES)?, None);
     Ok(())
 }
 
 #[test]
 fn missing_schedule(rt: HostRuntime) -> Result<(), Fail> {
-    let alloc = rt.alloc();
-    let files = program_alone(alloc, &hello(alloc)?)?;
-    let words = ["run", "--schedule", "t", "p"];
-    let missing = Refusal::Missing { file: 3 };
-    let line = b"o32run: file 3 missing\n";
-    assert_eq!(rt; is_refused(alloc, &words, files, missing, line)?, true);
+    assert_eq!(rt; first_wrong(rt.alloc(), HELLO, MISSING_SCHEDULE)?, None);
     Ok(())
 }
 
 #[test]
 fn schedule_behind_the_image(rt: HostRuntime) -> Result<(), Fail> {
-    let alloc = rt.alloc();
-    let mut files = program_alone(alloc, &hello(alloc)?)?;
-    add_file(alloc, &mut files, "i", b"")?;
-    add_file(alloc, &mut files, "t", b"quantum 0\n")?;
-    let words = ["run", "--schedule", "t", "--image", "i", "p"];
-    let image = Refusal::Image(ImageRefusal { rule: 1, at: 0 });
-    let line = b"o32run: image rule 1 at 0\n";
-    assert_eq!(rt; is_refused(alloc, &words, files, image, line)?, true);
+    assert_eq!(rt;
+        first_wrong(rt.alloc(), HELLO, SCHEDULE_BEHIND_THE_IMAGE)?,
+        None
+    );
     Ok(())
 }
 
 #[test]
 fn schedule_before_the_start(rt: HostRuntime) -> Result<(), Fail> {
-    let alloc = rt.alloc();
-    let long = String::from_utf8(vec![in alloc; b'a'; 131_072]?)
-        .ok()
-        .ok_or("no text")?;
-    let mut files = program_alone(alloc, &hello(alloc)?)?;
-    add_file(alloc, &mut files, "t", b"quantum 0\n")?;
-    let words = ["run", "--schedule", "t", "p", long.as_str()];
-    let schedule = Refusal::Schedule(ScheduleRefusal { line: 1, rule: 4 });
-    let line = b"o32run: schedule rule 4 line 1\n";
-    assert_eq!(rt; is_refused(alloc, &words, files, schedule, line)?, true);
+    assert_eq!(rt;
+        first_wrong(rt.alloc(), HELLO, SCHEDULE_BEFORE_THE_START)?,
+        None
+    );
     Ok(())
 }

@@ -1,44 +1,55 @@
 //! A session, and what it comes to.
-use o32_session::{Answer, End, Refusal, session};
+use o32_session::{Answer, End, session};
 use outside::{Devices, MemSink, MemSource, MemStore, NamedFile};
 use std::alloc::Global;
 use std::test::Fail;
 
-/// The numbers of the calls that fail, counted from 1: of the takes of standard input, the puts of standard output and of
-/// standard error, and the calls on the store.
-pub(crate) type Failing<'a> = [&'a [u64]; 4];
-
-/// No call fails.
-pub(crate) const NO_FAILURE: Failing<'static> = [&[], &[], &[], &[]];
+/// The numbers of the calls that fail, counted from 1.
+#[derive(Drop)]
+pub(crate) struct Failing {
+    /// Of the takes of standard input.
+    pub(crate) takes: Vec<u64>,
+    /// Of the puts of standard output.
+    pub(crate) puts: Vec<u64>,
+    /// Of the puts of standard error.
+    pub(crate) lines: Vec<u64>,
+    /// Of the calls on the store.
+    pub(crate) calls: Vec<u64>,
+}
 
 /// What a session is given.
 #[derive(Drop)]
-pub(crate) struct Given<'a> {
+pub(crate) struct Given {
     /// Its words.
-    pub words: Vec<String>,
+    pub(crate) words: Vec<String>,
     /// The files of its store.
-    pub files: Vec<NamedFile>,
+    pub(crate) files: Vec<NamedFile>,
     /// Its standard input.
-    pub input: &'a [u8],
+    pub(crate) input: Vec<u8>,
     /// The calls that fail.
-    pub failing: Failing<'a>,
+    pub(crate) failing: Failing,
 }
 
-/// What a session comes to.
+/// What a session answers.
 #[derive(Clone, Copy)]
-pub(crate) struct Wanted<'a> {
+pub(crate) struct Outcome {
     /// How it ends.
-    pub end: End,
+    pub(crate) end: End,
     /// The status of its answer.
-    pub status: u8,
+    pub(crate) status: u8,
     /// The turns of its answer.
-    pub turns: u64,
+    pub(crate) turns: u64,
+}
+
+/// What a session leaves.
+#[derive(Drop)]
+pub(crate) struct Left {
     /// What it wrote to standard output.
-    pub out: &'a [u8],
+    pub(crate) out: Vec<u8>,
     /// What it wrote to standard error.
-    pub err: &'a [u8],
+    pub(crate) err: Vec<u8>,
     /// What it left in the file `s`, where there is one.
-    pub saved: Option<&'a [u8]>,
+    pub(crate) saved: Option<Vec<u8>>,
 }
 
 /// What a session did.
@@ -50,48 +61,14 @@ struct Done {
     store: MemStore,
 }
 
-/// These texts, as the words of a session.
-pub(crate) fn texts(alloc: Global, words: &[&str]) -> Result<Vec<String>, Fail> {
-    let mut texts = Vec::new(alloc);
-    for word in words {
-        texts
-            .push(String::from_str(alloc, word)?)
-            .ok()
-            .ok_or("no memory")?;
-    }
-    Ok(texts)
-}
-
-/// Adds a file of this name with these bytes.
-pub(crate) fn add_file(
-    alloc: Global,
-    files: &mut Vec<NamedFile>,
-    name: &str,
-    bytes: &[u8],
-) -> Result<(), Fail> {
-    let file = NamedFile {
-        name: String::from_str(alloc, name)?,
-        bytes: bytes.to_vec(alloc)?,
-    };
-    files.push(file).ok().ok_or("no memory")?;
-    Ok(())
-}
-
-/// A store whose file `p` has these bytes.
-pub(crate) fn program_alone(alloc: Global, program: &[u8]) -> Result<Vec<NamedFile>, Fail> {
-    let mut files = Vec::new(alloc);
-    add_file(alloc, &mut files, "p", program)?;
-    Ok(files)
-}
-
 /// Carries out a session.
 fn carry_out(alloc: Global, given: Given) -> Result<Done, Fail> {
-    let [takes, puts, lines, calls] = given.failing;
-    let mut store = MemStore::new(alloc, given.files, calls.to_vec(alloc)?);
+    let failing = given.failing;
+    let mut store = MemStore::new(alloc, given.files, failing.calls);
     let mut dev = Devices {
-        input: MemSource::new(given.input.to_vec(alloc)?, takes.to_vec(alloc)?),
-        out: MemSink::new(alloc, puts.to_vec(alloc)?),
-        err: MemSink::new(alloc, lines.to_vec(alloc)?),
+        input: MemSource::new(given.input, failing.takes),
+        out: MemSink::new(alloc, failing.puts),
+        err: MemSink::new(alloc, failing.lines),
     };
     let answer = session(alloc, &given.words, &mut store, &mut dev);
     Ok(Done {
@@ -114,43 +91,32 @@ fn is_hosted(answer: &Answer) -> bool {
     }
 }
 
-/// Whether a session answers and writes so.
-fn is_right(done: &Done, wanted: &Wanted) -> bool {
-    done.answer.end == wanted.end
-        && done.answer.status == wanted.status
-        && done.answer.turns == wanted.turns
+/// Whether this is left in the file `s` of a store.
+fn is_saved(store: &MemStore, saved: &Option<Vec<u8>>) -> bool {
+    match (store.file("s"), saved) {
+        (Some(bytes), Some(wanted)) => bytes == wanted.as_slice(),
+        (None, None) => true,
+        _ => false,
+    }
+}
+
+/// Whether a session answers so, and leaves this.
+fn is_right(done: &Done, outcome: &Outcome, left: &Left) -> bool {
+    done.answer.end == outcome.end
+        && done.answer.status == outcome.status
+        && done.answer.turns == outcome.turns
         && is_hosted(&done.answer)
-        && done.out.as_slice() == wanted.out
-        && done.err.as_slice() == wanted.err
-        && done.store.file("s") == wanted.saved
+        && done.out.as_slice() == left.out.as_slice()
+        && done.err.as_slice() == left.err.as_slice()
+        && is_saved(&done.store, &left.saved)
 }
 
 /// Whether a session comes out so.
-pub(crate) fn comes_out(alloc: Global, given: Given, wanted: &Wanted) -> Result<bool, Fail> {
-    Ok(is_right(&carry_out(alloc, given)?, wanted))
-}
-
-/// Whether a session is refused so, with this line.
-pub(crate) fn is_refused(
+pub(crate) fn comes_out(
     alloc: Global,
-    words: &[&str],
-    files: Vec<NamedFile>,
-    refusal: Refusal,
-    line: &[u8],
+    given: Given,
+    outcome: &Outcome,
+    left: &Left,
 ) -> Result<bool, Fail> {
-    let given = Given {
-        words: texts(alloc, words)?,
-        files,
-        input: &[],
-        failing: NO_FAILURE,
-    };
-    let wanted = Wanted {
-        end: End::Refused(refusal),
-        status: 125,
-        turns: 0,
-        out: &[],
-        err: line,
-        saved: None,
-    };
-    comes_out(alloc, given, &wanted)
+    Ok(is_right(&carry_out(alloc, given)?, outcome, left))
 }

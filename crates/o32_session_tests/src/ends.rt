@@ -1,0 +1,104 @@
+//! How sessions end, in words.
+use crate::reading::Words;
+use crate::sessions::Outcome;
+use elf_image::ElfRefusal;
+use fs_image::ImageRefusal;
+use o32_session::{End, Refusal};
+use schedule::ScheduleRefusal;
+use std::alloc::Global;
+use std::test::Fail;
+
+/// The status of a session that is refused.
+const REFUSED: u8 = 125;
+
+/// An end that is no refusal.
+fn end_of(words: &mut Words) -> Result<End, Fail> {
+    match words.next()? {
+        "exited" => Ok(End::Exited(words.byte()?)),
+        "killed" => Ok(End::Killed(words.byte()?)),
+        "budget" => Ok(End::Budget),
+        "blocked" => Ok(End::Blocked),
+        "read_fault" => Ok(End::ReadFault),
+        "write_fault" => Ok(End::WriteFault),
+        _ => Err(Fail::from("no end")),
+    }
+}
+
+/// The rule on executables of a name.
+fn rule_of(name: &str) -> Option<ElfRefusal> {
+    match name {
+        "short" => Some(ElfRefusal::Short),
+        "magic" => Some(ElfRefusal::Magic),
+        "class" => Some(ElfRefusal::Class),
+        "order" => Some(ElfRefusal::Order),
+        "version" => Some(ElfRefusal::Version),
+        "type" => Some(ElfRefusal::Type),
+        "machine" => Some(ElfRefusal::Machine),
+        "abi" => Some(ElfRefusal::Abi),
+        "table" => Some(ElfRefusal::Table),
+        "interp" => Some(ElfRefusal::Interp),
+        "outside" => Some(ElfRefusal::Outside),
+        "sizes" => Some(ElfRefusal::Sizes),
+        "address" => Some(ElfRefusal::Address),
+        "offset" => Some(ElfRefusal::Offset),
+        "overlap" => Some(ElfRefusal::Overlap),
+        "no_load" => Some(ElfRefusal::NoLoad),
+        "pages" => Some(ElfRefusal::Pages),
+        _ => None,
+    }
+}
+
+/// The rule of an image's refusal, and its place.
+fn image_of(words: &mut Words) -> Result<ImageRefusal, Fail> {
+    let rule = words.byte()?;
+    let at = words.number()?;
+    Ok(ImageRefusal { rule, at })
+}
+
+/// The rule of a schedule's refusal, and its line.
+fn schedule_of(words: &mut Words) -> Result<ScheduleRefusal, Fail> {
+    let rule = words.byte()?;
+    let line = words.number()?;
+    Ok(ScheduleRefusal { line, rule })
+}
+
+/// Why nothing was run.
+fn refusal_of(words: &mut Words) -> Result<Refusal, Fail> {
+    match words.next()? {
+        "usage" => Ok(Refusal::Usage {
+            word: words.place()?,
+        }),
+        "missing" => Ok(Refusal::Missing {
+            file: words.byte()?,
+        }),
+        "elf" => Ok(Refusal::Elf(rule_of(words.next()?).ok_or("no rule")?)),
+        "image" => Ok(Refusal::Image(image_of(words)?)),
+        "schedule" => Ok(Refusal::Schedule(schedule_of(words)?)),
+        "start" => Ok(Refusal::Start),
+        _ => Err(Fail::from("no refusal")),
+    }
+}
+
+/// An end, its status and the turns.
+pub(crate) fn outcome_of(alloc: Global, text: &str) -> Result<Outcome, Fail> {
+    let items: Vec<&str> = text.split_whitespace().collect(alloc)?;
+    let mut words = Words::new(items.as_slice());
+    let end = end_of(&mut words)?;
+    let status = words.byte()?;
+    let turns = words.number()?;
+    words.end()?;
+    Ok(Outcome { end, status, turns })
+}
+
+/// What a refusal comes to: it takes no turn.
+pub(crate) fn refused(alloc: Global, text: &str) -> Result<Outcome, Fail> {
+    let items: Vec<&str> = text.split_whitespace().collect(alloc)?;
+    let mut words = Words::new(items.as_slice());
+    let refusal = refusal_of(&mut words)?;
+    words.end()?;
+    Ok(Outcome {
+        end: End::Refused(refusal),
+        status: REFUSED,
+        turns: 0,
+    })
+}
