@@ -16,17 +16,18 @@ pub(crate) struct Setting {
     left: Left,
 }
 
-/// The bytes of a text, or those that have a name.
+/// The bytes of a text, or those of a name behind `@`.
 fn content_of(alloc: Global, text: &str) -> Result<Vec<u8>, Fail> {
-    match text {
-        "@hello" => hello(alloc),
-        "@empty_root" => image_of(alloc, EMPTY_ROOT),
-        "@one_file" => image_of(alloc, ONE_FILE),
-        _ => bytes_of(alloc, text),
+    match text.strip_prefix("@") {
+        None => bytes_of(alloc, text),
+        Some("hello") => hello(alloc),
+        Some("empty_root") => image_of(alloc, EMPTY_ROOT),
+        Some("one_file") => image_of(alloc, ONE_FILE),
+        Some(_) => Err(Fail::from("no such content")),
     }
 }
 
-/// Writes bytes over those of a file from a place on, where there are as many.
+/// Writes bytes over those of a file from a place on, as many as have to be there.
 fn write_at(file: &mut [u8], place: usize, bytes: &[u8]) -> Result<(), Fail> {
     if place.saturating_add(bytes.len()) > file.len() {
         return Err(Fail::from("no such place"));
@@ -43,13 +44,18 @@ fn push_text(alloc: Global, bytes: &mut Vec<u8>, text: &str) -> Result<(), Fail>
     Ok(())
 }
 
-/// Adds a file.
+/// Adds a file, of a name that no other has.
 fn add_file(
     alloc: Global,
     files: &mut Vec<NamedFile>,
     name: &str,
     bytes: Vec<u8>,
 ) -> Result<(), Fail> {
+    for file in files.iter() {
+        if file.name.as_str() == name {
+            return Err(Fail::from("two files of a name"));
+        }
+    }
     let file = NamedFile {
         name: String::from_str(alloc, name)?,
         bytes,
