@@ -49,14 +49,14 @@ fn rule_of(name: &str) -> Option<ElfRefusal> {
 }
 
 /// The rule of an image's refusal, and its place.
-fn image_of(words: &mut Words) -> Result<ImageRefusal, Fail> {
+fn image_refusal(words: &mut Words) -> Result<ImageRefusal, Fail> {
     let rule = words.byte()?;
     let at = words.number()?;
     Ok(ImageRefusal { rule, at })
 }
 
 /// The rule of a schedule's refusal, and its line.
-fn schedule_of(words: &mut Words) -> Result<ScheduleRefusal, Fail> {
+fn schedule_refusal(words: &mut Words) -> Result<ScheduleRefusal, Fail> {
     let rule = words.byte()?;
     let line = words.number()?;
     Ok(ScheduleRefusal { line, rule })
@@ -72,8 +72,8 @@ fn refusal_of(words: &mut Words) -> Result<Refusal, Fail> {
             file: words.byte()?,
         }),
         "elf" => Ok(Refusal::Elf(rule_of(words.next()?).ok_or("no rule")?)),
-        "image" => Ok(Refusal::Image(image_of(words)?)),
-        "schedule" => Ok(Refusal::Schedule(schedule_of(words)?)),
+        "image" => Ok(Refusal::Image(image_refusal(words)?)),
+        "schedule" => Ok(Refusal::Schedule(schedule_refusal(words)?)),
         "start" => Ok(Refusal::Start),
         _ => Err(Fail::from("no refusal")),
     }

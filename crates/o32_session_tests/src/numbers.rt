@@ -1,6 +1,6 @@
 //! What the words of a script stand for.
 
-/// Names, each with its number behind it: registers (MIPS32 Architecture for Programmers, Volume I, by their names in o32), with the
+/// Names, each with its number behind it: registers (MIPS32 Architecture for Programmers, Volume I, by their o32 names), with the
 /// hardware register `$29` and the condition `$fcc0`; and calls (Linux `arch/mips/include/uapi/asm/unistd.h`, the o32 table).
 const NAMES: &str = "
     $zero 0 $v0 2 $v1 3 $a0 4 $a1 5 $a2 6 $a3 7 $t0 8 $sp 29 $29 29 $fcc0 0
