@@ -3,8 +3,8 @@
 
 Eight guest programs, each one loop, are built and run: getpid(2); write(2) of 1 and of 4096 bytes to standard output, which is
 the null device; write(2) of as many bytes to a file, and lseek(2) back to its beginning; write(2) of them into a pipe, and read(2)
-of them; and mmap2(2) of one page, a store to it and munmap(2). Each program exits with 0 where no call failed, in just the turns that are counted, and not in one less; what
-a short form of it writes has to have the right length.
+of them; and mmap2(2) of one page, a store to it and munmap(2). Each program exits with 0 where no call failed, in just the turns
+that are counted, and not in one less; what a short form of it writes has to have the right length.
 
 A rate is that of the best run, by the processor's seconds that the run took, user and system, the instructions of the
 loop among them.
