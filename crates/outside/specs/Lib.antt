@@ -9,5 +9,6 @@ pub mod Calls
 pub mod Memory
 pub mod Content
 pub mod Register
+pub mod Held
 pub mod Adapted
 pub mod inside
