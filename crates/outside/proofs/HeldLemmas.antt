@@ -1,5 +1,5 @@
 -- The files that are held open: a change at the place of a name, and which names are held.
-use Rattle.std.proofs.Common.{◌≡◌, ◌≢◌, ℕ, zero, suc, ◌<◌, ◌≤◌, Bool, true, false, All, List, [], ◌∷◌, ◌++◌, length, get_or, set, Option, None, Some, position, refl, ap, sym, ◌∙◌, arith, subst, ⊎_elim, inl, inr, Contains, true≢false, Result, Ok, Err, OnOk, OnErr}
+use Rattle.std.proofs.Common.{◌≡◌, ◌≢◌, ℕ, zero, suc, ◌<◌, ◌≤◌, Bool, false, List, [], ◌∷◌, ◌++◌, length, get_or, set, Option, None, Some, position, ap, sym, ◌∙◌, arith, subst, ⊎_elim, inl, inr, true≢false, Result, Ok, Err, OnOk, OnErr}
 use Rattle.std.specs.Str.{bytes_eq}
 use Rattle.std.specs.List.{position_or_len}
 use Rattle.std.proofs.lemmas.Bool.Decides.{nat_tests}

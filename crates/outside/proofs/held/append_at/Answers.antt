@@ -1,4 +1,4 @@
-use Rattle.std.proofs.Common.{◌≡◌, ℕ, ◌<◌, length, subst}
+use Rattle.std.proofs.Common.{◌<◌, length, subst}
 use Rattle.std.specs.Io.KnownBytes.{Appends}
 use Rattle.outside.specs.Adapted.{AppendsPart}
 use Rattle.outside.proofs.HeldLemmas.{ChangesAt-write, on_ok-then, on_err-then}
