@@ -3,12 +3,12 @@
 
 int main(void)
 {
-    double *roots = malloc(3 * sizeof *roots);
-    FILE *file = fopen("roots", "w");
-    for (int i = 0; i < 3; i++)
-        roots[i] = 1.0 / (i + 1);
-    fprintf(file, "%.3f %.3f %.3f\n", roots[0], roots[1], roots[2]);
-    fclose(file);
-    puts("Hello");
-    return 0;
+    double *thirds = malloc(3 * sizeof(double)), sum = 0;
+    FILE *file = fopen("thirds", "w");
+    for (int i = 0; i < 3; i++) {
+        sum += thirds[i] = i / 3.0;
+        fprintf(file, "%d / 3 = %.4f\n", i, thirds[i]);
+    }
+    printf("The sum is %.2f\n", sum);
+    return fclose(file);
 }
