@@ -2,6 +2,7 @@
 use Rattle.std.specs.Prelude.{ℕ, List, Option}
 use Rattle.std.specs.Io.KnownBytes.{Appends}
 use Rattle.outside.specs.Output.{IsPrefix}
+use Rattle.outside.specs.Held.{HeldFile}
 use Rattle.outside.specs.Register.{Register}
 
 -- the bytes that the reader has left or that the writer holds, where that itself tells them, and the count of faults
@@ -9,8 +10,9 @@ pub record Adapted : Type 0 where
   pub known : Option (List ℕ)
   pub faults : ℕ
 
--- the store over the host's files: what it keeps of its calls, and its two counts of faults
+-- the store over the host's files: the files that it made, what it keeps of its calls, and its two counts of faults
 pub record DirFiles : Type 0 where
+  pub held : List HeldFile
   pub register : Register
   pub load_faults : ℕ
   pub write_faults : ℕ

@@ -2,6 +2,7 @@ pub mod Count
 pub mod Input
 pub mod Output
 pub mod Files
+pub mod Loads
 pub mod Turned
 pub mod Causes
 pub mod Streams
@@ -9,5 +10,6 @@ pub mod Calls
 pub mod Memory
 pub mod Content
 pub mod Register
+pub mod Held
 pub mod Adapted
 pub mod inside

@@ -1,16 +1,20 @@
 // The store over the host's files, which tells no content. What the host does is trusted.
 ghost use Rattle.std.specs.Prelude.{◌≡◌, ◌<◌, ◌≤◌, ◌++◌, [], ◌∷◌, None, length, vec_len, Contains, OnOk, OnErr};
-ghost use Rattle.outside.specs.Causes.{FailsOnlyIfRose, LoadFailsOnlyIfRose, IsNoFault, faults_after, load_faults_after};
+ghost use Rattle.std.specs.Io.KnownBytes.{Appends};
+ghost use Rattle.outside.specs.Adapted.{AppendsPart};
+ghost use Rattle.outside.specs.Causes.{FailsOnlyIfRose, LoadFailsOnlyIfRose, faults_after, load_faults_after};
 ghost use Rattle.outside.specs.Count.{last_count};
+ghost use Rattle.outside.specs.Held.{ChangesHeld, HoldsOneMore};
+ghost use Rattle.outside.specs.Loads.{answered_by};
 ghost use Rattle.outside.specs.Turned.{turned_by};
 
 use crate::errors::{DevError, Failed, LoadError};
+use crate::held::{HeldFile, append_held, hold_file};
 use crate::register::Register;
 use crate::traits::Store;
-use crate::transfer::{ReadError, read_whole, write_whole};
+use crate::transfer::{ReadError, read_whole};
 use std::alloc::Global;
 use std::fs;
-use std::fs::OpenOptions;
 use std::io::ErrorKind;
 use std::marker::Model;
 use std::rt::Files;
@@ -18,10 +22,13 @@ use std::rt::Files;
 // How many bytes of a file are read at once.
 const PIECE_SIZE: usize = 4096;
 
-/// A store of the files that the runtime opens, whose names are paths.
+/// A store of the files that the runtime opens, whose names are paths. A file that it made stays
+/// open as long as the store is there, and is added to by the handle that it was made with.
 #[derive(Drop)]
 pub struct DirStore<F: Files> {
+    alloc: Global,
     host: F,
+    held: Vec<HeldFile<F::File>>,
     register: Register,
     load_faults: u64,
     write_faults: u64,
@@ -31,21 +38,26 @@ impl<F: Files> Model for DirStore<F> {
     ghost use Rattle.std.specs.Prelude.{◌≤◌};
     ghost use Rattle.outside.specs.Adapted.{DirFiles};
     ghost use Rattle.outside.specs.Count.{last_count};
+    ghost use Rattle.outside.specs.inside.Holding.{AreHeld};
 
     ghost Value = { DirFiles };
 
-    ghost view = { λ s. record { register = s.register; load_faults = s.load_faults; write_faults = s.write_faults } };
+    ghost view = { λ s. record { held = s.held.items; register = s.register; load_faults = s.load_faults; write_faults = s.write_faults } };
 
-    ghost invariant = { λ s. (s.load_faults ≤ last_count) × (s.write_faults ≤ last_count) };
+    ghost invariant = { λ s. (s.load_faults ≤ last_count)
+        × (s.write_faults ≤ last_count)
+        × AreHeld s.held.items s.register.created };
 }
 
 impl<F: Files> DirStore<F> {
     /// A store of the files of `host`, with no fault yet.
     pub fn new(alloc: Global, host: F) -> Self
-        ensures { result ≡ record { register = record { turned_away = []; created = [] }; load_faults = 0; write_faults = 0 } }
+        ensures { result ≡ record { held = []; register = record { loads = []; turned_away = []; created = [] }; load_faults = 0; write_faults = 0 } }
     {
         DirStore {
+            alloc,
             host,
+            held: Vec::new(alloc),
             register: Register::new(alloc),
             load_faults: 0,
             write_faults: 0,
@@ -78,30 +90,14 @@ fn read_file<F: Files>(
     }
 }
 
-// Makes a file, or makes it empty.
-fn make_file<F: Files>(host: &F, name: &str) -> Result<(), Failed> {
-    match fs::create(host, name) {
-        Ok(_file) => Ok(()),
-        Err(_) => Err(Failed),
-    }
-}
-
-// Writes at the end of a file.
-fn append_file<F: Files>(host: &F, name: &str, bytes: &[u8]) -> Result<(), Failed> {
-    let mut options = OpenOptions::new();
-    options.append(true);
-    match options.open(host, name) {
-        Ok(mut file) => write_whole(&mut file, bytes),
-        Err(_) => Err(Failed),
-    }
-}
-
 impl<F: Files> Store for DirStore<F> {
     ghost files = { λ _. None };
 
     ghost load_faults = { λ s. s.load_faults };
 
     ghost write_faults = { λ s. s.write_faults };
+
+    ghost loads = { λ s. s.register.loads };
 
     ghost turned_away = { λ s. s.register.turned_away };
 
@@ -111,14 +107,15 @@ impl<F: Files> Store for DirStore<F> {
         requires { into.old.items ≡ [] }
 
         ensures within { OnOk result (vec_len into.new ≤ limit) }
+        ensures held { self.new.held ≡ self.old.held }
         ensures register { self.new.register ≡ record self.old.register {
+          loads = self.old.register.loads ++ answered_by name.now result;
           turned_away =
               self.old.register.turned_away ++ turned_by name.now limit result;
         } }
 
         ensures faults { self.new.load_faults ≡ load_faults_after result self.old.load_faults }
         ensures cause { LoadFailsOnlyIfRose result self.old.load_faults self.new.load_faults }
-        ensures no_fault { IsNoFault result self.old.load_faults self.new.load_faults }
         ensures later { self.old.load_faults ≤ self.new.load_faults }
         ensures bounded { self.new.load_faults ≤ last_count }
         ensures write_faults { self.new.write_faults ≡ self.old.write_faults }
@@ -136,12 +133,14 @@ impl<F: Files> Store for DirStore<F> {
             Err(LoadError::TooLong) => {
                 self.register.list_turned(name, limit, LoadError::TooLong)?;
             }
-            Ok(()) | Err(LoadError::NoMemory) => {}
+            Ok(()) => self.register.list_load(name)?,
+            Err(LoadError::NoMemory) => {}
         }
         result
     }
 
     fn create(&mut self, name: &str) -> Result<(), DevError>
+        ensures held { OnOk result (HoldsOneMore self.old.held self.new.held name.now) }
         ensures created { OnOk result (self.new.register ≡ record self.old.register {
           created =
               self.old.register.created ++ name.now ∷ [];
@@ -155,17 +154,19 @@ impl<F: Files> Store for DirStore<F> {
         ensures load_faults { self.new.load_faults ≡ self.old.load_faults }
         ensures load_bounded { self.new.load_faults ≤ last_count }
     {
-        if let Err(Failed) = make_file(&self.host, name) {
+        let Ok(handle) = fs::create(&self.host, name) else {
             self.write_faults = self.write_faults.saturating_add(1);
             return Err(DevError::Failed);
-        }
-        self.register.list_created(name)?;
+        };
+        hold_file(self.alloc, &mut self.held, &mut self.register, name, handle)?;
         Ok(())
     }
 
     fn append(&mut self, name: &str, bytes: &[u8]) -> Result<(), DevError>
         requires { Contains self.old.register.created name.now }
 
+        ensures added { OnOk result (ChangesHeld self.old.held self.new.held name.now (λ before after. Appends before after bytes.now)) }
+        ensures part { OnErr result (ChangesHeld self.old.held self.new.held name.now (λ before after. AppendsPart before after bytes.now)) }
         ensures register { self.new.register ≡ self.old.register }
 
         ensures faults { self.new.write_faults ≡ faults_after result self.old.write_faults }
@@ -175,7 +176,7 @@ impl<F: Files> Store for DirStore<F> {
         ensures load_faults { self.new.load_faults ≡ self.old.load_faults }
         ensures load_bounded { self.new.load_faults ≤ last_count }
     {
-        if let Err(Failed) = append_file(&self.host, name, bytes) {
+        if let Err(Failed) = append_held(&mut self.held, name, bytes) {
             self.write_faults = self.write_faults.saturating_add(1);
             return Err(DevError::Failed);
         }

@@ -9,6 +9,7 @@ mod devices;
 mod directory;
 mod errors;
 mod failing;
+mod held;
 mod memory;
 mod named;
 mod real;
