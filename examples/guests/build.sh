@@ -210,8 +210,11 @@ build_minigzip() {
 
 build_lua() {
   cd source/lua5.4/src
-  local files=(*.c)
-  o32-cc -O2 -w -DLUA_COMPAT_5_3 -o ../../../guests/lua "${files[@]/luac.c/}" -lm
+  local files=() file
+  for file in *.c; do
+    [ "$file" = luac.c ] || files+=("$file")
+  done
+  o32-cc -O2 -w -DLUA_COMPAT_5_3 -o ../../../guests/lua "${files[@]}" -lm
 }
 
 # The one file that SQLite's own makefile makes of all its sources.

@@ -5,7 +5,7 @@
  */
 #include <stdint.h>
 
-enum { WORD = 32 };
+enum { WORD = 32, HALF = 16 };
 
 struct quotient {
     uint64_t value;
@@ -18,6 +18,66 @@ static int leading_zeros(uint64_t value)
     uint32_t high = value >> WORD;
 
     return high ? __builtin_clz(high) : WORD + __builtin_clz((uint32_t)value);
+}
+
+/* The next half of a word of a quotient, whose rest is in `high`: Knuth's algorithm D. The divisor's highest bit is set. */
+static uint32_t next_half(uint32_t *high, uint32_t half, uint32_t divisor)
+{
+    uint32_t upper = divisor >> HALF, lower = divisor & 0xffff;
+    uint32_t digit = *high / upper, rest = *high % upper;
+
+    while (digit >> HALF || digit * lower > (rest << HALF | half)) {
+        digit--;
+        rest += upper;
+        if (rest >> HALF)
+            break;
+    }
+    *high = (*high << HALF | half) - digit * divisor;
+    return digit;
+}
+
+/* The quotient and the rest of two words by one that is greater than the high one. */
+static uint32_t divide_words(uint32_t high, uint32_t low, uint32_t divisor, uint32_t *rest)
+{
+    int shift = __builtin_clz(divisor);
+    uint32_t quotient;
+
+    divisor <<= shift;
+    if (shift > 0)
+        high = high << shift | low >> (WORD - shift);
+    low <<= shift;
+    quotient = next_half(&high, low >> HALF, divisor) << HALF;
+    quotient |= next_half(&high, low & 0xffff, divisor);
+    *rest = high >> shift;
+    return quotient;
+}
+
+/* Divides by what has one word. */
+static struct quotient divide_by_word(uint64_t value, uint32_t divisor)
+{
+    uint32_t high = value >> WORD, upper = high / divisor, rest;
+    uint32_t lower = divide_words(high % divisor, (uint32_t)value, divisor, &rest);
+    struct quotient result = {(uint64_t)upper << WORD | lower, rest};
+
+    return result;
+}
+
+/* Divides by what has two words: the quotient by the divisor's highest 32 bits is right or one too great. */
+static struct quotient divide_by_two_words(uint64_t value, uint64_t divisor)
+{
+    int shift = __builtin_clz((uint32_t)(divisor >> WORD));
+    uint32_t highest = (divisor << shift) >> WORD, rest;
+    uint32_t quotient = divide_words(value >> (WORD + 1), (uint32_t)(value >> 1), highest, &rest);
+    struct quotient result;
+
+    quotient = (uint64_t)quotient << shift >> (WORD - 1);
+    result.value = quotient ? quotient - 1 : 0;
+    result.rest = value - result.value * divisor;
+    if (result.rest >= divisor) {
+        result.value++;
+        result.rest -= divisor;
+    }
+    return result;
 }
 
 static struct quotient divide(uint64_t value, uint64_t divisor)
@@ -33,13 +93,7 @@ static struct quotient divide(uint64_t value, uint64_t divisor)
         result.rest = (uint32_t)value % (uint32_t)divisor;
         return result;
     }
-    for (int shift = leading_zeros(divisor) - leading_zeros(value); shift >= 0; shift--) {
-        if (result.rest >> shift >= divisor) {
-            result.rest -= divisor << shift;
-            result.value |= (uint64_t)1 << shift;
-        }
-    }
-    return result;
+    return divisor >> WORD == 0 ? divide_by_word(value, divisor) : divide_by_two_words(value, divisor);
 }
 
 static uint64_t magnitude(int64_t value)
