@@ -71,6 +71,11 @@ step() {
   echo "$name: $((SECONDS - begun)) s"
 }
 
+# Forgets the step $1 where the file $2 of this folder is newer.
+renew() {
+  [ ! "$here/$2" -nt "$dir/done/$1" ] || rm -f "$dir/done/$1"
+}
+
 choose_compiler() {
   if [ -z "$compiler" ]; then
     compiler=clang
@@ -237,9 +242,14 @@ build_speedtest1() {
 }
 
 build_busybox() {
-  cd source/busybox
-  make HOSTCC="$host_compiler" allnoconfig
   local name
+  cd source/busybox
+  # Variables that are declared constant and set all the same, which clang does not load again.
+  sed -i 's/^extern struct globals \*const ptr_to_globals/extern struct globals *ptr_to_globals/' include/libbb.h
+  make HOSTCC="$host_compiler" allnoconfig
+  # Without a fork there is no use for a shell.
+  sed -i 's/^CONFIG_SH_IS_ASH=y/# CONFIG_SH_IS_ASH is not set/; s/^# CONFIG_SH_IS_NONE is not set/CONFIG_SH_IS_NONE=y/' .config
+  sed -i 's/^CONFIG_EXTRA_CFLAGS=.*/CONFIG_EXTRA_CFLAGS="-DBB_GLOBAL_CONST="/' .config
   while read -r name; do
     sed -i "s/^# CONFIG_$name is not set\$/CONFIG_$name=y/" .config
   done <"$here/busybox.config"
@@ -257,12 +267,14 @@ choose_host_compiler() {
 
 program() {
   case $1 in
+  hello) renew hello hello.c ;;
   bzip2) fetched bzip2 ;;
   lua) fetched lua5.4 ;;
   minigzip) fetched zlib ;;
   busybox)
     choose_host_compiler
     fetched busybox
+    renew busybox busybox.config
     ;;
   sqlite3 | speedtest1)
     choose_host_compiler
@@ -281,6 +293,7 @@ fetched musl
 fetched glibc '*/soft-fp/*' '*/sysdeps/mips/mips32/sfp-machine.h' '*/stdlib/longlong.h'
 step o32-cc write_compiler
 step musl build_musl
+renew arithmetic integers.c
 step arithmetic build_arithmetic
 for name in "$@"; do
   program "$name"
