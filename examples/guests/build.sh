@@ -45,11 +45,12 @@ mkdir -p "$dir"/{bin,done,downloads,guests,log,source,build,sysroot/lib} 2>/dev/
 
 # The line of a log that tells why a step failed.
 cause() {
-  if grep -qi 'no space left on device' "$1"; then
+  if grep -Eqi 'no space left on device|enough free space' "$1"; then
     echo "no space is left on the disk of $dir"
   else
     local line
-    line=$(grep -Ei '(^|[^_[:alnum:]])(error|fatal|failed|err|e):|temporary failure|not found|cannot|undefined' "$1" | head -n 1)
+    line=$(grep -E '^E: ' "$1" | head -n 1)
+    [ -n "$line" ] || line=$(grep -Ei '(error|fatal|failed):|not found|cannot|undefined' "$1" | head -n 1)
     echo "${line:-$(tail -n 1 "$1")}"
   fi
 }
@@ -94,7 +95,7 @@ choose_compiler() {
     linking=("-fuse-ld=$(command -v "ld.lld$suffix")" -Wno-unused-command-line-argument)
     headers=$("$compiler" -print-resource-dir)/include
     ;;
-  *)
+  *gcc*)
     need "$compiler" gcc-mips-linux-gnu
     tools=${compiler%gcc*} suffix=
     need "${tools}ar" binutils-mips-linux-gnu
@@ -102,6 +103,7 @@ choose_compiler() {
     linking=("-Wl,-z,max-page-size=4096")
     headers=$("$compiler" -print-file-name=include)
     ;;
+  *) stop "$compiler is neither a clang nor a gcc by its name" ;;
   esac
   echo 'int one = 1;' >"$dir/build/one.c" || stop "no space is left on the disk of $dir"
   "$compiler" "${target[@]}" -c -o "$dir/build/one.o" "$dir/build/one.c" 2>"$dir/log/compiler" ||
