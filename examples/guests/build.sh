@@ -1,16 +1,16 @@
 #!/usr/bin/env bash
 # Builds a C library for the guest in a folder, and with it programs that people know:
 #
-#   build.sh [--compiler NAME] DIR [hello|bzip2|lua|minigzip|sqlite3|speedtest1|busybox|all]..
+#   build.sh [--compiler NAME] DIR [hello|darts|bzip2|lua|minigzip|sqlite3|speedtest1|busybox|all]..
 #
 # The library is musl, and the arithmetic of floating point that of glibc's soft-fp, both from Debian's source packages; so
 # are the programs. DIR/bin/o32-cc then compiles and links as `cc` does, and DIR/guests has the programs, `hello` where none
-# is named. The compiler is clang with lld, or mips-linux-gnu-gcc, whichever is at hand first.
+# is named. DIR/bin/tree_image.py is the tool for images of examples/. The compiler is clang with lld, or mips-linux-gnu-gcc, whichever is at hand first.
 # Nothing is installed, and nothing is written outside of DIR. What was fetched or built is kept there, so a second call
 # goes on where the first one ended. JOBS is the number of compilers side by side, one for each processor where it is unset.
 set -u
 here=$(cd "$(dirname "${BASH_SOURCE[0]}")" && pwd)
-programs=(hello bzip2 lua minigzip sqlite3 speedtest1 busybox)
+programs=(hello darts bzip2 lua minigzip sqlite3 speedtest1 busybox)
 suite=bookworm
 keyring=/usr/share/keyrings/debian-archive-keyring.gpg
 
@@ -167,6 +167,7 @@ exec "\${compile[@]}" ${linking[@]@Q} -static -nostdlib "$dir/sysroot/lib/crt1.o
   -L"$dir/sysroot/lib" -Wl,--start-group -lc -lo32 -Wl,--end-group "$dir/sysroot/lib/crtn.o"
 CC
   chmod +x bin/o32-cc
+  ln -sf "$here/../tree_image.py" bin/tree_image.py
   local tool
   for tool in ar ranlib strip; do
     ln -sf "$(command -v "$tools$tool$suffix")" "bin/o32-$tool"
@@ -202,6 +203,10 @@ build_musl() {
 
 build_hello() {
   o32-cc -O2 -o guests/hello "$here/hello.c"
+}
+
+build_darts() {
+  o32-cc -O2 -o guests/darts "$here/darts.c"
 }
 
 build_bzip2() {
@@ -269,7 +274,7 @@ choose_host_compiler() {
 
 program() {
   case $1 in
-  hello) renew hello hello.c ;;
+  hello | darts) renew "$1" "$1.c" ;;
   bzip2) fetched bzip2 ;;
   lua) fetched lua5.4 ;;
   minigzip) fetched zlib ;;

@@ -66,8 +66,9 @@ def run(session, program, guests):
         os.makedirs(os.path.join(folder, "work"))
         os.mkdir(tools)
         os.symlink(os.path.abspath(program), os.path.join(tools, "o32run"))
+        os.symlink(os.path.join(TOP, "examples", "tree_image.py"), os.path.join(tools, "tree_image.py"))
         environment = dict(os.environ, G=os.path.join(guests, "guests"), LC_ALL="C", TZ="UTC")
-        environment["PATH"] = ":".join([tools, os.path.join(guests, "bin"), os.path.join(TOP, "examples"), os.environ["PATH"]])
+        environment["PATH"] = ":".join([tools, os.path.join(guests, "bin"), os.environ["PATH"]])
         with open(os.path.join(folder, "script"), "w", encoding="utf-8") as text:
             text.write(script)
         try:
