@@ -3,12 +3,9 @@
 
 int main(void)
 {
-    double *thirds = malloc(3 * sizeof(double)), sum = 0;
-    FILE *file = fopen("thirds", "w");
-    for (int i = 0; i < 3; i++) {
-        sum += thirds[i] = i / 3.0;
-        fprintf(file, "%d / 3 = %.4f\n", i, thirds[i]);
-    }
-    printf("The sum is %.2f\n", sum);
-    return fclose(file);
+    double *third = malloc(sizeof *third);
+    FILE *notes = fopen("notes", "w");
+    *third = 1.0 / 3;
+    printf("Hello: %.4f\n", *third);
+    return fprintf(notes, "A third is %.4f\n", *third) < 0 || fclose(notes) != 0;
 }

@@ -5,7 +5,7 @@
 
 DIR is the folder of build.sh. A session is a block of the page that begins with ```console: a line that begins with
 `$ ` is a command for bash, lines with `> ` go on with it, and the lines that follow are what it shows, on both streams.
-A session is named by the first program of DIR/guests in it, and all are run where none is named, each in an empty folder
+A session is named by the first word of the heading above it, and all are run where none is named, each in an empty folder
 of its own; `o32run` is FILE, or else the script of this repository. Ends with 0 where all show what the page says, and
 else shows the first difference of each.
 """
@@ -13,7 +13,6 @@ else shows the first difference of each.
 import argparse
 import difflib
 import os
-import re
 import subprocess
 import sys
 import tempfile
@@ -25,27 +24,25 @@ SECONDS = 600
 
 
 class Session:
-    def __init__(self, line):
-        self.line = line  # of the page
+    def __init__(self, name, line):
+        self.name, self.line = name, line  # of the page
         self.commands = []  # pairs of a command and what the page says that it shows
-
-    def name(self):
-        found = re.search(r"\$G/(\w+)", "\n".join(command for command, _ in self.commands))
-        return found[1] if found else "none"
 
 
 def sessions_of(page):
     """The sessions of a page, in their order."""
-    session, found = None, []
+    session, name, found = None, "", []
     with open(page, encoding="utf-8") as text:
         for number, line in enumerate(text, start=1):
             if line == "```console\n":
-                session = Session(number)
+                session = Session(name, number)
                 found.append(session)
             elif line == "```\n":
                 session = None
             elif session:
                 add(session, line)
+            elif line.startswith("#"):
+                name = line.strip("# \n").split()[0].lower()
     return found
 
 
@@ -67,7 +64,7 @@ def run(session, program, guests):
         os.mkdir(tools)
         os.symlink(os.path.abspath(program), os.path.join(tools, "o32run"))
         os.symlink(os.path.join(TOP, "examples", "tree_image.py"), os.path.join(tools, "tree_image.py"))
-        environment = dict(os.environ, G=os.path.join(guests, "guests"), LC_ALL="C", TZ="UTC")
+        environment = dict(os.environ, G=os.path.join(guests, "guests"), S=HERE, LC_ALL="C", TZ="UTC")
         environment["PATH"] = ":".join([tools, os.path.join(guests, "bin"), os.environ["PATH"]])
         with open(os.path.join(folder, "script"), "w", encoding="utf-8") as text:
             text.write(script)
@@ -98,12 +95,12 @@ def main():
     reader.add_argument("names", metavar="SESSION", nargs="*")
     words = reader.parse_args()
     guests = os.path.abspath(words.guests)
-    wanted = [session for session in sessions_of(words.page) if not words.names or session.name() in words.names]
+    wanted = [session for session in sessions_of(words.page) if not words.names or session.name in words.names]
     bad = 0
     for session in wanted:
         wrong = differs(session, run(session, words.program, guests))
         bad += wrong
-        print(f"{session.name()} (line {session.line}): {'DIFFERS' if wrong else 'as the page says'}", flush=True)
+        print(f"{session.name} (line {session.line}): {'DIFFERS' if wrong else 'as the page says'}", flush=True)
     if not wanted:
         sys.exit("sessions.py: no session has this name")
     sys.exit(1 if bad else 0)
