@@ -1,10 +1,12 @@
 #!/usr/bin/env python3
-"""Packs a folder of the host into a file image of o32run, and unpacks one.
+"""Packs a folder of the host, or a tar file, into a file image of o32run, unpacks one, and shows what is in one.
 
 This is a tool beside the product: plain Python, run by hand and by the tests of the examples, and not proved.
 
-    tree_image.py pack FOLDER IMAGE
-    tree_image.py unpack IMAGE FOLDER
+    tree_image.py pack [--skip] FOLDER|TAR IMAGE
+    tree_image.py unpack IMAGE FOLDER|TAR
+    tree_image.py list IMAGE
+    tree_image.py cat IMAGE PATH
 
 Regular files, directories, symbolic links and second names of one file are kept, with their
 permission bits and their times of modification in whole seconds. Blocks of zeros are left out, so a
@@ -15,15 +17,31 @@ link below it.
 Unpacking makes FOLDER, which isn't there before, and nothing outside it. An image is refused
 where the product refuses it, by the same rule at the same byte, and then nothing is made.
 
+A tar file keeps what a folder of the host can't without being root: setuid bits, dates, closed directories. What
+can be packed and is no folder is read as one, compressed or not, and one is written where the name ends with .tar, .tgz,
+or .tar.gz, .tar.bz2 or .tar.xz. As with tar, a member replaces an earlier one of its name, a leading slash goes,
+and directories that no member names are made. A member with `..` in its name, or below what is no directory, is
+refused. Devices, FIFOs and sockets are refused by their names, or left out with --skip.
+
+`list` prints a line for each name: mode, links, size, date (UTC), name, as `ls -l` does. A file with two names has two
+lines. In names a backslash and what isn't printable is written as in C. `cat` writes the content of a file, and follows
+links within the image.
+
 The format and its rules are described in docs/RULES.md, "The file image".
 """
 
 import collections
+import datetime
 import errno
+import io
+import lzma
+import math
 import os
 import stat
 import struct
 import sys
+import tarfile
+import zlib
 
 MAGIC = b"O32IMG1\n"
 FILE, DIRECTORY, LINK = 1, 2, 3
@@ -34,12 +52,19 @@ BLOCK_LIMIT = 65_536
 ENTRY_LIMIT = 131_072
 FILE_LIMIT = 1 << 44
 TARGET_LIMIT = 4095
+NAME_LIMIT = 255
+LINK_LIMIT = 40
 FIRST_COOKIE, LAST_COOKIE = 3, 2**31 - 1
 LAST_NUMBER = 2**63 - 1
 RULES = "Short Magic Count Number Kind Mode Size Tail Cookie Name Target Tree Limit Rest".split()
 FOLDER_FLAGS = os.O_RDONLY | os.O_DIRECTORY | os.O_NOFOLLOW
 # So many bytes of a path are opened at once.
 PATH_PIECE = 4000
+# The endings of the names of tar files, and what `tarfile` calls their forms.
+TAR_ENDINGS = {".tar": "w", ".tgz": "w:gz", ".tar.gz": "w:gz", ".tar.bz2": "w:bz2", ".tar.xz": "w:xz"}
+# A file of a tar file is written with its holes where they have more blocks, so that every tar reads the others.
+HOLES = 256
+TYPES = {FILE: stat.S_IFREG, DIRECTORY: stat.S_IFDIR, LINK: stat.S_IFLNK}
 
 
 class Refused(Exception):
@@ -70,7 +95,8 @@ class Level:
 
 
 class Packer:
-    def __init__(self):
+    def __init__(self, skip=False):
+        self.skip = skip  # whether what an image can't hold is left out
         self.nodes = {}  # number -> bytes of the node
         self.numbers = {}  # (device, inode) of a file with several names -> number
         self.last = 0
@@ -84,6 +110,15 @@ class Packer:
         if self.last > NODE_LIMIT:
             raise Refused(f"more than {NODE_LIMIT} files")
         return self.last
+
+    def begin(self, status, names):
+        """Begins with a directory, and gives its number."""
+        number = self.new_number()
+        self.entries += len(names)
+        if self.entries > ENTRY_LIMIT:
+            raise Refused(f"more than {ENTRY_LIMIT} names")
+        self.levels.append(Level(number, status, sorted(names)))
+        return number
 
     def head(self, number, kind, status):
         return struct.pack(">QBHq", number, kind, stat.S_IMODE(status.st_mode), status.st_mtime_ns // 10**9)
@@ -103,13 +138,15 @@ class Packer:
 
     def enter(self):
         """Begins with the directory that is open, and gives its number."""
-        number = self.new_number()
-        names = sorted(os.fsencode(name) for name in os.listdir(self.here))
-        self.entries += len(names)
-        if self.entries > ENTRY_LIMIT:
-            raise Refused(f"more than {ENTRY_LIMIT} names")
-        self.levels.append(Level(number, os.fstat(self.here), names))
-        return number
+        names = [os.fsencode(name) for name in os.listdir(self.here)]
+        if self.skip:
+            names = [name for name in names if self.holds(name)]
+        return self.begin(os.fstat(self.here), names)
+
+    def holds(self, name):
+        """Whether an image can hold what a name of the directory that is open names."""
+        kind = stat.S_IFMT(os.stat(name, dir_fd=self.here, follow_symlinks=False).st_mode)
+        return kind in (stat.S_IFREG, stat.S_IFDIR, stat.S_IFLNK)
 
     def step(self):
         """Packs the next name of the directory that is open, or leaves that."""
@@ -172,13 +209,16 @@ class Packer:
         return kept
 
     def link(self, here, name):
-        target = os.readlink(name, dir_fd=here)
-        if not 1 <= len(target) <= TARGET_LIMIT:
-            raise Refused(f"{os.fsdecode(name)}: a target of {len(target)} bytes")
-        return struct.pack(">H", len(target)) + target
+        return packed_link(name, os.readlink(name, dir_fd=here))
 
     def image(self):
         return MAGIC + struct.pack(">I", len(self.nodes)) + b"".join(self.nodes[n] for n in sorted(self.nodes))
+
+
+def packed_link(name, target):
+    if not 1 <= len(target) <= TARGET_LIMIT:
+        raise Refused(f"{os.fsdecode(name)}: a target of {len(target)} bytes")
+    return struct.pack(">H", len(target)) + target
 
 
 def data_blocks(source, size):
@@ -195,6 +235,173 @@ def data_blocks(source, size):
         first, end = begin // BLOCK, -(-place // BLOCK)
         yield from range(first, end)
         place = end * BLOCK
+
+
+# Packing a tar file
+
+
+class Member:
+    """A node of a tar file. The body of a directory is its members by their names, of a file its size and its packed
+    blocks, of a link its target. The mode and the time are called as in a status of the host."""
+
+    def __init__(self, kind, mode, seconds, body):
+        self.kind, self.st_mode, self.st_mtime_ns, self.body = kind, mode, seconds * 10**9, body
+
+
+class TarReader:
+    """Reads the members of a tar file into one tree."""
+
+    def __init__(self, skip):
+        self.skip = skip
+        self.root = Member(DIRECTORY, 0o755, 0, {})
+        self.blocks = 0
+
+    def read(self, path):
+        with tarfile.open(path, "r:*", encoding="utf-8", errors="surrogateescape") as tar:
+            for member in tar:
+                self.add(tar, member)
+            # The library takes a damaged header for the end.
+            tar.fileobj.seek(tar.offset)
+            if tar.fileobj.read(tarfile.BLOCKSIZE).strip(b"\0"):
+                raise Refused(f"{path}: no member of a tar file at byte {tar.offset}")
+        return self.root
+
+    def add(self, tar, member):
+        path = self.path(member.name)
+        if not path:
+            if not member.isdir():
+                raise Refused(f"{member.name}: the top is no directory")
+            self.set_status(self.root, member)
+            return
+        here, name = self.directory(path[:-1], member), path[-1]
+        there = here.body.get(name)
+        if there and there.kind == DIRECTORY and member.isdir():
+            self.set_status(there, member)
+            return
+        if there and there.kind == DIRECTORY and there.body:
+            raise Refused(f"{member.name}: a directory of this name is not empty")
+        made = self.made(tar, member)
+        if made:
+            here.body[name] = made
+
+    def path(self, name):
+        """The parts of a member's name."""
+        parts = [part for part in name.encode("utf-8", "surrogateescape").split(b"/") if part not in (b"", b".")]
+        if b".." in parts or any(len(part) > NAME_LIMIT or b"\0" in part for part in parts):
+            raise Refused(f"{name}: a name that an image can't hold")
+        return parts
+
+    def directory(self, path, member):
+        """The directory that a member lies in, which is made where it isn't there."""
+        here = self.root
+        for part in path:
+            if part not in here.body:
+                here.body[part] = Member(DIRECTORY, 0o755, seconds_of(member), {})
+            here = here.body[part]
+            if here.kind != DIRECTORY:
+                raise Refused(f"{member.name}: it lies below what is no directory")
+        return here
+
+    def set_status(self, node, member):
+        node.st_mode, node.st_mtime_ns = member.mode & 0o7777, seconds_of(member) * 10**9
+
+    def made(self, tar, member):
+        """The node of a member, or none where it is left out."""
+        if member.islnk():
+            return self.first_of(member)
+        if member.isdir():
+            kind, body = DIRECTORY, {}
+        elif member.issym():
+            kind, body = LINK, member.linkname.encode("utf-8", "surrogateescape")
+        elif member.isreg():
+            kind, body = FILE, self.file(tar, member)
+        elif self.skip:
+            return None
+        else:
+            raise Refused(f"{member.name}: neither a file, a directory nor a symbolic link")
+        return Member(kind, member.mode & 0o7777, seconds_of(member), body)
+
+    def first_of(self, member):
+        """What a hard link is a further name of."""
+        here = self.root
+        for part in self.path(member.linkname):
+            here = here.body.get(part) if here and here.kind == DIRECTORY else None
+        if not here or here.kind == DIRECTORY:
+            raise Refused(f"{member.name}: a link to {member.linkname}, which is no file before it")
+        return here
+
+    def file(self, tar, member):
+        if member.size > FILE_LIMIT:
+            raise Refused(f"{member.name}: more bytes than an image holds")
+        source, kept = tar.extractfile(member), []
+        for index in blocks_of(member):
+            source.seek(index * BLOCK)
+            wanted = min(BLOCK, member.size - index * BLOCK)
+            block = source.read(wanted)
+            if len(block) < wanted:
+                raise Refused(f"{member.name}: the tar file ends in it")
+            if block.strip(b"\0"):
+                kept.append(struct.pack(">I", index) + block.ljust(BLOCK, b"\0"))
+                self.blocks += 1
+            if self.blocks > BLOCK_LIMIT:
+                raise Refused(f"{member.name}: more bytes than an image holds")
+        return struct.pack(">QI", member.size, len(kept)) + b"".join(kept)
+
+
+def seconds_of(member):
+    """The time of a member in whole seconds, rounded down."""
+    seconds = math.floor(member.mtime) if math.isfinite(member.mtime) else 2**63
+    if not -(2**63) <= seconds < 2**63:
+        raise Refused(f"{member.name}: a time that an image can't hold")
+    return seconds
+
+
+def blocks_of(member):
+    """The indices of the blocks in which a member has data."""
+    after = 0
+    for place, length in member.sparse if member.issparse() else [(0, member.size)]:
+        first, end = max(after, place // BLOCK), -(-(place + length) // BLOCK)
+        yield from range(first, end)
+        after = max(after, end)
+
+
+class TarPacker(Packer):
+    """Packs the tree of a tar file, as a folder with the same files is packed."""
+
+    def pack(self, path):
+        try:
+            self.here = [TarReader(self.skip).read(path)]
+        except (tarfile.TarError, EOFError, zlib.error, lzma.LZMAError) as error:
+            raise Refused(f"{path}: {error}") from error
+        self.enter()
+        while self.levels:
+            self.step()
+
+    def enter(self):
+        return self.begin(self.here[-1], list(self.here[-1].body))
+
+    def step(self):
+        level = self.levels[-1]
+        if level.done == len(level.names):
+            self.here.pop()
+            self.levels.pop()
+            self.nodes[level.number] = self.head(level.number, DIRECTORY, level.status) + level.body
+            return
+        name = level.names[level.done]
+        node = level.status.body[name]
+        if node.kind == DIRECTORY:
+            self.here.append(node)
+            level.add(self.enter())
+        else:
+            level.add(self.node(name, node))
+
+    def node(self, name, node):
+        """Packs what is no directory and gives its number."""
+        if id(node) not in self.numbers:
+            number = self.numbers[id(node)] = self.new_number()
+            body = node.body if node.kind == FILE else packed_link(name, node.body)
+            self.nodes[number] = self.head(number, node.kind, node) + body
+        return self.numbers[id(node)]
 
 
 # Reading an image
@@ -412,30 +619,216 @@ def moved(here, path):
     return below
 
 
+# Walking an image
+
+
+def names_of(nodes):
+    """Each name of an image with its node's number, in the order of names, each directory before what is in it."""
+    rest = [(b".", ROOT)]
+    while rest:
+        path, number = rest.pop()
+        yield path, number
+        before = b"" if number == ROOT else path + b"/"
+        entries = sorted(entries_of(nodes[number]), key=lambda entry: entry.name, reverse=True)
+        rest.extend((before + entry.name, entry.number) for entry in entries)
+
+
+def link_counts(nodes):
+    """The number of links of each node, as the guest sees it."""
+    counts = collections.Counter()
+    for number, node in nodes.items():
+        for entry in entries_of(node):
+            below = nodes[entry.number]
+            counts[number if below.kind == DIRECTORY else entry.number] += 1
+        if node.kind == DIRECTORY:
+            counts[number] += 2
+    return counts
+
+
+def node_at(nodes, path):
+    """The node that a path names in an image. Links are followed, and none leads out of it."""
+    trail, rest, links = [ROOT], os.fsencode(path).split(b"/")[::-1], 0
+    while rest:
+        part = rest.pop()
+        here = nodes[trail[-1]]
+        if here.kind != DIRECTORY:
+            raise Refused(f"{path}: not a directory")
+        if part == b"..":
+            del trail[max(1, len(trail) - 1) :]
+        elif part not in (b"", b"."):
+            number = next((entry.number for entry in here.body if entry.name == part), None)
+            if number is None:
+                raise Refused(f"{path}: no such file in the image")
+            if nodes[number].kind != LINK:
+                trail.append(number)
+                continue
+            links += 1
+            if links > LINK_LIMIT:
+                raise Refused(f"{path}: more than {LINK_LIMIT} links")
+            target = nodes[number].body
+            trail = [ROOT] if target.startswith(b"/") else trail
+            rest.extend(target.split(b"/")[::-1])
+    return nodes[trail[-1]]
+
+
+def size_of(node):
+    return node.body[0] if node.kind == FILE else BLOCK if node.kind == DIRECTORY else len(node.body)
+
+
+def shown(name):
+    """A name in which a backslash and what isn't printable stands as in C."""
+    text = name.decode("utf-8", "surrogateescape")
+    octal = lambda letter: "".join(f"\\{byte:03o}" for byte in letter.encode("utf-8", "surrogateescape"))
+    special = {"\\": "\\\\", "\n": "\\n", "\t": "\\t"}
+    return "".join(special.get(letter) or (letter if letter.isprintable() else octal(letter)) for letter in text)
+
+
+def date(seconds):
+    try:
+        return (datetime.datetime(1970, 1, 1) + datetime.timedelta(seconds=seconds)).isoformat(" ", "minutes")
+    except OverflowError:
+        return f"@{seconds}"
+
+
+# Writing a tar file
+
+
+class TarWriter:
+    def __init__(self, nodes, tar):
+        self.nodes, self.tar = nodes, tar
+        self.names = {}  # the number of a file or link that was written -> its name
+
+    def write(self):
+        for path, number in names_of(self.nodes):
+            self.add(path.decode("utf-8", "surrogateescape"), number)
+
+    def add(self, name, number):
+        node = self.nodes[number]
+        info = tarfile.TarInfo(name)
+        info.mode, info.mtime = node.mode, node.time
+        if node.kind == DIRECTORY:
+            info.type = tarfile.DIRTYPE
+        elif number in self.names:
+            info.type, info.linkname = tarfile.LNKTYPE, self.names[number]
+        elif node.kind == LINK:
+            info.type, info.linkname = tarfile.SYMTYPE, node.body.decode("utf-8", "surrogateescape")
+        else:
+            self.add_file(info, node)
+            self.names[number] = name
+            return
+        self.names[number] = name
+        self.tar.addfile(info)
+
+    def add_file(self, info, node):
+        size, blocks = node.body
+        if -(-size // BLOCK) - len(blocks) > HOLES:
+            content = sparse_content(info, size, blocks)
+        else:
+            content = bytearray(size)
+            for index, block in blocks:
+                content[index * BLOCK : (index + 1) * BLOCK] = block[: size - index * BLOCK]
+        info.size = len(content)
+        self.tar.addfile(info, io.BytesIO(content))
+
+
+def sparse_content(info, size, blocks):
+    """The content of a file with holes in the form 1.0 of GNU tar, which other readers know too: a map, then the data."""
+    pieces = []
+    for index, block in blocks:
+        data = block[: size - index * BLOCK]
+        if pieces and pieces[-1][0] + len(pieces[-1][1]) == index * BLOCK:
+            pieces[-1][1].extend(data)
+        else:
+            pieces.append((index * BLOCK, bytearray(data)))
+    if not pieces or pieces[-1][0] + len(pieces[-1][1]) < size:
+        pieces.append((size, b""))
+    head = f"{len(pieces)}\n" + "".join(f"{place}\n{len(data)}\n" for place, data in pieces)
+    padding = -len(head) % tarfile.BLOCKSIZE
+    numbers = {"major": "1", "minor": "0", "name": info.name, "realsize": str(size)}
+    info.pax_headers = {f"GNU.sparse.{key}": value for key, value in numbers.items()}
+    folder, _, name = info.name.rpartition("/")
+    info.name = "/".join(filter(None, [folder, "GNUSparseFile.0", name]))
+    return head.encode() + bytes(padding) + b"".join(data for _, data in pieces)
+
+
 # The commands
 
 
-def pack(folder, image):
-    packer = Packer()
-    packer.pack(folder)
+def pack(source, image, skip=False):
+    packer = Packer(skip) if os.path.isdir(source) else TarPacker(skip)
+    packer.pack(source)
     with open(image, "wb") as file:
         file.write(packer.image())
 
 
-def unpack(image, folder):
-    Unpacker(read_image(image), folder).unpack()
+def unpack(image, target):
+    nodes = read_image(image)
+    form = next((form for ending, form in TAR_ENDINGS.items() if target.endswith(ending)), None)
+    if not form:
+        Unpacker(nodes, target).unpack()
+        return
+    with tarfile.open(target, form, format=tarfile.PAX_FORMAT, encoding="utf-8", errors="surrogateescape") as tar:
+        TarWriter(nodes, tar).write()
+
+
+def show_list(image):
+    nodes = read_image(image)
+    counts, rows = link_counts(nodes), []
+    for path, number in names_of(nodes):
+        node = nodes[number]
+        name = shown(path) + (f" -> {shown(node.body)}" if node.kind == LINK else "")
+        rows.append((stat.filemode(TYPES[node.kind] | node.mode), counts[number], size_of(node), date(node.time), name))
+    links, size = (max(len(str(row[column])) for row in rows) for column in (1, 2))
+    text = "".join(f"{row[0]} {row[1]:>{links}} {row[2]:>{size}} {row[3]} {row[4]}\n" for row in rows)
+    write_out([text.encode("utf-8")])
+
+
+def show_content(image, path):
+    node = node_at(read_image(image), path)
+    if node.kind != FILE:
+        raise Refused(f"{path}: a directory")
+    write_out(content_pieces(*node.body))
+
+
+def content_pieces(size, blocks):
+    place = 0
+    for index, block in [*blocks, (-(-size // BLOCK), b"")]:
+        for begin in range(place, min(index * BLOCK, size), BLOCK * HOLES):
+            yield bytes(min(BLOCK * HOLES, min(index * BLOCK, size) - begin))
+        yield block[: max(size - index * BLOCK, 0)]
+        place = (index + 1) * BLOCK
+
+
+def write_out(pieces):
+    try:
+        for piece in pieces:
+            sys.stdout.buffer.write(piece)
+        sys.stdout.buffer.flush()
+    except BrokenPipeError:
+        # Whoever read has enough. What is still kept back isn't tried again at the end.
+        os.dup2(os.open(os.devnull, os.O_WRONLY), sys.stdout.fileno())
 
 
 # Each command with its words.
-COMMANDS = {"pack": (pack, "FOLDER IMAGE"), "unpack": (unpack, "IMAGE FOLDER")}
+COMMANDS = {
+    "pack": (pack, "FOLDER|TAR IMAGE"),
+    "unpack": (unpack, "IMAGE FOLDER|TAR"),
+    "list": (show_list, "IMAGE"),
+    "cat": (show_content, "IMAGE PATH"),
+}
 
 
 def main(words):
     command, names = COMMANDS.get(words[0] if words else "", (None, ""))
-    if not command or len(words) - 1 != len(names.split()):
+    skip = words[:2] == ["pack", "--skip"]
+    given = words[2:] if skip else words[1:]
+    if not command or len(given) != len(names.split()):
         uses = [f"{name} {names}" for name, (_, names) in COMMANDS.items()]
         raise Refused(f"use: tree_image.py {', or '.join(uses)}")
-    command(*words[1:])
+    if skip:
+        command(*given, skip=True)
+    else:
+        command(*given)
 
 
 if __name__ == "__main__":
