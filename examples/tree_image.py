@@ -372,7 +372,8 @@ class TarPacker(Packer):
         try:
             self.here = [TarReader(self.skip).read(path)]
         except (tarfile.TarError, EOFError, zlib.error, lzma.LZMAError) as error:
-            raise Refused(f"{path}: {error}") from error
+            why = " ".join(str(error).split())
+            raise Refused(f"{path}: neither a folder nor a tar file that can be read: {why}") from error
         self.enter()
         while self.levels:
             self.step()
