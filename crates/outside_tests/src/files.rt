@@ -2,6 +2,7 @@
 use crate::host::Host;
 use outside::{DevError, DirStore, LoadError, Store};
 use std::alloc::Global;
+use std::os::unix::fs::symlink;
 use std::process::Abort;
 use std::test::Fail;
 use std::{fs, process};
@@ -46,10 +47,17 @@ fn a_file_is_opened_once_and_stays_where_an_append_fails(rt: HostRuntime) {
 }
 
 #[test]
-fn an_append_to_a_full_device_fails(rt: HostRuntime) {
-    let mut store = DirStore::new(rt.alloc(), rt);
-    store.create("/dev/full").expect(&rt, "create");
-    assert_eq!(rt; store.append("/dev/full", b"x"), Err(DevError::Failed));
+fn an_append_to_a_full_device_fails(rt: HostRuntime) -> Result<(), Fail> {
+    let alloc = rt.alloc();
+    let id = process::id(rt.process());
+    // A link, so that a wrong store that removes its file leaves the device.
+    let full = format!(in alloc; "/tmp/o32run-outside-tests-{id}-full")?;
+    symlink(&rt, "/dev/full", full.as_str())?;
+    let mut store = DirStore::new(alloc, rt);
+    store.create(full.as_str()).expect(&rt, "create");
+    assert_eq!(rt; store.append(full.as_str(), b"x"), Err(DevError::Failed));
+    fs::remove_file(&rt, full.as_str())?;
+    Ok(())
 }
 
 #[test]

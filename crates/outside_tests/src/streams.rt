@@ -1,6 +1,7 @@
 //! Streams that count what is asked of them, and a folder in place of one.
 use outside::{Failed, Sink, Source, StdSink, StdSource};
 use std::io::Write;
+use std::process::Abort;
 use std::test::Fail;
 use std::{fs, io};
 
@@ -25,22 +26,27 @@ impl Write for Counts {
     }
 }
 
-#[test]
-fn a_put_is_one_write_and_one_flush(rt: HostRuntime) -> Result<(), Fail> {
-    let text = vec![in rt.alloc(); b'a'; 10_000]?;
+/// One put of so many bytes.
+fn puts(rt: &(impl Abort + AllocGlobal), length: usize) -> Result<(), Fail> {
+    let text = vec![in rt.alloc(); b'a'; length]?;
     let mut writer = Counts {
         writes: 0,
         flushes: 0,
         bytes: 0,
     };
-    let mut sink = StdSink::new(&mut writer);
-    for length in [4096, 4097, 10_000] {
-        assert_eq!(rt; sink.put(&text[..length]), Ok(()));
-    }
-    assert_eq!(rt; writer.writes, 3);
-    assert_eq!(rt; writer.flushes, 3);
-    assert_eq!(rt; writer.bytes, 18_193);
+    let answer = StdSink::new(&mut writer).put(text.as_slice());
+    assert_eq!(rt; answer, Ok(()));
+    assert_eq!(rt; writer.writes, 1);
+    assert_eq!(rt; writer.flushes, 1);
+    assert_eq!(rt; writer.bytes, length);
     Ok(())
+}
+
+#[test]
+fn a_put_is_one_write_and_one_flush(rt: HostRuntime) -> Result<(), Fail> {
+    puts(&rt, 4096)?;
+    puts(&rt, 4097)?;
+    puts(&rt, 10_000)
 }
 
 #[test]
