@@ -14,10 +14,10 @@ class Run:
         self.used = used
 
 
-def run(command):
+def run(command, source=subprocess.DEVNULL, target=subprocess.DEVNULL, folder=None):
     start = time.perf_counter()
     process = subprocess.Popen(
-        [str(word) for word in command], stdin=subprocess.DEVNULL, stdout=subprocess.DEVNULL, stderr=subprocess.DEVNULL
+        [str(word) for word in command], stdin=source, stdout=target, stderr=subprocess.DEVNULL, cwd=folder
     )
     _, waited, usage = os.wait4(process.pid, 0)
     process.returncode = os.waitstatus_to_exitcode(waited)

@@ -55,11 +55,13 @@ cause() {
   fi
 }
 
-# step NAME FUNCTION [WORD..]: runs the function, once for all calls of this script, and says how long it took.
+# step NAME TEXT FUNCTION [WORD..]: runs the function, once for all calls of this script, and says what it does and how
+# long it took.
 step() {
-  local name=$1 begun=$SECONDS status
-  shift
+  local name=$1 text=$2 begun=$SECONDS status
+  shift 2
   [ ! -e "$dir/done/$name" ] || return 0
+  printf '%s: %s .. ' "$name" "$text"
   # No `||` and no `if` around it: within those a function doesn't stop at a command that fails.
   (
     set -e
@@ -67,9 +69,10 @@ step() {
     "$@"
   ) >"$dir/log/$name" 2>&1
   status=$?
+  [ "$status" = 0 ] || echo
   [ "$status" = 0 ] || stop "$name failed: $(cause "$dir/log/$name") (all of it is in $dir/log/$name)"
   : >"$dir/done/$name" || stop "no space is left on the disk of $dir"
-  echo "$name: $((SECONDS - begun)) s"
+  echo "$((SECONDS - begun)) s"
 }
 
 # Forgets the step $1 where the file $2 of this folder is newer.
@@ -137,8 +140,8 @@ fetched() {
   need tar tar
   need xz xz-utils
   need bzip2 bzip2
-  step list list_of_packages
-  step "$package-source" source_of "$@"
+  step list "the list of Debian's source packages" list_of_packages
+  step "$package-source" "fetches and unpacks it" source_of "$@"
 }
 
 source_of() {
@@ -287,10 +290,10 @@ program() {
     choose_host_compiler
     need tclsh tcl
     fetched sqlite3
-    step sqlite3-made make_sqlite
+    step sqlite3-made "makes one file of all its sources" make_sqlite
     ;;
   esac
-  step "$1" "build_$1"
+  step "$1" "compiles the program" "build_$1"
 }
 
 need make make
@@ -298,10 +301,10 @@ choose_compiler
 export PATH="$dir/bin:$PATH"
 fetched musl
 fetched glibc '*/soft-fp/*' '*/sysdeps/mips/mips32/sfp-machine.h' '*/stdlib/longlong.h'
-step o32-cc write_compiler
-step musl build_musl
+step o32-cc "writes the compiler's script" write_compiler
+step musl "compiles the C library" build_musl
 renew arithmetic integers.c
-step arithmetic build_arithmetic
+step arithmetic "compiles the routines for floating point and 64 bits" build_arithmetic
 for name in "$@"; do
   program "$name"
   echo "$dir/guests/$name"
