@@ -72,6 +72,7 @@ after_left machine (outcomes.Pair first second) left sent = refl
 after_left machine (outcomes.Error error) left sent = refl
 after_left machine (outcomes.Sleep wait) left sent = refl
 after_left machine outcomes.Frame left sent = refl
+after_left machine outcomes.BadFrame left sent = refl
 after_left machine (outcomes.Exit status) left sent = refl
 
 took : (idle : ℕ) (step : O32Step) (outcome : Outcome) → ((after_outcome idle step outcome).left ≡ step.left) × ((after_outcome idle step outcome).sent ≡ step.sent)
@@ -80,6 +81,7 @@ took idle step (outcomes.Pair first second) = (refl, refl)
 took idle step (outcomes.Error error) = (refl, refl)
 took idle step (outcomes.Sleep wait) = (refl, refl)
 took idle step outcomes.Frame = (refl, refl)
+took idle step outcomes.BadFrame = (refl, refl)
 took idle step (outcomes.Exit status) = (refl, refl)
 
 step_is : (step : O32Step) (machine : Machine) (outcome : Outcome) → outcome ≡ step.outcome → machine.kernel ≡ step.kernel → machine.memory ≡ step.memory

@@ -271,7 +271,7 @@ impl Process {
             }
             Outcome::Error(error) => self.set_result(error.to_o32(), true),
             Outcome::Sleep(wait) => self.wait = Some(wait),
-            Outcome::Frame => {}
+            Outcome::Frame | Outcome::BadFrame => {}
             Outcome::Exit(status) => return Turn::Ended(Finish::Exited(status)),
         }
         Turn::Went

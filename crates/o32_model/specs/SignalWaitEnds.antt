@@ -31,6 +31,7 @@ closing (outcomes.Pair first second) = closes.Value first
 closing (outcomes.Error error) = closes.Error error
 closing (outcomes.Sleep wait) = closes.Again
 closing outcomes.Frame = closes.Again
+closing outcomes.BadFrame = closes.Again
 closing (outcomes.Exit status) = closes.Again
 
 abbrev pub ended_by : O32Step → WaitEnd

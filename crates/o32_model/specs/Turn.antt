@@ -74,6 +74,7 @@ abbrev pub after_outcome : ℕ → O32Step → Outcome → Turn
 after_outcome idle step (outcomes.Value value) = goes_on (behind idle step None) step.left step.sent
 after_outcome idle step (outcomes.Pair first second) = goes_on (behind idle step None) step.left step.sent
 after_outcome idle step (outcomes.Error error) = goes_on (behind idle step None) step.left step.sent
+after_outcome idle step outcomes.BadFrame = goes_on (behind idle step None) step.left step.sent
 after_outcome idle step outcomes.Frame = goes_on (behind idle step None) step.left step.sent
 after_outcome idle step (outcomes.Sleep wait) = goes_on (behind idle step (Some wait)) step.left step.sent
 after_outcome idle step (outcomes.Exit status) = ends (behind idle step None) step.left step.sent (Exited status)
