@@ -8,7 +8,7 @@ use Rattle.kernel_core.specs.declared.signal.Sig.{Sig}
 use Rattle.kernel_model.specs.Shared.{Info}
 use Rattle.kernel_model.specs.State.{Kernel}
 use Rattle.o32_model.specs.Handling.{killed}
-use Rattle.o32_model.specs.Machine.{Rules, Within, with_machine}
+use Rattle.o32_model.specs.Machine.{Machine, Rules, Within, with_machine}
 use Rattle.o32_model.specs.Mappings.{map_calls}
 use Rattle.o32_model.specs.Seeing.{SeeingCall, seeing_clock_calls}
 use Rattle.o32_model.specs.Small.{small_calls}
@@ -83,8 +83,8 @@ abbrev pub built_delivery : Within → Within
 built_delivery within = fault_kills within.machine.fault within
 
 -- No call waits for a signal.
-abbrev pub no_signals_named : Memory → Wait → List Sig
-no_signals_named memory wait = []
+abbrev pub none_awaited : Machine → List Sig
+none_awaited machine = []
 
 -- Of the calls that wait only nanosleep(2) and clock_nanosleep(2) have a deadline. Another one would be over with 0.
 
@@ -97,4 +97,4 @@ built_end restarts wait cause kernel memory =
 
 -- what a turn is made of so far
 abbrev pub built : Rules
-built = record { call = built_call; named = no_signals_named; ended = built_end; deliver = built_delivery }
+built = record { call = built_call; awaited = none_awaited; ended = built_end; deliver = built_delivery }

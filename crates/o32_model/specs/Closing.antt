@@ -7,7 +7,7 @@ use Rattle.guest_space.specs.Memory.{Memory}
 use Rattle.kernel_core.specs.declared.event.Event.TheVariants as events
 use Rattle.kernel_model.specs.State.{Kernel}
 use Rattle.mips_exec.specs.Processor.{Processor, register, with_register}
-use Rattle.o32_model.specs.Machine.{Machine, Within, happens, with_machine}
+use Rattle.o32_model.specs.Machine.{Change, Machine}
 use Rattle.o32_model.specs.SignalWaitEnds.{signal_wait_ended, transfer_ended}
 use Rattle.o32_model.specs.WaitEnds.{WaitEnd, ends_with, wait_ended, wait_word}
 use Rattle.o32_model.specs.Words.{a3, returned, v0}
@@ -43,10 +43,10 @@ whole_end restarts wait cause kernel memory =
 abbrev pub unwaited : Machine → WaitEnd → Machine
 unwaited machine end = record machine { kernel = end.kernel; memory = end.memory; wait = None; interrupted = false }
 
-abbrev pub returns : Within → Outcome → Within
-returns within outcome =
-    let processor = returned within.machine.processor outcome in
-    happens (with_machine within (record within.machine { processor = processor })) (events.Done (register processor v0) (register processor a3))
+abbrev pub returns : Outcome → Machine → Change
+returns outcome machine =
+    let processor = returned machine.processor outcome in
+    record { machine = record machine { processor = processor }; events = events.Done (register processor v0) (register processor a3) ∷ [] }
 
 abbrev pub restart_number : ℕ
 restart_number = 4253
@@ -57,17 +57,15 @@ put_back number wait processor =
     let numbered = with_register (with_register processor v0 number) a3 (wait_word wait 3) in
     record numbered { pc = (processor.pc + (2 ^ 32 - 4)) % 2 ^ 32 }
 
-abbrev pub comes_again : ℕ → Wait → Within → Within
-comes_again number wait within =
-    let machine = within.machine in
-    happens (with_machine within (record machine { processor = put_back number wait machine.processor })) (events.Restart number)
+abbrev pub comes_again : ℕ → Wait → Machine → Change
+comes_again number wait machine =
+    record { machine = record machine { processor = put_back number wait machine.processor }; events = events.Restart number ∷ [] }
 
-abbrev pub closed : Wait → Close → Within → Within
-closed wait (closes.Value value) within = returns within (outcomes.Value value)
-closed wait (closes.Error error) within = returns within (outcomes.Error error)
-closed wait closes.Again within = comes_again wait.nr wait within
-closed wait closes.Restart within =
-    comes_again restart_number wait (with_machine within (record within.machine { restart = Some wait }))
+abbrev pub closed : Wait → Close → Machine → Change
+closed wait (closes.Value value) machine = returns (outcomes.Value value) machine
+closed wait (closes.Error error) machine = returns (outcomes.Error error) machine
+closed wait closes.Again machine = comes_again wait.nr wait machine
+closed wait closes.Restart machine = comes_again restart_number wait (record machine { restart = Some wait })
 
-abbrev pub wait_over : Wait → WaitEnd → Within → Within
-wait_over wait end within = closed wait end.close (with_machine within (unwaited within.machine end))
+abbrev pub wait_over : Wait → WaitEnd → Machine → Change
+wait_over wait end machine = closed wait end.close (unwaited machine end)

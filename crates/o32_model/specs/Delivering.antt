@@ -80,5 +80,6 @@ rounds (suc more) within = if is_delivered within then within else rounds more (
 abbrev pub enough_rounds : Within → ℕ
 enough_rounds within = 2 * sum_by length within.machine.kernel.signals.pending + 2
 
+-- nothing is delivered between a branch and its slot
 abbrev pub deliver : Within → Within
-deliver within = rounds (enough_rounds within) within
+deliver within = if is_some within.machine.processor.slot then within else rounds (enough_rounds within) within

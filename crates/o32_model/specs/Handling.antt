@@ -19,7 +19,7 @@ use Rattle.mips_exec.specs.Processor.{Processor, register}
 use Rattle.number_tables.specs.Signals.{o32_signal}
 use Rattle.o32_model.specs.Closing.{wait_over, whole_end}
 use Rattle.o32_model.specs.GuestBytes.{is_storable}
-use Rattle.o32_model.specs.Machine.{Machine, Within, happens, with_machine}
+use Rattle.o32_model.specs.Machine.{Machine, Within, happens, with_change, with_machine}
 use Rattle.o32_model.specs.Words.{sp}
 use Rattle.o32_model.specs.declared.wait.Cause.TheVariants.{Handler}
 use Rattle.o32_model.specs.declared.wait.Wait.{Wait}
@@ -136,8 +136,8 @@ abbrev pub wait_left_by : Action → Option Wait → Within → Within
 wait_left_by action None within = within
 wait_left_by action (Some wait) within =
     let machine = within.machine in
-    wait_over wait (whole_end action.flags.restart wait Handler machine.kernel machine.memory)
-    (record within { saved = sooner_saved wait.mask within.saved })
+    with_change (record within { saved = sooner_saved wait.mask within.saved })
+    (wait_over wait (whole_end action.flags.restart wait Handler machine.kernel machine.memory) machine)
 
 abbrev pub handled : Within → Info → Action → Within
 handled within info action =

@@ -49,6 +49,17 @@ with_machine within machine = record within { machine = machine }
 abbrev pub happens : Within → Event → Within
 happens within event = record within { events = within.events ++ event ∷ [] }
 
+-- What a part of a turn makes of the machine, and what happened in it
+pub record Change : Type 0 where
+  pub machine : Machine
+  pub events : List Event
+
+abbrev pub no_change : Machine → Change
+no_change machine = record { machine = machine; events = [] }
+
+abbrev pub with_change : Within → Change → Within
+with_change within change = record within { machine = change.machine; events = within.events ++ change.events }
+
 -- What one turn leaves: the machine, and what is left of the input; what it sends to the outputs; how it ends the process; and what happened
 pub record Turn : Type 0 where
   pub machine : Machine
@@ -61,10 +72,10 @@ abbrev pub turn : Within → List ℕ → Sent → Turn
 turn within left sent =
     record { machine = within.machine; left = left; sent = sent; over = within.over; events = within.events }
 
--- What turns are made of: what a call does; for which signals a wait waits, by their numbers; how a wait ends, where a handler's action may
--- restart calls; and what is delivered
+-- What turns are made of: what a call does; which signals a call waits for; how a wait ends, where the action of a handler that ends it restarts
+-- calls or not; and what is delivered
 pub record Rules : Type 0 where
   pub call : Seen → Kernel → Guest → List ℕ → O32Step
-  pub named : Memory → Wait → List Sig
+  pub awaited : Machine → List Sig
   pub ended : Bool → Wait → Cause → Kernel → Memory → WaitEnd
   pub deliver : Within → Within

@@ -16,20 +16,21 @@ use Rattle.kernel_model.specs.declared.signal.Post.{Post}
 use Rattle.kernel_model.specs.declared.signal.Post.TheVariants as posts
 use Rattle.number_tables.specs.Signals.{signal_of_o32}
 use Rattle.o32_model.specs.Machine.{Machine, Rules, Within, happens, with_machine}
+use Rattle.o32_model.specs.SignalWaitEnds.{named_signals}
 use Rattle.o32_model.specs.declared.wait.Wait.{Wait}
 use Rattle.schedule.specs.declared.events.Due.{Due}
 
--- whether a call waits for a signal; one that a stop interrupted does not
+-- The signals that a call waits for. One that a stop interrupted waits for none.
 
-abbrev pub is_among : List Sig → Sig → Bool
-is_among signals signal = list_any (λ (other : Sig). place other == place signal) signals
+abbrev pub awaited_by : Machine → Option Wait → List Sig
+awaited_by machine None = []
+awaited_by machine (Some wait) = if machine.interrupted then [] else named_signals machine.memory wait
 
-abbrev pub waits_for_by : Rules → Machine → Sig → Option Wait → Bool
-waits_for_by rules machine signal None = false
-waits_for_by rules machine signal (Some wait) = if machine.interrupted then false else is_among (rules.named machine.memory wait) signal
+abbrev pub awaited : Machine → List Sig
+awaited machine = awaited_by machine machine.wait
 
 abbrev pub waits_for : Rules → Machine → Sig → Bool
-waits_for rules machine signal = waits_for_by rules machine signal machine.wait
+waits_for rules machine signal = list_any (λ (other : Sig). place other == place signal) (rules.awaited machine)
 
 -- Events of the schedule
 

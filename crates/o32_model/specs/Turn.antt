@@ -13,9 +13,8 @@ use Rattle.o32_model.specs.Built.{built}
 use Rattle.o32_model.specs.Closing.{wait_over, whole_end}
 use Rattle.o32_model.specs.Delivering.{deliver}
 use Rattle.o32_model.specs.Instruction.{executed}
-use Rattle.o32_model.specs.Machine.{Machine, Rules, Turn, Within, begin, turn, with_machine}
-use Rattle.o32_model.specs.Posting.{posted}
-use Rattle.o32_model.specs.SignalWaitEnds.{named_signals}
+use Rattle.o32_model.specs.Machine.{Change, Machine, Rules, Turn, Within, begin, no_change, turn, with_change, with_machine}
+use Rattle.o32_model.specs.Posting.{awaited, posted}
 use Rattle.o32_model.specs.Table.{machine_call}
 use Rattle.o32_model.specs.declared.wait.Cause.{Cause}
 use Rattle.o32_model.specs.declared.wait.Cause.TheVariants.{Due, Accepted, Stopped}
@@ -24,9 +23,8 @@ use Rattle.schedule.specs.declared.events.Due.{Due as Coming}
 
 -- Waits
 
-abbrev pub ended_by : Rules → Cause → Wait → Within → Within
-ended_by rules cause wait within =
-    wait_over wait (rules.ended false wait cause within.machine.kernel within.machine.memory) within
+abbrev pub ended_by : Rules → Cause → Wait → Machine → Change
+ended_by rules cause wait machine = wait_over wait (rules.ended false wait cause machine.kernel machine.memory) machine
 
 -- whether a deadline is over; one that is not there, or past 2^61, never is
 abbrev pub is_over_at : ℕ → Option ℕ → Bool
@@ -34,22 +32,19 @@ is_over_at clock None = false
 is_over_at clock (Some deadline) = is_due clock deadline
 
 -- whether a signal that the call waits for pends
-abbrev pub accepts : Rules → Machine → Wait → Bool
-accepts rules machine wait = list_any (λ (signal : Sig). pends machine.kernel.signals signal) (rules.named machine.memory wait)
+abbrev pub accepts : Rules → Machine → Bool
+accepts rules machine = list_any (λ (signal : Sig). pends machine.kernel.signals signal) (rules.awaited machine)
 
-abbrev pub ended_if : Rules → Wait → Within → Within
-ended_if rules wait within =
-    if accepts rules within.machine wait then ended_by rules Accepted wait within
-    else (if is_over_at within.machine.kernel.clock wait.deadline then ended_by rules Due wait within
-    else within)
+abbrev pub ended_if_over : Rules → Machine → Option Wait → Change
+ended_if_over rules machine None = no_change machine
+ended_if_over rules machine (Some wait) =
+    if accepts rules machine then ended_by rules Accepted wait machine
+    else (if is_over_at machine.kernel.clock wait.deadline then ended_by rules Due wait machine
+    else no_change machine)
 
-abbrev pub wait_ended_if : Rules → Option Wait → Within → Within
-wait_ended_if rules None within = within
-wait_ended_if rules (Some wait) within = ended_if rules wait within
-
-abbrev pub wait_continued : Rules → Option Wait → Within → Within
-wait_continued rules None within = within
-wait_continued rules (Some wait) within = ended_by rules Stopped wait within
+abbrev pub continued : Rules → Machine → Option Wait → Change
+continued rules machine None = no_change machine
+continued rules machine (Some wait) = ended_by rules Stopped wait machine
 
 -- Time
 
@@ -92,17 +87,18 @@ first_step rules machine = posted rules (begin machine)
 -- a wait ends whose deadline is over, or for which a signal pends
 abbrev pub second_step : Rules → Within → Within
 second_step rules within =
-    if within.machine.stopped || within.machine.interrupted then within else wait_ended_if rules within.machine.wait within
+    let machine = within.machine in
+    if machine.stopped || machine.interrupted then within else with_change within (ended_if_over rules machine machine.wait)
 
--- signals are delivered, but not between a branch and its slot
+-- signals are delivered
 abbrev pub third_step : Rules → Within → Within
-third_step rules within =
-    if within.machine.stopped || is_some within.machine.processor.slot then within else rules.deliver within
+third_step rules within = if within.machine.stopped then within else rules.deliver within
 
 -- a wait that a stop interrupted goes on or ends
 abbrev pub fourth_step : Rules → Within → Within
 fourth_step rules within =
-    if within.machine.interrupted && not within.machine.stopped then wait_continued rules within.machine.wait within else within
+    let machine = within.machine in
+    if machine.interrupted && not machine.stopped then with_change within (continued rules machine machine.wait) else within
 
 -- where the process is stopped, or a call waits, the clock jumps
 abbrev pub fifth_step : Within → List ℕ → Turn
@@ -135,7 +131,7 @@ turn_of quantum machine left = turn_by built quantum machine left
 -- One turn with all calls and the delivery of signals. What is built so far is `built` in its place.
 
 abbrev pub whole : Rules
-whole = record { call = machine_call; named = named_signals; ended = whole_end; deliver = deliver }
+whole = record { call = machine_call; awaited = awaited; ended = whole_end; deliver = deliver }
 
 unfoldable pub whole_turn_of : ℕ → Machine → List ℕ → Turn
 whole_turn_of quantum machine left = turn_by whole quantum machine left
