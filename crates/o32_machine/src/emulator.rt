@@ -56,7 +56,8 @@ impl Model for Emulator {
 
     ghost view = { λ e. record { machine = machine_at e.clock (machine_of e.process); quantum = e.quantum; turns = e.turns; over = e.over } };
 
-    ghost invariant = { λ e. (e.quantum ≤ 1_000_000) × (e.clock ≤ 2 ^ 61 + 1_000_000 * e.turns) × (e.process.idle ≤ e.clock) };
+    ghost invariant = { λ e. (e.quantum ≤ 1_000_000) × (e.clock ≤ 2 ^ 61 + 1_000_000 * e.turns) × (e.process.idle ≤ e.clock)
+        × (e.process.kernel.clock ≤ e.clock) };
 }
 
 impl Emulator {

@@ -141,6 +141,7 @@ impl Process {
         requires { self.old.kernel.clock ≡ clock }
         ensures woken { OnOk result (machine_of self.new ≡ (ended_if_over built (machine_of self.old) self.old.wait).machine) }
         ensures idle { self.new.idle ≡ self.old.idle }
+        ensures clock { self.new.kernel.clock ≡ clock }
         ensures cause { IfErr result (λ stop. stop ≡ Stop.NoMemory) }
     {
         if let Some(wait) = self.wait {
@@ -158,6 +159,7 @@ impl Process {
         ensures ended { IfOk result (λ close.
             built_end false wait.now Cause.Due self.old.kernel self.old.memory ≡ ends_with close self.new.kernel self.new.memory) }
         ensures others { self.new ≡ record self.old { kernel = self.new.kernel; memory = self.new.memory } }
+        ensures clock { self.new.kernel.clock ≡ clock }
         ensures cause { IfErr result (λ stop. stop ≡ Stop.NoMemory) }
     {
         if !is_sleep(wait.nr) {
@@ -175,6 +177,7 @@ impl Process {
     /// restart_syscall(2).
     fn close(&mut self, wait: &Wait, close: Close)
         ensures closed { machine_of self.new ≡ (closed wait.now close (unwaiting self.old)).machine }
+        ensures kernel { self.new.kernel ≡ self.old.kernel }
         ensures idle { self.new.idle ≡ self.old.idle }
     {
         self.wait = None;
@@ -223,10 +226,11 @@ impl Process {
         self.kernel.tree()
     }
 
-    /// Moves the kernel's clock to a time, in nanoseconds. No call waits.
+    /// Moves the kernel's clock to a time, in nanoseconds, which is not before its own.
     pub(crate) fn advance(&mut self, clock: u64) -> Result<(), NoMemory>
+        requires later { self.old.kernel.clock ≤ clock }
         ensures moved { OnOk result (self.new ≡ record self.old { kernel = signals.advance self.old.kernel clock false }) }
-        ensures clock { OnOk result (self.new.kernel.clock ≡ clock) }
+        ensures clock { self.new.kernel.clock ≡ clock }
         ensures idle { self.new.idle ≡ self.old.idle }
     {
         self.kernel.advance(clock, false)?;
@@ -264,6 +268,7 @@ impl Process {
         requires clock { self.old.kernel.clock ≡ clock }
         ensures turn { IsTurn (after_step built (machine_of self.old) came) result (machine_of self.new)
             (contents I.left O.written E.written dev.old) (contents I.left O.written E.written dev.new) }
+        ensures clock { self.new.kernel.clock ≡ clock }
         ensures counted { IfOk result (λ turn. turns_of turn ≡ 1) }
         ensures idle { self.new.idle ≡ self.old.idle }
         ensures cause { StopsOnlyIfRose I.faults O.faults E.faults result dev.old dev.new }
@@ -291,6 +296,7 @@ impl Process {
         requires { self.old.kernel.clock ≡ clock }
         ensures turn { IsTurn (called built (machine_of self.old)) result (machine_of self.new)
             (contents I.left O.written E.written dev.old) (contents I.left O.written E.written dev.new) }
+        ensures clock { self.new.kernel.clock ≡ clock }
         ensures counted { IfOk result (λ turn. turns_of turn ≡ 1) }
         ensures idle { self.new.idle ≡ self.old.idle }
         ensures cause { StopsOnlyIfRose I.faults O.faults E.faults result dev.old dev.new }
@@ -324,6 +330,7 @@ impl Process {
     fn finish(&mut self, words: &CallWords, outcome: Outcome) -> Turn
         ensures machine { machine_of self.new ≡ (finished words.now (machine_of self.old) outcome).machine }
         ensures over { over_of result ≡ (finished words.now (machine_of self.old) outcome).over }
+        ensures kernel { self.new.kernel ≡ self.old.kernel }
         ensures counted { turns_of result ≡ 1 }
         ensures idle { self.new.idle ≡ self.old.idle }
     {
