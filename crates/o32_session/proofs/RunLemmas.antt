@@ -41,6 +41,7 @@ own_end_of_outcome idle step (outcomes.Pair first second) finish over = absurd c
 own_end_of_outcome idle step (outcomes.Error error) finish over = absurd cc
 own_end_of_outcome idle step (outcomes.Sleep wait) finish over = absurd cc
 own_end_of_outcome idle step outcomes.Frame finish over = absurd cc
+own_end_of_outcome idle step outcomes.BadFrame finish over = absurd cc
 own_end_of_outcome idle step (outcomes.Exit status) finish over = subst IsOwnEnd (let same : Exited status ≡ finish = cc in same) tt
 
 own_end_of_step : (idle : ℕ) (processor : Processor) (memory : Memory) (kernel : Kernel) (left : List ℕ) (came : Stepped) (finish : Finish) → (after_step idle processor memory kernel left came).over ≡ Some finish → IsOwnEnd finish
