@@ -2,6 +2,8 @@ pub mod Guest
 pub mod Numbers
 pub mod RunLemmas
 pub mod Preparing
+pub mod Loading
+pub mod Faults
 pub mod Trees
 pub mod Sessions
 pub mod SavedFiles

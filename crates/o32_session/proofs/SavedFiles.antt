@@ -8,7 +8,7 @@ use Rattle.o32_model.specs.Turn.{Machine}
 use Rattle.o32_session.specs.Asked.{Asked, Refuse, Run, Names, names_of}
 use Rattle.o32_session.specs.Saved.{SavesPart, SavesTree, SavesTreeInPart, StandsOrBegins, Stored}
 use Rattle.o32_session.specs.SavedFile.{HasTreeText, IsFileAfter, SavesReading, SavesTo, StandsOrHasPart}
-use Rattle.o32_session.specs.Session.{Answers, AnswersReading, IsEarly, Seen, final_tree, no_names}
+use Rattle.o32_session.specs.Session.{Answers, AnswersReading, Seen, StopsAfter, final_tree, no_names, once_loaded}
 use Rattle.o32_session.specs.Words.{Reading, Asks, WrongAt}
 use Rattle.o32_session.specs.declared.answer.Refusal.{Refusal}
 use Rattle.o32_session.specs.declared.answer.Refusal.TheVariants.{Usage}
@@ -36,6 +36,7 @@ pub stands_part : (name text : List ℕ) (store : Stored) → SavesPart name tex
 stands_part name text store = record {
   files = unchanged_file store.files store.files name (StandsOrBegins text) refl (λ file. inl refl);
   created = inl refl;
+  loads = refl;
   turned = refl;
 }
 
@@ -45,15 +46,15 @@ stands_part name text store = record {
 abbrev IsNoFinish : End → Type 0
 IsNoFinish end = (file : Option (List ℕ)) → IsFileAfter end file file
 
-early_stands : (end : End) → IsEarly end → IsNoFinish end
-early_stands ReadFault early = λ file. refl
-early_stands NoMemory early = λ file. inl refl
-early_stands (Exited status) early = absurd early
-early_stands (Killed signal) early = absurd early
-early_stands Budget early = absurd early
-early_stands Blocked early = absurd early
-early_stands (Refused given) early = absurd early
-early_stands WriteFault early = absurd early
+early_stands : (count : ℕ) (names : Names) (end : End) → StopsAfter count names end → IsNoFinish end
+early_stands count names ReadFault early = λ file. refl
+early_stands count names NoMemory early = λ file. inl refl
+early_stands count names (Exited status) early = absurd early
+early_stands count names (Killed signal) early = absurd early
+early_stands count names Budget early = absurd early
+early_stands count names Blocked early = absurd early
+early_stands count names (Refused given) early = absurd early
+early_stands count names WriteFault early = absurd early
 
 stands_so : (end : End) (old new : Option Files) → IsNoFinish end → new ≡ old → (save : Option (List ℕ)) → SavesTo save end old new
 stands_so end old new stands same None = same
@@ -62,9 +63,9 @@ stands_so end old new stands same (Some name) = unchanged_file old new name (IsF
 -- what an answer to a refusal says of the end and of the store
 refused_stands : (refusal : Refusal) (names : Names) (old new : Seen) (turns : ℕ) (end : End) (host : Option Emulated) →
     Answers (Refuse refusal) names old new turns end host → IsNoFinish end × (new.store.files ≡ old.store.files)
-refused_stands refusal names old new turns (Refused given) host answer = ((λ file. refl), ap (λ (s : Stored). s.files) answer.turned)
-refused_stands refusal names old new turns WriteFault host answer = ((λ file. inl refl), ap (λ (s : Stored). s.files) answer.0.turned)
-refused_stands refusal names old new turns NoMemory host answer = ((λ file. inl refl), ap (λ (s : Stored). s.files) answer.turned)
+refused_stands refusal names old new turns (Refused given) host answer = ((λ file. refl), ap (λ (s : Stored). s.files) answer.stands)
+refused_stands refusal names old new turns WriteFault host answer = ((λ file. inl refl), ap (λ (s : Stored). s.files) answer.0.stands)
+refused_stands refusal names old new turns NoMemory host answer = ((λ file. inl refl), ap (λ (s : Stored). s.files) answer.stands)
 refused_stands refusal names old new turns ReadFault host answer = absurd answer
 refused_stands refusal names old new turns (Exited status) host answer = absurd answer
 refused_stands refusal names old new turns (Killed signal) host answer = absurd answer
@@ -115,10 +116,12 @@ run_saves quantum machine budget names old new turns NoMemory host answer =
 
 -- What is asked for
 
-asked_saves : (names : Names) (old new : Seen) (turns : ℕ) (end : End) (host : Option Emulated) (asked : Asked) → Answers asked names old new turns end host → SavesTo names.save end old.store.files new.store.files
+asked_saves : (names : Names) (old new : Seen) (turns : ℕ) (end : End) (host : Option Emulated) (asked : Asked) → Answers asked names (once_loaded asked names old) new turns end host
+    → SavesTo names.save end old.store.files new.store.files
 asked_saves names old new turns end host (Refuse refusal) answer =
-    let stands = refused_stands refusal names old new turns end host answer in stands_so end old.store.files new.store.files stands.0 stands.1 names.save
-asked_saves names old new turns end host (Run quantum machine budget) answer = run_saves quantum machine budget names old new turns end host answer
+    let stands = refused_stands refusal names (once_loaded (Refuse refusal) names old) new turns end host answer in stands_so end old.store.files new.store.files stands.0 stands.1 names.save
+asked_saves names old new turns end host (Run quantum machine budget) answer =
+    run_saves quantum machine budget names (once_loaded (Run quantum machine budget) names old) new turns end host answer
 
 -- What an answer says, of the files alone.
 pub saves : (words : List (List ℕ)) (reading : Reading) (old new : Seen) (turns : ℕ) (end : End) (host : Option Emulated) → AnswersReading words reading old new turns end host
@@ -130,6 +133,8 @@ saves words (WrongAt word) old new turns end host answer =
     ]
 saves words (Asks line) old new turns end host answer =
     elim answer as (λ _. SavesTo (names_of words line).save end old.store.files new.store.files) [
-      | inl early ↦ stands_so end old.store.files new.store.files (early_stands end early.0) (ap (λ (s : Stored). s.files) early.1.stands) (names_of words line).save
+      | inl early ↦
+          stands_so end old.store.files new.store.files (early_stands early.count (names_of words line) end early.early)
+          (ap (λ (s : Stored). s.files) early.nothing.stands) (names_of words line).save
       | inr asked ↦ asked_saves (names_of words line) old new turns end host asked.0 asked.2
     ]

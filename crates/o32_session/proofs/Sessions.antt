@@ -1,7 +1,6 @@
 -- What a session answers: where nothing is run, and where there is a run.
 use Rattle.std.proofs.Common.{◌≡◌, ℕ, ◌≤◌, ◌<◌, Bool, cond, List, [], Option, Some, None, Result, Ok, Err, ◌⊎◌, inl, inr, refl, sym, ap, ◌∙◌, subst, option_map}
 use Rattle.std.proofs.lemmas.Bool.{le-ltb}
-use Rattle.std.proofs.lemmas.List.{append-nil}
 use Rattle.outside.specs.Count.{Rose}
 use Rattle.outside.specs.Files.{Files}
 use Rattle.outside.specs.Output.{GainsText}
@@ -24,11 +23,11 @@ use Rattle.o32_machine.specs.Emulator.{Emulated}
 use Rattle.o32_model.specs.Turn.{Machine}
 use Rattle.o32_session.specs.Answers.{IsRefusal}
 use Rattle.o32_session.specs.Asked.{Asked, Refuse, Run, Names, names_of, Found, Bytes, found_at, IsOpened, IsOpenedBy, AsksOf, AsksOfPlan, AsksUnless, AsksFor, IsScheduled, arguments_of, asked_of_schedule, asked_of_tree, first_machine, empty_tree, image_limit, schedule_of_found}
-use Rattle.o32_session.specs.Saved.{SavesTree, SavesTreeInPart, Stored, after_turned, turned_by}
-use Rattle.o32_session.specs.Session.{Seen, DoesNothing, Answers, final_tree, IsEarly, Finishes, IsRun, IsPartOfRun, StopsAtSave, no_names, AnswersReading, AsksForRun, EndsAsRun, HasImage, HasSchedule, IsRunEnd}
+use Rattle.o32_session.specs.Saved.{SavesTree, SavesTreeInPart, Stored}
+use Rattle.o32_session.specs.Session.{Seen, DoesNothing, Answers, final_tree, StopsAfter, StopsEarly, first_loaded, once_loaded, Finishes, IsRun, IsPartOfRun, StopsAtSave, no_names, AnswersReading, AsksForRun, EndsAsRun, HasImage, HasSchedule, IsRunEnd}
 use Rattle.o32_session.specs.Words.{Line, Reading, Asks, WrongAt, read_words, word_at}
 use Rattle.o32_session.specs.inside.Ends.{end_of, end_of_stop}
-use Rattle.o32_session.specs.inside.Prepared.{EndsRefused, EndsWithoutRun, IsPrepared, turned_reading}
+use Rattle.o32_session.specs.inside.Prepared.{EndsRefused, EndsWithoutRun, IsPrepared, LineFailsOnlyIfRose, LoadsReading}
 use Rattle.o32_session.specs.inside.Runs.{AnswersRun, RunsAs}
 use Rattle.o32_session.specs.declared.answer.Answer.{Answer}
 use Rattle.o32_session.specs.declared.answer.End.{End}
@@ -39,66 +38,67 @@ use Rattle.o32_session.specs.declared.not_run.NotRun.{NotRun}
 use Rattle.o32_session.specs.declared.not_run.NotRun.TheVariants as reasons
 use Rattle.o32_session.specs.declared.prepare.Ready.{Ready}
 
--- nothing was turned away
-none_turned : (store : Stored) → after_turned store [] ≡ store
-none_turned store = ap (λ t. let s : Stored = record store { turned = t } in s) (append-nil store.turned)
-
 -- Nothing is run
 
--- standard output and its count stay as they are
-abbrev beside : Seen → Option (List ℕ) → ℕ → Stored → Seen
-beside old err err_faults store = record old { err = err; err_faults = err_faults; store = store }
+-- the input and standard output with their counts stay as they are
+abbrev beside : Seen → Option (List ℕ) → ℕ → ℕ → Stored → Seen
+beside old err err_faults load_faults store = record old { err = err; err_faults = err_faults; load_faults = load_faults; store = store }
 
 unchanged : (old new : Option (List ℕ)) → new ≡ old → GainsText old new []
 unchanged old new same = subst (λ n. GainsText old n []) (sym same) (GainsText-nothing old)
 
-nothing_done : (old : Seen) (err : Option (List ℕ)) (faults : ℕ) (store : Stored) → err ≡ old.err →
-    store ≡ after_turned old.store [] → DoesNothing old (beside old err faults store) 0
-nothing_done old err faults store same none = record {
+nothing_done : (old : Seen) (err : Option (List ℕ)) (faults loads : ℕ) (store : Stored) → err ≡ old.err → store ≡ old.store → DoesNothing old (beside old err faults loads store) 0
+nothing_done old err faults loads store same stands = record {
   no_turn = refl;
   untaken = refl;
   wrote = record { to_out = GainsText-nothing old.out; to_err = unchanged old.err err same };
-  stands = none ∙ none_turned old.store;
+  stands = stands;
 }
 
 -- a refusal with its line
-refused : (refusal : Refusal) (names : Names) (end : End) (old : Seen) (err : Option (List ℕ)) (faults : ℕ)
-    (store : Stored) (host : Option Emulated) → EndsRefused refusal end old.err err → (end ≡ WriteFault → Rose old.err_faults faults) →
-    store ≡ after_turned old.store (turned_by names refusal) → Answers (Refuse refusal) names old (beside old err faults store) 0 end host
-refused refusal names (Refused given) old err faults store host so cause loads = record {
+refused : (refusal : Refusal) (names : Names) (end : End) (old : Seen) (err : Option (List ℕ)) (faults loads : ℕ)
+    (store : Stored) (host : Option Emulated) → EndsRefused refusal end old.err err → LineFailsOnlyIfRose end old.err_faults faults →
+    store ≡ old.store → Answers (Refuse refusal) names old (beside old err faults loads store) 0 end host
+refused refusal names (Refused given) old err faults loads store host so cause stands = record {
   same = so.0;
   no_turn = refl;
   untaken = refl;
   wrote = record { to_out = GainsText-nothing old.out; to_err = so.1 };
-  turned = loads;
+  stands = stands;
 }
-refused refusal names WriteFault old err faults store host so cause loads =
-    (record { no_turn = refl; untaken = refl; to_out = GainsText-nothing old.out; to_err = so; turned = loads }, cause refl)
-refused refusal names NoMemory old err faults store host so cause loads =
-    record { no_turn = refl; untaken = refl; to_out = GainsText-nothing old.out; to_err = so; turned = loads }
-refused refusal names ReadFault old err faults store host so cause loads = absurd so
-refused refusal names (Exited status) old err faults store host so cause loads = absurd so
-refused refusal names (Killed signal) old err faults store host so cause loads = absurd so
-refused refusal names Budget old err faults store host so cause loads = absurd so
-refused refusal names Blocked old err faults store host so cause loads = absurd so
+refused refusal names WriteFault old err faults loads store host so cause stands =
+    (record { no_turn = refl; untaken = refl; to_out = GainsText-nothing old.out; to_err = so; stands = stands }, cause)
+refused refusal names NoMemory old err faults loads store host so cause stands =
+    record { no_turn = refl; untaken = refl; to_out = GainsText-nothing old.out; to_err = so; stands = stands }
+refused refusal names ReadFault old err faults loads store host so cause stands = absurd so
+refused refusal names (Exited status) old err faults loads store host so cause stands = absurd so
+refused refusal names (Killed signal) old err faults loads store host so cause stands = absurd so
+refused refusal names Budget old err faults loads store host so cause stands = absurd so
+refused refusal names Blocked old err faults loads store host so cause stands = absurd so
+
+-- a load failed, or memory ran out, after so many loads
+stopped : (names : Names) (count : ℕ) (end : End) (old : Seen) (err : Option (List ℕ)) (faults loads : ℕ) (store : Stored) → StopsAfter count names end → err ≡ old.err →
+    store ≡ (first_loaded count names old).store → StopsEarly names old (beside old err faults loads store) 0 end
+stopped names count end old err faults loads store early same stands =
+    record { count = count; early = early; nothing = nothing_done (first_loaded count names old) err faults loads store same stands }
 
 -- Nothing is run, and the answer says so.
 pub unrun : (words : List (List ℕ)) (reading : Reading) (reason : NotRun) (end : End) (old : Seen)
-    (err : Option (List ℕ)) (faults : ℕ) (store : Stored) (host : Option Emulated) → IsPrepared words reading old.store.files (Err reason) →
-    EndsWithoutRun reason end old.err err → (end ≡ WriteFault → Rose old.err_faults faults) →
-    store ≡ after_turned old.store (turned_reading {T = Ready} words reading (Err reason)) →
-    AnswersReading words reading old (beside old err faults store) 0 end host
-unrun words (WrongAt word) (reasons.Refused refusal) end old err faults store host is so cause loads =
-    inr (refused (Usage word) no_names end old err faults store host (subst (λ r. EndsRefused r end old.err err) is so) cause loads)
-unrun words (WrongAt word) reasons.ReadFault end old err faults store host is so cause loads = absurd is
-unrun words (WrongAt word) reasons.NoMemory end old err faults store host is so cause loads =
-    inl (so.0, nothing_done old err faults store so.1 loads)
-unrun words (Asks line) (reasons.Refused refusal) end old err faults store host is so cause loads =
-    inr (Refuse refusal, is, refused refusal (names_of words line) end old err faults store host so cause loads)
-unrun words (Asks line) reasons.ReadFault end old err faults store host is so cause loads =
-    inl (subst (λ e. IsEarly e) (sym so.0) tt, nothing_done old err faults store so.1 loads)
-unrun words (Asks line) reasons.NoMemory end old err faults store host is so cause loads =
-    inl (subst (λ e. IsEarly e) (sym so.0) tt, nothing_done old err faults store so.1 loads)
+    (err : Option (List ℕ)) (faults loads : ℕ) (store : Stored) (host : Option Emulated) → IsPrepared words reading old.store.files (Err reason) →
+    EndsWithoutRun reason end old.err err → LineFailsOnlyIfRose end old.err_faults faults →
+    LoadsReading {T = Ready} words reading (Err reason) old.store store →
+    AnswersReading words reading old (beside old err faults loads store) 0 end host
+unrun words (WrongAt word) (reasons.Refused refusal) end old err faults loads store host is so cause loaded =
+    inr (refused (Usage word) no_names end old err faults loads store host (subst (λ r. EndsRefused r end old.err err) is so) cause loaded)
+unrun words (WrongAt word) reasons.ReadFault end old err faults loads store host is so cause loaded = absurd is
+unrun words (WrongAt word) reasons.NoMemory end old err faults loads store host is so cause loaded =
+    inl (so.0, nothing_done old err faults loads store so.1 loaded)
+unrun words (Asks line) (reasons.Refused refusal) end old err faults loads store host is so cause loaded =
+    inr (Refuse refusal, is, refused refusal (names_of words line) end (once_loaded (Refuse refusal) (names_of words line) old) err faults loads store host so cause loaded)
+unrun words (Asks line) reasons.ReadFault end old err faults loads store host is so cause loaded =
+    inl (stopped (names_of words line) loaded.0 end old err faults loads store (subst (λ e. StopsAfter loaded.0 (names_of words line) e) (sym so.0) loaded.1) so.1 loaded.2)
+unrun words (Asks line) reasons.NoMemory end old err faults loads store host is so cause loaded =
+    inl (stopped (names_of words line) loaded.0 end old err faults loads store (subst (λ e. StopsAfter loaded.0 (names_of words line) e) (sym so.0) tt) so.1 loaded.1)
 
 -- There is a run
 
@@ -163,7 +163,7 @@ run_answer quantum machine budget turns names name finish emulated answer old ne
     subst (λ (n : ℕ). Answers (Run quantum machine budget) names old new n answer.end answer.host) (sym same)
     (elim failed.end as (λ _. Answers (Run quantum machine budget) names old new turns answer.end answer.host) [
       | inl fault ↦ subst (λ (e : End). Answers (Run quantum machine budget) names old new turns e answer.host) (sym fault.0) (inr (so, fault.1))
-      | inr memory ↦ subst (λ (e : End). Answers (Run quantum machine budget) names old new turns e answer.host) (sym memory) (inr so)
+      | inr memory ↦ subst (λ (e : End). Answers (Run quantum machine budget) names old new turns e answer.host) (sym memory.0) (inr so)
     ])
 
 -- a device that stopped the run
@@ -177,15 +177,16 @@ pub write_cause : {I O E : Type 0} (input : I → ℕ) (out : O → ℕ) (err : 
 write_cause input out err stop old new cause is = subst (λ (s : Stop). StopsOnlyIfRose {T = Finish} input out err (Err s) old new) is cause
 
 -- There is a run, and the answer is what it came to.
-pub run_answers : (words : List (List ℕ)) (reading : Reading) (ready : Ready) (old new : Seen) (turns : ℕ) (end : End) (host : Option Emulated) (middle : Stored) → IsPrepared words reading old.store.files (Ok ready)
-    → ((names : Names) → names.save ≡ option_map (word_at words) ready.save → Answers (Run ready.emulator.quantum ready.emulator.machine ready.budget) names (record old { store = middle }) new turns end host)
-    → middle ≡ after_turned old.store (turned_reading {T = Ready} words reading (Ok ready)) → AnswersReading words reading old new turns end host
-run_answers words (WrongAt word) ready old new turns end host middle is runs loads = absurd is
-run_answers words (Asks line) ready old new turns end host middle is runs loads = inr (
+pub run_answers : (words : List (List ℕ)) (reading : Reading) (ready : Ready) (old new : Seen) (turns : ℕ) (end : End) (host : Option Emulated) (faults : ℕ) (middle : Stored) → IsPrepared words reading old.store.files (Ok ready)
+    → ((names : Names) → names.save ≡ option_map (word_at words) ready.save → Answers (Run ready.emulator.quantum ready.emulator.machine ready.budget) names (record old { load_faults = faults; store = middle }) new turns end host)
+    → LoadsReading {T = Ready} words reading (Ok ready) old.store middle → faults ≡ old.load_faults → AnswersReading words reading old new turns end host
+run_answers words (WrongAt word) ready old new turns end host faults middle is runs loads same = absurd is
+run_answers words (Asks line) ready old new turns end host faults middle is runs loads same = inr (
   Run ready.emulator.quantum ready.emulator.machine ready.budget,
   is.0,
-  subst (λ (s : Stored). Answers (Run ready.emulator.quantum ready.emulator.machine ready.budget) (names_of words line) (record old { store = s }) new turns end host) (loads ∙ none_turned old.store)
-      (runs (names_of words line) (ap (λ (n : Option ℕ). option_map (word_at words) n) (sym is.1))),
+  subst (λ (s : Stored). Answers (Run ready.emulator.quantum ready.emulator.machine ready.budget) (names_of words line) (record old { store = s }) new turns end host) loads
+      (subst (λ (n : ℕ). Answers (Run ready.emulator.quantum ready.emulator.machine ready.budget) (names_of words line) (record old { load_faults = n; store = middle }) new turns end host) same
+      (runs (names_of words line) (ap (λ (n : Option ℕ). option_map (word_at words) n) (sym is.1)))),
 )
 
 -- a run is not refused
@@ -234,15 +235,15 @@ run_end_of quantum machine budget names old new turns WriteFault host left told 
     ]
 run_end_of quantum machine budget names old new turns NoMemory host left told answer read file out err = inl refl
 
-early_end : (P : Type 0) (end : End) → IsEarly end → (end ≡ ReadFault → ⊥) → (end ≡ NoMemory) ⊎ P
-early_end P (Exited status) early read = absurd early
-early_end P (Killed signal) early read = absurd early
-early_end P Budget early read = absurd early
-early_end P Blocked early read = absurd early
-early_end P (Refused given) early read = absurd early
-early_end P ReadFault early read = absurd (read refl)
-early_end P WriteFault early read = absurd early
-early_end P NoMemory early read = inl refl
+early_end : (P : Type 0) (count : ℕ) (names : Names) (end : End) → StopsAfter count names end → (end ≡ ReadFault → ⊥) → (end ≡ NoMemory) ⊎ P
+early_end P count names (Exited status) early read = absurd early
+early_end P count names (Killed signal) early read = absurd early
+early_end P count names Budget early read = absurd early
+early_end P count names Blocked early read = absurd early
+early_end P count names (Refused given) early read = absurd early
+early_end P count names ReadFault early read = absurd (read refl)
+early_end P count names WriteFault early read = absurd early
+early_end P count names NoMemory early read = inl refl
 
 -- the arguments fit
 fits_run : (args : List (List ℕ)) (line : Line) (plan : Plan) (tree : Tree) (schedule : Schedule) → start_size args line.environment ≤ start_limit →
@@ -290,11 +291,13 @@ complete words old new turns end host run left answer told read file out err =
     let known : AnswersReading words (Asks run.line) old new turns end host =
     subst (λ r. AnswersReading words r old new turns end host) run.in_order answer in
     elim known as (λ _. (end ≡ NoMemory) ⊎ EndsAsRun words old.store.files run left turns end) [
-      | inl early ↦ early_end (EndsAsRun words old.store.files run left turns end) end early.0 read
+      | inl early ↦ early_end (EndsAsRun words old.store.files run left turns end) early.count (names_of words run.line) end early.early read
       | inr asked ↦
           let asks = asks_run words old.store.files run asked.0 (subst (λ f. AsksFor words run.line f asked.0) run.is_told asked.1) in
-          elim (run_end_of run.schedule.quantum (first_machine (plan_of run.bytes) (arguments_of words run.line) run.line.environment asks.0 run.schedule) run.line.budget (names_of words run.line) old new turns end host left told
-          (subst (λ a. Answers a (names_of words run.line) old new turns end host) asks.2 asked.2) read file out err)
+          let names = names_of words run.line in
+          let this : Asked = Run run.schedule.quantum (first_machine (plan_of run.bytes) (arguments_of words run.line) run.line.environment asks.0 run.schedule) run.line.budget in
+          elim (run_end_of run.schedule.quantum (first_machine (plan_of run.bytes) (arguments_of words run.line) run.line.environment asks.0 run.schedule) run.line.budget names (once_loaded this names old) new turns end host left told
+          (subst (λ a. Answers a names (once_loaded a names old) new turns end host) asks.2 asked.2) read file out err)
           as (λ _. (end ≡ NoMemory) ⊎ EndsAsRun words old.store.files run left turns end) [
             | inl memory ↦ inl memory
             | inr is ↦ inr (asks.0, asks.1, is)

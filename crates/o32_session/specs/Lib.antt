@@ -4,5 +4,6 @@ pub mod Answers
 pub mod Asked
 pub mod Saved
 pub mod Session
+pub mod Faults
 pub mod SavedFile
 pub mod inside

@@ -1,36 +1,65 @@
--- The store of a session: the loads that it turned away, and the file that the final tree is saved to. This project's own.
+-- The store of a session: the loads that it answered and those of them that it turned away, and the file that the final tree is saved to. This project's own.
 use Rattle.std.specs.Prelude.{ℕ, ◌≡◌, ◌⊎◌, List, [], ◌∷◌, ◌++◌, unwrap_or, Option, Some, None, ◌==◌, if◌then◌else◌}
 use Rattle.outside.specs.Files.{Files, ChangesFile}
 use Rattle.outside.specs.Output.{IsPrefix}
 use Rattle.outside.specs.Turned.{TurnedLoad}
 use Rattle.outside.specs.declared.errors.LoadError.{LoadError}
-use Rattle.outside.specs.declared.errors.LoadError.TheVariants as loads
+use Rattle.outside.specs.declared.errors.LoadError.TheVariants as answers
 use Rattle.kernel_core.specs.ValidTree.{IsValidTree}
 use Rattle.kernel_core.specs.declared.tree.Tree.{Tree}
 use Rattle.fs_image.specs.Text.{text_of}
-use Rattle.o32_session.specs.Asked.{Names, image_file, schedule_file, program_limit, image_limit, schedule_limit}
+use Rattle.o32_session.specs.Asked.{Names, program_file, image_file, schedule_file, program_limit, image_limit, schedule_limit}
 use Rattle.o32_session.specs.declared.answer.Refusal.{Refusal}
 use Rattle.o32_session.specs.declared.answer.Refusal.TheVariants.{Usage, Missing, TooLong, Elf, Image, Schedule, Start}
 
--- what is seen of a store: its files, the names of those that it made, the loads that it turned away, and its count of
--- faulty writes
+-- what is seen of a store: its files, the names of those that it made, the names of the loads that it answered, the loads that it turned away,
+-- and its count of faulty writes
 pub record Stored : Type 0 where
   pub files : Option Files
   pub created : List (List ℕ)
+  pub loads : List (List ℕ)
   pub turned : List TurnedLoad
   pub write_faults : ℕ
 
-abbrev pub stored_of : {F : Type 0} → (F → Option Files) → (F → List (List ℕ)) → (F → List TurnedLoad) → (F → ℕ) → F → Stored
-stored_of files created turned write_faults store = record {
+abbrev pub stored_of : {F : Type 0} → (F → Option Files) → (F → List (List ℕ)) → (F → List (List ℕ)) → (F → List TurnedLoad) → (F → ℕ) → F → Stored
+stored_of files created loads turned write_faults store = record {
   files = files store;
   created = created store;
+  loads = loads store;
   turned = turned store;
   write_faults = write_faults store;
 }
 
--- the store turned these loads away, and else stands as it was
-abbrev pub after_turned : Stored → List TurnedLoad → Stored
-after_turned store loads = record store { turned = store.turned ++ loads }
+-- the store answered loads of these names, turned these away, and else stands as it was
+abbrev pub after_loads : Stored → List (List ℕ) → List TurnedLoad → Stored
+after_loads store names turned = record store { loads = store.loads ++ names; turned = store.turned ++ turned }
+
+-- The loads
+
+-- the name of a file, where there is one
+abbrev pub named : Option (List ℕ) → List (List ℕ)
+named None = []
+named (Some name) = name ∷ []
+
+-- the names of the files of a line that are loaded, each once, in their order: of the program, of the image, of the schedule
+abbrev pub loaded_names : Names → List (List ℕ)
+loaded_names names = names.program ∷ (named names.image ++ named names.schedule)
+
+-- those of them up to the file of this number
+abbrev pub names_up_to : Names → ℕ → List (List ℕ)
+names_up_to names file =
+    if file == image_file then names.program ∷ named names.image
+    else (if file == schedule_file then loaded_names names else names.program ∷ [])
+
+-- the names of the loads that were answered before a refusal: up to the file that is refused
+abbrev pub loaded_by : Names → Refusal → List (List ℕ)
+loaded_by names (Usage word) = []
+loaded_by names (Missing file) = names_up_to names file
+loaded_by names (TooLong file) = names_up_to names file
+loaded_by names (Elf rule) = names_up_to names program_file
+loaded_by names (Image broken) = names_up_to names image_file
+loaded_by names (Schedule broken) = names_up_to names schedule_file
+loaded_by names Start = loaded_names names
 
 -- the load of a file by its number
 abbrev pub load_of : Names → ℕ → LoadError → TurnedLoad
@@ -43,8 +72,8 @@ load_of names file answer =
 
 -- the load that a refusal turned away
 abbrev pub turned_by : Names → Refusal → List TurnedLoad
-turned_by names (Missing file) = load_of names file loads.Missing ∷ []
-turned_by names (TooLong file) = load_of names file loads.TooLong ∷ []
+turned_by names (Missing file) = load_of names file answers.Missing ∷ []
+turned_by names (TooLong file) = load_of names file answers.TooLong ∷ []
 turned_by names (Usage word) = []
 turned_by names (Elf rule) = []
 turned_by names (Image broken) = []
@@ -63,12 +92,14 @@ StandsOrBegins text before after = (after ≡ before) ⊎ ((part : List ℕ) × 
 pub record SavesText (name text : List ℕ) (old new : Stored) : Type 0 where
   pub files : ChangesFile old.files new.files name (HasText text)
   pub created : new.created ≡ old.created ++ name ∷ []
+  pub loads : new.loads ≡ old.loads
   pub turned : new.turned ≡ old.turned
 
 -- the file of this name stands as it was or has a first part of this text, and every other stands as it was
 pub record SavesPart (name text : List ℕ) (old new : Stored) : Type 0 where
   pub files : ChangesFile old.files new.files name (StandsOrBegins text)
   pub created : (new.created ≡ old.created) ⊎ (new.created ≡ old.created ++ name ∷ [])
+  pub loads : new.loads ≡ old.loads
   pub turned : new.turned ≡ old.turned
 
 -- the tree, a valid one, was saved where a file is named for it; else the store stands as it was

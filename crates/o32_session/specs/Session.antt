@@ -1,5 +1,5 @@
 -- What an answer says where a refusal or a run is asked for. This project's own.
-use Rattle.std.specs.Prelude.{ℕ, ◌≡◌, ◌+◌, ◌<◌, ◌≤◌, ⊤, ◌⊎◌, List, [], Option, Some, None, Ok}
+use Rattle.std.specs.Prelude.{ℕ, ◌≡◌, ◌+◌, ◌<◌, ◌≤◌, ⊤, ◌⊎◌, List, [], length, take, Option, Some, None, Ok}
 use Rattle.outside.specs.Files.{Files}
 use Rattle.outside.specs.Count.{Rose}
 use Rattle.outside.specs.Output.{GainsText, GainsBetween}
@@ -14,7 +14,7 @@ use Rattle.start_stack.specs.Stack.{start_size, start_limit}
 use Rattle.schedule.specs.declared.Schedule.{Schedule}
 use Rattle.o32_session.specs.Words.{Line, Reading, Asks, WrongAt, read_words}
 use Rattle.o32_session.specs.Asked.{Asked, Refuse, Run, Names, names_of, Bytes, found_at, program_limit, image_limit, AsksFor, IsOpened, arguments_of, first_machine, schedule_limit, schedule_of_text, empty_schedule}
-use Rattle.o32_session.specs.Saved.{Stored, after_turned, turned_by, SavesTree, SavesTreeInPart}
+use Rattle.o32_session.specs.Saved.{Stored, after_loads, loaded_by, loaded_names, turned_by, SavesTree, SavesTreeInPart}
 use Rattle.o32_model.specs.Runs.{IsOverAt, IsRunningAt, reached}
 use Rattle.o32_model.specs.Turn.{Machine}
 use Rattle.o32_session.specs.Lines.{line_of}
@@ -25,7 +25,7 @@ use Rattle.kernel_core.specs.declared.finish.Finish.TheVariants as finishes
 use Rattle.o32_session.specs.declared.answer.End.{End}
 use Rattle.o32_session.specs.declared.answer.End.TheVariants.{Exited, Killed, Budget, Blocked, Refused, ReadFault, WriteFault, NoMemory}
 
--- what is seen of the devices, their counts of faults, and the store: what is left of the input, and what the outputs have
+-- what is seen of the devices, the counts of faults, and the store: what is left of the input, and what the outputs have
 pub record Seen : Type 0 where
   pub left : Option (List ℕ)
   pub out : Option (List ℕ)
@@ -33,18 +33,20 @@ pub record Seen : Type 0 where
   pub read_faults : ℕ
   pub out_faults : ℕ
   pub err_faults : ℕ
+  pub load_faults : ℕ
   pub store : Stored
 
--- what is seen of devices, by the members of their traits, beside this store
+-- what is seen of devices, by the members of their traits, beside this count of faulty loads and this store
 abbrev pub seen_of : {I O E : Type 0} → (I → Option (List ℕ)) → (O → Option (List ℕ)) → (E → Option (List ℕ)) → (I → ℕ) → (O → ℕ) → (E → ℕ) →
-    Devices I O E → Stored → Seen
-seen_of left out err read_faults out_faults err_faults dev store = record {
+    Devices I O E → ℕ → Stored → Seen
+seen_of left out err read_faults out_faults err_faults dev load_faults store = record {
   left = left dev.input;
   out = out dev.out;
   err = err dev.err;
   read_faults = read_faults dev.input;
   out_faults = out_faults dev.out;
   err_faults = err_faults dev.err;
+  load_faults = load_faults;
   store = store;
 }
 
@@ -53,28 +55,28 @@ pub record Writes (old new : Seen) (out err : List ℕ) : Type 0 where
   pub to_out : GainsText old.out new.out out
   pub to_err : GainsText old.err new.err err
 
--- nothing was run, taken, written, turned away or saved
+-- nothing was run, taken, written or saved
 pub record DoesNothing (old new : Seen) (turns : ℕ) : Type 0 where
   pub no_turn : turns ≡ 0
   pub untaken : new.left ≡ old.left
   pub wrote : Writes old new [] []
   pub stands : new.store ≡ old.store
 
--- the refusal was answered, its one line was written, the load that it turned away is listed, and nothing else was done
-pub record Refuses (refusal : Refusal) (names : Names) (old new : Seen) (turns : ℕ) (given : Refusal) : Type 0 where
+-- the refusal was answered, its one line was written, and nothing else was done
+pub record Refuses (refusal : Refusal) (old new : Seen) (turns : ℕ) (given : Refusal) : Type 0 where
   pub same : given ≡ refusal
   pub no_turn : turns ≡ 0
   pub untaken : new.left ≡ old.left
   pub wrote : Writes old new [] (line_of refusal)
-  pub turned : new.store ≡ after_turned old.store (turned_by names refusal)
+  pub stands : new.store ≡ old.store
 
 -- the same with at most a part of the line
-pub record StopsAtLine (refusal : Refusal) (names : Names) (old new : Seen) (turns : ℕ) : Type 0 where
+pub record StopsAtLine (refusal : Refusal) (old new : Seen) (turns : ℕ) : Type 0 where
   pub no_turn : turns ≡ 0
   pub untaken : new.left ≡ old.left
   pub to_out : GainsText old.out new.out []
   pub to_err : GainsBetween old.err new.err [] (line_of refusal)
-  pub turned : new.store ≡ after_turned old.store (turned_by names refusal)
+  pub stands : new.store ≡ old.store
 
 -- The run over this input is over so after these turns. What it sends was written, what it leaves of the input is left, and this is the machine
 -- that it leaves.
@@ -121,14 +123,14 @@ pub record StopsAtSave (quantum : ℕ) (machine : Machine) (budget : ℕ) (names
   pub saves : SavesTreeInPart names.save (final_tree final) old.store new.store
   pub told : (left : List ℕ) → old.left ≡ Some left → IsRun quantum machine left budget old new turns finish final
 
--- What an end with its turns says where this was asked for, with these names of files: each refusal writes its line and
+-- What an end with its turns says where this was asked for, with these names of files, once they are loaded: each refusal writes its line and
 -- nothing else, and each run is the machine's. A fault has its cause in the device or the file that it came from.
 abbrev pub Answers : Asked → Names → Seen → Seen → ℕ → End → Option Emulated → Type 0
-Answers (Refuse refusal) names old new turns (Refused given) host = Refuses refusal names old new turns given
+Answers (Refuse refusal) names old new turns (Refused given) host = Refuses refusal old new turns given
 Answers (Refuse refusal) names old new turns ReadFault host = ⊥
 Answers (Refuse refusal) names old new turns WriteFault host =
-    StopsAtLine refusal names old new turns × Rose old.err_faults new.err_faults
-Answers (Refuse refusal) names old new turns NoMemory host = StopsAtLine refusal names old new turns
+    StopsAtLine refusal old new turns × Rose old.err_faults new.err_faults
+Answers (Refuse refusal) names old new turns NoMemory host = StopsAtLine refusal old new turns
 Answers (Refuse refusal) names old new turns (Exited status) host = ⊥
 Answers (Refuse refusal) names old new turns (Killed signal) host = ⊥
 Answers (Refuse refusal) names old new turns Budget host = ⊥
@@ -148,16 +150,31 @@ Answers (Run quantum machine budget) names old new turns WriteFault host =
 Answers (Run quantum machine budget) names old new turns NoMemory host =
     StopsInRun quantum machine budget old new turns ⊎ StopsAtSave quantum machine budget names old new turns
 
--- a fault of a load, or want of memory
-abbrev pub IsEarly : End → Type 0
-IsEarly ReadFault = ⊤
-IsEarly NoMemory = ⊤
-IsEarly (Exited status) = ⊥
-IsEarly (Killed signal) = ⊥
-IsEarly Budget = ⊥
-IsEarly Blocked = ⊥
-IsEarly (Refused given) = ⊥
-IsEarly WriteFault = ⊥
+-- The loads that come before what is asked for: each is answered once, in the order of the names, up to the first that a refusal comes of.
+abbrev pub once_loaded : Asked → Names → Seen → Seen
+once_loaded (Refuse refusal) names seen = record seen { store = after_loads seen.store (loaded_by names refusal) (turned_by names refusal) }
+once_loaded (Run quantum machine budget) names seen = record seen { store = after_loads seen.store (loaded_names names) [] }
+
+-- the same where only so many of them are answered, and none is turned away
+abbrev pub first_loaded : ℕ → Names → Seen → Seen
+first_loaded count names seen = record seen { store = after_loads seen.store (take count (loaded_names names)) [] }
+
+-- a fault of the load after so many, or want of memory
+abbrev pub StopsAfter : ℕ → Names → End → Type 0
+StopsAfter count names ReadFault = count < length (loaded_names names)
+StopsAfter count names NoMemory = ⊤
+StopsAfter count names (Exited status) = ⊥
+StopsAfter count names (Killed signal) = ⊥
+StopsAfter count names Budget = ⊥
+StopsAfter count names Blocked = ⊥
+StopsAfter count names (Refused given) = ⊥
+StopsAfter count names WriteFault = ⊥
+
+-- nothing is done but that the first files are loaded: memory ran out, or a load failed
+pub record StopsEarly (names : Names) (old new : Seen) (turns : ℕ) (end : End) : Type 0 where
+  pub count : ℕ
+  pub early : StopsAfter count names end
+  pub nothing : DoesNothing (first_loaded count names old) new turns
 
 -- a line that names no file
 abbrev pub no_names : Names
@@ -170,8 +187,9 @@ abbrev pub AnswersReading : List (List ℕ) → Reading → Seen → Seen → �
 AnswersReading words (WrongAt word) old new turns end host =
     ((end ≡ NoMemory) × DoesNothing old new turns) ⊎ Answers (Refuse (Usage word)) no_names old new turns end host
 AnswersReading words (Asks line) old new turns end host =
-    (IsEarly end × DoesNothing old new turns)
-    ⊎ ((asked : Asked) × AsksFor words line old.store.files asked × Answers asked (names_of words line) old new turns end host)
+    StopsEarly (names_of words line) old new turns end
+    ⊎ ((asked : Asked) × AsksFor words line old.store.files asked
+    × Answers asked (names_of words line) (once_loaded asked (names_of words line) old) new turns end host)
 
 abbrev pub AnswersWords : List (List ℕ) → Seen → Seen → ℕ → End → Option Emulated → Type 0
 AnswersWords words old new turns end host = AnswersReading words (read_words words) old new turns end host

@@ -1,8 +1,8 @@
 //! The tree of files that a run begins with.
 ghost use Rattle.std.specs.Prelude.{◌≡◌, ◌≤◌, IfOk, Some, option_map};
 ghost use Rattle.o32_session.specs.Asked.{empty_tree};
-ghost use Rattle.o32_session.specs.inside.Prepared.{IsRead, IsTree, ReasonOnlyIfRose, turned_with, turned_if};
-ghost use Rattle.o32_session.specs.Saved.{stored_of, after_turned};
+ghost use Rattle.o32_session.specs.inside.Prepared.{IsRead, IsTree, LoadsFile, ReasonOnlyIfRose};
+ghost use Rattle.o32_session.specs.Saved.{stored_of};
 ghost use Rattle.o32_session.specs.Words.{texts, word_at};
 ghost use Rattle.o32_session.specs.declared.load.SessionFile.TheVariants as which;
 
@@ -47,9 +47,9 @@ fn tree_of_image(alloc: Global, bytes: &[u8]) -> Result<Tree, NotRun>
 /// The tree of the image of this name.
 fn load_tree<F: Store>(alloc: Global, name: &str, files: &mut F) -> Result<Tree, NotRun>
     ensures tree { IsTree (F.files files.old) (Some name.now) result }
-    ensures turned { stored_of F.files F.created F.turned_away F.write_faults files.new
-        ≡ after_turned (stored_of F.files F.created F.turned_away F.write_faults files.old)
-        (turned_if (turned_with which.Image (Some name.now)) result) }
+    ensures loads { LoadsFile which.Image (Some name.now) result
+        (stored_of F.files F.created F.loads F.turned_away F.write_faults files.old)
+        (stored_of F.files F.created F.loads F.turned_away F.write_faults files.new) }
     ensures cause { ReasonOnlyIfRose result (F.load_faults files.old) (F.load_faults files.new) }
     ensures later { F.load_faults files.old ≤ F.load_faults files.new }
 {
@@ -66,9 +66,9 @@ pub(crate) fn first_tree<F: Store>(
     files: &mut F,
 ) -> Result<Tree, NotRun>
     ensures tree { IsTree (F.files files.old) (option_map (word_at (texts words.now)) image) result }
-    ensures turned { stored_of F.files F.created F.turned_away F.write_faults files.new
-        ≡ after_turned (stored_of F.files F.created F.turned_away F.write_faults files.old)
-        (turned_if (turned_with which.Image (option_map (word_at (texts words.now)) image)) result) }
+    ensures loads { LoadsFile which.Image (option_map (word_at (texts words.now)) image) result
+        (stored_of F.files F.created F.loads F.turned_away F.write_faults files.old)
+        (stored_of F.files F.created F.loads F.turned_away F.write_faults files.new) }
     ensures cause { ReasonOnlyIfRose result (F.load_faults files.old) (F.load_faults files.new) }
     ensures later { F.load_faults files.old ≤ F.load_faults files.new }
 {

@@ -1,7 +1,7 @@
 //! The files that a session loads whole.
-ghost use Rattle.std.specs.Prelude.{◌≡◌, ◌≤◌};
-ghost use Rattle.o32_session.specs.inside.Prepared.{number_of, limit_of, IsLoaded, ReasonOnlyIfRose, turned_at, turned_if};
-ghost use Rattle.o32_session.specs.Saved.{stored_of, after_turned};
+ghost use Rattle.std.specs.Prelude.{◌≡◌, ◌≤◌, Some};
+ghost use Rattle.o32_session.specs.inside.Prepared.{number_of, limit_of, IsLoaded, LoadsFile, ReasonOnlyIfRose};
+ghost use Rattle.o32_session.specs.Saved.{stored_of};
 
 use crate::not_run::NotRun;
 use outside::Store;
@@ -50,9 +50,9 @@ pub(crate) fn load_file<F: Store>(
     files: &mut F,
 ) -> Result<Vec<u8>, NotRun>
     ensures bytes { IsLoaded (F.files files.old) file name.now result }
-    ensures turned { stored_of F.files F.created F.turned_away F.write_faults files.new
-        ≡ after_turned (stored_of F.files F.created F.turned_away F.write_faults files.old)
-        (turned_if (turned_at file name.now) result) }
+    ensures loads { LoadsFile file (Some name.now) result
+        (stored_of F.files F.created F.loads F.turned_away F.write_faults files.old)
+        (stored_of F.files F.created F.loads F.turned_away F.write_faults files.new) }
     ensures cause { ReasonOnlyIfRose result (F.load_faults files.old) (F.load_faults files.new) }
     ensures later { F.load_faults files.old ≤ F.load_faults files.new }
 {

@@ -1,5 +1,5 @@
 //! The steps before a run: words, the program's plan, the tree of files, the schedule, and the first machine.
-ghost use Rattle.std.specs.Prelude.{◌≡◌, ◌≤◌, ◌<◌, length, drop, IfOk, IfErr, None};
+ghost use Rattle.std.specs.Prelude.{◌≡◌, ◌≤◌, ◌<◌, length, drop, IfOk, IfErr, None, Some};
 ghost use Rattle.elf_image.specs.Rules.{first_failure};
 ghost use Rattle.elf_image.specs.Loading.{plan_of};
 ghost use Rattle.elf_image.specs.Loading as plans;
@@ -9,8 +9,8 @@ ghost use Rattle.o32_session.specs.inside.Reader.{line_seen};
 ghost use Rattle.schedule.specs.Ranges.{IsGivenSchedule};
 ghost use Rattle.o32_session.specs.Asked.{asked_of_schedule, names_of, Run};
 ghost use Rattle.o32_session.specs.inside.Runs.{IsFresh};
-ghost use Rattle.o32_session.specs.inside.Prepared.{IsElfReason, IsPlanned, IsStartReason, IsPrepared, IsPreparedLine, ReasonOnlyIfRose, turned_at, turned_if, turned_reading};
-ghost use Rattle.o32_session.specs.Saved.{stored_of, after_turned, turned_by};
+ghost use Rattle.o32_session.specs.inside.Prepared.{IsElfReason, IsPlanned, IsStartReason, IsPrepared, IsPreparedLine, LoadsFile, LoadsFiles, LoadsReading, ReasonOnlyIfRose};
+ghost use Rattle.o32_session.specs.Saved.{stored_of};
 ghost use Rattle.o32_session.specs.declared.load.SessionFile.TheVariants as which;
 
 use crate::image::first_tree;
@@ -48,9 +48,9 @@ fn plan_of_file(alloc: Global, bytes: &[u8]) -> Result<Plan, NotRun>
 /// The plan of the program of this name.
 fn load_plan<F: Store>(alloc: Global, name: &str, files: &mut F) -> Result<Plan, NotRun>
     ensures plan { IsPlanned (F.files files.old) name.now result }
-    ensures turned { stored_of F.files F.created F.turned_away F.write_faults files.new
-        ≡ after_turned (stored_of F.files F.created F.turned_away F.write_faults files.old)
-        (turned_if (turned_at which.Program name.now) result) }
+    ensures loads { LoadsFile which.Program (Some name.now) result
+        (stored_of F.files F.created F.loads F.turned_away F.write_faults files.old)
+        (stored_of F.files F.created F.loads F.turned_away F.write_faults files.new) }
     ensures cause { ReasonOnlyIfRose result (F.load_faults files.old) (F.load_faults files.new) }
     ensures later { F.load_faults files.old ≤ F.load_faults files.new }
 {
@@ -97,9 +97,9 @@ pub(crate) fn prepare<F: Store>(
     ensures prepared { IsPrepared (texts words.now) (read_words (texts words.now)) (F.files files.old) result }
     ensures fresh { IfOk result (λ ready. IsFresh ready.emulator) }
     ensures bounded { IfOk result (λ ready. ready.budget ≤ 1_000_000_000_000) }
-    ensures turned { stored_of F.files F.created F.turned_away F.write_faults files.new
-        ≡ after_turned (stored_of F.files F.created F.turned_away F.write_faults files.old)
-        (turned_reading (texts words.now) (read_words (texts words.now)) result) }
+    ensures loads { LoadsReading (texts words.now) (read_words (texts words.now)) result
+        (stored_of F.files F.created F.loads F.turned_away F.write_faults files.old)
+        (stored_of F.files F.created F.loads F.turned_away F.write_faults files.new) }
     ensures cause { ReasonOnlyIfRose result (F.load_faults files.old) (F.load_faults files.new) }
     ensures later { F.load_faults files.old ≤ F.load_faults files.new }
 {
@@ -119,9 +119,9 @@ fn prepare_line<F: Store>(
     ensures prepared { IsPreparedLine (texts words.now) (line_seen line) (F.files files.old) result }
     ensures fresh { IfOk result (λ ready. IsFresh ready.emulator) }
     ensures bounded { IfOk result (λ ready. ready.budget ≤ 1_000_000_000_000) }
-    ensures turned { stored_of F.files F.created F.turned_away F.write_faults files.new
-        ≡ after_turned (stored_of F.files F.created F.turned_away F.write_faults files.old)
-        (turned_if (turned_by (names_of (texts words.now) (line_seen line))) result) }
+    ensures loads { LoadsFiles (names_of (texts words.now) (line_seen line)) result
+        (stored_of F.files F.created F.loads F.turned_away F.write_faults files.old)
+        (stored_of F.files F.created F.loads F.turned_away F.write_faults files.new) }
     ensures cause { ReasonOnlyIfRose result (F.load_faults files.old) (F.load_faults files.new) }
     ensures later { F.load_faults files.old ≤ F.load_faults files.new }
 {

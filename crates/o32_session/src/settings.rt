@@ -3,8 +3,8 @@ ghost use Rattle.std.specs.Prelude.{◌≡◌, ◌≤◌, ◌<◌, length, IfOk,
 ghost use Rattle.kernel_model.specs.System.{round};
 ghost use Rattle.schedule.specs.Ranges.{IsGivenSchedule};
 ghost use Rattle.o32_session.specs.Asked.{empty_schedule};
-ghost use Rattle.o32_session.specs.inside.Prepared.{IsTaken, IsScheduledAs, ReasonOnlyIfRose, turned_with, turned_if};
-ghost use Rattle.o32_session.specs.Saved.{stored_of, after_turned};
+ghost use Rattle.o32_session.specs.inside.Prepared.{IsTaken, IsScheduledAs, LoadsFile, ReasonOnlyIfRose};
+ghost use Rattle.o32_session.specs.Saved.{stored_of};
 ghost use Rattle.o32_session.specs.Words.{texts, word_at};
 ghost use Rattle.o32_session.specs.declared.load.SessionFile.TheVariants as which;
 
@@ -54,9 +54,9 @@ fn schedule_of_text(alloc: Global, text: &[u8]) -> Result<Schedule, NotRun>
 fn load_schedule<F: Store>(alloc: Global, name: &str, files: &mut F) -> Result<Schedule, NotRun>
     ensures scheduled { IsScheduledAs (F.files files.old) (Some name.now) result }
     ensures given { IfOk result IsGivenSchedule }
-    ensures turned { stored_of F.files F.created F.turned_away F.write_faults files.new
-        ≡ after_turned (stored_of F.files F.created F.turned_away F.write_faults files.old)
-        (turned_if (turned_with which.Schedule (Some name.now)) result) }
+    ensures loads { LoadsFile which.Schedule (Some name.now) result
+        (stored_of F.files F.created F.loads F.turned_away F.write_faults files.old)
+        (stored_of F.files F.created F.loads F.turned_away F.write_faults files.new) }
     ensures cause { ReasonOnlyIfRose result (F.load_faults files.old) (F.load_faults files.new) }
     ensures later { F.load_faults files.old ≤ F.load_faults files.new }
 {
@@ -74,9 +74,9 @@ pub(crate) fn run_schedule<F: Store>(
 ) -> Result<Schedule, NotRun>
     ensures scheduled { IsScheduledAs (F.files files.old) (option_map (word_at (texts words.now)) schedule) result }
     ensures given { IfOk result IsGivenSchedule }
-    ensures turned { stored_of F.files F.created F.turned_away F.write_faults files.new
-        ≡ after_turned (stored_of F.files F.created F.turned_away F.write_faults files.old)
-        (turned_if (turned_with which.Schedule (option_map (word_at (texts words.now)) schedule)) result) }
+    ensures loads { LoadsFile which.Schedule (option_map (word_at (texts words.now)) schedule) result
+        (stored_of F.files F.created F.loads F.turned_away F.write_faults files.old)
+        (stored_of F.files F.created F.loads F.turned_away F.write_faults files.new) }
     ensures cause { ReasonOnlyIfRose result (F.load_faults files.old) (F.load_faults files.new) }
     ensures later { F.load_faults files.old ≤ F.load_faults files.new }
 {

@@ -7,8 +7,9 @@ ghost use Rattle.outside.specs.Streams.{NoCountFell};
 ghost use Rattle.o32_session.specs.Answers.{IsRefusal, finish_of, status_of};
 ghost use Rattle.o32_session.specs.Asked.{Names, Run};
 ghost use Rattle.o32_session.specs.inside.Ends.{end_of_error, end_of_stop};
+ghost use Rattle.o32_session.specs.Faults.{TellsFaults};
 ghost use Rattle.o32_session.specs.Lines.{line_of};
-ghost use Rattle.o32_session.specs.inside.Prepared.{EndsRefused, EndsWithoutRun};
+ghost use Rattle.o32_session.specs.inside.Prepared.{EndsRefused, EndsWithoutRun, LineFailsOnlyIfRose};
 ghost use Rattle.o32_session.specs.inside.Runs.{AnswersRun, IsFresh};
 ghost use Rattle.o32_session.specs.Session.{Answers, AnswersWords, AsksForRun, EndsAsRun, seen_of};
 ghost use Rattle.o32_session.specs.Saved.{stored_of};
@@ -19,7 +20,7 @@ use crate::answer::{Answer, End, Refusal};
 use crate::not_run::NotRun;
 use crate::prepare::{Ready, prepare};
 use crate::run::run;
-use crate::save::save_final;
+use crate::save::{SaveError, save_final};
 use kernel_core::{Finish, Stop};
 use o32_machine::Emulator;
 use outside::{DevError, Devices, Sink, Source, Store};
@@ -37,13 +38,13 @@ impl From<Stop> for End {
     }
 }
 
-impl From<DevError> for End {
+impl From<SaveError> for End {
     ghost from_gives = { λ error end. end ≡ end_of_error error };
 
-    fn from(error: DevError) -> End {
+    fn from(error: SaveError) -> End {
         match error {
-            DevError::Failed => End::WriteFault,
-            DevError::NoMemory => End::NoMemory,
+            SaveError::Failed => End::WriteFault,
+            SaveError::NoImage | SaveError::NoMemory => End::NoMemory,
         }
     }
 }
@@ -77,7 +78,7 @@ fn put_line<E: Sink>(alloc: Global, refusal: Refusal, err: &mut E) -> Result<(),
 /// Answers a refusal with its line.
 fn refuse<E: Sink>(alloc: Global, refusal: Refusal, err: &mut E) -> End
     ensures line { EndsRefused refusal result (E.written err.old) (E.written err.new) }
-    ensures cause { result ≡ End.WriteFault → Rose (E.faults err.old) (E.faults err.new) }
+    ensures cause { LineFailsOnlyIfRose result (E.faults err.old) (E.faults err.new) }
     ensures later { E.faults err.old ≤ E.faults err.new }
 {
     match put_line(alloc, refusal, err) {
@@ -90,7 +91,7 @@ fn refuse<E: Sink>(alloc: Global, refusal: Refusal, err: &mut E) -> End
 /// Answers where nothing is run.
 fn end_without_run<E: Sink>(alloc: Global, reason: NotRun, err: &mut E) -> End
     ensures line { EndsWithoutRun reason result (E.written err.old) (E.written err.new) }
-    ensures cause { result ≡ End.WriteFault → Rose (E.faults err.old) (E.faults err.new) }
+    ensures cause { LineFailsOnlyIfRose result (E.faults err.old) (E.faults err.new) }
     ensures later { E.faults err.old ≤ E.faults err.new }
 {
     match reason {
@@ -116,8 +117,8 @@ pub fn session<F: Store, I: Source, O: Sink, E: Sink>(
     // input, the file of the final tree, and the emulator in its last state; the moment of the run at an early stop. Each says what became of the
     // whole store.
     ensures answer { AnswersWords (texts words.now)
-        (seen_of I.left O.written E.written I.faults O.faults E.faults dev.old (stored_of F.files F.created F.turned_away F.write_faults files.old))
-        (seen_of I.left O.written E.written I.faults O.faults E.faults dev.new (stored_of F.files F.created F.turned_away F.write_faults files.new))
+        (seen_of I.left O.written E.written I.faults O.faults E.faults dev.old (F.load_faults files.old) (stored_of F.files F.created F.loads F.turned_away F.write_faults files.old))
+        (seen_of I.left O.written E.written I.faults O.faults E.faults dev.new (F.load_faults files.new) (stored_of F.files F.created F.loads F.turned_away F.write_faults files.new))
         result.turns result.end result.host }
     ensures status { result.status ≡ status_of result.end }
     ensures no_host { finish_of result.end ≡ None → result.host ≡ None }
@@ -137,9 +138,10 @@ pub fn session<F: Store, I: Source, O: Sink, E: Sink>(
         → (Rose (E.faults dev.old.err) (E.faults dev.new.err) → ⊥)
         → (result.end ≡ End.NoMemory) ⊎ EndsAsRun (texts words.now) (F.files files.old) run left result.turns result.end }
 
-    // A read fault has its cause in the count of faulty loads or in that of the input; a write fault's cause stands in the answer.
-    ensures read_fault { result.end ≡ End.ReadFault
-        → Rose (F.load_faults files.old) (F.load_faults files.new) ⊎ Rose (I.faults dev.old.input) (I.faults dev.new.input) }
+    // A count of faults rose where a fault is told, and nowhere else: want of memory is told for no device that failed.
+    ensures faults { TellsFaults result.end
+        (seen_of I.left O.written E.written I.faults O.faults E.faults dev.old (F.load_faults files.old) (stored_of F.files F.created F.loads F.turned_away F.write_faults files.old))
+        (seen_of I.left O.written E.written I.faults O.faults E.faults dev.new (F.load_faults files.new) (stored_of F.files F.created F.loads F.turned_away F.write_faults files.new)) }
 
     // No count falls.
     ensures later { NoCountFell I.faults O.faults E.faults dev.old dev.new }
@@ -157,14 +159,15 @@ fn answer_words<F: Store, I: Source, O: Sink, E: Sink>(
     dev: &mut Devices<I, O, E>,
 ) -> Answer
     ensures answer { AnswersWords (texts words.now)
-        (seen_of I.left O.written E.written I.faults O.faults E.faults dev.old (stored_of F.files F.created F.turned_away F.write_faults files.old))
-        (seen_of I.left O.written E.written I.faults O.faults E.faults dev.new (stored_of F.files F.created F.turned_away F.write_faults files.new))
+        (seen_of I.left O.written E.written I.faults O.faults E.faults dev.old (F.load_faults files.old) (stored_of F.files F.created F.loads F.turned_away F.write_faults files.old))
+        (seen_of I.left O.written E.written I.faults O.faults E.faults dev.new (F.load_faults files.new) (stored_of F.files F.created F.loads F.turned_away F.write_faults files.new))
         result.turns result.end result.host }
     ensures status { result.status ≡ status_of result.end }
     ensures no_host { finish_of result.end ≡ None → result.host ≡ None }
     ensures input { IsRefusal result.end → dev.new.input ≡ dev.old.input }
-    ensures read_fault { result.end ≡ End.ReadFault
-        → Rose (F.load_faults files.old) (F.load_faults files.new) ⊎ Rose (I.faults dev.old.input) (I.faults dev.new.input) }
+    ensures faults { TellsFaults result.end
+        (seen_of I.left O.written E.written I.faults O.faults E.faults dev.old (F.load_faults files.old) (stored_of F.files F.created F.loads F.turned_away F.write_faults files.old))
+        (seen_of I.left O.written E.written I.faults O.faults E.faults dev.new (F.load_faults files.new) (stored_of F.files F.created F.loads F.turned_away F.write_faults files.new)) }
     ensures later { NoCountFell I.faults O.faults E.faults dev.old dev.new }
     ensures loads_later { F.load_faults files.old ≤ F.load_faults files.new }
     ensures writes_later { F.write_faults files.old ≤ F.write_faults files.new }
@@ -187,12 +190,14 @@ fn run_ready<F: Store, I: Source, O: Sink, E: Sink>(
     requires bounded { ready.budget ≤ 1_000_000_000_000 }
     ensures run { (names : Names) → names.save ≡ option_map (word_at (texts words.now)) ready.save
         → Answers (Run ready.emulator.quantum ready.emulator.machine ready.budget) names
-        (seen_of I.left O.written E.written I.faults O.faults E.faults dev.old (stored_of F.files F.created F.turned_away F.write_faults files.old))
-        (seen_of I.left O.written E.written I.faults O.faults E.faults dev.new (stored_of F.files F.created F.turned_away F.write_faults files.new))
+        (seen_of I.left O.written E.written I.faults O.faults E.faults dev.old (F.load_faults files.old) (stored_of F.files F.created F.loads F.turned_away F.write_faults files.old))
+        (seen_of I.left O.written E.written I.faults O.faults E.faults dev.new (F.load_faults files.new) (stored_of F.files F.created F.loads F.turned_away F.write_faults files.new))
         result.turns result.end result.host }
     ensures status { result.status ≡ status_of result.end }
     ensures no_host { finish_of result.end ≡ None → result.host ≡ None }
-    ensures read_fault { result.end ≡ End.ReadFault → Rose (I.faults dev.old.input) (I.faults dev.new.input) }
+    ensures faults { TellsFaults result.end
+        (seen_of I.left O.written E.written I.faults O.faults E.faults dev.old (F.load_faults files.old) (stored_of F.files F.created F.loads F.turned_away F.write_faults files.old))
+        (seen_of I.left O.written E.written I.faults O.faults E.faults dev.new (F.load_faults files.new) (stored_of F.files F.created F.loads F.turned_away F.write_faults files.new)) }
     ensures later { NoCountFell I.faults O.faults E.faults dev.old dev.new }
     ensures loads { F.load_faults files.new ≡ F.load_faults files.old }
     ensures writes_later { F.write_faults files.old ≤ F.write_faults files.new }
@@ -219,8 +224,8 @@ fn answer_run<F: Store>(
     files: &mut F,
 ) -> Answer
     ensures answer { AnswersRun (option_map (word_at (texts words.now)) save) emulator finish result
-        (stored_of F.files F.created F.turned_away F.write_faults files.old)
-        (stored_of F.files F.created F.turned_away F.write_faults files.new) }
+        (stored_of F.files F.created F.loads F.turned_away F.write_faults files.old)
+        (stored_of F.files F.created F.loads F.turned_away F.write_faults files.new) }
     ensures status { result.status ≡ status_of result.end }
     ensures loads { F.load_faults files.new ≡ F.load_faults files.old }
     ensures writes_later { F.write_faults files.old ≤ F.write_faults files.new }

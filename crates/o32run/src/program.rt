@@ -60,8 +60,8 @@ fn run_words<F: Store, I: Source, O: Sink, E: Sink>(
     streams: &mut Devices<I, O, E>,
 ) -> Ended
     ensures session { EndsAs (texts words.now)
-        (seen_of I.left O.written E.written I.faults O.faults E.faults streams.old (stored_of F.files F.created F.turned_away F.write_faults files.old))
-        (seen_of I.left O.written E.written I.faults O.faults E.faults streams.new (stored_of F.files F.created F.turned_away F.write_faults files.new))
+        (seen_of I.left O.written E.written I.faults O.faults E.faults streams.old (F.load_faults files.old) (stored_of F.files F.created F.loads F.turned_away F.write_faults files.old))
+        (seen_of I.left O.written E.written I.faults O.faults E.faults streams.new (F.load_faults files.new) (stored_of F.files F.created F.loads F.turned_away F.write_faults files.new))
         result.status }
 {
     let answer = session(alloc, words, files, streams);

@@ -1,6 +1,8 @@
 -- Which end of a session the values of its steps stand for.
 use Rattle.outside.specs.declared.errors.DevError.{DevError}
 use Rattle.outside.specs.declared.errors.DevError.TheVariants as device
+use Rattle.o32_session.specs.declared.save.SaveError.{SaveError}
+use Rattle.o32_session.specs.declared.save.SaveError.TheVariants as save
 use Rattle.kernel_core.specs.declared.core_error.Stop.{Stop}
 use Rattle.kernel_core.specs.declared.core_error.Stop.TheVariants as stops
 use Rattle.o32_session.specs.declared.answer.End.{End}
@@ -21,7 +23,13 @@ end_of_stop stops.WriteFault = ends.WriteFault
 end_of_stop stops.ReadFault = ends.ReadFault
 end_of_stop stops.NoMemory = ends.NoMemory
 
+-- why a save stopped at the store
+abbrev pub of_device : DevError → SaveError
+of_device device.Failed = save.Failed
+of_device device.NoMemory = save.NoMemory
+
 -- the end of a session whose final tree was not saved
-abbrev pub end_of_error : DevError → End
-end_of_error device.Failed = ends.WriteFault
-end_of_error device.NoMemory = ends.NoMemory
+abbrev pub end_of_error : SaveError → End
+end_of_error save.NoImage = ends.NoMemory
+end_of_error save.Failed = ends.WriteFault
+end_of_error save.NoMemory = ends.NoMemory

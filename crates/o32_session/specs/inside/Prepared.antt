@@ -1,5 +1,5 @@
 -- How the steps before a run stand for what is asked for.
-use Rattle.std.specs.Prelude.{ℕ, ◌≡◌, ⊤, List, [], ◌∷◌, Option, Some, None, Result, Ok, Err, Vec}
+use Rattle.std.specs.Prelude.{ℕ, ◌≡◌, ◌<◌, ⊤, ◌⊎◌, List, [], ◌∷◌, length, take, is_some, true, Option, Some, None, Result, Ok, Err, Vec}
 use Rattle.outside.specs.Output.{GainsText, GainsBetween}
 use Rattle.outside.specs.Count.{Rose}
 use Rattle.outside.specs.Files.{Files}
@@ -23,8 +23,8 @@ use Rattle.start_stack.specs.declared.error.StartError.{StartError}
 use Rattle.start_stack.specs.declared.error.StartError.TheVariants as start
 use Rattle.o32_session.specs.Lines.{line_of}
 use Rattle.o32_session.specs.Words.{Line, Reading, Asks, WrongAt}
-use Rattle.o32_session.specs.Asked.{Asked, Refuse, Run, Absent, Long, Bytes, IsFound, IsReadAs, IsOpened, IsScheduled, AsksFor, names_of, schedule_of_text, program_file, image_file, schedule_file, program_limit, image_limit, schedule_limit}
-use Rattle.o32_session.specs.Saved.{turned_by}
+use Rattle.o32_session.specs.Asked.{Asked, Names, Refuse, Run, Absent, Long, Bytes, IsFound, IsReadAs, IsOpened, IsScheduled, AsksFor, names_of, schedule_of_text, program_file, image_file, schedule_file, program_limit, image_limit, schedule_limit}
+use Rattle.o32_session.specs.Saved.{Stored, after_loads, loaded_by, loaded_names, named, turned_by}
 use Rattle.o32_session.specs.declared.answer.Refusal.{Refusal}
 use Rattle.o32_session.specs.declared.answer.Refusal.TheVariants as refusals
 use Rattle.o32_session.specs.declared.answer.End.{End}
@@ -64,12 +64,12 @@ abbrev pub of_start : StartError → NotRun
 of_start start.TooLong = Refused refusals.Start
 of_start start.NoMemory = NoMemory
 
--- a read fault comes only where the count rose
+-- a read fault comes only where the count rose, which rises in no other case
 abbrev pub ReasonOnlyIfRose : {T : Type 0} → Result T NotRun → ℕ → ℕ → Type 0
-ReasonOnlyIfRose (Ok value) before now = ⊤
-ReasonOnlyIfRose (Err (Refused refusal)) before now = ⊤
+ReasonOnlyIfRose (Ok value) before now = now ≡ before
+ReasonOnlyIfRose (Err (Refused refusal)) before now = now ≡ before
 ReasonOnlyIfRose (Err ReadFault) before now = Rose before now
-ReasonOnlyIfRose (Err NoMemory) before now = ⊤
+ReasonOnlyIfRose (Err NoMemory) before now = now ≡ before
 
 -- Loads
 
@@ -108,17 +108,26 @@ turned_at file name (refusals.Image broken) = []
 turned_at file name (refusals.Schedule broken) = []
 turned_at file name refusals.Start = []
 
--- the loads that were turned away, by the loads that each refusal turns away
-abbrev pub turned_if : {T : Type 0} → (Refusal → List TurnedLoad) → Result T NotRun → List TurnedLoad
-turned_if turned (Ok value) = []
-turned_if turned (Err (Refused refusal)) = turned refusal
-turned_if turned (Err ReadFault) = []
-turned_if turned (Err NoMemory) = []
-
 -- the same of a file that is loaded where it has a name
 abbrev pub turned_with : SessionFile → Option (List ℕ) → Refusal → List TurnedLoad
 turned_with file None refusal = []
 turned_with file (Some name) refusal = turned_at file name refusal
+
+-- what a step that loads this file, where it has a name, makes of the store: the load is answered once; but a fault says that it was not, and
+-- want of memory that it was or not
+abbrev pub LoadsFile : {T : Type 0} → SessionFile → Option (List ℕ) → Result T NotRun → Stored → Stored → Type 0
+LoadsFile file name (Ok value) old new = new ≡ after_loads old (named name) []
+LoadsFile file name (Err (Refused refusal)) old new = new ≡ after_loads old (named name) (turned_with file name refusal)
+LoadsFile file name (Err ReadFault) old new = (is_some name ≡ true) × (new ≡ after_loads old [] [])
+LoadsFile file name (Err NoMemory) old new = (new ≡ after_loads old [] []) ⊎ (new ≡ after_loads old (named name) [])
+
+-- what the loads of a line make of the store
+abbrev pub LoadsFiles : {T : Type 0} → Names → Result T NotRun → Stored → Stored → Type 0
+LoadsFiles names (Ok value) old new = new ≡ after_loads old (loaded_names names) []
+LoadsFiles names (Err (Refused refusal)) old new = new ≡ after_loads old (loaded_by names refusal) (turned_by names refusal)
+LoadsFiles names (Err ReadFault) old new =
+    (count : ℕ) × (count < length (loaded_names names)) × (new ≡ after_loads old (take count (loaded_names names)) [])
+LoadsFiles names (Err NoMemory) old new = (count : ℕ) × (new ≡ after_loads old (take count (loaded_names names)) [])
 
 -- The program
 
@@ -207,9 +216,10 @@ IsPrepared words (WrongAt word) told (Err ReadFault) = ⊥
 IsPrepared words (WrongAt word) told (Err NoMemory) = ⊤
 IsPrepared words (Asks line) told result = IsPreparedLine words line told result
 
-abbrev pub turned_reading : {T : Type 0} → List (List ℕ) → Reading → Result T NotRun → List TurnedLoad
-turned_reading words (WrongAt word) result = []
-turned_reading words (Asks line) result = turned_if (turned_by (names_of words line)) result
+-- wrong words load nothing
+abbrev pub LoadsReading : {T : Type 0} → List (List ℕ) → Reading → Result T NotRun → Stored → Stored → Type 0
+LoadsReading words (WrongAt word) result old new = new ≡ old
+LoadsReading words (Asks line) result old new = LoadsFiles (names_of words line) result old new
 
 -- The line of a refusal
 
@@ -223,6 +233,17 @@ EndsRefused refusal (ends.Exited status) old new = ⊥
 EndsRefused refusal (ends.Killed signal) old new = ⊥
 EndsRefused refusal ends.Budget old new = ⊥
 EndsRefused refusal ends.Blocked old new = ⊥
+
+-- the count of what the line is written to rose only in a write fault
+abbrev pub LineFailsOnlyIfRose : End → ℕ → ℕ → Type 0
+LineFailsOnlyIfRose ends.WriteFault before now = Rose before now
+LineFailsOnlyIfRose (ends.Refused given) before now = now ≡ before
+LineFailsOnlyIfRose ends.ReadFault before now = now ≡ before
+LineFailsOnlyIfRose ends.NoMemory before now = now ≡ before
+LineFailsOnlyIfRose (ends.Exited status) before now = now ≡ before
+LineFailsOnlyIfRose (ends.Killed signal) before now = now ≡ before
+LineFailsOnlyIfRose ends.Budget before now = now ≡ before
+LineFailsOnlyIfRose ends.Blocked before now = now ≡ before
 
 -- where nothing is run, a refusal writes its line, and a fault or want of memory nothing
 abbrev pub EndsWithoutRun : NotRun → End → Option (List ℕ) → Option (List ℕ) → Type 0

@@ -1,5 +1,6 @@
 use Rattle.std.proofs.Common.{◌≡◌, ◌+◌, ◌-◌, ◌<◌, ℕ, ap, arith, refl, subst, sym, ◌∙◌}
 use Rattle.outside.specs.Streams.{contents}
+use Rattle.outside.proofs.StreamLemmas.{NoCountRose-refl, NoCountRose-trans}
 use Rattle.o32_machine.specs.Answered.{is_end, turns_of}
 use Rattle.o32_machine.specs.declared.turn.Turn as code
 use Rattle.o32_session.specs.inside.Runs.{IsCut, IsOver, IsSoFar}
@@ -17,6 +18,7 @@ loop-emulator-init g c = record {
       let e = c.args.emulator.now in
       subst (λ (n : ℕ). IsSoFar e.quantum e.machine left n at at e.machine) (sym c.requires.fresh.none) (at_start e.quantum e.machine left at told);
   later = record { input_later = omega arith; out_later = omega arith; err_later = omega arith };
+  stays = NoCountRose-refl g.I.Source.faults g.O.Sink.faults g.E.Sink.faults c.args.dev.now;
 }
 
 pub loop-emulator-preserved : goal.loop-emulator-preserved
@@ -36,6 +38,7 @@ loop-emulator-preserved g c =
         out_later = omega (arith, i.later.out_later, c.next_turns.ensures.counts.out_later);
         err_later = omega (arith, i.later.err_later, c.next_turns.ensures.counts.err_later);
       };
+      stays = NoCountRose-trans i.stays c.in-Ok-Went.ensures.cause;
     }
 
 pub loop-emulator-smaller : goal.loop-emulator-smaller

@@ -1,5 +1,5 @@
 use Rattle.std.proofs.Common.{◌≡◌, ◌≤◌, ◌-◌, false}
-use Rattle.outside.specs.Streams.{NoCountFell, contents}
+use Rattle.outside.specs.Streams.{NoCountFell, NoCountRose, contents}
 use Rattle.o32_session.specs.inside.Runs.{GoesSo}
 use Rattle.o32_session.proofs.run.run.Given as goal
 
@@ -10,6 +10,7 @@ invariant-loop-emulator g l = record {
   long : l.emulator.quantum ≡ l.fn.emulator.quantum;
   so : GoesSo l.fn.emulator.quantum l.fn.emulator.machine l.emulator.turns (contents g.I.Source.left g.O.Sink.written g.E.Sink.written l.fn.dev) (contents g.I.Source.left g.O.Sink.written g.E.Sink.written l.dev) l.emulator.machine;
   later : NoCountFell g.I.Source.faults g.O.Sink.faults g.E.Sink.faults l.fn.dev l.dev;
+  stays : NoCountRose g.I.Source.faults g.O.Sink.faults g.E.Sink.faults l.fn.dev l.dev;
 }
 
 abbrev pub decreases-loop-emulator : goal.decreases-loop-emulator

@@ -1,0 +1,233 @@
+-- Which loads were answered, and which were turned away.
+use Rattle.std.proofs.Common.{◌≡◌, ℕ, ◌+◌, ◌<◌, List, [], ◌∷◌, ◌++◌, length, take, Option, Some, None, Result, Ok, Err, IfErr, inl, inr, arith, refl, sym, ap, ◌∙◌, subst, append-nil, append_assoc}
+use Rattle.std.proofs.Math.Seq.{take-append_seam}
+use Rattle.std.proofs.lemmas.List.{length-append}
+use Rattle.outside.specs.Files.{Files}
+use Rattle.outside.specs.Turned.{TurnedLoad}
+use Rattle.outside.specs.declared.errors.LoadError.{LoadError}
+use Rattle.outside.specs.declared.errors.LoadError.TheVariants as answers
+use Rattle.kernel_core.specs.declared.tree.Tree.{Tree}
+use Rattle.elf_image.specs.declared.load_plan.Plan.{Plan}
+use Rattle.schedule.specs.declared.Schedule.{Schedule}
+use Rattle.schedule.specs.declared.refusal.ScheduleRefusal.{ScheduleRefusal}
+use Rattle.schedule.specs.Grammar.{meaning_of, first_event_line}
+use Rattle.o32_session.specs.Asked.{Asked, Names, names_of, Found, Absent, Long, Bytes, IsOpenedBy, image_file, schedule_file, image_limit, schedule_limit, schedule_of_found, taken_schedule}
+use Rattle.o32_session.specs.Saved.{Stored, after_loads, load_of, loaded_by, loaded_names, named, turned_by}
+use Rattle.o32_session.specs.Words.{Reading, Asks, WrongAt}
+use Rattle.o32_session.specs.inside.Prepared.{IsPlanned, IsRefusedFor, is_absent, is_long, is_broken, IsScheduledAs, IsStartReason, IsTree, LoadsFile, LoadsFiles, LoadsReading, turned_at}
+use Rattle.o32_session.specs.declared.answer.Refusal.{Refusal}
+use Rattle.o32_session.specs.declared.answer.Refusal.TheVariants as refusals
+use Rattle.o32_session.specs.declared.load.SessionFile.TheVariants as which
+use Rattle.o32_session.specs.declared.not_run.NotRun.{NotRun}
+use Rattle.o32_session.specs.declared.not_run.NotRun.TheVariants.{Refused, ReadFault, NoMemory}
+use Rattle.o32_session.specs.declared.prepare.Ready.{Ready}
+
+-- Several loads
+
+after_twice : (store : Stored) (first second : List (List ℕ)) (turned : List TurnedLoad) → after_loads (after_loads store first []) second turned ≡ after_loads store (first ++ second) turned
+after_twice store first second turned =
+    ap (λ (l : List (List ℕ)). let s : Stored = record store { loads = l; turned = (store.turned ++ []) ++ turned } in s) (append_assoc store.loads first second)
+    ∙ ap (λ (t : List TurnedLoad). let s : Stored = record store { loads = store.loads ++ (first ++ second); turned = t ++ turned } in s) (append-nil store.turned)
+
+then_loaded : (old middle new : Stored) (first second : List (List ℕ)) (turned : List TurnedLoad) → middle ≡ after_loads old first [] → new ≡ after_loads middle second turned → new ≡ after_loads old (first ++ second) turned
+then_loaded old middle new first second turned before after =
+    after ∙ (ap (λ (s : Stored). after_loads s second turned) before ∙ after_twice old first second turned)
+
+-- a first part of the names was loaded
+part_loaded : (names : Names) (first rest : List (List ℕ)) (old new : Stored) → loaded_names names ≡ first ++ rest → new ≡ after_loads old first [] →
+    (count : ℕ) × (new ≡ after_loads old (take count (loaded_names names)) [])
+part_loaded names first rest old new all is = (
+  length first,
+  is ∙ ap (λ (l : List (List ℕ)). after_loads old l []) (sym (ap (λ (l : List (List ℕ)). take (length first) l) all ∙ take-append_seam first rest)),
+)
+
+-- the same before one more
+short_loaded : (names : Names) (first rest : List (List ℕ)) (old new : Stored) → loaded_names names ≡ first ++ rest → 0 < length rest → new ≡ after_loads old first [] →
+    (count : ℕ) × (count < length (loaded_names names)) × (new ≡ after_loads old (take count (loaded_names names)) [])
+unfolding part_loaded
+short_loaded names first rest old new all more is =
+    let part = part_loaded names first rest old new all is in
+    let long : length (loaded_names names) ≡ length first + length rest = ap (λ (l : List (List ℕ)). length l) all ∙ length-append first rest in
+    (length first, omega (arith, long), part.1)
+
+-- The program
+
+program_refused : (told : Option Files) (names : Names) (refusal : Refusal) (old new : Stored) → IsRefusedFor told names.program refusal →
+    new ≡ after_loads old (names.program ∷ []) (turned_at which.Program names.program refusal) → new ≡ after_loads old (loaded_by names refusal) (turned_by names refusal)
+program_refused told names _ old new (is_absent found) is = is
+program_refused told names _ old new (is_long found) is = is
+program_refused told names _ old new (is_broken bytes rule found broken) is = is
+
+all_names : (names : Names) → loaded_names names ≡ loaded_names names ++ []
+all_names names = sym (append-nil (loaded_names names))
+
+pub program_loads : (told : Option Files) (names : Names) (reason : NotRun) (old new : Stored) → IsPlanned told names.program (Err reason) →
+    LoadsFile {T = Plan} which.Program (Some names.program) (Err reason) old new → LoadsFiles {T = Ready} names (Err reason) old new
+program_loads told names (Refused refusal) old new is loads = program_refused told names refusal old new is loads
+program_loads told names ReadFault old new is loads = short_loaded names [] (loaded_names names) old new refl (omega arith) loads.1
+program_loads told names NoMemory old new is loads =
+    elim loads as (λ _. (count : ℕ) × (new ≡ after_loads old (take count (loaded_names names)) [])) [
+      | inl none ↦ part_loaded names [] (loaded_names names) old new refl none
+      | inr one ↦ part_loaded names (names.program ∷ []) (named names.image ++ named names.schedule) old new refl one
+    ]
+
+-- The image
+
+-- what an image that is refused turned away
+abbrev TurnsImage : Names → Refusal → List ℕ → Type 0
+TurnsImage names refusal name = (turned_at which.Image name refusal ≡ turned_by names refusal) × (loaded_by names refusal ≡ names.program ∷ named names.image)
+
+image_turned : (names : Names) (name : List ℕ) (answer : LoadError) → names.image ≡ Some name →
+    record { name = name; limit = image_limit; answer = answer } ∷ [] ≡ load_of names image_file answer ∷ []
+image_turned names name answer is = cc
+
+image_refused : (names : Names) (name : List ℕ) (refusal : Refusal) (found : Found) → names.image ≡ Some name → IsOpenedBy found (Err refusal) → TurnsImage names refusal name
+image_refused names name refusal Absent is opened =
+    let same : refusal ≡ refusals.Missing image_file = cc in
+    subst (λ (r : Refusal). TurnsImage names r name) (sym same) (image_turned names name answers.Missing is, refl)
+image_refused names name refusal Long is opened =
+    let same : refusal ≡ refusals.TooLong image_file = cc in
+    subst (λ (r : Refusal). TurnsImage names r name) (sym same) (image_turned names name answers.TooLong is, refl)
+image_refused names name refusal (Bytes bytes) is opened =
+    subst (λ (r : Refusal). TurnsImage names r name) (sym opened.1) (refl, refl)
+
+-- an image by its name, after the program
+image_loaded : (told : Option Files) (names : Names) (image : Option (List ℕ)) (reason : NotRun) (old new : Stored) → names.image ≡ image → IsTree told image (Err reason) →
+    LoadsFile {T = Tree} which.Image image (Err reason) (after_loads old (names.program ∷ []) []) new → LoadsFiles {T = Ready} names (Err reason) old new
+image_loaded told names None (Refused refusal) old new is tree loads = absurd cc
+image_loaded told names (Some name) (Refused refusal) old new is tree loads =
+    let turns = image_refused names name refusal tree.0 is tree.2 in
+    let all : new ≡ after_loads old ((names.program ∷ []) ++ named (Some name)) (turned_at which.Image name refusal) =
+    then_loaded old (after_loads old (names.program ∷ []) []) new (names.program ∷ []) (named (Some name)) (turned_at which.Image name refusal) refl loads in
+    all
+    ∙ (ap (λ (i : Option (List ℕ)). after_loads old (names.program ∷ named i) (turned_at which.Image name refusal)) (sym is)
+    ∙ (ap (λ (l : List (List ℕ)). after_loads old l (turned_at which.Image name refusal)) (sym turns.1)
+    ∙ ap (λ (t : List TurnedLoad). after_loads old (loaded_by names refusal) t) turns.0))
+image_loaded told names None ReadFault old new is tree loads = absurd cc
+image_loaded told names (Some name) ReadFault old new is tree loads =
+    short_loaded names (names.program ∷ []) (named names.image ++ named names.schedule) old new refl
+    (subst (λ (i : Option (List ℕ)). 0 < length (named i ++ named names.schedule)) (sym is) (omega arith))
+    (then_loaded old (after_loads old (names.program ∷ []) []) new (names.program ∷ []) [] [] refl loads.1)
+image_loaded told names image NoMemory old new is tree loads =
+    elim loads as (λ _. (count : ℕ) × (new ≡ after_loads old (take count (loaded_names names)) [])) [
+      | inl none ↦
+          part_loaded names (names.program ∷ []) (named names.image ++ named names.schedule) old new refl
+          (then_loaded old (after_loads old (names.program ∷ []) []) new (names.program ∷ []) [] [] refl none)
+      | inr one ↦
+          part_loaded names (names.program ∷ named names.image) (named names.schedule) old new refl
+          (then_loaded old (after_loads old (names.program ∷ []) []) new (names.program ∷ []) (named image) [] refl one
+          ∙ ap (λ (i : Option (List ℕ)). after_loads old (names.program ∷ named i) []) (sym is))
+    ]
+
+pub image_loads : (told : Option Files) (names : Names) (reason : NotRun) (old middle new : Stored) → IsTree told names.image (Err reason) → middle ≡ after_loads old (names.program ∷ []) [] →
+    LoadsFile {T = Tree} which.Image names.image (Err reason) middle new → LoadsFiles {T = Ready} names (Err reason) old new
+image_loads told names reason old middle new tree before loads =
+    image_loaded told names names.image reason old new refl tree
+    (subst (λ (s : Stored). LoadsFile {T = Tree} which.Image names.image (Err reason) s new) before loads)
+
+-- The schedule
+
+-- the names of the program and of the image
+abbrev before_schedule : Names → List (List ℕ)
+before_schedule names = names.program ∷ named names.image
+
+abbrev TurnsSchedule : Names → Refusal → List ℕ → Type 0
+TurnsSchedule names refusal name = (turned_at which.Schedule name refusal ≡ turned_by names refusal) × (loaded_by names refusal ≡ loaded_names names)
+
+schedule_turned : (names : Names) (name : List ℕ) (answer : LoadError) → names.schedule ≡ Some name →
+    record { name = name; limit = schedule_limit; answer = answer } ∷ [] ≡ load_of names schedule_file answer ∷ []
+schedule_turned names name answer is = cc
+
+-- a text that is refused is refused as a schedule
+text_refused : (names : Names) (name : List ℕ) (refusal : Refusal) (event : Option ℕ) (meaning : Result Schedule ScheduleRefusal) → Err refusal ≡ taken_schedule event meaning → TurnsSchedule names refusal name
+text_refused names name refusal event (Err broken) is =
+    let same : refusal ≡ refusals.Schedule broken = cc in
+    subst (λ (r : Refusal). TurnsSchedule names r name) (sym same) (refl, refl)
+text_refused names name refusal None (Ok schedule) is = absurd cc
+text_refused names name refusal (Some line) (Ok schedule) is =
+    let same : refusal ≡ refusals.Schedule (record { line = line; rule = 0 }) = cc in
+    subst (λ (r : Refusal). TurnsSchedule names r name) (sym same) (refl, refl)
+
+schedule_refused : (names : Names) (name : List ℕ) (refusal : Refusal) (found : Found) → names.schedule ≡ Some name → Err refusal ≡ schedule_of_found found → TurnsSchedule names refusal name
+schedule_refused names name refusal Absent is scheduled =
+    let same : refusal ≡ refusals.Missing schedule_file = cc in
+    subst (λ (r : Refusal). TurnsSchedule names r name) (sym same) (schedule_turned names name answers.Missing is, refl)
+schedule_refused names name refusal Long is scheduled =
+    let same : refusal ≡ refusals.TooLong schedule_file = cc in
+    subst (λ (r : Refusal). TurnsSchedule names r name) (sym same) (schedule_turned names name answers.TooLong is, refl)
+schedule_refused names name refusal (Bytes text) is scheduled = text_refused names name refusal (first_event_line text) (meaning_of text) scheduled
+
+schedule_loaded : (told : Option Files) (names : Names) (name : Option (List ℕ)) (reason : NotRun) (old new : Stored) → names.schedule ≡ name → IsScheduledAs told name (Err reason) →
+    LoadsFile {T = Schedule} which.Schedule name (Err reason) (after_loads old (before_schedule names) []) new → LoadsFiles {T = Ready} names (Err reason) old new
+schedule_loaded told names None (Refused refusal) old new is scheduled loads = absurd cc
+schedule_loaded told names (Some name) (Refused refusal) old new is scheduled loads =
+    let turns = schedule_refused names name refusal scheduled.0 is scheduled.2 in
+    let all : new ≡ after_loads old (before_schedule names ++ named (Some name)) (turned_at which.Schedule name refusal) =
+    then_loaded old (after_loads old (before_schedule names) []) new (before_schedule names) (named (Some name)) (turned_at which.Schedule name refusal) refl loads in
+    all
+    ∙ (ap (λ (i : Option (List ℕ)). after_loads old (before_schedule names ++ named i) (turned_at which.Schedule name refusal)) (sym is)
+    ∙ (ap (λ (l : List (List ℕ)). after_loads old l (turned_at which.Schedule name refusal)) (sym turns.1)
+    ∙ ap (λ (t : List TurnedLoad). after_loads old (loaded_by names refusal) t) turns.0))
+schedule_loaded told names None ReadFault old new is scheduled loads = absurd cc
+schedule_loaded told names (Some name) ReadFault old new is scheduled loads =
+    short_loaded names (before_schedule names) (named names.schedule) old new refl
+    (subst (λ (i : Option (List ℕ)). 0 < length (named i)) (sym is) (omega arith))
+    (then_loaded old (after_loads old (before_schedule names) []) new (before_schedule names) [] [] refl loads.1
+    ∙ ap (λ (l : List (List ℕ)). after_loads old l []) (append-nil (before_schedule names)))
+schedule_loaded told names name NoMemory old new is scheduled loads =
+    elim loads as (λ _. (count : ℕ) × (new ≡ after_loads old (take count (loaded_names names)) [])) [
+      | inl none ↦
+          part_loaded names (before_schedule names) (named names.schedule) old new refl
+          (then_loaded old (after_loads old (before_schedule names) []) new (before_schedule names) [] [] refl none
+          ∙ ap (λ (l : List (List ℕ)). after_loads old l []) (append-nil (before_schedule names)))
+      | inr one ↦
+          part_loaded names (loaded_names names) [] old new (all_names names)
+          (then_loaded old (after_loads old (before_schedule names) []) new (before_schedule names) (named name) [] refl one
+          ∙ ap (λ (i : Option (List ℕ)). after_loads old (before_schedule names ++ named i) []) (sym is))
+    ]
+
+-- the store after the loads of the program and of the image
+before_scheduled : (names : Names) (old first second : Stored) → first ≡ after_loads old (names.program ∷ []) [] → second ≡ after_loads first (named names.image) [] →
+    second ≡ after_loads old (before_schedule names) []
+before_scheduled names old first second program image = then_loaded old first second (names.program ∷ []) (named names.image) [] program image
+
+pub schedule_loads : (told : Option Files) (names : Names) (reason : NotRun) (old first second new : Stored) → IsScheduledAs told names.schedule (Err reason) → first ≡ after_loads old (names.program ∷ []) [] →
+    second ≡ after_loads first (named names.image) [] → LoadsFile {T = Schedule} which.Schedule names.schedule (Err reason) second new → LoadsFiles {T = Ready} names (Err reason) old new
+schedule_loads told names reason old first second new scheduled program image loads =
+    schedule_loaded told names names.schedule reason old new refl scheduled
+    (subst (λ (s : Stored). LoadsFile {T = Schedule} which.Schedule names.schedule (Err reason) s new) (before_scheduled names old first second program image) loads)
+
+-- All files
+
+started : (names : Names) (asked : Asked) (reason : NotRun) (old new : Stored) → IsStartReason asked reason → new ≡ after_loads old (loaded_names names) [] → LoadsFiles {T = Ready} names (Err reason) old new
+started names asked (Refused refusals.Start) old new why is = is
+started names asked (Refused (refusals.Usage word)) old new why is = absurd why
+started names asked (Refused (refusals.Missing file)) old new why is = absurd why
+started names asked (Refused (refusals.TooLong file)) old new why is = absurd why
+started names asked (Refused (refusals.Elf rule)) old new why is = absurd why
+started names asked (Refused (refusals.Image broken)) old new why is = absurd why
+started names asked (Refused (refusals.Schedule broken)) old new why is = absurd why
+started names asked ReadFault old new why is = absurd why
+started names asked NoMemory old new why is = part_loaded names (loaded_names names) [] old new (all_names names) is
+
+all_loaded : (names : Names) (asked : Asked) (result : Result Ready NotRun) (old new : Stored) → new ≡ after_loads old (loaded_names names) [] → IfErr result (IsStartReason asked) →
+    LoadsFiles names result old new
+all_loaded names asked (Ok ready) old new is why = is
+all_loaded names asked (Err reason) old new is why = started names asked reason old new why is
+
+pub loads : (names : Names) (asked : Asked) (result : Result Ready NotRun) (old first second new : Stored) → first ≡ after_loads old (names.program ∷ []) [] → second ≡ after_loads first (named names.image) [] →
+    new ≡ after_loads second (named names.schedule) [] → IfErr result (IsStartReason asked) → LoadsFiles names result old new
+loads names asked result old first second new program image schedule why =
+    all_loaded names asked result old new (then_loaded old second new (before_schedule names) (named names.schedule) [] (before_scheduled names old first second program image) schedule) why
+
+-- The count of faulty writes
+
+files_write : (names : Names) (result : Result Ready NotRun) (old new : Stored) → LoadsFiles names result old new → new.write_faults ≡ old.write_faults
+files_write names (Ok ready) old new loads = ap (λ (s : Stored). s.write_faults) loads
+files_write names (Err (Refused refusal)) old new loads = ap (λ (s : Stored). s.write_faults) loads
+files_write names (Err ReadFault) old new loads = ap (λ (s : Stored). s.write_faults) loads.2
+files_write names (Err NoMemory) old new loads = ap (λ (s : Stored). s.write_faults) loads.1
+
+pub reading_writes : (words : List (List ℕ)) (reading : Reading) (result : Result Ready NotRun) (old new : Stored) → LoadsReading words reading result old new → new.write_faults ≡ old.write_faults
+reading_writes words (WrongAt word) result old new loads = ap (λ (s : Stored). s.write_faults) loads
+reading_writes words (Asks line) result old new loads = files_write (names_of words line) result old new loads
