@@ -86,25 +86,31 @@ fn new_kernel(alloc: Global, text: &[u8]) -> Result<NativeKernel, Fail> {
     let Ok(schedule) = parse(alloc, text) else {
         return Err(Fail::from("a schedule"));
     };
-    Ok(
-        NativeKernel::new(alloc, tree, &schedule)
-            .ok()
-            .ok_or("no memory")?,
-    )
+    match NativeKernel::new(alloc, tree, &schedule) {
+        Ok(kernel) => Ok(kernel),
+        Err(_) => Err(Fail::from("no memory")),
+    }
 }
 
-/// A machine with this schedule and this input, none of whose streams fails. What its calls do is kept.
+/// Streams with this input, none of which fails.
+fn new_streams(alloc: Global, input: &[u8]) -> Result<Streams, AllocError> {
+    Ok(Devices {
+        input: MemSource::new(input.to_vec(alloc)?, Vec::new(alloc)),
+        out: MemSink::new(alloc, Vec::new(alloc)),
+        err: MemSink::new(alloc, Vec::new(alloc)),
+    })
+}
+
+/// A machine with this schedule and this input. What its calls do is kept.
 fn new_machine(alloc: Global, schedule: &[u8], input: &[u8]) -> Result<Machine, Fail> {
+    let space = new_space(alloc)?;
+    let streams = new_streams(alloc, input)?;
     Ok(Machine {
         cpu: Cpu::new(0x40_0000),
-        space: new_space(alloc)?,
+        space,
         kernel: new_kernel(alloc, schedule)?,
         memory: HostMem::new(alloc),
-        streams: Devices {
-            input: MemSource::new(input.to_vec(alloc)?, Vec::new(alloc)),
-            out: MemSink::new(alloc, Vec::new(alloc)),
-            err: MemSink::new(alloc, Vec::new(alloc)),
-        },
+        streams,
         log: Log {
             native: Some(Vec::new(alloc)),
             effects: Some(Vec::new(alloc)),

@@ -75,11 +75,10 @@ pub(crate) fn new_emulator(alloc: Global, code: &[u32]) -> Result<Emulator, Fail
     };
     let tree = empty_tree(alloc)?;
     let schedule = empty_schedule(alloc)?;
-    Ok(
-        Emulator::new(alloc, start, tree, schedule)
-            .ok()
-            .ok_or("no memory")?,
-    )
+    match Emulator::new(alloc, start, tree, schedule) {
+        Ok(emulator) => Ok(emulator),
+        Err(_) => Err(Fail::from("no memory")),
+    }
 }
 
 /// Streams with this input; the calls of the output whose numbers are in `fail` fail.

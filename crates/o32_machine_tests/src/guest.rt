@@ -1,7 +1,8 @@
 //! Programs that make calls, one after the other, and look at what each gives.
-use crate::emulators::{new_emulator, new_streams, run};
+use crate::emulators::{Streams, new_emulator, new_streams, run};
 use crate::requests::{Call, Gives, read};
 use kernel_core::Finish;
+use o32_machine::Emulator;
 use std::alloc::{AllocError, Global};
 use std::test::Fail;
 
@@ -137,6 +138,24 @@ fn code_of(alloc: Global, calls: &[Call]) -> Result<Vec<u32>, AllocError> {
     Ok(code)
 }
 
+/// The status with which an emulator exits; None where it ends otherwise, or exits with 0 and wrote anything else.
+fn status_of(emulator: &mut Emulator, streams: &mut Streams, out: &[u8]) -> Option<u8> {
+    match run(emulator, streams) {
+        Some(Finish::Exited(status)) if status > 0 || streams.out.bytes() == out => Some(status),
+        _ => None,
+    }
+}
+
+/// The same over new streams.
+fn status_over_input(
+    alloc: Global,
+    emulator: &mut Emulator,
+    out: &[u8],
+) -> Result<Option<u8>, Fail> {
+    let mut streams = new_streams(alloc, INPUT, &[])?;
+    Ok(status_of(emulator, &mut streams, out))
+}
+
 /// The place of the first call of a script that gives anything else, counted from 1, or 0; None where the program ends
 /// otherwise or writes anything else.
 pub(crate) fn first_wrong(alloc: Global, text: &str, out: &[u8]) -> Result<Option<u8>, Fail> {
@@ -146,9 +165,5 @@ pub(crate) fn first_wrong(alloc: Global, text: &str, out: &[u8]) -> Result<Optio
     }
     let code = code_of(alloc, &calls)?;
     let mut emulator = new_emulator(alloc, &code)?;
-    let mut streams = new_streams(alloc, INPUT, &[])?;
-    match run(&mut emulator, &mut streams) {
-        Some(Finish::Exited(place)) if place > 0 || streams.out.bytes() == out => Ok(Some(place)),
-        _ => Ok(None),
-    }
+    status_over_input(alloc, &mut emulator, out)
 }

@@ -6,11 +6,12 @@
 //!     exited 7 turns 12               how it ends, and how many turns it takes
 //!
 //! An end is `exited` with a status, `killed` with a signal's number, or `blocked`. Input and outputs that are left out are empty.
-use crate::emulators::{new_emulator, new_streams, run};
+use crate::emulators::{Streams, new_emulator, new_streams, run};
 use crate::instructions::instruction;
 use crate::numbers::push_bytes;
 use crate::script::Words;
 use kernel_core::Finish;
+use o32_machine::Emulator;
 use std::alloc::Global;
 use std::test::Fail;
 
@@ -51,16 +52,24 @@ impl Program {
     /// Whether its run ends so.
     fn ends(&self, alloc: Global, end: End) -> Result<bool, Fail> {
         let mut emulator = new_emulator(alloc, &self.code)?;
-        let mut streams = new_streams(alloc, &self.input, &[])?;
-        let finish = run(&mut emulator, &mut streams);
-        Ok(
-            finish == Some(end.finish)
-                && emulator.is_over()
-                && emulator.turns() == end.turns
-                && streams.out.bytes() == self.out.as_slice()
-                && streams.err.bytes() == self.err.as_slice(),
-        )
+        self.ends_in(alloc, &mut emulator, end)
     }
+
+    /// Whether its run in this emulator ends so.
+    fn ends_in(&self, alloc: Global, emulator: &mut Emulator, end: End) -> Result<bool, Fail> {
+        let mut streams = new_streams(alloc, &self.input, &[])?;
+        Ok(is_end(emulator, &mut streams, end) && self.is_written(&streams))
+    }
+
+    fn is_written(&self, streams: &Streams) -> bool {
+        streams.out.bytes() == self.out.as_slice() && streams.err.bytes() == self.err.as_slice()
+    }
+}
+
+/// Whether a run ends so.
+fn is_end(emulator: &mut Emulator, streams: &mut Streams, end: End) -> bool {
+    let finish = run(emulator, streams);
+    finish == Some(end.finish) && emulator.is_over() && emulator.turns() == end.turns
 }
 
 /// How a run is over, where a word begins an end.

@@ -1,10 +1,10 @@
 //! Turns that stop early, and what an emulator tells.
 
-use crate::emulators::{new_emulator, new_streams};
+use crate::emulators::{Streams, new_emulator, new_streams};
 use crate::instructions::code_of;
 use kernel_core::Stop;
 use o32_machine::{Emulator, Turn};
-use outside::{Sink, Source};
+use std::alloc::Global;
 use std::test::Fail;
 
 /// A line to standard output, again and again.
@@ -14,11 +14,7 @@ const LINES: &str = "
 ";
 
 /// Takes so many turns; whether the process went on in each.
-fn goes_on<I: Source, O: Sink, E: Sink>(
-    emulator: &mut Emulator,
-    streams: &mut outside::Devices<I, O, E>,
-    count: u64,
-) -> bool {
+fn goes_on(emulator: &mut Emulator, streams: &mut Streams, count: u64) -> bool {
     for _ in 0..count {
         if emulator.is_over() || emulator.turns() >= 100 {
             return false;
@@ -30,31 +26,58 @@ fn goes_on<I: Source, O: Sink, E: Sink>(
     true
 }
 
+/// Whether the next turn stops since a put failed.
+fn is_stopped(emulator: &mut Emulator, streams: &mut Streams) -> bool {
+    if emulator.is_over() || emulator.turns() >= 100 {
+        return false;
+    }
+    matches!(emulator.turn(streams), Err(Stop::WriteFault))
+}
+
+/// Whether the seventh turn stops, and is none.
+fn stops_at_the_seventh(emulator: &mut Emulator, streams: &mut Streams) -> bool {
+    goes_on(emulator, streams, 6)
+        && emulator.is_running()
+        && is_stopped(emulator, streams)
+        && emulator.is_over()
+        && !emulator.is_running()
+        && emulator.turns() == 6
+}
+
+/// Whether it does where the second put fails, and the line of the first one was written.
+fn stops_where_a_put_fails(alloc: Global, emulator: &mut Emulator) -> Result<bool, Fail> {
+    let mut streams = new_streams(alloc, b"", &[2])?;
+    Ok(stops_at_the_seventh(emulator, &mut streams) && streams.out.bytes() == b"Hi\n".as_slice())
+}
+
+fn writes_stop(alloc: Global) -> Result<bool, Fail> {
+    let mut emulator = new_emulator(alloc, &code_of(alloc, LINES)?)?;
+    stops_where_a_put_fails(alloc, &mut emulator)
+}
+
 /// The second put fails: the turn of the second write stops, and is none.
 #[test]
 fn a_write_that_fails(rt: HostRuntime) -> Result<(), Fail> {
-    let mut emulator = new_emulator(rt.alloc(), &code_of(rt.alloc(), LINES)?)?;
-    let mut streams = new_streams(rt.alloc(), b"", &[2])?;
-    assert!(rt; goes_on(&mut emulator, &mut streams, 6));
-    assert!(rt; emulator.is_running());
-    if emulator.is_over() || emulator.turns() >= 100 {
-        return Err(Fail::from("over"));
-    }
-    assert!(rt; matches!(emulator.turn(&mut streams), Err(Stop::WriteFault)));
-    assert!(rt; emulator.is_over());
-    assert!(rt; !emulator.is_running());
-    assert_eq!(rt; emulator.turns(), 6);
-    assert!(rt; streams.out.bytes() == b"Hi\n".as_slice());
+    assert!(rt; writes_stop(rt.alloc())?);
     Ok(())
+}
+
+/// How many nodes an emulator's tree has.
+fn nodes_of(emulator: &Emulator) -> Result<usize, Fail> {
+    match emulator.tree() {
+        Ok(tree) => Ok(tree.nodes.as_slice().len()),
+        Err(_) => Err(Fail::from("no memory")),
+    }
+}
+
+fn nodes_of_new(alloc: Global) -> Result<usize, Fail> {
+    let emulator = new_emulator(alloc, &code_of(alloc, LINES)?)?;
+    nodes_of(&emulator)
 }
 
 /// The tree of a program that changed nothing is the one that it was given.
 #[test]
 fn the_tree(rt: HostRuntime) -> Result<(), Fail> {
-    let emulator = new_emulator(rt.alloc(), &code_of(rt.alloc(), LINES)?)?;
-    let Ok(tree) = emulator.tree() else {
-        return Err(Fail::from("no memory"));
-    };
-    assert_eq!(rt; tree.nodes.as_slice().len(), 1);
+    assert_eq!(rt; nodes_of_new(rt.alloc())?, 1);
     Ok(())
 }
