@@ -331,8 +331,8 @@ class TarReader:
         return here
 
     def file(self, tar, member):
-        if member.size > FILE_LIMIT:
-            raise Refused(f"{member.name}: more bytes than an image holds")
+        if not 0 <= member.size <= FILE_LIMIT:
+            raise Refused(f"{member.name}: a size that an image can't hold")
         source, kept = tar.extractfile(member), []
         for index in blocks_of(member):
             source.seek(index * BLOCK)
@@ -368,8 +368,8 @@ class TarPacker(Packer):
     def pack(self, path):
         try:
             self.here = [TarReader(self.skip).read(path)]
-        except (tarfile.TarError, EOFError, zlib.error, lzma.LZMAError) as error:
-            why = " ".join(str(error).split())
+        except (tarfile.TarError, EOFError, zlib.error, lzma.LZMAError, ValueError, OverflowError, MemoryError) as error:
+            why = " ".join(str(error).split()) or "its sizes are wrong"
             raise Refused(f"{path}: neither a folder nor a tar file that can be read: {why}") from error
         self.enter()
         while self.levels:

@@ -9,6 +9,7 @@
 # Nothing is installed, and nothing is written outside of DIR. What was fetched or built is kept there, so a second call
 # goes on where the first one ended. JOBS is the number of compilers side by side, one for each processor where it is unset.
 set -u
+export LC_ALL=C
 here=$(cd "$(dirname "${BASH_SOURCE[0]}")" && pwd)
 programs=(hello darts bzip2 lua minigzip sqlite3 speedtest1 busybox)
 suite=bookworm
@@ -34,6 +35,7 @@ compiler=
 case "${1-}" in '' | -*) usage ;; esac
 mkdir -p "$1" 2>/dev/null || stop "the folder $1 can't be made"
 dir=$(cd "$1" && pwd)
+case $dir in *[[:space:]]*) stop "the path $dir has a space, which makefiles don't take" ;; esac
 shift
 [ $# -gt 0 ] || set -- hello
 [ "$*" != all ] || set -- "${programs[@]}"
