@@ -133,19 +133,19 @@ WritesSo step (Some came) state out_before out_after err_before err_after = HasW
 WritesSo step None state out_before out_after err_before err_after = SendsPart step out_before out_after err_before err_after
 
 -- When a transfer ends early. A read takes no memory, and ends early only where the input counted a fault in that call: `before` and
--- `after` are its count. A write ends early where memory ran out, or where an output counted one.
+-- `after` are its count. A write ends early where memory ran out, or where an output counted one. In any other call no count rises.
 
 abbrev pub ReadStops : Result Progress CoreError → ℕ → ℕ → Type 0
-ReadStops (Ok progress) before after = ⊤
-ReadStops (Err (errors.Refused error)) before after = ⊤
+ReadStops (Ok progress) before after = after ≡ before
+ReadStops (Err (errors.Refused error)) before after = after ≡ before
 ReadStops (Err (errors.Stop stops.NoMemory)) before after = ⊥
 ReadStops (Err (errors.Stop stops.ReadFault)) before after = Rose before after
 ReadStops (Err (errors.Stop stops.WriteFault)) before after = ⊥
 
 abbrev pub WriteStops : Result Progress CoreError → ℕ → ℕ → ℕ → ℕ → Type 0
-WriteStops (Ok progress) out_before out_after err_before err_after = ⊤
-WriteStops (Err (errors.Refused error)) out_before out_after err_before err_after = ⊤
-WriteStops (Err (errors.Stop stops.NoMemory)) out_before out_after err_before err_after = ⊤
+WriteStops (Ok progress) out_before out_after err_before err_after = (out_after ≡ out_before) × (err_after ≡ err_before)
+WriteStops (Err (errors.Refused error)) out_before out_after err_before err_after = (out_after ≡ out_before) × (err_after ≡ err_before)
+WriteStops (Err (errors.Stop stops.NoMemory)) out_before out_after err_before err_after = (out_after ≡ out_before) × (err_after ≡ err_before)
 WriteStops (Err (errors.Stop stops.ReadFault)) out_before out_after err_before err_after = ⊥
 WriteStops (Err (errors.Stop stops.WriteFault)) out_before out_after err_before err_after =
     Rose out_before out_after ⊎ Rose err_before err_after

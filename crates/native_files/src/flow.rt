@@ -1,5 +1,5 @@
 //! What flows beside files: pipes, and how many bytes were moved at the streams.
-ghost use Rattle.std.specs.Prelude.{◌≡◌, ◌<◌, ◌≤◌, IfOk, IfSome, OnErr, [], is_none, length, option_map, position};
+ghost use Rattle.std.specs.Prelude.{◌≡◌, ◌<◌, ◌≤◌, IfOk, IfSome, OnOk, OnErr, [], is_none, length, option_map, position};
 ghost use Rattle.kernel_model.specs.Begin.{free_places, first_flow};
 ghost use Rattle.kernel_model.specs.Came.{came_as};
 ghost use Rattle.kernel_model.specs.ContentRows.{pipe_bytes};
@@ -145,6 +145,7 @@ impl Flow {
         ensures failed { OnErr result (self.new ≡ self.old) }
         ensures unchanged { OnErr result (I.left input.new ≡ I.left input.old) }
         ensures cause { OnErr result (Rose (I.faults input.old) (I.faults input.new)) }
+        ensures no_fault { OnOk result (I.faults input.new ≡ I.faults input.old) }
         ensures later { I.faults input.old ≤ I.faults input.new }
     {
         let count = input.take(buffer)?;

@@ -2,6 +2,7 @@ pub mod Count
 pub mod Input
 pub mod Output
 pub mod Files
+pub mod Loads
 pub mod Turned
 pub mod Causes
 pub mod Streams

@@ -1,5 +1,5 @@
 -- The contents and the counts of three devices together. This project's own.
-use Rattle.std.specs.Prelude.{ℕ, ◌≤◌, List, Option}
+use Rattle.std.specs.Prelude.{◌≡◌, ℕ, ◌≤◌, List, Option}
 use Rattle.outside.specs.declared.devices.Devices.{Devices}
 
 -- no count of these devices fell, where `input`, `out` and `err` give the counts of each
@@ -7,6 +7,12 @@ pub record NoCountFell {I O E : Type 0} (input : I → ℕ) (out : O → ℕ) (e
   pub input_later : input old.input ≤ input new.input
   pub out_later : out old.out ≤ out new.out
   pub err_later : err old.err ≤ err new.err
+
+-- no count of these devices rose: each is what it was
+pub record NoCountRose {I O E : Type 0} (input : I → ℕ) (out : O → ℕ) (err : E → ℕ) (old new : Devices I O E) : Type 0 where
+  pub input_stays : input new.input ≡ input old.input
+  pub out_stays : out new.out ≡ out old.out
+  pub err_stays : err new.err ≡ err old.err
 
 -- what three devices hold, each where it tells it: what is left of the input, and what was written to the outputs
 pub record Contents : Type 0 where

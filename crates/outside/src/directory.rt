@@ -1,7 +1,8 @@
 // The store over the host's files, which tells no content. What the host does is trusted.
 ghost use Rattle.std.specs.Prelude.{◌≡◌, ◌<◌, ◌≤◌, ◌++◌, [], ◌∷◌, None, length, vec_len, Contains, OnOk, OnErr};
-ghost use Rattle.outside.specs.Causes.{FailsOnlyIfRose, LoadFailsOnlyIfRose, IsNoFault, faults_after, load_faults_after};
+ghost use Rattle.outside.specs.Causes.{FailsOnlyIfRose, LoadFailsOnlyIfRose, faults_after, load_faults_after};
 ghost use Rattle.outside.specs.Count.{last_count};
+ghost use Rattle.outside.specs.Loads.{answered_by};
 ghost use Rattle.outside.specs.Turned.{turned_by};
 
 use crate::errors::{DevError, Failed, LoadError};
@@ -42,7 +43,7 @@ impl<F: Files> Model for DirStore<F> {
 impl<F: Files> DirStore<F> {
     /// A store of the files of `host`, with no fault yet.
     pub fn new(alloc: Global, host: F) -> Self
-        ensures { result ≡ record { register = record { turned_away = []; created = [] }; load_faults = 0; write_faults = 0 } }
+        ensures { result ≡ record { register = record { loads = []; turned_away = []; created = [] }; load_faults = 0; write_faults = 0 } }
     {
         DirStore {
             host,
@@ -103,6 +104,8 @@ impl<F: Files> Store for DirStore<F> {
 
     ghost write_faults = { λ s. s.write_faults };
 
+    ghost loads = { λ s. s.register.loads };
+
     ghost turned_away = { λ s. s.register.turned_away };
 
     ghost created = { λ s. s.register.created };
@@ -112,13 +115,13 @@ impl<F: Files> Store for DirStore<F> {
 
         ensures within { OnOk result (vec_len into.new ≤ limit) }
         ensures register { self.new.register ≡ record self.old.register {
+          loads = self.old.register.loads ++ answered_by name.now result;
           turned_away =
               self.old.register.turned_away ++ turned_by name.now limit result;
         } }
 
         ensures faults { self.new.load_faults ≡ load_faults_after result self.old.load_faults }
         ensures cause { LoadFailsOnlyIfRose result self.old.load_faults self.new.load_faults }
-        ensures no_fault { IsNoFault result self.old.load_faults self.new.load_faults }
         ensures later { self.old.load_faults ≤ self.new.load_faults }
         ensures bounded { self.new.load_faults ≤ last_count }
         ensures write_faults { self.new.write_faults ≡ self.old.write_faults }
@@ -136,7 +139,8 @@ impl<F: Files> Store for DirStore<F> {
             Err(LoadError::TooLong) => {
                 self.register.list_turned(name, limit, LoadError::TooLong)?;
             }
-            Ok(()) | Err(LoadError::NoMemory) => {}
+            Ok(()) => self.register.list_load(name)?,
+            Err(LoadError::NoMemory) => {}
         }
         result
     }

@@ -5,6 +5,7 @@ ghost use Rattle.std.specs.Str.{bytes_eq};
 ghost use Rattle.outside.specs.Content.{FileBytes, content_of};
 ghost use Rattle.outside.specs.inside.Present.{IsThere, AreThere};
 ghost use Rattle.outside.specs.Files.{AnswersLoad, ChangesFile, IsEmptied, IsUnchangedOrEmptied, Gains, GainsPart};
+ghost use Rattle.outside.specs.Loads.{answered_by};
 ghost use Rattle.outside.specs.Turned.{turned_by};
 ghost use Rattle.outside.specs.declared.errors.LoadError.TheVariants.{Failed};
 
@@ -105,7 +106,7 @@ pub fn file_bytes<'a>(files: &'a [NamedFile], name: &str) -> Option<&'a [u8]>
     }
 }
 
-/// Loads a file, or lists that it was turned away. It fails for want of memory alone.
+/// Loads a file and lists its name, and whether it was turned away. It fails for want of memory alone.
 pub fn load_file(
     files: &[NamedFile],
     register: &mut Register,
@@ -117,6 +118,7 @@ pub fn load_file(
     ensures answer { AnswersLoad (Some (content_of files.now)) name.now limit into.new.items result }
     ensures never_failed { result ≢ Err Failed }
     ensures listed { register.new ≡ record register.old {
+      loads = register.old.loads ++ answered_by name.now result;
       turned_away =
           register.old.turned_away ++ turned_by name.now limit result;
     } }
@@ -131,6 +133,7 @@ pub fn load_file(
         return Err(LoadError::TooLong);
     }
     into.extend_from_slice(file.bytes.as_slice())?;
+    register.list_load(name)?;
     Ok(())
 }
 

@@ -1,5 +1,5 @@
 // What a store keeps of its calls.
-ghost use Rattle.std.specs.Prelude.{◌≡◌, ◌++◌, [], ◌∷◌, OnOk, OnErr};
+ghost use Rattle.std.specs.Prelude.{◌≡◌, ◌++◌, [], ◌∷◌, OnOk, OnErr, length, take};
 ghost use Rattle.outside.specs.Register.{Register};
 
 use crate::errors::LoadError;
@@ -23,10 +23,12 @@ impl Model for TurnedAway {
     ghost view = { λ t. record { name = string_bytes t.name; limit = t.limit; answer = t.answer } };
 }
 
-/// The loads turned away and the names of the files made.
+/// The names of the loads that were answered, the loads turned away, and the names of the files
+/// made.
 #[derive(Drop)]
 pub struct Register {
     alloc: Global,
+    loads: Vec<String>,
     turned_away: Vec<TurnedAway>,
     created: Vec<String>,
 }
@@ -37,19 +39,34 @@ impl Model for Register {
 
     ghost Value = { Register };
 
-    ghost view = { λ r. record { turned_away = r.turned_away.items; created = map (λ name. string_bytes name) r.created.items } };
+    ghost view = { λ r. record {
+      loads = map (λ name. string_bytes name) r.loads.items;
+      turned_away = r.turned_away.items;
+      created = map (λ name. string_bytes name) r.created.items;
+    } };
 }
 
 impl Register {
-    /// No load was turned away, and no file was made.
+    /// No load was answered, and no file was made.
     pub fn new(alloc: Global) -> Self
-        ensures { result ≡ record { turned_away = []; created = [] } }
+        ensures { result ≡ record { loads = []; turned_away = []; created = [] } }
     {
         Register {
             alloc,
+            loads: Vec::new(alloc),
             turned_away: Vec::new(alloc),
             created: Vec::new(alloc),
         }
+    }
+
+    /// Lists the name of a load that was answered.
+    pub fn list_load(&mut self, name: &str) -> Result<(), AllocError>
+        ensures ok { OnOk result (self.new ≡ record self.old { loads = self.old.loads ++ name.now ∷ [] }) }
+        ensures err { OnErr result (self.new ≡ self.old) }
+    {
+        let name = String::from_str(self.alloc, name)?;
+        self.loads.push(name)?;
+        Ok(())
     }
 
     /// Lists a load that was turned away.
@@ -59,6 +76,38 @@ impl Register {
         limit: usize,
         answer: LoadError,
     ) -> Result<(), AllocError>
+        ensures ok { OnOk result (self.new ≡ record self.old {
+          loads = self.old.loads ++ name.now ∷ [];
+          turned_away =
+              self.old.turned_away ++ record { name = name.now; limit = limit; answer = answer } ∷ [];
+        }) }
+        ensures err { OnErr result (self.new ≡ self.old) }
+    {
+        let before = self.count_loads();
+        self.list_load(name)?;
+        let listed = self.list_answer(name, limit, answer);
+        if listed.is_err() {
+            self.keep_loads(before);
+        }
+        listed
+    }
+
+    // How many loads are listed as answered.
+    fn count_loads(&self) -> usize
+        ensures { result ≡ length self.now.loads }
+    {
+        self.loads.len()
+    }
+
+    // Takes all of them out but the first so many.
+    fn keep_loads(&mut self, count: usize)
+        ensures { self.new ≡ record self.old { loads = take count self.old.loads } }
+    {
+        self.loads.truncate(count);
+    }
+
+    // Lists the answer of a load that was turned away.
+    fn list_answer(&mut self, name: &str, limit: usize, answer: LoadError) -> Result<(), AllocError>
         ensures ok { OnOk result (self.new ≡ record self.old {
           turned_away =
               self.old.turned_away ++ record { name = name.now; limit = limit; answer = answer } ∷ [];

@@ -2,10 +2,11 @@
 ghost use Rattle.std.specs.Prelude.{◌≡◌, ◌≤◌, ◌++◌, ◌↔◌, [], ◌∷◌, Some, Contains, OnOk, OnErr};
 ghost use Rattle.std.specs.Option.{option_copied};
 ghost use Rattle.outside.specs.Calls.{NextFails, after_call};
-ghost use Rattle.outside.specs.Causes.{FailsOnlyIfRose, LoadFailsOnlyIfRose, IsNoFault, faults_after, load_faults_after};
+ghost use Rattle.outside.specs.Causes.{FailsOnlyIfRose, LoadFailsOnlyIfRose, faults_after, load_faults_after};
 ghost use Rattle.outside.specs.Content.{content_of};
 ghost use Rattle.outside.specs.Count.{last_count};
 ghost use Rattle.outside.specs.Files.{AnswersLoad, ChangesFile, IsEmptied, IsUnchangedOrEmptied, Gains, GainsPart};
+ghost use Rattle.outside.specs.Loads.{answered_by};
 ghost use Rattle.outside.specs.Turned.{turned_by};
 
 use crate::errors::{DevError, LoadError};
@@ -38,7 +39,7 @@ impl Model for SureStore {
 impl SureStore {
     /// A store of these files. Of two of one name the first counts.
     pub fn new(alloc: Global, files: Vec<NamedFile>) -> Self
-        ensures { result ≡ record { files = files.items; register = record { turned_away = []; created = [] } } }
+        ensures { result ≡ record { files = files.items; register = record { loads = []; turned_away = []; created = [] } } }
     {
         SureStore {
             alloc,
@@ -61,6 +62,8 @@ impl Store for SureStore {
     ghost load_faults = { λ _. 0 };
 
     ghost write_faults = { λ _. 0 };
+
+    ghost loads = { λ s. s.register.loads };
 
     ghost turned_away = { λ s. s.register.turned_away };
 
@@ -120,7 +123,7 @@ impl MemStore {
     pub fn new(alloc: Global, files: Vec<NamedFile>, fail: Vec<u64>) -> Self
         ensures { result ≡ record {
           files = files.items;
-          register = record { turned_away = []; created = [] };
+          register = record { loads = []; turned_away = []; created = [] };
           calls = record { made = 0; failing = fail.items };
           load_faults = 0;
           write_faults = 0;
@@ -151,6 +154,8 @@ impl Store for MemStore {
 
     ghost write_faults = { λ s. s.write_faults };
 
+    ghost loads = { λ s. s.register.loads };
+
     ghost turned_away = { λ s. s.register.turned_away };
 
     ghost created = { λ s. s.register.created };
@@ -163,6 +168,7 @@ impl Store for MemStore {
 
         ensures answer { AnswersLoad (Some (content_of self.old.files)) name.now limit into.new.items result }
         ensures register { self.new.register ≡ record self.old.register {
+          loads = self.old.register.loads ++ answered_by name.now result;
           turned_away =
               self.old.register.turned_away ++ turned_by name.now limit result;
         } }
@@ -170,7 +176,6 @@ impl Store for MemStore {
 
         ensures faults { self.new.load_faults ≡ load_faults_after result self.old.load_faults }
         ensures cause { LoadFailsOnlyIfRose result self.old.load_faults self.new.load_faults }
-        ensures no_fault { IsNoFault result self.old.load_faults self.new.load_faults }
         ensures later { self.old.load_faults ≤ self.new.load_faults }
         ensures bounded { self.new.load_faults ≤ last_count }
         ensures write_faults { self.new.write_faults ≡ self.old.write_faults }

@@ -1,9 +1,10 @@
 // What each kind of device promises. These are this project's own.
 ghost use Rattle.std.specs.Prelude.{◌≡◌, ◌≤◌, ◌++◌, ℕ, List, [], ◌∷◌, length, Contains, Option, IfOk, OnOk, OnErr};
-ghost use Rattle.outside.specs.Causes.{FailsOnlyIfRose, LoadFailsOnlyIfRose, IsNoFault};
+ghost use Rattle.outside.specs.Causes.{FailsOnlyIfRose, LoadFailsOnlyIfRose};
 ghost use Rattle.outside.specs.Count.{Rose, last_count};
 ghost use Rattle.outside.specs.Files.{Files, AnswersLoad, ChangesFile, IsEmptied, IsUnchangedOrEmptied, Gains, GainsPart};
 ghost use Rattle.outside.specs.Input.{MovesOut};
+ghost use Rattle.outside.specs.Loads.{answered_by};
 ghost use Rattle.outside.specs.Output.{GainsText, GainsBetween};
 ghost use Rattle.outside.specs.Turned.{TurnedLoad, turned_by};
 
@@ -27,6 +28,7 @@ pub trait Source {
         ensures unchanged { OnErr result (left self.new ≡ left self.old) }
 
         ensures cause { OnErr result (Rose (faults self.old) (faults self.new)) }
+        ensures no_fault { OnOk result (faults self.new ≡ faults self.old) }
         ensures later { faults self.old ≤ faults self.new }
         ensures bounded { faults self.new ≤ last_count };
 }
@@ -60,6 +62,10 @@ pub trait Store {
     /// The count of the faults of `create` and `append`, at most 2^64 - 1.
     ghost write_faults: { Self → ℕ };
 
+    /// The names of the loads that were answered, by the file or by `Missing` or `TooLong`, in their
+    /// order.
+    ghost loads: { Self → List (List ℕ) };
+
     /// The loads that were answered `Missing` or `TooLong`, in their order.
     ghost turned_away: { Self → List TurnedLoad };
 
@@ -73,12 +79,12 @@ pub trait Store {
         requires { into.old.items ≡ [] }
 
         ensures answer { AnswersLoad (files self.old) name.now limit into.new.items result }
+        ensures loads { loads self.new ≡ loads self.old ++ answered_by name.now result }
         ensures turned_away { turned_away self.new ≡ turned_away self.old ++ turned_by name.now limit result }
         ensures files { files self.new ≡ files self.old }
         ensures created { created self.new ≡ created self.old }
 
         ensures cause { LoadFailsOnlyIfRose result (load_faults self.old) (load_faults self.new) }
-        ensures no_fault { IsNoFault result (load_faults self.old) (load_faults self.new) }
         ensures later { load_faults self.old ≤ load_faults self.new }
         ensures bounded { load_faults self.new ≤ last_count }
         ensures write_faults { write_faults self.new ≡ write_faults self.old }
@@ -91,6 +97,7 @@ pub trait Store {
         ensures part { OnErr result (ChangesFile (files self.old) (files self.new) name.now IsUnchangedOrEmptied) }
         ensures created { OnOk result (created self.new ≡ created self.old ++ name.now ∷ []) }
         ensures not_created { OnErr result (created self.new ≡ created self.old) }
+        ensures loads { loads self.new ≡ loads self.old }
         ensures turned_away { turned_away self.new ≡ turned_away self.old }
 
         ensures cause { FailsOnlyIfRose result (write_faults self.old) (write_faults self.new) }
@@ -107,6 +114,7 @@ pub trait Store {
         ensures added { OnOk result (ChangesFile (files self.old) (files self.new) name.now (Gains bytes.now)) }
         ensures part { OnErr result (ChangesFile (files self.old) (files self.new) name.now (GainsPart bytes.now)) }
         ensures created { created self.new ≡ created self.old }
+        ensures loads { loads self.new ≡ loads self.old }
         ensures turned_away { turned_away self.new ≡ turned_away self.old }
 
         ensures cause { FailsOnlyIfRose result (write_faults self.old) (write_faults self.new) }

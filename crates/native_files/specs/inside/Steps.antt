@@ -55,10 +55,10 @@ SendsSo files stream bytes (Ok (progress.Waits wake)) state before after = ⊥
 SendsSo files stream bytes (Err (errors.Refused error)) state before after = ⊥
 SendsSo files stream bytes (Err (errors.Stop stop)) state before after = GainsBetween before after [] bytes
 
--- it stops where memory ran out, or where the device counted a fault
+-- it stops where memory ran out, or where the device counted a fault, which it does in no other call
 abbrev pub SinkStops : Result Progress CoreError → ℕ → ℕ → Type 0
-SinkStops (Ok progress) before after = ⊤
-SinkStops (Err (errors.Refused error)) before after = ⊤
-SinkStops (Err (errors.Stop stops.NoMemory)) before after = ⊤
+SinkStops (Ok progress) before after = after ≡ before
+SinkStops (Err (errors.Refused error)) before after = after ≡ before
+SinkStops (Err (errors.Stop stops.NoMemory)) before after = after ≡ before
 SinkStops (Err (errors.Stop stops.ReadFault)) before after = ⊥
 SinkStops (Err (errors.Stop stops.WriteFault)) before after = Rose before after
