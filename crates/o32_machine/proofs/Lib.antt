@@ -4,7 +4,7 @@ pub mod Numbering
 pub mod PlainCalls
 pub mod PlainRows
 pub mod Quieting
-pub mod Sleeping
 pub mod Stepping
 pub mod TellMirrors
 pub mod Turning
+pub mod WholeTurns

@@ -4,23 +4,11 @@ use Rattle.std.specs.Prelude.{◌≡◌, ℕ, ◌⊎◌, Bool, true, false, List
 use Rattle.kernel_core.specs.declared.core_error.Stop.{Stop}
 use Rattle.kernel_core.specs.declared.finish.Finish.{Finish}
 use Rattle.kernel_core.specs.declared.finish.Finish.TheVariants.{Exited, Killed, Budget, Blocked}
-use Rattle.kernel_model.specs.Pipes.{nothing}
 use Rattle.o32_machine.specs.declared.turn.Turn as code
 use Rattle.o32_machine.specs.declared.turn.Turn.TheVariants.{Went, Ended}
-use Rattle.o32_model.specs.Turn.{Machine, Turn, ends, is_blocked, turn_of}
+use Rattle.o32_model.specs.Machine.{Machine, Turn}
 use Rattle.outside.specs.Output.{GainsText, GainsBetween}
 use Rattle.outside.specs.Streams.{Contents}
-
--- Attempts
-
--- an attempt at a turn finds a process that is blocked so, and changes nothing of it
-
-abbrev pub unless_blocked : ℕ → Machine → List ℕ → Bool → Turn
-unless_blocked quantum machine left true = ends machine left nothing Blocked
-unless_blocked quantum machine left false = turn_of quantum machine left
-
-abbrev pub attempt_of : ℕ → Machine → List ℕ → Turn
-attempt_of quantum machine left = unless_blocked quantum machine left (is_blocked machine)
 
 -- Answers
 

@@ -1,9 +1,11 @@
--- What an emulator is seen as, and the one that a program begins in. (Turns, quanta and the form are this project's own.)
-use Rattle.std.specs.Prelude.{ℕ, Bool, false, ◌&&◌, not, None, is_some}
+-- What an emulator is seen as, and the one that a program begins in. (Turns, quanta and the forms are this project's own.)
+use Rattle.std.specs.Prelude.{ℕ, Bool, false, ◌&&◌, not, List, [], Option, None, is_none, is_some}
 use Rattle.guest_space.specs.Memory.{Memory}
+use Rattle.kernel_core.specs.declared.info.Info.{Info}
 use Rattle.kernel_model.specs.State.{Kernel}
 use Rattle.mips_exec.specs.Processor.{Processor}
-use Rattle.o32_model.specs.Turn.{Machine}
+use Rattle.o32_model.specs.Machine.{Machine}
+use Rattle.o32_model.specs.declared.wait.Wait.{Wait}
 
 -- The machine; how many nanoseconds of its clock a turn with an instruction takes; how many turns there were; and whether there is no further
 -- one, because the process has ended or is blocked, or a turn stopped early
@@ -21,10 +23,38 @@ at_clock clock kernel = record kernel { clock = clock }
 abbrev pub machine_at : ℕ → Machine → Machine
 machine_at clock machine = record machine { kernel = at_clock clock machine.kernel }
 
--- a machine at its first instruction
+-- What a process has so far. The rest of its machine stands: no signal stops it, and no event is to come.
+pub record ProcessState : Type 0 where
+  pub processor : Processor
+  pub memory : Memory
+  pub kernel : Kernel
+  pub wait : Option Wait
+  pub restart : Option Wait
+  pub fault : Option Info
+  pub idle : ℕ
+
+abbrev pub machine_of : ProcessState → Machine
+machine_of process = record {
+  processor = process.processor;
+  memory = process.memory;
+  kernel = process.kernel;
+  wait = process.wait;
+  interrupted = false;
+  restart = process.restart;
+  stopped = false;
+  fault = process.fault;
+  coming = [];
+  idle = process.idle;
+}
+
+-- a process, and its machine, at the first instruction
+
+abbrev pub first_process : Processor → Memory → Kernel → ProcessState
+first_process processor memory kernel =
+    record { processor = processor; memory = memory; kernel = kernel; wait = None; restart = None; fault = None; idle = 0 }
+
 abbrev pub first_machine : Processor → Memory → Kernel → Machine
-first_machine processor memory kernel =
-    record { processor = processor; memory = memory; kernel = kernel; wait = None; fault = None; idle = 0 }
+first_machine processor memory kernel = machine_of (first_process processor memory kernel)
 
 abbrev pub first_emulated : ℕ → Machine → Emulated
 first_emulated quantum machine = record { machine = machine; quantum = quantum; turns = 0; over = false }

@@ -1,11 +1,12 @@
 -- What is said of turns that are taken at once: quiet ones, and one more behind them. (The form is this project's own.)
-use Rattle.std.specs.Prelude.{◌≡◌, ℕ, ◌+◌, ◌<◌, false, List, None, Result, OnErr}
+use Rattle.std.specs.Prelude.{◌≡◌, ℕ, ◌+◌, ◌<◌, List, None, Result}
 use Rattle.kernel_core.specs.declared.core_error.Stop.{Stop}
 use Rattle.kernel_model.specs.Pipes.{nothing}
-use Rattle.o32_machine.specs.Answered.{IsTurn, attempt_of, turns_done}
+use Rattle.o32_machine.specs.Answered.{IsTurn, turns_done}
 use Rattle.o32_machine.specs.declared.turn.Turn as code
+use Rattle.o32_model.specs.Machine.{Machine}
 use Rattle.o32_model.specs.Runs.{IsRunningAt, reached}
-use Rattle.o32_model.specs.Turn.{Machine, is_blocked}
+use Rattle.o32_model.specs.Turn.{turn_of}
 use Rattle.outside.specs.Streams.{Contents}
 
 -- k turns lead to this machine, whatever is left of the input: they take nothing of it and send nothing, and the process runs before each of them
@@ -18,7 +19,6 @@ pub record IsTurnAfter (quantum limit : ℕ) (machine : Machine) (turns : ℕ) (
   pub quiet : ℕ
   pub middle : Machine
   pub first : IsQuiet quantum machine quiet middle
-  pub last : IsTurn (attempt_of quantum middle) result became before after
+  pub last : IsTurn (turn_of quantum middle) result became before after
   pub counted : turns_then ≡ turns + quiet + turns_done result
   pub within : quiet < limit
-  pub awake : OnErr result (is_blocked middle ≡ false)

@@ -39,6 +39,7 @@ pub(crate) fn make_call<I: Source, O: Sink, E: Sink>(
         (contents I.left O.written E.written dev.old) (contents I.left O.written E.written dev.new) }
     ensures kept { KeepsCall (built_call seen.now k.old (found args.now cpu.old space.old)) result k.old
         (found args.now cpu.old space.old) (I.left dev.old.input) log.old log.new }
+    ensures clock { k.new.clock ≡ k.old.clock }
     ensures cause { StopsOnlyIfRose I.faults O.faults E.faults result dev.old dev.new }
     ensures counts { NoCountFell I.faults O.faults E.faults dev.old dev.new }
 {

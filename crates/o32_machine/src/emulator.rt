@@ -1,16 +1,18 @@
 //! An emulator: a process, its clock and the turns that it took.
-ghost use Rattle.std.specs.Prelude.{◌≡◌, ◌↔◌, ◌⊎◌, ◌+◌, ◌*◌, ◌^◌, ◌<◌, ◌≤◌, ℕ, Contains, false, true, IfOk, None, OnErr, is_some, max};
-ghost use Rattle.std.specs.Option.{ForSome};
+ghost use Rattle.std.specs.Prelude.{◌≡◌, ◌↔◌, ◌⊎◌, ◌+◌, ◌*◌, ◌^◌, ◌<◌, ◌≤◌, ℕ, Contains, false, true, IfOk, None};
 ghost use Rattle.kernel_core.specs.LoadedTree.{saved};
 ghost use Rattle.kernel_core.specs.ValidTree.{IsReached, IsValidTree, numbers};
 ghost use Rattle.kernel_model.specs.Begin.{first_state};
 ghost use Rattle.kernel_model.specs.Clock.{gone_off};
 ghost use Rattle.kernel_model.specs.Stops.{StopsOnlyIfRose};
 ghost use Rattle.native_kernel.specs.Settings.{settings_of};
-ghost use Rattle.o32_machine.specs.Answered.{IsTurn, attempt_of, is_last, turns_done};
+ghost use Rattle.o32_machine.specs.Answered.{IsTurn, is_last, over_of, turns_done, turns_of};
 ghost use Rattle.o32_machine.specs.Emulator.{first_emulated, first_machine, runs};
 ghost use Rattle.o32_machine.specs.Quiet.{IsTurnAfter};
-ghost use Rattle.o32_model.specs.Turn.{at_time, called, is_blocked, jump_to, jumped};
+ghost use Rattle.o32_machine.specs.inside.Stepping.{jumped_within};
+ghost use Rattle.o32_model.specs.Built.{built};
+ghost use Rattle.o32_model.specs.Instruction.{at_time, called};
+ghost use Rattle.o32_model.specs.Turn.{turn_of};
 ghost use Rattle.outside.specs.Streams.{NoCountFell, contents};
 ghost use Rattle.schedule.specs.Ranges.{IsGivenSchedule};
 
@@ -45,16 +47,17 @@ impl Model for Emulator {
     ghost use Rattle.std.specs.Prelude.{◌≤◌, ◌*◌, ◌+◌, ◌^◌};
     ghost use Rattle.guest_space.specs.Memory.{memory_code};
     ghost use Rattle.kernel_core.specs.Nodes.{nodes_code};
-    ghost use Rattle.o32_machine.specs.Emulator.{Emulated, machine_at};
+    ghost use Rattle.o32_machine.specs.Emulator.{Emulated, machine_at, machine_of};
     ghost use Rattle.std.specs.Coded.{codes};
 
     ghost Value = { Emulated };
 
     ghost coded = { Prim.hlevel (codes, memory_code, nodes_code) };
 
-    ghost view = { λ e. record { machine = machine_at e.clock e.process; quantum = e.quantum; turns = e.turns; over = e.over } };
+    ghost view = { λ e. record { machine = machine_at e.clock (machine_of e.process); quantum = e.quantum; turns = e.turns; over = e.over } };
 
-    ghost invariant = { λ e. (e.quantum ≤ 1_000_000) × (e.clock ≤ 2 ^ 61 + 1_000_000 * e.turns) × (e.process.idle ≤ e.clock) };
+    ghost invariant = { λ e. (e.quantum ≤ 1_000_000) × (e.clock ≤ 2 ^ 61 + 1_000_000 * e.turns) × (e.process.idle ≤ e.clock)
+        × (e.process.kernel.clock ≤ e.clock) };
 }
 
 impl Emulator {
@@ -82,10 +85,10 @@ impl Emulator {
         })
     }
 
-    /// Takes one turn: the timer that is due goes off, and a call whose deadline is over ends. Where a call still waits
-    /// the clock jumps to its deadline or to the timer. Else the fault of the turn before kills the process, or one
-    /// instruction is carried out with its call, and the clock gains a quantum. Where a call waits and neither a deadline
-    /// nor a timer can come, the process is blocked, and that attempt is no turn.
+    /// Takes one turn: the timer that is due goes off, and a call whose deadline is over ends. Then a fault that is to be
+    /// delivered kills the process. Where a call still waits the clock jumps to its deadline or to the timer, or neither
+    /// can come, and the process is blocked: that attempt is no turn. Else one instruction is carried out with its call,
+    /// and the clock gains a quantum.
     ///
     /// # Errors
     ///
@@ -97,12 +100,11 @@ impl Emulator {
     ) -> Result<Turn, Stop>
         requires on { self.old.over ≡ false }
         requires few { self.old.turns < 1_000_000_000_000 }
-        ensures turn { IsTurn (attempt_of self.old.quantum self.old.machine) result self.new.machine
+        ensures turn { IsTurn (turn_of self.old.quantum self.old.machine) result self.new.machine
             (contents I.left O.written E.written dev.old) (contents I.left O.written E.written dev.new) }
         ensures quantum { self.new.quantum ≡ self.old.quantum }
         ensures turns { self.new.turns ≡ self.old.turns + turns_done result }
         ensures over { self.new.over ≡ is_last result }
-        ensures awake { OnErr result (is_blocked self.old.machine ≡ false) }
         ensures cause { StopsOnlyIfRose I.faults O.faults E.faults result dev.old dev.new }
         ensures counts { NoCountFell I.faults O.faults E.faults dev.old dev.new }
     {
@@ -154,13 +156,8 @@ impl Emulator {
         ensures cause { StopsOnlyIfRose I.faults O.faults E.faults result dev.old dev.new }
         ensures counts { NoCountFell I.faults O.faults E.faults dev.old dev.new }
     {
-        if self.process.waits() {
-            return self.turn_asleep(dev);
-        }
-        if let Some(signal) = self.process.take_fault() {
-            self.process.advance(self.clock)?;
-            self.turns += 1;
-            return Ok(Turn::Ended(Finish::Killed(signal.to_o32() as u8)));
+        if !self.process.goes() {
+            return self.whole_turn(dev);
         }
         let ran = self.process.run(most_quiet(self.clock, limit));
         self.clock = later(self.clock, self.quantum, ran.quiet);
@@ -173,35 +170,29 @@ impl Emulator {
         Ok(turn)
     }
 
-    /// A turn that begins while a call waits: the call ends and the turn goes on, or the clock jumps, or the process is
-    /// blocked.
-    fn turn_asleep<I: Source, O: Sink, E: Sink>(
+    /// A turn in all its steps, which there are so far: what is due is posted, a wait ends, a fault is delivered, and then
+    /// the clock jumps, or one instruction is carried out with its call.
+    fn whole_turn<I: Source, O: Sink, E: Sink>(
         &mut self,
         dev: &mut Devices<I, O, E>,
     ) -> Result<Turn, Stop>
-        requires asleep { is_some self.old.machine.wait ≡ true }
         requires few { self.old.turns < 1_000_000_000_000 }
-        ensures turn { IsTurn (attempt_of self.old.quantum self.old.machine) result self.new.machine
+        ensures turn { IsTurn (turn_of self.old.quantum self.old.machine) result self.new.machine
             (contents I.left O.written E.written dev.old) (contents I.left O.written E.written dev.new) }
         ensures quantum { self.new.quantum ≡ self.old.quantum }
         ensures turns { self.new.turns ≡ self.old.turns + turns_done result }
         ensures over { self.new.over ≡ self.old.over }
-        ensures awake { OnErr result (is_blocked self.old.machine ≡ false) }
         ensures cause { StopsOnlyIfRose I.faults O.faults E.faults result dev.old dev.new }
         ensures counts { NoCountFell I.faults O.faults E.faults dev.old dev.new }
     {
-        if self.process.next_time().is_none() {
-            return Ok(Turn::Ended(Finish::Blocked));
-        }
         self.process.advance(self.clock)?;
-        self.process.wake(self.clock);
-        if self.process.waits() {
-            self.jump();
-            return Ok(Turn::Went);
-        }
-        if let Some(signal) = self.process.take_fault() {
+        self.process.wake(self.clock)?;
+        if let Some(fault) = self.process.take_fault() {
             self.turns += 1;
-            return Ok(Turn::Ended(Finish::Killed(signal.to_o32() as u8)));
+            return Ok(Turn::Ended(Finish::Killed(fault.sig.to_o32() as u8)));
+        }
+        if self.process.waits() {
+            return Ok(self.jump());
         }
         let came = self.process.run(0).came?;
         let turn = self.process.end_turn(came, self.clock, dev)?;
@@ -210,19 +201,26 @@ impl Emulator {
         Ok(turn)
     }
 
-    /// The clock goes to the time at which the call that waits can go on, and never back. It is a turn without an
-    /// instruction.
-    fn jump(&mut self)
+    /// The clock goes to the time of the next thing that can come, and never back, in a turn without an instruction. Where
+    /// nothing can come the process is blocked, and it is no turn.
+    fn jump(&mut self) -> Turn
         requires few { self.old.turns < 1_000_000_000_000 }
-        ensures machine { self.new.machine ≡ jumped self.old.machine }
+        ensures machine { self.new.machine ≡ (jumped_within self.old.machine).machine }
+        ensures end { over_of result ≡ (jumped_within self.old.machine).over }
         ensures quantum { self.new.quantum ≡ self.old.quantum }
-        ensures turns { self.new.turns ≡ self.old.turns + 1 }
+        ensures turns { self.new.turns ≡ self.old.turns + turns_of result }
         ensures over { self.new.over ≡ self.old.over }
     {
-        let to = jump_to(self.clock, self.process.next_time());
-        self.process.idle(to - self.clock);
-        self.clock = to;
-        self.turns += 1;
+        match self.process.next_time() {
+            None => Turn::Ended(Finish::Blocked),
+            Some(time) => {
+                let to = self.clock.max(time);
+                self.process.idle(to - self.clock);
+                self.clock = to;
+                self.turns += 1;
+                Turn::Went
+            }
+        }
     }
 
     /// Makes the call of the SYSCALL that was just executed, whose address is pc - 4. It counts no turn, and the
@@ -237,7 +235,7 @@ impl Emulator {
     ) -> Result<Turn, Stop>
         requires running { runs self.old ≡ true }
         requires timer { gone_off self.old.machine.kernel.clock self.old.machine.kernel.timer ≡ None }
-        ensures turn { IsTurn (λ left. at_time self.old.machine.kernel.clock (called self.old.machine left)) result self.new.machine
+        ensures turn { IsTurn (λ left. at_time self.old.machine.kernel.clock (called built self.old.machine left)) result self.new.machine
             (contents I.left O.written E.written dev.old) (contents I.left O.written E.written dev.new) }
         ensures quantum { self.new.quantum ≡ self.old.quantum }
         ensures turns { self.new.turns ≡ self.old.turns }
@@ -293,19 +291,6 @@ fn later(clock: u64, quantum: u64, turns: u64) -> u64
     ensures bound { result ≤ clock + 1_000_000 * turns }
 {
     clock + turns * quantum
-}
-
-/// The clock's time after a jump.
-fn jump_to(clock: u64, time: Option<u64>) -> u64
-    requires { ForSome time (λ t. t ≤ 2 ^ 61) }
-    ensures time { result ≡ jump_to clock time }
-    ensures late { clock ≤ result }
-    ensures early { result ≤ max clock (2 ^ 61) }
-{
-    match time {
-        None => clock,
-        Some(time) => clock.max(time),
-    }
 }
 
 /// The last time of the clock that comes, in nanoseconds. (This project's own.)

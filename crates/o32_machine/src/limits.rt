@@ -43,6 +43,7 @@ pub(crate) fn getrlimit<I: Source, O: Sink, E: Sink>(
         (contents I.left O.written E.written dev.old) (contents I.left O.written E.written dev.new) }
     ensures kept { (guest : Guest) → guest.words ≡ words.now → guest.memory ≡ space.old
         → KeepsCall (getrlimit_row k.old guest resource address) result k.old guest (I.left dev.old.input) log.old log.new }
+    ensures clock { k.new.clock ≡ k.old.clock }
     ensures cause { StopsOnlyIfRose I.faults O.faults E.faults result dev.old dev.new }
     ensures counts { NoCountFell I.faults O.faults E.faults dev.old dev.new }
 {
@@ -83,6 +84,7 @@ pub(crate) fn prlimit<I: Source, O: Sink, E: Sink>(
         (contents I.left O.written E.written dev.old) (contents I.left O.written E.written dev.new) }
     ensures kept { (guest : Guest) → guest.words ≡ words.now → guest.memory ≡ space.old
         → KeepsCall (prlimit_row k.old guest (cast_signed w32 pid) resource new old) result k.old guest (I.left dev.old.input) log.old log.new }
+    ensures clock { k.new.clock ≡ k.old.clock }
     ensures cause { StopsOnlyIfRose I.faults O.faults E.faults result dev.old dev.new }
     ensures counts { NoCountFell I.faults O.faults E.faults dev.old dev.new }
 {

@@ -1,15 +1,20 @@
 //! The process of an o32 program: its processor and memory, and the kernel that it calls.
-ghost use Rattle.std.specs.Prelude.{◌≡◌, ◌+◌, ◌<◌, ◌^◌, ◌≤◌, ◌↔◌, ℕ, Contains, false, if◌then◌else◌, IfOk, IfSome, None, OnOk, is_some};
+ghost use Rattle.std.specs.Prelude.{◌≡◌, ◌+◌, ◌<◌, ◌^◌, ◌≤◌, ◌↔◌, ℕ, Contains, false, if◌then◌else◌, IfErr, IfOk, IfSome, None, OnOk, is_some};
 ghost use Rattle.kernel_core.specs.LoadedTree.{saved};
 ghost use Rattle.kernel_core.specs.ValidTree.{IsReached, IsValidTree, numbers};
 ghost use Rattle.kernel_model.specs.Clock.{if_comes};
 ghost use Rattle.kernel_model.specs.SignalRows as signals;
 ghost use Rattle.kernel_model.specs.Stops.{StopsOnlyIfRose};
 ghost use Rattle.o32_machine.specs.Answered.{IsTurn, over_of, turns_of};
-ghost use Rattle.o32_machine.specs.Emulator.{first_machine};
-ghost use Rattle.o32_machine.specs.inside.Finishing.{finished};
+ghost use Rattle.o32_machine.specs.Emulator.{first_process, machine_of};
+ghost use Rattle.o32_machine.specs.inside.Finishing.{finished, goes, unwaiting};
 ghost use Rattle.o32_machine.specs.inside.Stepping.{GoesThen};
-ghost use Rattle.o32_model.specs.Turn.{after_step, called, is_over_at, next_by, sooner, wakes, woken};
+ghost use Rattle.o32_model.specs.Built.{built, built_end, is_sleep};
+ghost use Rattle.o32_model.specs.Closing.{closed, put_back};
+ghost use Rattle.o32_model.specs.Handling.{frame_fault};
+ghost use Rattle.o32_model.specs.Instruction.{after_step, called, fault_info, restart_after};
+ghost use Rattle.o32_model.specs.Turn.{deadline_of, ended_if_over, is_over_at, next_for, sooner};
+ghost use Rattle.o32_model.specs.WaitEnds.{ends_with};
 ghost use Rattle.o32_model.specs.Words.{with_result};
 ghost use Rattle.outside.specs.Streams.{NoCountFell, contents};
 
@@ -17,13 +22,14 @@ use crate::calls::make_call;
 use crate::running::{Ran, run};
 use crate::turn::Turn;
 use bridge_mem::args;
+use bridge_wait::wait_end;
 use guest_space::Space;
 use host_mem::HostMem;
-use kernel_core::{Finish, NoMemory, Sig, Stop, Tree};
+use kernel_core::{Finish, Info, NoMemory, Sig, Stop, Tree};
 use mips_exec::{Cpu, Stepped};
 use native_kernel::NativeKernel;
 use number_tables::O32Number;
-use o32_model::{Log, Outcome, Seen, Wait};
+use o32_model::{CallWords, Cause, Close, Log, Outcome, Seen, Wait};
 use outside::{Devices, Sink, Source};
 use start_stack::Start;
 use std::alloc::Global;
@@ -40,10 +46,19 @@ const V1: u8 = 3;
 /// Whether a call failed: 0, or 1 where it did.
 const A3: u8 = 7;
 
+/// The number of restart_syscall(2).
+const RESTART_SYSCALL: u32 = 4253;
+
+/// The bytes of a SYSCALL, past which the program counter stands while its call waits.
+const SYSCALL_SIZE: u32 = 4;
+
+/// Who sends the signal of a frame that can't be read: the kernel (SI_KERNEL).
+const SENT_BY_KERNEL: i32 = 0x80;
+
 /// The last time of the clock that comes, in nanoseconds. (This project's own.)
 const LAST_TIME: u64 = 1 << 61;
 
-/// A process. Contracts see it as the `Machine` of `o32_model`, whose kernel is the native one as it stands.
+/// A process. Contracts see it as `ProcessState`, whose kernel is the native one as it stands.
 #[derive(Drop)]
 pub(crate) struct Process {
     cpu: Cpu,
@@ -55,8 +70,10 @@ pub(crate) struct Process {
     alloc: Global,
     /// The call that waits.
     wait: Option<Wait>,
-    /// The signal of the fault that the last turn met.
-    fault: Option<Sig>,
+    /// The wait that restart_syscall(2) goes on with.
+    restart: Option<Wait>,
+    /// The fault that a turn met and that is to be delivered, with its code and its address.
+    fault: Option<Info>,
     /// The nanoseconds that the clock has jumped while calls waited.
     idle: u64,
 }
@@ -64,20 +81,20 @@ pub(crate) struct Process {
 impl Model for Process {
     ghost use Rattle.guest_space.specs.Memory.{memory_code};
     ghost use Rattle.kernel_core.specs.Nodes.{nodes_code};
-    ghost use Rattle.o32_model.specs.Turn.{Machine};
+    ghost use Rattle.o32_machine.specs.Emulator.{ProcessState};
     ghost use Rattle.std.specs.Coded.{codes};
 
-    ghost Value = { Machine };
+    ghost Value = { ProcessState };
 
     ghost coded = { Prim.hlevel (codes, memory_code, nodes_code) };
 
-    ghost view = { λ p. record { processor = p.cpu; memory = p.space; kernel = p.kernel; wait = p.wait; fault = p.fault; idle = p.idle } };
+    ghost view = { λ p. record { processor = p.cpu; memory = p.space; kernel = p.kernel; wait = p.wait; restart = p.restart; fault = p.fault; idle = p.idle } };
 }
 
 impl Process {
     /// A process at its first instruction.
     pub(crate) fn new(alloc: Global, start: Start, kernel: NativeKernel) -> Process
-        ensures { result ≡ first_machine start.cpu start.space kernel }
+        ensures { result ≡ first_process start.cpu start.space kernel }
     {
         Process {
             cpu: start.cpu,
@@ -86,6 +103,7 @@ impl Process {
             mem: HostMem::new(alloc),
             alloc,
             wait: None,
+            restart: None,
             fault: None,
             idle: 0,
         }
@@ -98,37 +116,90 @@ impl Process {
         self.wait.is_some()
     }
 
-    /// The time at which a call that waits can go on, by its deadline or by the timer, in nanoseconds of the clock; None
-    /// where neither can come, and where no call waits.
+    /// Whether there is nothing to be done but instructions: no call waits, and no fault is to be delivered.
+    pub(crate) fn goes(&self) -> bool
+        ensures { result ≡ goes self.now }
+    {
+        self.wait.is_none() && self.fault.is_none()
+    }
+
+    /// The time of the next thing that can come while a call waits, its deadline or the timer, in nanoseconds of the
+    /// clock; None where neither can come.
     pub(crate) fn next_time(&self) -> Option<u64>
-        ensures time { result ≡ next_by self.now self.now.wait }
+        ensures time { result ≡ next_for (machine_of self.now) }
         ensures early { IfSome result (λ time. time ≤ 2 ^ 61) }
     {
-        match self.wait {
-            None => None,
-            Some(wait) => sooner(if_comes(wait.deadline), self.kernel.next_time()),
-        }
+        sooner(self.kernel.next_time(), deadline_of(self.wait))
     }
 
     /// Ends the call that waits where its deadline is over, at the kernel's time `clock`, in nanoseconds.
-    pub(crate) fn wake(&mut self, clock: u64)
+    ///
+    /// # Errors
+    ///
+    /// `NoMemory` alone.
+    pub(crate) fn wake(&mut self, clock: u64) -> Result<(), Stop>
         requires { self.old.kernel.clock ≡ clock }
-        ensures woken { self.new ≡ woken self.old }
-        ensures clock { self.new.kernel.clock ≡ clock }
+        ensures woken { OnOk result (machine_of self.new ≡ (ended_if_over built (machine_of self.old) self.old.wait).machine) }
         ensures idle { self.new.idle ≡ self.old.idle }
+        ensures clock { self.new.kernel.clock ≡ clock }
+        ensures cause { IfErr result (λ stop. stop ≡ Stop.NoMemory) }
     {
         if let Some(wait) = self.wait {
             if is_over_at(clock, wait.deadline) {
-                self.end_wait();
+                let close = self.end_wait(&wait, clock)?;
+                self.close(&wait, close);
+            }
+        }
+        Ok(())
+    }
+
+    /// Ends a wait whose deadline is over: a sleep by its row, and any other with 0.
+    fn end_wait(&mut self, wait: &Wait, clock: u64) -> Result<Close, Stop>
+        requires { self.old.kernel.clock ≡ clock }
+        ensures ended { IfOk result (λ close.
+            built_end false wait.now Cause.Due self.old.kernel self.old.memory ≡ ends_with close self.new.kernel self.new.memory) }
+        ensures others { self.new ≡ record self.old { kernel = self.new.kernel; memory = self.new.memory } }
+        ensures clock { self.new.kernel.clock ≡ clock }
+        ensures cause { IfErr result (λ stop. stop ≡ Stop.NoMemory) }
+    {
+        if !is_sleep(wait.nr) {
+            return Ok(Close::Value(0));
+        }
+        let mut log = Log {
+            native: None,
+            effects: None,
+        };
+        let (space, k, mem) = (&mut self.space, &mut self.kernel, &mut self.mem);
+        wait_end(wait, Cause::Due, clock, space, k, mem, &mut log)
+    }
+
+    /// Puts the end of a wait into the registers: its call returns, or is carried out again, or goes on by
+    /// restart_syscall(2).
+    fn close(&mut self, wait: &Wait, close: Close)
+        ensures closed { machine_of self.new ≡ (closed wait.now close (unwaiting self.old)).machine }
+        ensures kernel { self.new.kernel ≡ self.old.kernel }
+        ensures idle { self.new.idle ≡ self.old.idle }
+    {
+        self.wait = None;
+        match close {
+            Close::Value(value) => self.set_result(value, false),
+            Close::Error(error) => self.set_result(error.to_o32(), true),
+            Close::Again => self.put_back(wait, wait.nr),
+            Close::Restart => {
+                self.restart = Some(*wait);
+                self.put_back(wait, RESTART_SYSCALL);
             }
         }
     }
 
-    fn end_wait(&mut self)
-        ensures { self.new ≡ wakes self.old }
+    /// Has the SYSCALL of a wait come again, with this number in $v0, and with the argument in $a3 that was there.
+    fn put_back(&mut self, wait: &Wait, number: u32)
+        ensures { self.new ≡ record self.old { processor = put_back number wait.now self.old.processor } }
     {
-        self.wait = None;
-        self.set_result(0, false);
+        let syscall = self.cpu.pc.wrapping_sub(SYSCALL_SIZE);
+        self.cpu.set_register(V0, number);
+        self.cpu.set_register(A3, wait.words[3]);
+        self.cpu.pc = syscall;
     }
 
     /// Counts a jump of the clock by so many nanoseconds.
@@ -155,25 +226,24 @@ impl Process {
         self.kernel.tree()
     }
 
-    /// Moves the kernel's clock to a time, in nanoseconds. No call waits.
+    /// Moves the kernel's clock to a time, in nanoseconds, which is not before its own.
     pub(crate) fn advance(&mut self, clock: u64) -> Result<(), NoMemory>
+        requires later { self.old.kernel.clock ≤ clock }
         ensures moved { OnOk result (self.new ≡ record self.old { kernel = signals.advance self.old.kernel clock false }) }
-        ensures clock { OnOk result (self.new.kernel.clock ≡ clock) }
+        ensures clock { self.new.kernel.clock ≡ clock }
         ensures idle { self.new.idle ≡ self.old.idle }
     {
         self.kernel.advance(clock, false)?;
         Ok(())
     }
 
-    /// The signal of the fault that the last turn met, which is used up by that.
-    pub(crate) fn take_fault(&mut self) -> Option<Sig>
+    /// The fault that is to be delivered, which is used up by that.
+    pub(crate) fn take_fault(&mut self) -> Option<Info>
         ensures fault { result ≡ self.old.fault }
         ensures used { self.new ≡ record self.old { fault = None } }
     {
         let fault = self.fault;
-        if fault.is_some() {
-            self.fault = None;
-        }
+        self.fault = None;
         fault
     }
 
@@ -195,11 +265,10 @@ impl Process {
         clock: u64,
         dev: &mut Devices<I, O, E>,
     ) -> Result<Turn, Stop>
-        requires wait { self.old.wait ≡ None }
-        requires fault { self.old.fault ≡ None }
         requires clock { self.old.kernel.clock ≡ clock }
-        ensures turn { IsTurn (λ left. after_step self.old.idle self.old.processor self.old.memory self.old.kernel left came) result self.new
+        ensures turn { IsTurn (after_step built (machine_of self.old) came) result (machine_of self.new)
             (contents I.left O.written E.written dev.old) (contents I.left O.written E.written dev.new) }
+        ensures clock { self.new.kernel.clock ≡ clock }
         ensures counted { IfOk result (λ turn. turns_of turn ≡ 1) }
         ensures idle { self.new.idle ≡ self.old.idle }
         ensures cause { StopsOnlyIfRose I.faults O.faults E.faults result dev.old dev.new }
@@ -208,8 +277,8 @@ impl Process {
         match came {
             Stepped::Next => Ok(Turn::Went),
             Stepped::Syscall => self.call(clock, dev),
-            Stepped::Fault { sig, .. } => {
-                self.fault = Some(sig);
+            Stepped::Fault { sig, code, addr } => {
+                self.fault = Some(fault_info(sig, code, addr));
                 Ok(Turn::Went)
             }
         }
@@ -225,8 +294,9 @@ impl Process {
         dev: &mut Devices<I, O, E>,
     ) -> Result<Turn, Stop>
         requires { self.old.kernel.clock ≡ clock }
-        ensures turn { IsTurn (called self.old) result self.new
+        ensures turn { IsTurn (called built (machine_of self.old)) result (machine_of self.new)
             (contents I.left O.written E.written dev.old) (contents I.left O.written E.written dev.new) }
+        ensures clock { self.new.kernel.clock ≡ clock }
         ensures counted { IfOk result (λ turn. turns_of turn ≡ 1) }
         ensures idle { self.new.idle ≡ self.old.idle }
         ensures cause { StopsOnlyIfRose I.faults O.faults E.faults result dev.old dev.new }
@@ -239,7 +309,7 @@ impl Process {
         };
         let seen = Seen {
             quanta: clock.saturating_sub(self.idle),
-            restart: None,
+            restart: self.restart,
         };
         let outcome = make_call(
             self.alloc,
@@ -252,17 +322,19 @@ impl Process {
             &mut log,
             &seen,
         )?;
-        Ok(self.finish(outcome))
+        Ok(self.finish(&words, outcome))
     }
 
-    /// Puts the outcome of a call into the registers, or keeps its wait, or ends the process.
-    fn finish(&mut self, outcome: Outcome) -> Turn
-        ensures machine { self.new ≡ (finished self.old outcome).machine }
-        ensures over { over_of result ≡ (finished self.old outcome).over }
+    /// Puts the outcome of a call of these words into the registers, or keeps its wait, or makes a fault of it, or ends
+    /// the process.
+    fn finish(&mut self, words: &CallWords, outcome: Outcome) -> Turn
+        ensures machine { machine_of self.new ≡ (finished words.now (machine_of self.old) outcome).machine }
+        ensures over { over_of result ≡ (finished words.now (machine_of self.old) outcome).over }
+        ensures kernel { self.new.kernel ≡ self.old.kernel }
         ensures counted { turns_of result ≡ 1 }
+        ensures idle { self.new.idle ≡ self.old.idle }
     {
-        self.wait = None;
-        self.fault = None;
+        self.use_restart(words.nr);
         match outcome {
             Outcome::Value(value) => self.set_result(value, false),
             Outcome::Pair(first, second) => {
@@ -272,9 +344,19 @@ impl Process {
             Outcome::Error(error) => self.set_result(error.to_o32(), true),
             Outcome::Sleep(wait) => self.wait = Some(wait),
             Outcome::Frame => {}
+            Outcome::BadFrame => self.fault = Some(frame_fault()),
             Outcome::Exit(status) => return Turn::Ended(Finish::Exited(status)),
         }
         Turn::Went
+    }
+
+    /// A call of this number was made: restart_syscall(2) uses up the wait that it goes on with.
+    fn use_restart(&mut self, number: u32)
+        ensures { self.new ≡ record self.old { restart = restart_after number self.old.restart } }
+    {
+        if number == RESTART_SYSCALL {
+            self.restart = None;
+        }
     }
 
     /// Puts what a call gives, its result or its error's number, into the registers.
@@ -283,6 +365,53 @@ impl Process {
     {
         self.cpu.set_register(V0, value);
         self.cpu.set_register(A3, u32::from(failed));
+    }
+}
+
+/// Whether a call's wait is that of a sleep: nanosleep(2), clock_nanosleep(2).
+fn is_sleep(number: u32) -> bool
+    ensures { result ≡ is_sleep number }
+{
+    number == 4166 || number == 4265
+}
+
+/// What is known of the signal of a fault that an instruction met.
+fn fault_info(sig: Sig, code: u32, addr: u32) -> Info
+    ensures { result ≡ fault_info sig code addr }
+{
+    Info {
+        sig,
+        code: code.cast_signed(),
+        errno: 0,
+        pid: 0,
+        uid: 0,
+        value: 0,
+        addr,
+    }
+}
+
+/// What is known of the signal of a frame that can't be read: SI_KERNEL, and no address.
+fn frame_fault() -> Info
+    ensures { result ≡ frame_fault }
+{
+    Info {
+        sig: Sig::Segv,
+        code: SENT_BY_KERNEL,
+        errno: 0,
+        pid: 0,
+        uid: 0,
+        value: 0,
+        addr: 0,
+    }
+}
+
+/// The deadline of a call that waits, where it can come.
+fn deadline_of(wait: Option<Wait>) -> Option<u64>
+    ensures { result ≡ deadline_of wait }
+{
+    match wait {
+        None => None,
+        Some(wait) => if_comes(wait.deadline),
     }
 }
 

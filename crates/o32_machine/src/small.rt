@@ -1,4 +1,5 @@
 //! The small calls.
+ghost use Rattle.std.specs.Prelude.{◌≡◌};
 ghost use Rattle.bridge_log.specs.Keeping.{KeepsCall};
 ghost use Rattle.kernel_model.specs.Stops.{StopsOnlyIfRose};
 ghost use Rattle.o32_machine.specs.inside.Plain.{found, small_call};
@@ -33,6 +34,7 @@ pub(crate) fn small_call<I: Source, O: Sink, E: Sink>(
         (contents I.left O.written E.written dev.old) (contents I.left O.written E.written dev.new) }
     ensures kept { KeepsCall (small_call (found args.now cpu.old space.old) k.old) result k.old
         (found args.now cpu.old space.old) (I.left dev.old.input) log.old log.new }
+    ensures clock { k.new.clock ≡ k.old.clock }
     ensures cause { StopsOnlyIfRose I.faults O.faults E.faults result dev.old dev.new }
     ensures counts { NoCountFell I.faults O.faults E.faults dev.old dev.new }
 {

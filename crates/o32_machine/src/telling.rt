@@ -56,6 +56,7 @@ pub(crate) fn tell_call<I: Source, O: Sink, E: Sink>(
     ensures kept { (guest : Guest) (step : List ℕ → O32Step) → guest.words ≡ words.now → guest.memory ≡ space.old
         → ((left : List ℕ) → Tells guest address told (native_call nr args k.old mem.old left) (step left))
         → KeepsCall step result k.old guest (I.left dev.old.input) log.old log.new }
+    ensures clock { k.new.clock ≡ k.old.clock }
     ensures cause { StopsOnlyIfRose I.faults O.faults E.faults result dev.old dev.new }
     ensures counts { NoCountFell I.faults O.faults E.faults dev.old dev.new }
 {

@@ -21,7 +21,7 @@ use Rattle.o32_model.specs.TimeLeft.{LeftForm, at_end, with_left_of, with_time_l
 use Rattle.o32_model.specs.Times.{spec_at, spec_bytes, val_at, val_bytes}
 use Rattle.o32_model.specs.declared.outcome.Outcome.{Outcome}
 use Rattle.o32_model.specs.declared.wait.Wait.{Wait}
-use Rattle.o32_model.specs.declared.outcome.Outcome.TheVariants.{Value, Pair, Error, Sleep, Frame, Exit}
+use Rattle.o32_model.specs.declared.outcome.Outcome.TheVariants.{Value, Pair, Error, Sleep, Frame, BadFrame, Exit}
 
 module _ (guest : Guest) (left : List ℕ) where
   abbrev Quiet : O32Step → Type 0
@@ -43,6 +43,7 @@ module _ (guest : Guest) (left : List ℕ) where
   masked_sends before mask step (Error error) sends = sends
   masked_sends before mask step (Sleep wait) sends = waiting_sends before step wait mask sends
   masked_sends before mask step Frame sends = sends
+  masked_sends before mask step BadFrame sends = sends
   masked_sends before mask step (Exit status) sends = sends
 
   own_mask_sends : (before : Kernel) (mask : Option (Given SignalSet)) (step : O32Step) → Quiet step → Quiet (with_own_mask before mask step)
@@ -54,6 +55,7 @@ module _ (guest : Guest) (left : List ℕ) where
   end_sends with_left step (Error error) sends = record { set = sends.set; rest = sends.rest; sent = sends.sent }
   end_sends with_left step (Sleep wait) sends = sends
   end_sends with_left step Frame sends = sends
+  end_sends with_left step BadFrame sends = sends
   end_sends with_left step (Exit status) sends = sends
 
   time_left_sends : (form : LeftForm) (kernel : Kernel) (length : Given (Option ℕ)) (step : O32Step) → Quiet step

@@ -1,7 +1,7 @@
 -- A call that fails moves nothing: the calls on signals.
-use Rattle.std.proofs.Common.{ℕ, List}
+use Rattle.std.proofs.Common.{ℕ, List, refl}
 use Rattle.std.specs.Prelude.{Option, Some, None, Ok, Err}
-use Rattle.kernel_model.specs.Came.{Given, refused, told_zero}
+use Rattle.kernel_model.specs.Came.{Given, told_zero}
 use Rattle.kernel_model.specs.SignalRows.{suspend}
 use Rattle.kernel_model.specs.SignalSets.{SignalSet}
 use Rattle.kernel_model.specs.State.{Kernel}
@@ -15,7 +15,7 @@ use Rattle.o32_model.specs.Step.{Guest, O32Step, O32Call, gives}
 use Rattle.o32_model.specs.Suspending.{suspending_calls, info_bytes, accepted_number, pause_row, rt_sigsuspend_row, rt_sigtimedwait_row}
 use Rattle.o32_model.specs.Table.{signal_call_or}
 use Rattle.o32_model.specs.declared.outcome.Outcome.{Outcome}
-use Rattle.o32_model.specs.declared.outcome.Outcome.TheVariants.{Value, Pair, Error, Sleep, Frame, Exit}
+use Rattle.o32_model.specs.declared.outcome.Outcome.TheVariants.{Value, Pair, Error, Sleep, Frame, BadFrame, Exit}
 use Rattle.o32_model.specs.declared.wait.Wait.{Wait}
 
 -- Calls that wait with a mask: one that waits has not failed
@@ -33,6 +33,7 @@ masked_quiet guest left before mask step (Pair first second) quiet = quiet
 masked_quiet guest left before mask step (Error error) quiet = quiet
 masked_quiet guest left before mask step (Sleep wait) quiet = waiting_quiet guest left before step wait mask quiet
 masked_quiet guest left before mask step Frame quiet = quiet
+masked_quiet guest left before mask step BadFrame quiet = quiet
 masked_quiet guest left before mask step (Exit status) quiet = quiet
 
 suspend_quiet : (kernel : Kernel) (guest : Guest) (address size : ℕ) (left : List ℕ) → Quiet guest left (rt_sigsuspend_row kernel guest address size left)
@@ -45,11 +46,11 @@ suspend_quiet kernel guest address size left =
 -- Returns
 
 frame_quiet : (kernel : Kernel) (guest : Guest) (bytes : Given (List ℕ)) (left : List ℕ) → Quiet guest left (after_frame kernel guest bytes left)
-frame_quiet kernel guest (Err error) left = gives_quiet guest (refused kernel error) left
+frame_quiet kernel guest (Err error) left = λ failed. record { stored = refl; set = refl; rest = refl; sent = refl }
 frame_quiet kernel guest (Ok bytes) left = λ failed. absurd failed
 
 rt_frame_quiet : (kernel : Kernel) (guest : Guest) (bytes : Given (List ℕ)) (left : List ℕ) → Quiet guest left (after_rt_frame kernel guest bytes left)
-rt_frame_quiet kernel guest (Err error) left = gives_quiet guest (refused kernel error) left
+rt_frame_quiet kernel guest (Err error) left = λ failed. record { stored = refl; set = refl; rest = refl; sent = refl }
 rt_frame_quiet kernel guest (Ok bytes) left = λ failed. absurd failed
 
 -- By groups

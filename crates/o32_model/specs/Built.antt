@@ -1,15 +1,24 @@
--- The calls that a machine makes so far: those on descriptors and what they have open, the small ones, of those on files and of those on time
--- and readiness the ones whose numbers stand here, and those on mappings. Any other number is ENOSYS to it until its group is built. (That the
--- groups come in steps is this project's own.)
-use Rattle.std.specs.Prelude.{ℕ, Bool, List, [], ◌∷◌, Option, None, ◌==◌, if◌then◌else◌}
+-- What a machine does so far. It makes the calls on descriptors and what they have open, the small ones, of those on files and of those on time
+-- and readiness the ones whose numbers stand here, and those on mappings; any other number is ENOSYS to it until its group is built. No signal is
+-- delivered but a fault's, which kills. (That the groups come in steps is this project's own.)
+use Rattle.std.specs.Prelude.{ℕ, Bool, ◌||◌, List, [], ◌∷◌, Option, None, Some, ◌==◌, if◌then◌else◌}
 use Rattle.std.specs.List.{list_any}
+use Rattle.guest_space.specs.Memory.{Memory}
+use Rattle.kernel_core.specs.declared.signal.Sig.{Sig}
+use Rattle.kernel_model.specs.Shared.{Info}
 use Rattle.kernel_model.specs.State.{Kernel}
+use Rattle.o32_model.specs.Handling.{killed}
+use Rattle.o32_model.specs.Machine.{Machine, Rules, Within, with_machine}
 use Rattle.o32_model.specs.Mappings.{map_calls}
 use Rattle.o32_model.specs.Seeing.{SeeingCall, seeing_clock_calls}
 use Rattle.o32_model.specs.Small.{small_calls}
 use Rattle.o32_model.specs.Step.{Guest, O32Step, O32Call}
 use Rattle.o32_model.specs.Table.{call_in, file_call_or, io_call_or, seeing_call_in, seeing_step_of, wait_call_or}
+use Rattle.o32_model.specs.WaitEnds.{WaitEnd, ends_with, wait_ended}
+use Rattle.o32_model.specs.declared.wait.Cause.{Cause}
+use Rattle.o32_model.specs.declared.wait.Close.TheVariants as closes
 use Rattle.o32_model.specs.declared.wait.Seen.{Seen}
+use Rattle.o32_model.specs.declared.wait.Wait.{Wait}
 
 -- the calls on files: link, unlink, rename, mkdir, rmdir, symlink, mkdirat, unlinkat, renameat, linkat, symlinkat; chdir, chmod, access,
 -- umask, fchmod, fsync, fchdir, fdatasync, fchmodat, faccessat, utimensat; readlink, getcwd, readlinkat; truncate, ftruncate, truncate64,
@@ -62,3 +71,30 @@ built_seeing_of number = seeing_call_in seeing_clock_calls None number
 abbrev pub built_call : Seen → Kernel → Guest → List ℕ → O32Step
 built_call seen kernel guest left =
     seeing_step_of (built_of guest.words.nr) (built_seeing_of guest.words.nr) seen kernel guest left
+
+-- No signal is delivered but that of a fault, which kills: what a write to a pipe without readers posts (SIGPIPE of pipe(7)), and what a timer
+-- posts, stays pending.
+
+abbrev pub fault_kills : Option Info → Within → Within
+fault_kills None within = within
+fault_kills (Some info) within = killed info.sig (with_machine within (record within.machine { fault = None }))
+
+abbrev pub built_delivery : Within → Within
+built_delivery within = fault_kills within.machine.fault within
+
+-- No call waits for a signal.
+abbrev pub none_awaited : Machine → List Sig
+none_awaited machine = []
+
+-- Of the calls that wait only nanosleep(2) and clock_nanosleep(2) have a deadline. Another one would be over with 0.
+
+abbrev pub is_sleep : ℕ → Bool
+is_sleep number = (number == 4166) || (number == 4265)
+
+abbrev pub built_end : Bool → Wait → Cause → Kernel → Memory → WaitEnd
+built_end restarts wait cause kernel memory =
+    if is_sleep wait.nr then wait_ended wait cause kernel.clock kernel memory else ends_with (closes.Value 0) kernel memory
+
+-- what a turn is made of so far
+abbrev pub built : Rules
+built = record { call = built_call; awaited = none_awaited; ended = built_end; deliver = built_delivery }

@@ -1,18 +1,20 @@
 -- What calls do to the machine as a list of effects, and what it is to carry them out. (The journal is this project's own.)
 pub use Rattle.o32_model.specs.Ranges.{user_pages}
-use Rattle.std.specs.Prelude.{◌≡◌, ◌⊎◌, ℕ, ◌+◌, ◌^◌, ◌==◌, ◌<◌, ◌≤◌, All, List, [], ◌∷◌, ◌++◌, length, Option, Some, None, is_none, nat_lt, if◌then◌else◌}
+use Rattle.std.specs.Prelude.{◌≡◌, ◌⊎◌, ℕ, ◌+◌, ◌*◌, ◌^◌, ◌==◌, ◌<◌, ◌≤◌, All, List, [], ◌∷◌, ◌++◌, length, Option, Some, None, Result, Ok, Err, nat_lt, if◌then◌else◌}
+use Rattle.std.specs.FinMap.{len}
 use Rattle.guest_space.specs.Access.{first_denied}
 use Rattle.guest_space.specs.Bytes.{with_bytes}
-use Rattle.guest_space.specs.Mapping.{mapped_run, with_protection}
+use Rattle.guest_space.specs.Mapping.{mapped_run, page_limit, with_protection}
 use Rattle.guest_space.specs.Memory.{Pages}
 use Rattle.guest_space.specs.Remapping.{without}
 use Rattle.guest_space.specs.declared.access.Access.TheVariants.{Store}
+use Rattle.guest_space.specs.declared.access.Denied.{Denied}
 use Rattle.kernel_core.specs.declared.record.Effect.{Effect}
 use Rattle.kernel_core.specs.declared.record.Effect.TheVariants.{Register, Write, Map, Unmap, Protect, Output}
 use Rattle.kernel_model.specs.Pipes.{Sent}
 use Rattle.mips_exec.specs.Processor.{Processor, with_register}
 use Rattle.o32_model.specs.Logs.{with_more}
-use Rattle.o32_model.specs.Ranges.{with_new_pages}
+use Rattle.o32_model.specs.Ranges.{page_size, with_new_pages}
 
 -- What effects act on: the registers, the pages, and what was sent to the outputs
 pub record Target : Type 0 where
@@ -20,71 +22,94 @@ pub record Target : Type 0 where
   pub pages : Pages
   pub sent : Sent
 
--- Registers: 1 to 31 by their numbers, 32 HI, 33 LO, 34 the pc, 35 the thread pointer
-abbrev pub after_register : Processor → ℕ → ℕ → Option Processor
+-- Where what an effect acts on is not as the effect has it they differ: what it wants there, and what it finds.
+pub record Difference : Type 0 where
+  pub wanted : ℕ
+  pub found : ℕ
+
+abbrev pub differs : {T : Type 0} → ℕ → ℕ → Result T Difference
+differs wanted found = Err (record { wanted = wanted; found = found })
+
+-- Registers: 1 to 31 by their numbers, 32 HI, 33 LO, 34 the pc, 35 the thread pointer. Any other number names none, and 0 is found in its place.
+abbrev pub after_register : Processor → ℕ → ℕ → Result Processor Difference
 after_register processor number value =
-    if nat_lt number 32 then (if number == 0 then None else Some (with_register processor number value))
-    else (if number == 32 then Some (record processor { hi = value })
-    else (if number == 33 then Some (record processor { lo = value })
-    else (if number == 34 then Some (record processor { pc = value })
-    else (if number == 35 then Some (record processor { thread_pointer = value })
-    else None))))
+    if nat_lt number 32 then (if number == 0 then differs number 0 else Ok (with_register processor number value))
+    else (if number == 32 then Ok (record processor { hi = value })
+    else (if number == 33 then Ok (record processor { lo = value })
+    else (if number == 34 then Ok (record processor { pc = value })
+    else (if number == 35 then Ok (record processor { thread_pointer = value })
+    else differs number 0))))
 
 -- Pages
 
--- each byte has to lie in a page that may be written
-abbrev pub after_write : Pages → ℕ → List ℕ → Option Pages
-after_write pages address bytes =
-    if is_none (first_denied Store pages address (length bytes)) then Some (with_bytes pages address bytes) else None
+-- Each byte has to lie in a page that may be written. Else the address is wanted, and that of the first byte that lies in none is found.
 
--- pages of zeros, whatever stood there; no more pages than the limit may be mapped then
-abbrev pub after_map : Pages → ℕ → ℕ → ℕ → Option Pages
-after_map pages first count protection = with_new_pages pages first count protection
+abbrev pub written_unless : Pages → ℕ → List ℕ → Option Denied → Result Pages Difference
+written_unless pages address bytes None = Ok (with_bytes pages address bytes)
+written_unless pages address bytes (Some denied) = differs address denied.addr
 
--- each page has to be there
-abbrev pub after_protect : Pages → ℕ → ℕ → ℕ → Option Pages
+abbrev pub after_write : Pages → ℕ → List ℕ → Result Pages Difference
+after_write pages address bytes = written_unless pages address bytes (first_denied Store pages address (length bytes))
+
+-- Pages of zeros, whatever stood there. No more pages than the limit may be mapped then: else the limit is wanted, and the number of pages that
+-- are mapped is found.
+
+abbrev pub mapped_or : Pages → Option Pages → Result Pages Difference
+mapped_or pages (Some after) = Ok after
+mapped_or pages None = differs page_limit (len pages)
+
+abbrev pub after_map : Pages → ℕ → ℕ → ℕ → Result Pages Difference
+after_map pages first count protection = mapped_or pages (with_new_pages pages first count protection)
+
+-- Each page has to be there: else the address of the first page is wanted, and that of the first page that isn't there is found.
+abbrev pub after_protect : Pages → ℕ → ℕ → ℕ → Result Pages Difference
 after_protect pages first count protection =
-    if mapped_run pages first count == count then Some (with_protection pages first count protection) else None
+    let run = mapped_run pages first count in
+    if run == count then Ok (with_protection pages first count protection) else differs (first * page_size) ((first + run) * page_size)
 
--- Outputs: stream 1 is the output, and 2 the error output
-abbrev pub after_output : Sent → ℕ → List ℕ → Option Sent
+-- Outputs: stream 1 is the output, and 2 the error output. Any other number names none, and 0 is found in its place.
+abbrev pub after_output : Sent → ℕ → List ℕ → Result Sent Difference
 after_output sent stream bytes =
-    if stream == 1 then Some (record sent { out = sent.out ++ bytes })
-    else (if stream == 2 then Some (record sent { err = sent.err ++ bytes })
-    else None)
+    if stream == 1 then Ok (record sent { out = sent.out ++ bytes })
+    else (if stream == 2 then Ok (record sent { err = sent.err ++ bytes })
+    else differs stream 0)
 
 -- Carrying out
 
-abbrev pub on_processor : Target → Option Processor → Option Target
-on_processor target None = None
-on_processor target (Some processor) = Some (record target { processor = processor })
+abbrev pub on_processor : Target → Result Processor Difference → Result Target Difference
+on_processor target (Ok processor) = Ok (record target { processor = processor })
+on_processor target (Err difference) = Err difference
 
-abbrev pub on_pages : Target → Option Pages → Option Target
-on_pages target None = None
-on_pages target (Some pages) = Some (record target { pages = pages })
+abbrev pub on_pages : Target → Result Pages Difference → Result Target Difference
+on_pages target (Ok pages) = Ok (record target { pages = pages })
+on_pages target (Err difference) = Err difference
 
-abbrev pub on_sent : Target → Option Sent → Option Target
-on_sent target None = None
-on_sent target (Some sent) = Some (record target { sent = sent })
+abbrev pub on_sent : Target → Result Sent Difference → Result Target Difference
+on_sent target (Ok sent) = Ok (record target { sent = sent })
+on_sent target (Err difference) = Err difference
 
--- after one effect; none where that meets a difference: what it acts on is not as the effect has it
-abbrev pub carried : Target → Effect → Option Target
+-- after one effect, or the difference that it meets
+abbrev pub carried : Target → Effect → Result Target Difference
 carried target (Register number value) = on_processor target (after_register target.processor number value)
 carried target (Write address bytes) = on_pages target (after_write target.pages address bytes)
 carried target (Map first count protection) = on_pages target (after_map target.pages first count protection)
-carried target (Unmap first count) = Some (record target { pages = without target.pages first count })
+carried target (Unmap first count) = Ok (record target { pages = without target.pages first count })
 carried target (Protect first count protection) = on_pages target (after_protect target.pages first count protection)
 carried target (Output stream bytes) = on_sent target (after_output target.sent stream bytes)
 
 -- after effects in order, the first of which that meets a difference ends them
 
-abbrev pub carried_on : List Effect → Option Target → Option Target
+abbrev pub carried_on : List Effect → Result Target Difference → Result Target Difference
 carried_on [] reached = reached
-carried_on (effect ∷ effects) None = None
-carried_on (effect ∷ effects) (Some target) = carried_on effects (carried target effect)
+carried_on (effect ∷ effects) (Err difference) = Err difference
+carried_on (effect ∷ effects) (Ok target) = carried_on effects (carried target effect)
 
-abbrev pub carried_all : Target → List Effect → Option Target
-carried_all target effects = carried_on effects (Some target)
+abbrev pub carried_all : Target → List Effect → Result Target Difference
+carried_all target effects = carried_on effects (Ok target)
+
+-- A record of the journal has the effects between two instructions or those of a call. No LL before it goes on to an SC behind it.
+abbrev pub after_record : Target → List Effect → Result Target Difference
+after_record target effects = carried_all (record target { processor = record target.processor { link = None } }) effects
 
 -- What an effect of a call is like: its numbers fit the fields that they are kept in, its pages are some of the program's, a protection has
 -- three bits, and an output is one of the two. What is kept while a call is made sets no register: the machine alone sets registers, and
@@ -107,4 +132,4 @@ pub record Effected (old new : Option (List Effect)) (from to : Target) : Type 0
   pub more : List Effect
   pub kept : new ≡ with_more old more
   pub formed : All IsFormed more
-  pub leads : carried_all from more ≡ Some to
+  pub leads : carried_all from more ≡ Ok to

@@ -9,15 +9,16 @@ use Rattle.o32_model.specs.Small.{small_calls}
 use Rattle.o32_model.specs.Step.{Guest, O32Step}
 use Rattle.o32_model.specs.Table.{call_in, io_call_or, file_call_or}
 use Rattle.o32_model.specs.declared.outcome.Outcome.{Outcome}
-use Rattle.o32_model.specs.declared.outcome.Outcome.TheVariants.{Value, Pair, Error, Sleep, Frame, Exit}
+use Rattle.o32_model.specs.declared.outcome.Outcome.TheVariants.{Value, Pair, Error, Sleep, Frame, BadFrame, Exit}
 
--- what a call comes to is an error
+-- what a call comes to is an error, or a return that fails
 abbrev pub IsFailure : Outcome → Type 0
 IsFailure (Value number) = ⊥
 IsFailure (Pair first second) = ⊥
 IsFailure (Error error) = ⊤
 IsFailure (Sleep wait) = ⊥
 IsFailure Frame = ⊥
+IsFailure BadFrame = ⊤
 IsFailure (Exit status) = ⊥
 
 -- memory, the processor and what is left of the input stay, and nothing is sent

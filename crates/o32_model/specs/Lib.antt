@@ -2,12 +2,17 @@ pub mod Actions
 pub mod Answered
 pub mod Built
 pub mod Clocks
+pub mod Closing
+pub mod Delivering
 pub mod Descriptors
 pub mod Effects
 pub mod Entries
 pub mod GuestBytes
+pub mod Handling
+pub mod Instruction
 pub mod Laws
 pub mod Logs
+pub mod Machine
 pub mod Mappings
 pub mod Masks
 pub mod Names
@@ -17,6 +22,7 @@ pub mod Opening
 pub mod PathArguments
 pub mod Paths
 pub mod Polling
+pub mod Posting
 pub mod Ranges
 pub mod Results
 pub mod Returns

@@ -40,6 +40,7 @@ masked before mask step (outcomes.Pair first second) = step
 masked before mask step (outcomes.Error error) = step
 masked before mask step (outcomes.Sleep wait) = waiting_with before step wait mask
 masked before mask step outcomes.Frame = step
+masked before mask step outcomes.BadFrame = step
 masked before mask step (outcomes.Exit status) = step
 
 abbrev pub with_own_mask : Kernel → Option (Given SignalSet) → O32Step → O32Step

@@ -1,7 +1,7 @@
 -- Returning from a handler: sigreturn(2), and rt_sigreturn. The frame at the stack pointer says what the registers, the mask and the alternate
 -- stack are. (The layouts of frames are this project's own profile.)
 use Rattle.std.specs.Prelude.{ℕ, List, [], ◌∷◌, Some, Ok, Err}
-use Rattle.kernel_model.specs.Came.{Given, refused}
+use Rattle.kernel_model.specs.Came.{Given}
 use Rattle.kernel_model.specs.Pipes.{nothing}
 use Rattle.kernel_model.specs.SignalRows.{with_mask, set_stack}
 use Rattle.kernel_model.specs.State.{Kernel}
@@ -10,26 +10,33 @@ use Rattle.layouts.specs.Frames.{AlternateStack, frame_context, frame_mask, rt_f
 use Rattle.layouts.specs.O32.{frame, rt_frame_of, siginfo}
 use Rattle.mips_exec.specs.Processor.{Processor, register}
 use Rattle.o32_model.specs.GuestBytes.{structure}
-use Rattle.o32_model.specs.Step.{Guest, O32Step, O32Call, gives}
+use Rattle.o32_model.specs.Step.{Guest, O32Step, O32Call}
 use Rattle.o32_model.specs.Words.{sp}
+use Rattle.o32_model.specs.declared.outcome.Outcome.{Outcome}
 use Rattle.o32_model.specs.declared.outcome.Outcome.TheVariants as outcomes
 use Rattle.signal_frames.specs.Returning.{returned}
 
 -- the processor and the kernel after a return, which gives no result
-abbrev pub returns_to : Guest → Kernel → Processor → List ℕ → O32Step
-returns_to guest kernel processor left = record {
+abbrev pub comes_back : Outcome → Guest → Kernel → Processor → List ℕ → O32Step
+comes_back outcome guest kernel processor left = record {
   kernel = kernel;
   left = left;
   memory = guest.memory;
   processor = processor;
   sent = nothing;
-  outcome = outcomes.Frame;
+  outcome = outcome;
 }
 
--- A frame that can't be read whole comes to EFAULT. It is no result: whoever makes the call makes a fault of it (own).
+abbrev pub returns_to : Guest → Kernel → Processor → List ℕ → O32Step
+returns_to guest kernel processor left = comes_back outcomes.Frame guest kernel processor left
+
+-- A frame that can't be read whole changes nothing: the turn of the call makes a fault of it.
+
+abbrev pub fails_to_return : Kernel → Guest → List ℕ → O32Step
+fails_to_return kernel guest left = comes_back outcomes.BadFrame guest kernel guest.processor left
 
 abbrev pub after_frame : Kernel → Guest → Given (List ℕ) → List ℕ → O32Step
-after_frame kernel guest (Err error) left = gives guest (refused kernel error) left
+after_frame kernel guest (Err error) left = fails_to_return kernel guest left
 after_frame kernel guest (Ok bytes) left =
     returns_to guest (with_mask kernel (frame_mask bytes)) (returned guest.processor (frame_context bytes)) left
 
@@ -46,7 +53,7 @@ abbrev pub with_frame_stack : Kernel → Processor → AlternateStack → Kernel
 with_frame_stack kernel processor stack = (set_stack kernel (Some (register processor sp)) (Some (Ok (kept_stack stack)))).state
 
 abbrev pub after_rt_frame : Kernel → Guest → Given (List ℕ) → List ℕ → O32Step
-after_rt_frame kernel guest (Err error) left = gives guest (refused kernel error) left
+after_rt_frame kernel guest (Err error) left = fails_to_return kernel guest left
 after_rt_frame kernel guest (Ok bytes) left =
     let processor = returned guest.processor (rt_frame_context bytes) in
     returns_to guest (with_frame_stack (with_mask kernel (rt_frame_mask bytes)) processor (rt_frame_stack bytes)) processor left

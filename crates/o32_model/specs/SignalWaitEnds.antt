@@ -1,12 +1,17 @@
 -- How the waits for signals and the waits of transfers end (signal(7), 'Interruption of system calls and library functions by signal
 -- handlers'; rt_sigtimedwait(2), sigsuspend(2), pause(2)).
-use Rattle.std.specs.Prelude.{◌==◌, Bool, [], take, if◌then◌else◌}
+use Rattle.std.specs.Prelude.{◌==◌, Bool, List, [], take, Ok, Err, if◌then◌else◌}
+use Rattle.std.specs.List.{filter}
 use Rattle.guest_space.specs.Memory.{Memory}
 use Rattle.kernel_core.specs.declared.error.Errno.TheVariants.{EAGAIN, EINTR}
+use Rattle.kernel_core.specs.declared.signal.Sig.{Sig}
+use Rattle.kernel_model.specs.Came.{Given}
+use Rattle.kernel_model.specs.SignalSets.{SignalSet, blockable, has}
 use Rattle.kernel_model.specs.State.{Kernel}
 use Rattle.mips_exec.specs.Processor.{fresh}
+use Rattle.o32_model.specs.Masks.{set_at}
 use Rattle.o32_model.specs.Step.{Guest, O32Step}
-use Rattle.o32_model.specs.Suspending.{rt_sigtimedwait_row}
+use Rattle.o32_model.specs.Suspending.{all_signals, rt_sigtimedwait_row}
 use Rattle.o32_model.specs.WaitEnds.{WaitEnd, ends_with, interrupted, with_old_mask, wait_word}
 use Rattle.o32_model.specs.declared.outcome.Outcome.{Outcome}
 use Rattle.o32_model.specs.declared.outcome.Outcome.TheVariants as outcomes
@@ -31,6 +36,7 @@ closing (outcomes.Pair first second) = closes.Value first
 closing (outcomes.Error error) = closes.Error error
 closing (outcomes.Sleep wait) = closes.Again
 closing outcomes.Frame = closes.Again
+closing outcomes.BadFrame = closes.Again
 closing (outcomes.Exit status) = closes.Again
 
 abbrev pub ended_by : O32Step → WaitEnd
@@ -39,6 +45,15 @@ ended_by step = ends_with (closing step.outcome) step.kernel step.memory
 -- what the call finds of the program: the processor and words on the stack are not looked at
 abbrev pub finding : Wait → Memory → Guest
 finding wait memory = record { words = record { nr = wait.nr; reg = take 4 wait.words; stack = [] }; processor = fresh 0; memory = memory }
+
+-- the signals that it waits for, by rising numbers; none where they can't be read
+
+abbrev pub named_in : Given SignalSet → List Sig
+named_in (Err error) = []
+named_in (Ok set) = filter (λ (signal : Sig). has (blockable set) signal) all_signals
+
+abbrev pub named_signals : Memory → Wait → List Sig
+named_signals memory wait = if wait.nr == 4197 then named_in (set_at memory (wait_word wait 0)) else []
 
 abbrev pub acceptance_ended : Wait → Cause → Kernel → Memory → WaitEnd
 acceptance_ended wait Due kernel memory = ends_with (closes.Error EAGAIN) kernel memory

@@ -31,6 +31,7 @@ at_end with_left step (outcomes.Pair first second) = record step { memory = with
 at_end with_left step (outcomes.Error error) = record step { memory = with_left step.memory }
 at_end with_left step (outcomes.Sleep wait) = step
 at_end with_left step outcomes.Frame = step
+at_end with_left step outcomes.BadFrame = step
 at_end with_left step (outcomes.Exit status) = step
 
 -- the time is none where its pointer is null, and an error where it can't be read or is no time

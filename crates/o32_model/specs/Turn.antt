@@ -1,138 +1,52 @@
--- The machine of an o32 program over the kernel, and one turn of it (MIPS32 Architecture for Programmers, Volume II, Release 2, for a step of
--- the processor; signal(7) for the signal of a fault; setitimer(2) for a timer that is due; nanosleep(2)). What a turn is, that a fault's signal
--- kills in the turn after its own, how long a turn takes, and that the clock jumps where a call waits, is this project's own. So far no signal
--- but a fault's is delivered: what a write to a pipe without readers posts (SIGPIPE of pipe(7)), and what a timer posts, stays pending.
-use Rattle.std.specs.Prelude.{ℕ, ◌+◌, ◌-◌, min, max, Bool, false, ◌&&◌, List, Option, Some, None, is_some, is_none, if◌then◌else◌}
-use Rattle.guest_space.specs.Memory.{Memory}
-use Rattle.kernel_core.specs.declared.finish.Finish.{Finish}
-use Rattle.kernel_core.specs.declared.finish.Finish.TheVariants.{Exited, Killed}
+-- One turn of the machine of an o32 program: its six steps (signal(7) for the posting and delivery of signals; setitimer(2) for a timer that is
+-- due; nanosleep(2), poll(2) for a deadline). What a turn is, the order of its steps, how long it takes, and that the clock jumps where no
+-- instruction can be executed, is this project's own.
+use Rattle.std.specs.Prelude.{ℕ, ◌+◌, ◌-◌, min, max, Bool, false, ◌&&◌, ◌||◌, not, List, [], ◌∷◌, ◌++◌, Option, Some, None, is_some, if◌then◌else◌}
+use Rattle.std.specs.List.{list_any}
+use Rattle.kernel_core.specs.declared.event.Event.{Event}
+use Rattle.kernel_core.specs.declared.finish.Finish.TheVariants.{Blocked}
 use Rattle.kernel_core.specs.declared.signal.Sig.{Sig}
 use Rattle.kernel_model.specs.Clock.{if_comes, is_due, next_time}
-use Rattle.kernel_model.specs.Pipes.{Sent, nothing}
-use Rattle.kernel_model.specs.SignalRows.{advance}
-use Rattle.kernel_model.specs.State.{Kernel}
-use Rattle.mips_exec.specs.Processor.{Processor}
-use Rattle.mips_exec.specs.Step.{step_of}
-use Rattle.mips_exec.specs.declared.Stepped.{Stepped}
-use Rattle.mips_exec.specs.declared.Stepped.TheVariants.{Next, Syscall, Fault}
-use Rattle.number_tables.specs.Signals.{o32_signal}
-use Rattle.o32_model.specs.Built.{built_call}
-use Rattle.o32_model.specs.Step.{Guest, O32Step}
-use Rattle.o32_model.specs.Words.{call_words, returned}
-use Rattle.o32_model.specs.declared.outcome.Outcome.{Outcome}
-use Rattle.o32_model.specs.declared.outcome.Outcome.TheVariants as outcomes
-use Rattle.o32_model.specs.declared.wait.Seen.{Seen}
+use Rattle.kernel_model.specs.Pipes.{nothing}
+use Rattle.kernel_model.specs.SignalRows.{pends}
+use Rattle.o32_model.specs.Built.{built}
+use Rattle.o32_model.specs.Closing.{wait_over, whole_end}
+use Rattle.o32_model.specs.Delivering.{deliver}
+use Rattle.o32_model.specs.Instruction.{executed}
+use Rattle.o32_model.specs.Machine.{Change, Machine, Rules, Turn, Within, begin, no_change, turn, with_change, with_machine}
+use Rattle.o32_model.specs.Posting.{awaited, posted}
+use Rattle.o32_model.specs.Table.{machine_call}
+use Rattle.o32_model.specs.declared.wait.Cause.{Cause}
+use Rattle.o32_model.specs.declared.wait.Cause.TheVariants.{Due, Accepted, Stopped}
 use Rattle.o32_model.specs.declared.wait.Wait.{Wait}
-
--- The processor with its memory; the kernel; the call that waits; the signal of the fault that the last turn met; and how many nanoseconds its
--- clock has jumped so far while calls waited
-pub record Machine : Type 0 where
-  pub processor : Processor
-  pub memory : Memory
-  pub kernel : Kernel
-  pub wait : Option Wait
-  pub fault : Option Sig
-  pub idle : ℕ
-
--- What one turn leaves: the machine, and what is left of the input; what it sends to the outputs; and how it ends the process
-pub record Turn : Type 0 where
-  pub machine : Machine
-  pub left : List ℕ
-  pub sent : Sent
-  pub over : Option Finish
-
-abbrev pub goes_on : Machine → List ℕ → Sent → Turn
-goes_on machine left sent = record { machine = machine; left = left; sent = sent; over = None }
-
-abbrev pub ends : Machine → List ℕ → Sent → Finish → Turn
-ends machine left sent finish = record { machine = machine; left = left; sent = sent; over = Some finish }
-
--- Calls
-
--- what a call finds of the program
-abbrev pub guest_of : Processor → Memory → Guest
-guest_of processor memory = record { words = call_words processor memory; processor = processor; memory = memory }
-
--- What it sees of the machine beside that: the time of instructions alone, which is all that the clock did not jump, and which the clocks of CPU
--- time count (clock_gettime(2)); no wait is there that could go on.
-abbrev pub seen_of : ℕ → Kernel → Seen
-seen_of idle kernel = record { quanta = kernel.clock - idle; restart = None }
-
--- the machine behind a call: its result is in the registers, or it waits
-
-abbrev pub behind : ℕ → O32Step → Option Wait → Machine
-behind idle step wait = record {
-  processor = returned step.processor step.outcome;
-  memory = step.memory;
-  kernel = step.kernel;
-  wait = wait;
-  fault = None;
-  idle = idle;
-}
-
-abbrev pub after_outcome : ℕ → O32Step → Outcome → Turn
-after_outcome idle step (outcomes.Value value) = goes_on (behind idle step None) step.left step.sent
-after_outcome idle step (outcomes.Pair first second) = goes_on (behind idle step None) step.left step.sent
-after_outcome idle step (outcomes.Error error) = goes_on (behind idle step None) step.left step.sent
-after_outcome idle step outcomes.Frame = goes_on (behind idle step None) step.left step.sent
-after_outcome idle step (outcomes.Sleep wait) = goes_on (behind idle step (Some wait)) step.left step.sent
-after_outcome idle step (outcomes.Exit status) = ends (behind idle step None) step.left step.sent (Exited status)
-
-abbrev pub after_call : ℕ → O32Step → Turn
-after_call idle step = after_outcome idle step step.outcome
-
--- the call of the SYSCALL that was just executed
-abbrev pub called : Machine → List ℕ → Turn
-called machine left =
-    after_call machine.idle (built_call (seen_of machine.idle machine.kernel) machine.kernel (guest_of machine.processor machine.memory) left)
-
--- Instructions
-
-abbrev pub stepped : ℕ → Processor → Memory → Kernel → Option Sig → Machine
-stepped idle processor memory kernel fault =
-    record { processor = processor; memory = memory; kernel = kernel; wait = None; fault = fault; idle = idle }
-
--- what one step of the processor comes to, with a call of those that there are so far
-abbrev pub after_step : ℕ → Processor → Memory → Kernel → List ℕ → Stepped → Turn
-after_step idle processor memory kernel left Next = goes_on (stepped idle processor memory kernel None) left nothing
-after_step idle processor memory kernel left Syscall = called (stepped idle processor memory kernel None) left
-after_step idle processor memory kernel left (Fault signal code address) =
-    goes_on (stepped idle processor memory kernel (Some signal)) left nothing
-
--- one instruction, with its call
-abbrev pub executed : Machine → List ℕ → Turn
-executed machine left =
-    let step = step_of machine.processor machine.memory in
-    after_step machine.idle step.processor step.memory machine.kernel left step.came
-
--- Time
-
--- the same at this time of the clock, in nanoseconds
-abbrev pub at_time : ℕ → Turn → Turn
-at_time time turn = record turn { machine = record turn.machine { kernel = record turn.machine.kernel { clock = time } } }
-
--- A turn begins with the interval timer: where it is due it goes off. No sigtimedwait waits for its signal then.
-abbrev pub timed : Machine → Machine
-timed machine = record machine { kernel = advance machine.kernel machine.kernel.clock false }
+use Rattle.schedule.specs.declared.events.Due.{Due as Coming}
 
 -- Waits
+
+abbrev pub ended_by : Rules → Cause → Wait → Machine → Change
+ended_by rules cause wait machine = wait_over wait (rules.ended false wait cause machine.kernel machine.memory) machine
 
 -- whether a deadline is over; one that is not there, or past 2^61, never is
 abbrev pub is_over_at : ℕ → Option ℕ → Bool
 is_over_at clock None = false
 is_over_at clock (Some deadline) = is_due clock deadline
 
--- A call whose deadline is over returns 0. (So far only those that sleep have a deadline: nanosleep(2), clock_nanosleep(2).)
+-- whether a signal that the call waits for pends
+abbrev pub accepts : Rules → Machine → Bool
+accepts rules machine = list_any (λ (signal : Sig). pends machine.kernel.signals signal) (rules.awaited machine)
 
-abbrev pub wakes : Machine → Machine
-wakes machine = record machine { processor = returned machine.processor (outcomes.Value 0); wait = None }
+abbrev pub ended_if_over : Rules → Machine → Option Wait → Change
+ended_if_over rules machine None = no_change machine
+ended_if_over rules machine (Some wait) =
+    if accepts rules machine then ended_by rules Accepted wait machine
+    else (if is_over_at machine.kernel.clock wait.deadline then ended_by rules Due wait machine
+    else no_change machine)
 
-abbrev pub woken_by : Machine → Option Wait → Machine
-woken_by machine None = machine
-woken_by machine (Some wait) = if is_over_at machine.kernel.clock wait.deadline then wakes machine else machine
+abbrev pub continued : Rules → Machine → Option Wait → Change
+continued rules machine None = no_change machine
+continued rules machine (Some wait) = ended_by rules Stopped wait machine
 
-abbrev pub woken : Machine → Machine
-woken machine = woken_by machine machine.wait
+-- Time
 
 -- the lesser of two times that may not be there
 abbrev pub sooner : Option ℕ → Option ℕ → Option ℕ
@@ -140,46 +54,84 @@ sooner None other = other
 sooner (Some time) None = Some time
 sooner (Some time) (Some other) = Some (min time other)
 
--- the time of the next thing that can come to a call that waits: its deadline, or the timer; none past 2^61
-abbrev pub next_for : Machine → Wait → Option ℕ
-next_for machine wait = sooner (if_comes wait.deadline) (next_time machine.kernel.timer)
+abbrev pub next_event : List Coming → Option ℕ
+next_event [] = None
+next_event (due ∷ more) = Some due.time
 
-abbrev pub next_by : Machine → Option Wait → Option ℕ
-next_by machine None = None
-next_by machine (Some wait) = next_for machine wait
+abbrev pub deadline_of : Option Wait → Option ℕ
+deadline_of None = None
+deadline_of (Some wait) = if_comes wait.deadline
 
--- the clock goes to that time, and never back
-abbrev pub jump_to : ℕ → Option ℕ → ℕ
-jump_to clock None = clock
-jump_to clock (Some time) = max clock time
+-- The time of the next thing that can come while no instruction is executed: an event, the timer, or the deadline of a call, which a stopped
+-- process does not look at; none past 2^61
+abbrev pub next_for : Machine → Option ℕ
+next_for machine =
+    sooner (next_event machine.coming)
+    (sooner (next_time machine.kernel.timer) (if machine.stopped then None else deadline_of machine.wait))
 
-abbrev pub jumped_at : Machine → ℕ → Machine
-jumped_at machine time =
+abbrev pub jumped_to : ℕ → Machine → Machine
+jumped_to time machine =
     record machine { kernel = record machine.kernel { clock = time }; idle = machine.idle + (time - machine.kernel.clock) }
 
-abbrev pub jumped : Machine → Machine
-jumped machine = jumped_at machine (jump_to machine.kernel.clock (next_by machine machine.wait))
+-- the clock goes there, and never back; where nothing can come, the process is blocked
+abbrev pub jumped : Option ℕ → Within → Within
+jumped None within = record within { over = Some Blocked }
+jumped (Some time) within = with_machine within (jumped_to (max within.machine.kernel.clock time) within.machine)
 
--- Turns
+-- The steps of a turn
 
--- The fault of the turn before kills the process, and is used up by that. Else an instruction is carried out, and the clock stands at `later`.
-abbrev pub after_fault : ℕ → Machine → List ℕ → Option Sig → Turn
-after_fault later machine left (Some signal) = ends (record machine { fault = None }) left nothing (Killed (o32_signal signal))
-after_fault later machine left None = at_time later (executed machine left)
+-- what is due is posted
+abbrev pub first_step : Rules → Machine → Within
+first_step rules machine = posted rules (begin machine)
 
--- A call that still waits leaves its turn without an instruction.
-abbrev pub unless_asleep : ℕ → Machine → List ℕ → Option Wait → Turn
-unless_asleep later machine left (Some wait) = goes_on (jumped machine) left nothing
-unless_asleep later machine left None = after_fault later machine left machine.fault
+-- a wait ends whose deadline is over, or for which a signal pends
+abbrev pub second_step : Rules → Within → Within
+second_step rules within =
+    let machine = within.machine in
+    if machine.stopped || machine.interrupted then within else with_change within (ended_if_over rules machine machine.wait)
 
--- One turn: the timer that is due goes off, and a call whose deadline is over ends. Where a call still waits the clock jumps. Else the fault of
--- the turn before kills, or an instruction is carried out with its call. One with an instruction takes a quantum, in nanoseconds of the clock.
+-- signals are delivered
+abbrev pub third_step : Rules → Within → Within
+third_step rules within = if within.machine.stopped then within else rules.deliver within
+
+-- a wait that a stop interrupted goes on or ends
+abbrev pub fourth_step : Rules → Within → Within
+fourth_step rules within =
+    let machine = within.machine in
+    if machine.interrupted && not machine.stopped then with_change within (continued rules machine machine.wait) else within
+
+-- where the process is stopped, or a call waits, the clock jumps
+abbrev pub fifth_step : Within → List ℕ → Turn
+fifth_step within left = turn (jumped (next_for within.machine) within) left nothing
+
+abbrev pub after_events : List Event → Turn → Turn
+after_events events later = record later { events = events ++ later.events }
+
+-- else one instruction is executed, with its call
+abbrev pub sixth_step : Rules → ℕ → Within → List ℕ → Turn
+sixth_step rules quantum within left = after_events within.events (executed rules quantum within.machine left)
+
+abbrev pub fifth_or_sixth : Rules → ℕ → Within → List ℕ → Turn
+fifth_or_sixth rules quantum within left =
+    if within.machine.stopped || is_some within.machine.wait then fifth_step within left else sixth_step rules quantum within left
+
+-- a process that was killed takes no further step
+abbrev pub unless_killed : Rules → ℕ → Within → List ℕ → Turn
+unless_killed rules quantum within left =
+    if is_some within.over then turn within left nothing else fifth_or_sixth rules quantum (fourth_step rules within) left
+
+abbrev pub turn_by : Rules → ℕ → Machine → List ℕ → Turn
+turn_by rules quantum machine left =
+    unless_killed rules quantum (third_step rules (second_step rules (first_step rules machine))) left
+
+-- One turn as it is built so far. `quantum` is what one with an instruction takes, in nanoseconds of the clock.
 unfoldable pub turn_of : ℕ → Machine → List ℕ → Turn
-turn_of quantum machine left =
-    let begun = woken (timed machine) in
-    unless_asleep (machine.kernel.clock + quantum) begun left begun.wait
+turn_of quantum machine left = turn_by built quantum machine left
 
--- A call waits, and neither its deadline nor a timer is there that can come: no turn follows. So far no signal ends a wait.
+-- One turn with all calls and the delivery of signals. What is built so far is `built` in its place.
 
-abbrev pub is_blocked : Machine → Bool
-is_blocked machine = is_some machine.wait && is_none (next_by machine machine.wait)
+abbrev pub whole : Rules
+whole = record { call = machine_call; awaited = awaited; ended = whole_end; deliver = deliver }
+
+unfoldable pub whole_turn_of : ℕ → Machine → List ℕ → Turn
+whole_turn_of quantum machine left = turn_by whole quantum machine left

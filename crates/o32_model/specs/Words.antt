@@ -10,7 +10,7 @@ use Rattle.mips_exec.specs.Processor.{Processor, register, with_register}
 use Rattle.number_tables.specs.Errors.{o32_errno}
 use Rattle.o32_model.specs.declared.call_words.CallWords.{CallWords}
 use Rattle.o32_model.specs.declared.outcome.Outcome.{Outcome}
-use Rattle.o32_model.specs.declared.outcome.Outcome.TheVariants.{Value, Pair, Error, Sleep, Frame, Exit}
+use Rattle.o32_model.specs.declared.outcome.Outcome.TheVariants.{Value, Pair, Error, Sleep, Frame, BadFrame, Exit}
 
 -- The registers of a call
 
@@ -92,11 +92,12 @@ six_words words =
 abbrev pub with_result : Processor → ℕ → ℕ → Processor
 with_result processor value failed = with_register (with_register processor v0 value) a3 failed
 
--- a call that waits, ends the process or has set all registers returns nothing
+-- a call that waits, ends the process, has set all registers or could not return to them returns nothing
 abbrev pub returned : Processor → Outcome → Processor
 returned processor (Value value) = with_result processor value 0
 returned processor (Pair first second) = with_register (with_result processor first 0) v1 second
 returned processor (Error error) = with_result processor (o32_errno error) 1
 returned processor (Sleep wait) = processor
 returned processor Frame = processor
+returned processor BadFrame = processor
 returned processor (Exit status) = processor

@@ -16,6 +16,9 @@ pub enum Outcome {
     Sleep(Wait),
     /// The registers are those of a signal's frame (sigreturn(2)), and nothing is returned.
     Frame,
+    /// The frame of a signal's handler can't be read (sigreturn(2)): nothing is returned, and the process
+    /// meets a fault.
+    BadFrame,
     /// The process ends with this status (exit(2)).
     Exit(u8),
 }

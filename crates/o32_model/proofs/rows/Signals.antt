@@ -34,7 +34,7 @@ use Rattle.o32_model.specs.Table.{o32_call}
 use Rattle.o32_model.specs.WaitEnds.{ends_with}
 use Rattle.o32_model.specs.declared.call_words.CallWords.{CallWords}
 use Rattle.o32_model.specs.declared.outcome.Outcome.{Outcome}
-use Rattle.o32_model.specs.declared.outcome.Outcome.TheVariants.{Value, Error, Sleep, Frame}
+use Rattle.o32_model.specs.declared.outcome.Outcome.TheVariants.{Value, Error, Sleep, Frame, BadFrame}
 use Rattle.o32_model.specs.declared.wait.Cause.TheVariants.{Due, Accepted, Handler, Stopped}
 use Rattle.o32_model.specs.declared.wait.Close.TheVariants as closes
 use Rattle.o32_model.specs.declared.wait.Wait.{Wait}
@@ -471,11 +471,11 @@ module _ (whole : Kernel) (processor : Processor) (memory : Memory) (left : List
     unfolding sigreturn_row
     sigreturn_reads bytes loaded held = simp (here, loaded, held) refl
 
-    sigreturn_unread : (why : Denied) → first_denied Load memory.pages pointer 632 ≡ Some why → called (words 4119 0 0 0 0) ≡ fails EFAULT
+    sigreturn_unread : (why : Denied) → first_denied Load memory.pages pointer 632 ≡ Some why → called (words 4119 0 0 0 0) ≡ leaves first memory BadFrame
     unfolding sigreturn_row
     sigreturn_unread why denied = simp (here, denied) refl
 
-    rt_sigreturn_unread : (why : Denied) → first_denied Load memory.pages pointer 784 ≡ Some why → called (words 4193 0 0 0 0) ≡ fails EFAULT
+    rt_sigreturn_unread : (why : Denied) → first_denied Load memory.pages pointer 784 ≡ Some why → called (words 4193 0 0 0 0) ≡ leaves first memory BadFrame
     unfolding rt_sigreturn_row
     rt_sigreturn_unread why denied = simp (here, denied) refl
 

@@ -1,6 +1,6 @@
 -- Worked rows on turns and whole runs, of a machine that stands at 65536 and has no timer armed. A turn with an instruction takes 1000
 -- nanoseconds.
-use Rattle.std.proofs.Common.{arith}
+use Rattle.std.proofs.Common.{arith, ap, sym, ◌∙◌}
 use Rattle.std.specs.Prelude.{◌≡◌, ℕ, zero, suc, ◌+◌, ◌^◌, ◌<◌, true, false, List, [], ◌∷◌, replicate, Option, Some, None, Ok, Err, refl}
 use Rattle.guest_space.specs.Access.{writable_prefix}
 use Rattle.guest_space.specs.Bytes.{read as loaded}
@@ -8,25 +8,33 @@ use Rattle.guest_space.specs.Memory.{Memory}
 use Rattle.guest_space.specs.declared.access.Why.TheVariants.{Absent}
 use Rattle.kernel_core.specs.Nodes.{Nodes}
 use Rattle.kernel_core.specs.declared.finish.Finish.TheVariants.{Exited, Killed, Budget, Blocked}
-use Rattle.kernel_core.specs.declared.signal.Sig.TheVariants.{Segv}
+use Rattle.kernel_core.specs.declared.event.Event.{Event}
+use Rattle.kernel_core.specs.declared.event.Event.TheVariants as events
+use Rattle.kernel_core.specs.declared.finish.Finish.{Finish}
+use Rattle.kernel_core.specs.declared.signal.Sig.TheVariants.{Alrm, Segv}
 use Rattle.kernel_model.specs.Clock.{unarmed}
 use Rattle.kernel_model.specs.DescriptorRows.{make_pipe}
 use Rattle.kernel_model.specs.Pipes.{nothing}
-use Rattle.kernel_model.specs.SignalRows.{advance}
-use Rattle.kernel_model.specs.State.{Kernel}
+use Rattle.kernel_model.specs.SignalRows.{advance, post, timer_info}
+use Rattle.kernel_model.specs.State.{Kernel, Signals}
+use Rattle.kernel_model.specs.declared.signal.Post.TheVariants.{Queued}
 use Rattle.kernel_model.specs.Transfers.{read}
 use Rattle.kernel_model.specs.Whole.{with_files, kernel_read}
 use Rattle.mips_code.specs.Instructions.{plain_rows, memory_rows, special_rows, immediate_form, signed_immediate}
-use Rattle.mips_exec.specs.Processor.{fresh}
-use Rattle.mips_exec.specs.Step.{step_of, effect_at}
+use Rattle.mips_exec.specs.Processor.{Processor, fresh}
+use Rattle.mips_exec.specs.Step.{Step, step_of, effect_at}
+use Rattle.mips_exec.specs.declared.execution.Stepped.TheVariants.{Syscall}
 use Rattle.o32_model.proofs.rows.Small.{at_first, with_pipe_of}
 use Rattle.o32_model.specs.Descriptors.{pipe_row}
-use Rattle.o32_model.specs.Runs.{reached, IsRunningAt, IsOverAt}
+use Rattle.o32_model.specs.Runs.{Reached, after_attempt, reached, is_blocked, unless_over, IsRunningAt, IsOverAt}
 use Rattle.o32_model.specs.Small.{exit_row}
 use Rattle.o32_model.specs.Transfers.{read_row}
-use Rattle.o32_model.specs.Turn.{Machine, turn_of, goes_on, ends, is_blocked}
+use Rattle.o32_model.specs.Built.{built}
+use Rattle.o32_model.specs.Instruction.{after_step, at_time, called, fault_info, stepped}
+use Rattle.o32_model.specs.Machine.{Machine, Turn}
+use Rattle.o32_model.specs.Turn.{turn_of}
 use Rattle.o32_model.specs.WaitEnds.{ends_with, wait_ended}
-use Rattle.o32_model.specs.Words.{call_words}
+use Rattle.o32_model.specs.Words.{call_words, six_words}
 use Rattle.o32_model.specs.declared.wait.Cause.TheVariants.{Due}
 use Rattle.o32_model.specs.declared.wait.Close.TheVariants as closes
 use Rattle.o32_model.specs.declared.wait.Wait.{Wait}
@@ -42,9 +50,25 @@ module _ (whole : Kernel) (nodes : Nodes) (memory : Memory) (left : List ℕ) wh
     memory = memory;
     kernel = kernel;
     wait = None;
+    interrupted = false;
+    restart = None;
+    stopped = false;
     fault = None;
+    coming = [];
     idle = 0;
   }
+
+  -- what a turn leaves, where nothing is taken and nothing is sent
+
+  abbrev goes_on : Machine → List Event → Turn
+  goes_on machine events = record { machine = machine; left = left; sent = nothing; over = None; events = events }
+
+  abbrev ends : Machine → List Event → Finish → Turn
+  ends machine events finish = record { machine = machine; left = left; sent = nothing; over = Some finish; events = events }
+
+  -- what stands after turns in which nothing is taken and nothing is sent
+  abbrev so_far : Machine → Reached
+  so_far machine = record { machine = machine; left = left; sent = nothing; over = None }
 
   -- no timer is armed
   abbrev quiet : Kernel
@@ -63,24 +87,24 @@ module _ (whole : Kernel) (nodes : Nodes) (memory : Memory) (left : List ℕ) wh
   -- SYSCALL stands at 65536
   module _ (syscall : loaded memory 65536 4 ≡ Ok 12) where
     -- $v0 becomes the error's number, and $a3 says that it is one
-    no_such_call : turn_of 1000 (at first 65536 (registers 4999 5 6 7 8 9)) left ≡ goes_on (at (a_turn_later first) 65540 (registers 89 5 6 7 8 1)) left nothing
+    no_such_call : turn_of 1000 (at first 65536 (registers 4999 5 6 7 8 9)) left ≡ goes_on (at (a_turn_later first) 65540 (registers 89 5 6 7 8 1)) (events.Call 4999 (6 ∷ 7 ∷ 8 ∷ 9 ∷ []) 89 1 ∷ [])
     unfolding turn_of advance step_of effect_at special_rows call_words
     no_such_call = simp syscall refl
 
     -- both ends are told, in $v0 and $v1
-    two_results : turn_of 1000 (at first 65536 (registers 4042 5 6 7 8 9)) left ≡ goes_on (at (a_turn_later with_pipe) 65540 (registers 3 4 6 7 8 0)) left nothing
+    two_results : turn_of 1000 (at first 65536 (registers 4042 5 6 7 8 9)) left ≡ goes_on (at (a_turn_later with_pipe) 65540 (registers 3 4 6 7 8 0)) (events.Call 4042 (6 ∷ 7 ∷ 8 ∷ 9 ∷ []) 3 0 ∷ [])
     unfolding turn_of advance step_of effect_at special_rows call_words pipe_row make_pipe
     two_results = simp syscall refl
 
     -- the turn that ends the process takes its time and counts
 
-    exits : turn_of 1000 (at first 65536 (registers 4001 5 7 0 0 9)) left ≡ ends (at (a_turn_later first) 65540 (registers 4001 5 7 0 0 9)) left nothing (Exited 7)
+    exits : turn_of 1000 (at first 65536 (registers 4001 5 7 0 0 9)) left ≡ ends (at (a_turn_later first) 65540 (registers 4001 5 7 0 0 9)) (events.Exit 7 ∷ []) (Exited 7)
     unfolding turn_of advance step_of effect_at special_rows call_words exit_row
     exits = simp syscall refl
 
     before_exit : (j : ℕ) → j < 1 → IsRunningAt 1000 (at first 65536 (registers 4001 5 7 0 0 9)) left j
-    unfolding reached
-    before_exit zero below = record { alive = refl; awake = refl }
+    unfolding reached turn_of advance step_of effect_at special_rows call_words exit_row
+    before_exit zero below = record { alive = refl; awake = simp syscall refl }
     before_exit (suc j) below = absurd (omega arith)
 
     exited : IsOverAt 1000 (at first 65536 (registers 4001 5 7 0 0 9)) left 1 1 (Exited 7)
@@ -92,23 +116,62 @@ module _ (whole : Kernel) (nodes : Nodes) (memory : Memory) (left : List ℕ) wh
       abbrev reading : Machine
       reading = at with_pipe 65536 (registers 4003 5 3 65792 1 9)
 
+      abbrev called_from : Processor
+      called_from = record (fresh 65540) { registers = registers 4003 5 3 65792 1 9 }
+
+      abbrev waiting_at : Kernel → Machine
+      waiting_at kernel = record (at kernel 65540 (registers 4003 5 3 65792 1 9)) {
+        wait = Some (record { nr = 4003; words = six_words (call_words called_from memory); deadline = None; done = 0; mask = None });
+      }
+
+      abbrev waiting : Machine
+      waiting = waiting_at (a_turn_later with_pipe)
+
+      takes : step_of (record (fresh 65536) { registers = registers 4003 5 3 65792 1 9 }) memory ≡ record { processor = called_from; memory = memory; came = Syscall }
+      unfolding step_of effect_at special_rows
+      takes = simp syscall refl
+
+      sleeps : called built (at with_pipe 65540 (registers 4003 5 3 65792 1 9)) left ≡ goes_on (waiting_at with_pipe) (events.Wait 4003 (3 ∷ 65792 ∷ 1 ∷ 9 ∷ []) ∷ [])
+      unfolding call_words read_row kernel_read read
+      sleeps = simp room refl
+
+      waits : turn_of 1000 reading left ≡ goes_on waiting (events.Wait 4003 (3 ∷ 65792 ∷ 1 ∷ 9 ∷ []) ∷ [])
+      unfolding turn_of advance
+      waits =
+          ap (λ (s : Step). at_time (with_pipe.clock + 1000) (after_step built (stepped reading s.processor s.memory) s.came left)) takes
+          ∙ ap (at_time (with_pipe.clock + 1000)) sleeps
+
+      finds_blocked : turn_of 1000 waiting left ≡ ends waiting [] Blocked
+      unfolding turn_of advance
+      finds_blocked = refl
+
+      after_one : reached 1000 reading left 1 ≡ so_far waiting
+      unfolding reached
+      after_one = ap (after_attempt (so_far reading)) waits
+
       before_read : (j : ℕ) → j < 1 → IsRunningAt 1000 reading left j
       unfolding reached
-      before_read zero below = record { alive = refl; awake = refl }
+      before_read zero below = record { alive = refl; awake = ap is_blocked waits }
       before_read (suc j) below = absurd (omega arith)
 
       blocked : IsOverAt 1000 reading left 2 1 Blocked
-      unfolding reached turn_of advance step_of effect_at special_rows call_words read_row kernel_read read
-      blocked = (omega arith, record { alive = simp (syscall, room) refl; waits = simp (syscall, room) refl; first = before_read })
+      blocked = (
+        omega arith,
+        record {
+          alive = ap (λ (r : Reached). r.over) after_one;
+          waits = ap (λ (r : Reached). is_blocked (turn_of 1000 r.machine r.left)) after_one ∙ ap is_blocked finds_blocked;
+          first = before_read;
+        },
+      )
 
       -- the budget's one turn is done, and none is tried that would find it blocked
       blocked_at_the_budget : IsOverAt 1000 reading left 1 1 Budget
-      unfolding reached turn_of advance step_of effect_at special_rows call_words read_row kernel_read read
-      blocked_at_the_budget = (refl, before_read, simp (syscall, room) refl)
+      blocked_at_the_budget = (refl, before_read, ap (λ (r : Reached). r.over) after_one)
 
       stays_blocked : reached 1000 reading left 2 ≡ reached 1000 reading left 1
-      unfolding reached turn_of advance step_of effect_at special_rows call_words read_row kernel_read read
-      stays_blocked = simp (syscall, room) refl
+      unfolding reached
+      stays_blocked =
+          ap (λ (r : Reached). unless_over 1000 r r.over) after_one ∙ ap (after_attempt (so_far waiting)) finds_blocked ∙ sym after_one
 
     -- Sleeping: a second from 65792 on, whose call began at 5000
 
@@ -119,24 +182,34 @@ module _ (whole : Kernel) (nodes : Nodes) (memory : Memory) (left : List ℕ) wh
     }
 
     -- the clock jumps to the deadline in a turn of its own, and no clock of CPU time counts that
-    jumps : turn_of 1000 (sleeping 6000 (Some 1_000_005_000) 300) left ≡ goes_on (sleeping 1_000_005_000 (Some 1_000_005_000) 999_999_300) left nothing
+    jumps : turn_of 1000 (sleeping 6000 (Some 1_000_005_000) 300) left ≡ goes_on (sleeping 1_000_005_000 (Some 1_000_005_000) 999_999_300) []
     unfolding turn_of advance
     jumps = refl
 
     -- a deadline that never comes is none: the process is blocked, and so it is without one
-    never_comes : is_blocked (sleeping 6000 (Some (2 ^ 61 + 1)) 0) ≡ true
+    never_comes : turn_of 1000 (sleeping 6000 (Some (2 ^ 61 + 1)) 0) left ≡ ends (sleeping 6000 (Some (2 ^ 61 + 1)) 0) [] Blocked
+    unfolding turn_of advance
     never_comes = refl
 
-    without_end : is_blocked (sleeping 6000 None 0) ≡ true
+    without_end : turn_of 1000 (sleeping 6000 None 0) left ≡ ends (sleeping 6000 None 0) [] Blocked
+    unfolding turn_of advance
     without_end = refl
 
-    comes_at_last : is_blocked (sleeping 6000 (Some (2 ^ 61)) 0) ≡ false
+    comes_at_last : is_blocked (turn_of 1000 (sleeping 6000 (Some (2 ^ 61)) 0) left) ≡ false
+    unfolding turn_of advance
     comes_at_last = refl
+
+    -- The attempt lets a timer go off that is due, and finds the process blocked all the same, since that signal is not delivered so far.
+    blocked_behind_a_timer : (signals : Signals) → post first.signals timer_info false ≡ record { signals = signals; post = Queued }
+        → turn_of 1000 (record (sleeping 6000 None 0) { kernel = record first { clock = 6000; timer = record { due = Some 5500; period = 0 } } }) left
+        ≡ ends (record (sleeping 6000 None 0) { kernel = record first { clock = 6000; timer = unarmed; signals = signals } }) (events.Post Alrm ∷ []) Blocked
+    unfolding turn_of advance
+    blocked_behind_a_timer signals posted = simp posted refl
 
     -- at its deadline the call ends with 0, and the turn goes on with the next instruction, an SLL of nothing
     wakes : loaded memory 65540 4 ≡ Ok 0
         → turn_of 1000 (sleeping 1_000_005_000 (Some 1_000_005_000) 300) left
-        ≡ goes_on (record (at (record first { clock = 1_000_006_000 }) 65544 (registers 0 5 65792 0 8 0)) { idle = 300 }) left nothing
+        ≡ goes_on (record (at (record first { clock = 1_000_006_000 }) 65544 (registers 0 5 65792 0 8 0)) { idle = 300 }) (events.Done 0 0 ∷ [])
     unfolding turn_of advance step_of effect_at plain_rows special_rows
     wakes next = simp next refl
 
@@ -149,7 +222,7 @@ module _ (whole : Kernel) (nodes : Nodes) (memory : Memory) (left : List ℕ) wh
 
     -- a timer that is set for an earlier time is where the clock jumps to
     to_the_timer : turn_of 1000 (record (sleeping 6000 (Some 1_000_005_000) 300) { kernel = record first { clock = 6000; timer = record { due = Some 7000; period = 0 } } }) left
-        ≡ goes_on (record (sleeping 7000 (Some 1_000_005_000) 1300) { kernel = record first { clock = 7000; timer = record { due = Some 7000; period = 0 } } }) left nothing
+        ≡ goes_on (record (sleeping 7000 (Some 1_000_005_000) 1300) { kernel = record first { clock = 7000; timer = record { due = Some 7000; period = 0 } } }) []
     unfolding turn_of advance
     to_the_timer = refl
 
@@ -159,13 +232,13 @@ module _ (whole : Kernel) (nodes : Nodes) (memory : Memory) (left : List ℕ) wh
     loading = at first 65536 (registers 5 5 6 7 8 9)
 
     -- the fault is found in a turn that takes its time
-    faults : turn_of 1000 loading left ≡ goes_on (record (at (a_turn_later first) 65536 (registers 5 5 6 7 8 9)) { fault = Some Segv }) left nothing
+    faults : turn_of 1000 loading left ≡ goes_on (record (at (a_turn_later first) 65536 (registers 5 5 6 7 8 9)) { fault = Some (fault_info Segv 1 0) }) (events.Fault Segv 1 0 ∷ [])
     unfolding turn_of advance step_of effect_at memory_rows immediate_form signed_immediate
     faults = simp (load, absent) refl
 
     before_kill : (j : ℕ) → j < 2 → IsRunningAt 1000 loading left j
     unfolding reached turn_of advance step_of effect_at memory_rows immediate_form signed_immediate
-    before_kill zero below = record { alive = refl; awake = refl }
+    before_kill zero below = record { alive = refl; awake = simp (load, absent) refl }
     before_kill (suc zero) below = record { alive = simp (load, absent) refl; awake = simp (load, absent) refl }
     before_kill (suc (suc j)) below = absurd (omega arith)
 
@@ -178,26 +251,59 @@ module _ (whole : Kernel) (nodes : Nodes) (memory : Memory) (left : List ℕ) wh
     killed_past_the_budget = (refl, λ j below. before_kill j (omega arith), simp (load, absent) refl)
 
   -- the turn after it takes no time, and uses the fault up
-  kills : turn_of 1000 (record (at first 65536 (registers 5 5 6 7 8 9)) { fault = Some Segv }) left ≡ ends (at first 65536 (registers 5 5 6 7 8 9)) left nothing (Killed 11)
+  kills : turn_of 1000 (record (at first 65536 (registers 5 5 6 7 8 9)) { fault = Some (fault_info Segv 1 0) }) left ≡ ends (at first 65536 (registers 5 5 6 7 8 9)) (events.Killed Segv ∷ []) (Killed 11)
   unfolding turn_of advance
   kills = refl
 
   -- a branch to itself stands there, with an SLL of nothing in its slot: the budget's turns are done, and nothing is sent
   module _ (branch : loaded memory 65536 4 ≡ Ok 0x1000_FFFF) (slot : loaded memory 65540 4 ≡ Ok 0) where
-    abbrev looping : Machine
-    looping = at first 65536 (registers 5 5 6 7 8 9)
+    abbrev looping : Kernel → Machine
+    looping kernel = at (record kernel { timer = unarmed }) 65536 (registers 5 5 6 7 8 9)
 
-    in_the_loop : (j : ℕ) → j < 3 → IsRunningAt 1000 looping left j
-    unfolding reached turn_of advance step_of effect_at plain_rows special_rows immediate_form signed_immediate
-    in_the_loop zero below = record { alive = refl; awake = refl }
-    in_the_loop (suc zero) below = record { alive = simp branch refl; awake = simp branch refl }
-    in_the_loop (suc (suc zero)) below = record { alive = simp (branch, slot) refl; awake = simp (branch, slot) refl }
+    abbrev in_slot : Kernel → Machine
+    in_slot kernel = record (at (record kernel { timer = unarmed }) 65540 (registers 5 5 6 7 8 9)) {
+      processor = record (fresh 65540) { registers = registers 5 5 6 7 8 9; slot = Some (record { branch = 65536; target = 65536 }) };
+    }
+
+    branches : (kernel : Kernel) → turn_of 1000 (looping kernel) left ≡ goes_on (in_slot (a_turn_later kernel)) []
+    unfolding turn_of advance step_of effect_at plain_rows special_rows immediate_form signed_immediate
+    branches kernel = simp branch refl
+
+    comes_back : (kernel : Kernel) → turn_of 1000 (in_slot kernel) left ≡ goes_on (looping (a_turn_later kernel)) []
+    unfolding turn_of advance step_of effect_at plain_rows special_rows
+    comes_back kernel = simp slot refl
+
+    after_first : reached 1000 (looping first) left 1 ≡ so_far (in_slot (a_turn_later first))
+    unfolding reached
+    after_first = ap (after_attempt (so_far (looping first))) (branches first)
+
+    after_second : reached 1000 (looping first) left 2 ≡ so_far (looping (a_turn_later (a_turn_later first)))
+    unfolding reached
+    after_second =
+        ap (λ (r : Reached). unless_over 1000 r r.over) after_first
+        ∙ ap (after_attempt (so_far (in_slot (a_turn_later first)))) (comes_back (a_turn_later first))
+
+    after_third : reached 1000 (looping first) left 3 ≡ so_far (in_slot (a_turn_later (a_turn_later (a_turn_later first))))
+    unfolding reached
+    after_third =
+        ap (λ (r : Reached). unless_over 1000 r r.over) after_second
+        ∙ ap (after_attempt (so_far (looping (a_turn_later (a_turn_later first))))) (branches (a_turn_later (a_turn_later first)))
+
+    running : (j : ℕ) (now : Machine) → reached 1000 (looping first) left j ≡ so_far now → is_blocked (turn_of 1000 now left) ≡ false
+        → IsRunningAt 1000 (looping first) left j
+    running j now there awake =
+        record { alive = ap (λ (r : Reached). r.over) there; awake = ap (λ (r : Reached). is_blocked (turn_of 1000 r.machine r.left)) there ∙ awake }
+
+    in_the_loop : (j : ℕ) → j < 3 → IsRunningAt 1000 (looping first) left j
+    unfolding reached
+    in_the_loop zero below = running 0 (looping first) refl (ap is_blocked (branches first))
+    in_the_loop (suc zero) below = running 1 (in_slot (a_turn_later first)) after_first (ap is_blocked (comes_back (a_turn_later first)))
+    in_the_loop (suc (suc zero)) below =
+        running 2 (looping (a_turn_later (a_turn_later first))) after_second (ap is_blocked (branches (a_turn_later (a_turn_later first))))
     in_the_loop (suc (suc (suc j))) below = absurd (omega arith)
 
-    budget_done : IsOverAt 1000 looping left 3 3 Budget
-    unfolding reached turn_of advance step_of effect_at plain_rows special_rows immediate_form signed_immediate
-    budget_done = (refl, in_the_loop, simp (branch, slot) refl)
+    budget_done : IsOverAt 1000 (looping first) left 3 3 Budget
+    budget_done = (refl, in_the_loop, ap (λ (r : Reached). r.over) after_third)
 
-    nothing_sent : (reached 1000 looping left 3).sent ≡ nothing
-    unfolding reached turn_of advance step_of effect_at plain_rows special_rows immediate_form signed_immediate
-    nothing_sent = simp (branch, slot) refl
+    nothing_sent : (reached 1000 (looping first) left 3).sent ≡ nothing
+    nothing_sent = ap (λ (r : Reached). r.sent) after_third

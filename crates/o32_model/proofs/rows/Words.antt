@@ -12,7 +12,7 @@ use Rattle.o32_model.proofs.rows.Small.{page_of, words, words_with, guest}
 use Rattle.o32_model.specs.Step.{O32Step}
 use Rattle.o32_model.specs.Table.{o32_call, is_io_call, is_small_call}
 use Rattle.o32_model.specs.Words.{call_words, stack_pair, six_words, signed_argument, returned}
-use Rattle.o32_model.specs.declared.outcome.Outcome.TheVariants.{Value, Pair, Error, Frame, Exit}
+use Rattle.o32_model.specs.declared.outcome.Outcome.TheVariants.{Value, Pair, Error, Frame, BadFrame, Exit}
 
 -- a processor with these in $v0, $v1, $a0 to $a3 and $sp
 abbrev with : ℕ → ℕ → ℕ → ℕ → ℕ → ℕ → ℕ → Processor
@@ -73,6 +73,9 @@ no_terminal = refl
 
 gives_nothing : returned (with 4001 9 3 5 6 7 64) (Exit 0) ≡ with 4001 9 3 5 6 7 64
 gives_nothing = refl
+
+gives_no_frame : returned (with 4119 9 3 5 6 7 64) BadFrame ≡ with 4119 9 3 5 6 7 64
+gives_no_frame = refl
 
 gives_frame : returned (with 4119 9 3 5 6 7 64) Frame ≡ with 4119 9 3 5 6 7 64
 gives_frame = refl
