@@ -6,14 +6,14 @@ use Rattle.outside.specs.Streams.{Contents}
 use Rattle.outside.proofs.OutputLemmas.{GainsBetween-part, GainsText-nothing, GainsText-then}
 use Rattle.kernel_core.specs.declared.finish.Finish.{Finish}
 use Rattle.kernel_core.specs.declared.finish.Finish.TheVariants.{Exited, Killed, Budget, Blocked}
-use Rattle.kernel_model.specs.Pipes.{Sent, nothing}
+use Rattle.kernel_model.specs.Pipes.{Sent}
 use Rattle.o32_machine.specs.Answered.{Stopped, Turned, over_of, turns_of}
 use Rattle.o32_machine.specs.declared.turn.Turn as code
 use Rattle.o32_machine.specs.declared.turn.Turn.TheVariants.{Went, Ended}
 use Rattle.o32_model.specs.Machine.{Machine, Turn}
 use Rattle.o32_model.specs.Runs.{IsOverAt, IsRunningAt, Reached, after_attempt, after_turn, is_block, is_blocked, last_machine, reached, unless_blocked, unless_over}
 use Rattle.o32_model.specs.Turn.{turn_of}
-use Rattle.o32_session.proofs.TurnEnds.{EndsSo, turn_ends}
+use Rattle.o32_session.proofs.TurnEnds.{turn_ends}
 use Rattle.o32_session.specs.inside.Runs.{IsCut, IsOver, IsSoFar}
 
 -- an attempt that finds the process blocked ends so

@@ -1,9 +1,8 @@
 -- How a turn ends the process: by an exit or a signal; or it finds the process blocked, and then sends and takes nothing.
-use Rattle.std.proofs.Common.{◌≡◌, ℕ, Bool, true, false, List, [], ◌∷◌, ◌++◌, Option, Some, None, refl, sym, ◌∙◌, subst}
+use Rattle.std.proofs.Common.{◌≡◌, ℕ, Bool, true, false, List, [], ◌∷◌, Option, Some, None, refl, sym, ◌∙◌, subst}
 use Rattle.std.specs.Prelude.{⊤, ◌&&◌, ◌||◌, not, nat_le, is_some, if◌then◌else◌}
 use Rattle.kernel_core.specs.declared.finish.Finish.{Finish}
 use Rattle.kernel_core.specs.declared.finish.Finish.TheVariants.{Exited, Killed, Budget, Blocked}
-use Rattle.kernel_core.specs.declared.signal.Sig.{Sig}
 use Rattle.kernel_model.specs.Pipes.{nothing}
 use Rattle.kernel_model.specs.Shared.{Info}
 use Rattle.mips_exec.specs.Step.{step_of}
@@ -12,7 +11,7 @@ use Rattle.mips_exec.specs.declared.execution.Stepped.TheVariants.{Next, Syscall
 use Rattle.o32_model.specs.Built.{built, fault_kills}
 use Rattle.o32_model.specs.Instruction.{after_outcome, after_step, behind, executed, guest_of, seen_of, stepped}
 use Rattle.o32_model.specs.Machine.{Machine, Rules, Turn, Within, begin, turn, with_change}
-use Rattle.o32_model.specs.Posting.{event_info, events_posted, posted, sent_to}
+use Rattle.o32_model.specs.Posting.{event_info, events_posted, sent_to}
 use Rattle.o32_model.specs.Turn.{continued, ended_if_over, fifth_or_sixth, fifth_step, first_step, fourth_step, jumped, next_for, second_step, sixth_step, third_step, turn_of}
 use Rattle.o32_model.specs.declared.call_words.CallWords.{CallWords}
 use Rattle.o32_model.specs.declared.outcome.Outcome.{Outcome}
