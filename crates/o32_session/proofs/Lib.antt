@@ -12,3 +12,4 @@ pub mod Budgets
 pub mod Saves
 pub mod Chance
 pub mod QuietTurns
+pub mod TurnEnds

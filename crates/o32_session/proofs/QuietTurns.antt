@@ -11,8 +11,9 @@ use Rattle.o32_machine.specs.Answered.{turns_of}
 use Rattle.o32_machine.specs.Quiet.{IsQuiet, IsTurnAfter}
 use Rattle.o32_machine.specs.declared.turn.Turn as code
 use Rattle.o32_machine.specs.declared.turn.Turn.TheVariants.{Went, Ended}
-use Rattle.o32_model.specs.Runs.{IsRunningAt, Reached, after_turn, more_sent, reached, unless_blocked, unless_over}
-use Rattle.o32_model.specs.Turn.{Machine, Turn, is_blocked, turn_of}
+use Rattle.o32_model.specs.Machine.{Machine, Turn}
+use Rattle.o32_model.specs.Runs.{IsRunningAt, Reached, after_turn, is_blocked, more_sent, reached, unless_blocked, unless_over}
+use Rattle.o32_model.specs.Turn.{turn_of}
 use Rattle.o32_session.specs.inside.Runs.{IsCut, IsOver, IsSoFar}
 use Rattle.o32_session.proofs.RunLemmas.{is_cut_by, is_over_by, went_on_by}
 
@@ -31,13 +32,14 @@ turn_behind : (sent : Sent) (more : Reached) (turn : Turn) → after_turn (more_
 turn_behind sent more turn =
     ap (λ (s : Sent). let r : Reached = record { machine = turn.machine; left = turn.left; sent = s; over = turn.over } in r) (sent_behind sent more.sent turn.sent)
 
-blocked_behind : (quantum : ℕ) (sent : Sent) (more : Reached) (blocked : Bool) → unless_blocked quantum (behind sent more) blocked ≡ behind sent (unless_blocked quantum more blocked)
-blocked_behind quantum sent more true = refl
-blocked_behind quantum sent more false = turn_behind sent more (turn_of quantum more.machine more.left)
+blocked_behind : (sent : Sent) (more : Reached) (turn : Turn) (blocked : Bool) → unless_blocked (behind sent more) turn blocked ≡ behind sent (unless_blocked more turn blocked)
+blocked_behind sent more turn true = refl
+blocked_behind sent more turn false = turn_behind sent more turn
 
 over_behind : (quantum : ℕ) (sent : Sent) (more : Reached) (over : Option Finish) → unless_over quantum (behind sent more) over ≡ behind sent (unless_over quantum more over)
 over_behind quantum sent more (Some finish) = refl
-over_behind quantum sent more None = blocked_behind quantum sent more (is_blocked more.machine)
+over_behind quantum sent more None =
+    let turn = turn_of quantum more.machine more.left in blocked_behind sent more turn (is_blocked turn)
 
 none_behind : (sent : Sent) → more_sent sent nothing ≡ sent
 none_behind sent =
@@ -85,7 +87,7 @@ module _ (quantum : ℕ) (machine : Machine) (left : List ℕ) (j k : ℕ) (befo
       let runs = quiet.running here.left d below in
       let is : reached quantum machine left (j + d) ≡ behind here.sent (reached quantum now here.left d) =
       composed quantum machine left j d so.alive ∙ ap (λ (m : Machine). behind here.sent (reached quantum m here.left d)) so.same in
-      record { alive = ap (λ (r : Reached). r.over) is ∙ runs.alive; awake = ap (λ (r : Reached). is_blocked r.machine) is ∙ runs.awake }
+      record { alive = ap (λ (r : Reached). r.over) is ∙ runs.alive; awake = ap (λ (r : Reached). is_blocked (turn_of quantum r.machine r.left)) is ∙ runs.awake }
 
   running : (i : ℕ) → i < j + k → IsRunningAt quantum machine left i
   running i below =
@@ -131,7 +133,7 @@ module _ (quantum : ℕ) (machine : Machine) (left : List ℕ) (j q limit : ℕ)
   is_cut_after stop turned =
       let counts : turns ≡ j + turned.quiet = turned.counted ∙ add-zero (j + turned.quiet) in
       subst (λ (n : ℕ). IsCut quantum machine left n before after) (sym counts)
-      (is_cut_by quantum machine left (j + turned.quiet) q before at after turned.middle same turned.awake (quiet_then (Err stop) turned) turned.last)
+      (is_cut_by quantum machine left (j + turned.quiet) q before at after turned.middle same (quiet_then (Err stop) turned) turned.last)
 
 -- the budget's turns are done
 pub is_done : (quantum : ℕ) (machine : Machine) (left : List ℕ) (j budget turns : ℕ) (before at : Contents) (now : Machine) → IsSoFar quantum machine left j before at now → j ≡ budget → turns ≡ j

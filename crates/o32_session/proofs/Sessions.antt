@@ -20,7 +20,7 @@ use Rattle.elf_image.specs.declared.load_plan.Plan.{Plan}
 use Rattle.schedule.specs.declared.Schedule.{Schedule}
 use Rattle.start_stack.specs.Stack.{start_size, start_limit}
 use Rattle.o32_machine.specs.Emulator.{Emulated}
-use Rattle.o32_model.specs.Turn.{Machine}
+use Rattle.o32_model.specs.Machine.{Machine}
 use Rattle.o32_session.specs.Answers.{IsRefusal}
 use Rattle.o32_session.specs.Asked.{Asked, Refuse, Run, Names, names_of, Found, Bytes, found_at, IsOpened, IsOpenedBy, AsksOf, AsksOfPlan, AsksUnless, AsksFor, IsScheduled, arguments_of, asked_of_schedule, asked_of_tree, first_machine, empty_tree, image_limit, schedule_of_found}
 use Rattle.o32_session.specs.Saved.{SavesTree, SavesTreeInPart, Stored}
@@ -114,7 +114,7 @@ run_told quantum machine budget turns finish old new final runs left told =
 cut_told : (quantum : ℕ) (machine : Machine) (budget turns : ℕ) (stop : Stop) (old new : Seen) (final : Machine) → RunsAs quantum machine budget turns (Err stop) (contents_of old) (contents_of new) final
     → (left : List ℕ) → old.left ≡ Some left → IsPartOfRun quantum machine left old new turns
 cut_told quantum machine budget turns stop old new final runs left told =
-    let so = runs left told in record { running = so.running; to_out = so.to_out; to_err = so.to_err; rest = so.rest }
+    let so = runs left told in record { alive = so.alive; first = so.first; to_out = so.to_out; to_err = so.to_err; rest = so.rest }
 
 -- the run stopped early
 pub cut_answer : (quantum : ℕ) (machine : Machine) (budget turns : ℕ) (names : Names) (stop : Stop) (old new : Seen) (final : Machine) (host : Option Emulated) → turns < budget → new.store ≡ old.store

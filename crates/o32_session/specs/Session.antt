@@ -15,8 +15,8 @@ use Rattle.schedule.specs.declared.Schedule.{Schedule}
 use Rattle.o32_session.specs.Words.{Line, Reading, Asks, WrongAt, read_words}
 use Rattle.o32_session.specs.Asked.{Asked, Refuse, Run, Names, names_of, Bytes, found_at, program_limit, image_limit, AsksFor, IsOpened, arguments_of, first_machine, schedule_limit, schedule_of_text, empty_schedule}
 use Rattle.o32_session.specs.Saved.{Stored, after_loads, loaded_by, loaded_names, turned_by, SavesTree, SavesTreeInPart}
-use Rattle.o32_model.specs.Runs.{IsOverAt, IsRunningAt, reached}
-use Rattle.o32_model.specs.Turn.{Machine}
+use Rattle.o32_model.specs.Runs.{IsOverAt, IsRunningAt, last_machine, reached}
+use Rattle.o32_model.specs.Machine.{Machine}
 use Rattle.o32_session.specs.Lines.{line_of}
 use Rattle.o32_session.specs.declared.answer.Refusal.{Refusal}
 use Rattle.o32_session.specs.declared.answer.Refusal.TheVariants.{Usage}
@@ -84,16 +84,17 @@ pub record IsRun (quantum : ℕ) (machine : Machine) (left : List ℕ) (budget :
   pub over : IsOverAt quantum machine left budget turns finish
   pub wrote : Writes old new (reached quantum machine left turns).sent.out (reached quantum machine left turns).sent.err
   pub rest : new.left ≡ Some (reached quantum machine left turns).left
-  pub leaves : final ≡ (reached quantum machine left turns).machine
+  pub leaves : final ≡ last_machine quantum machine left turns finish
 
 -- the tree of the files that a machine leaves
 abbrev pub final_tree : Machine → Tree
 final_tree machine = saved machine.kernel.files.nodes
 
--- The run goes on after these turns. What was written lies between what it has sent then and what it has one turn later, and of the input
+-- The run is not over after these turns, and the attempt at the next stopped. What was written lies between what it has sent then and what it has one turn later, and of the input
 -- there is left what is left then or what is left one turn later.
 pub record IsPartOfRun (quantum : ℕ) (machine : Machine) (left : List ℕ) (old new : Seen) (turns : ℕ) : Type 0 where
-  pub running : IsRunningAt quantum machine left turns
+  pub alive : (reached quantum machine left turns).over ≡ None
+  pub first : (j : ℕ) → j < turns → IsRunningAt quantum machine left j
   pub to_out : GainsBetween old.out new.out (reached quantum machine left turns).sent.out (reached quantum machine left (turns + 1)).sent.out
   pub to_err : GainsBetween old.err new.err (reached quantum machine left turns).sent.err (reached quantum machine left (turns + 1)).sent.err
   pub rest : (new.left ≡ Some (reached quantum machine left turns).left) ⊎ (new.left ≡ Some (reached quantum machine left (turns + 1)).left)

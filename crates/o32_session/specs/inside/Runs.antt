@@ -7,8 +7,8 @@ use Rattle.kernel_core.specs.declared.core_error.Stop.{Stop}
 use Rattle.kernel_core.specs.declared.finish.Finish.{Finish}
 use Rattle.kernel_core.specs.declared.tree.Tree.{Tree}
 use Rattle.o32_machine.specs.Emulator.{Emulated}
-use Rattle.o32_model.specs.Runs.{IsOverAt, IsRunningAt, reached}
-use Rattle.o32_model.specs.Turn.{Machine}
+use Rattle.o32_model.specs.Runs.{IsOverAt, IsRunningAt, last_machine, reached}
+use Rattle.o32_model.specs.Machine.{Machine}
 use Rattle.o32_session.specs.Saved.{Stored, SavesTree, SavesTreeInPart}
 use Rattle.o32_session.specs.Session.{final_tree}
 use Rattle.o32_session.specs.inside.Ends.{end_of}
@@ -37,14 +37,15 @@ GoesSo quantum machine turns before after now = (left : List ℕ) → before.lef
 -- the run is over so
 pub record IsOver (quantum : ℕ) (machine : Machine) (left : List ℕ) (budget turns : ℕ) (finish : Finish) (before after : Contents) (final : Machine) : Type 0 where
   pub over : IsOverAt quantum machine left budget turns finish
-  pub leaves : final ≡ (reached quantum machine left turns).machine
+  pub leaves : final ≡ last_machine quantum machine left turns finish
   pub rest : after.left ≡ Some (reached quantum machine left turns).left
   pub to_out : GainsText before.out after.out (reached quantum machine left turns).sent.out
   pub to_err : GainsText before.err after.err (reached quantum machine left turns).sent.err
 
--- the run stopped in the turn after these
+-- the run stopped in the attempt at the turn after these
 pub record IsCut (quantum : ℕ) (machine : Machine) (left : List ℕ) (turns : ℕ) (before after : Contents) : Type 0 where
-  pub running : IsRunningAt quantum machine left turns
+  pub alive : (reached quantum machine left turns).over ≡ None
+  pub first : (j : ℕ) → j < turns → IsRunningAt quantum machine left j
   pub rest : (after.left ≡ Some (reached quantum machine left turns).left) ⊎ (after.left ≡ Some (reached quantum machine left (turns + 1)).left)
   pub to_out : GainsBetween before.out after.out (reached quantum machine left turns).sent.out (reached quantum machine left (turns + 1)).sent.out
   pub to_err : GainsBetween before.err after.err (reached quantum machine left turns).sent.err (reached quantum machine left (turns + 1)).sent.err
