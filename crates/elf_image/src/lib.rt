@@ -11,8 +11,6 @@ mod refusal;
 mod rules;
 mod table;
 mod taken;
-#[cfg(test)]
-mod tests;
 
 pub use load_plan::{Plan, Segment};
 pub use parsing::parse;

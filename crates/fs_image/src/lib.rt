@@ -19,6 +19,3 @@ mod writing;
 pub use decoding::{decode, text_is_accepted, text_is_of_one_tree};
 pub use refusal::{ImageError, ImageRefusal, ImageRule};
 pub use writing::encode;
-
-#[cfg(test)]
-mod tests;

@@ -11,6 +11,3 @@ pub use access::{Access, Denied, MapError, StoreError, Why};
 pub use kernel_core::NoMemory;
 pub use raw_pages::Page;
 pub use space::Space;
-
-#[cfg(test)]
-mod tests;

@@ -27,6 +27,3 @@ pub use o32::{
 pub use record::{a_record_reads_back, get_record, put_record};
 pub use termios::{native_characters, o32_characters};
 pub use utsname::{UtsnameText, put_text};
-
-#[cfg(test)]
-mod tests;

@@ -11,8 +11,6 @@ mod fields;
 mod insn;
 mod mnemonic;
 mod parts;
-#[cfg(test)]
-mod tests;
 
 pub use insn::Insn;
 use parts::{do_fit, keeps_bounds, parts_of_insn, word_of_parts};

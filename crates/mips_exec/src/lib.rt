@@ -18,6 +18,3 @@ mod traps;
 pub use cpu::{Cpu, Slot};
 pub use execution::{Stepped, step};
 pub use kernel_core::NoMemory;
-
-#[cfg(test)]
-mod tests;

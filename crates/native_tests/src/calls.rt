@@ -1,5 +1,6 @@
 //! Scripts of a native kernel and its streams, step by step.
 ghost use Rattle.kernel_core.specs.ValidTree.{IsValidTree};
+ghost use Rattle.kernel_model.specs.Pending.{CanPend};
 
 use crate::filling::{fill_blocks, make_names};
 use crate::rows::Call;
@@ -65,7 +66,9 @@ fn is_answered(
 }
 
 /// A signal that the process with the id 1 sends by kill(2).
-fn sent_from_outside(sig: Sig) -> Info {
+fn sent_from_outside(sig: Sig) -> Info
+    ensures { CanPend result }
+{
     Info {
         sig,
         code: 0,
@@ -97,7 +100,9 @@ fn is_right(alloc: Global, kernel: &mut NativeKernel, streams: &mut Streams, ste
     match step {
         Step::Nothing => true,
         Step::Makes(call) => is_answered(alloc, kernel, streams, call),
-        Step::Clock(time) => kernel.advance(*time, false).is_ok(),
+        Step::Clock(time) => {
+            kernel.clock() <= *time && kernel.advance(*time, false).is_ok()
+        }
         Step::Posts {
             signal,
             is_awaited,

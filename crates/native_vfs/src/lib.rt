@@ -27,6 +27,3 @@ pub use kernel_core::NoMemory;
 pub use path::ends_with_slash;
 pub use place::{NodeKind, Place, Status};
 pub use vfs::Vfs;
-
-#[cfg(test)]
-mod tests;

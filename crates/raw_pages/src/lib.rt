@@ -11,6 +11,3 @@ mod write_error;
 pub use page::Page;
 pub use page_store::PageStore;
 pub use write_error::WriteError;
-
-#[cfg(test)]
-mod tests;

@@ -103,6 +103,3 @@ impl Schedule {
         Some(due)
     }
 }
-
-#[cfg(test)]
-mod tests;

@@ -8,8 +8,6 @@ mod stack;
 mod stack_text;
 mod start;
 mod strings;
-#[cfg(test)]
-mod tests;
 mod words;
 
 pub use error::StartError;
