@@ -29,6 +29,7 @@ impl NativeKernel {
     pub fn advance(&mut self, to: u64, kept: bool) -> Result<(), NoMemory>
         requires later { self.old.clock ≤ to }
         ensures row { OnOk result (self.new ≡ advance self.old to kept) }
+        ensures clock { self.new.clock ≡ to }
         ensures nothing_due { OnOk result (gone_off self.new.clock self.new.timer ≡ None) }
     {
         self.clock = to;
