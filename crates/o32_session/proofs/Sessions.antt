@@ -27,7 +27,7 @@ use Rattle.o32_session.specs.Saved.{SavesTree, SavesTreeInPart, Stored}
 use Rattle.o32_session.specs.Session.{Seen, DoesNothing, Answers, final_tree, StopsAfter, StopsEarly, first_loaded, once_loaded, Finishes, IsRun, IsPartOfRun, StopsAtSave, no_names, AnswersReading, AsksForRun, EndsAsRun, HasImage, HasSchedule, IsRunEnd}
 use Rattle.o32_session.specs.Words.{Line, Reading, Asks, WrongAt, read_words, word_at}
 use Rattle.o32_session.specs.inside.Ends.{end_of, end_of_stop}
-use Rattle.o32_session.specs.inside.Prepared.{EndsRefused, EndsWithoutRun, IsPrepared, LineFailsOnlyIfRose, LoadsReading}
+use Rattle.o32_session.specs.inside.Prepared.{EndsRefused, EndsWithoutRun, IsPrepared, LineFailsOnlyIfRose, LoadsReading, ReasonOnlyIfRose}
 use Rattle.o32_session.specs.inside.Runs.{AnswersRun, RunsAs}
 use Rattle.o32_session.specs.declared.answer.Answer.{Answer}
 use Rattle.o32_session.specs.declared.answer.End.{End}
@@ -77,28 +77,32 @@ refused refusal names Budget old err faults loads store host so cause stands = a
 refused refusal names Blocked old err faults loads store host so cause stands = absurd so
 
 -- a load failed, or memory ran out, after so many loads
-stopped : (names : Names) (count : ℕ) (end : End) (old : Seen) (err : Option (List ℕ)) (faults loads : ℕ) (store : Stored) → StopsAfter count names end → err ≡ old.err →
+stopped : (names : Names) (count : ℕ) (end : End) (old : Seen) (err : Option (List ℕ)) (faults loads : ℕ) (store : Stored) → StopsAfter count names end → (end ≡ ReadFault → Rose old.load_faults loads) → err ≡ old.err →
     store ≡ (first_loaded count names old).store → StopsEarly names old (beside old err faults loads store) 0 end
-stopped names count end old err faults loads store early same stands =
-    record { count = count; early = early; nothing = nothing_done (first_loaded count names old) err faults loads store same stands }
+stopped names count end old err faults loads store early cause same stands =
+    record { count = count; early = early; cause = cause; nothing = nothing_done (first_loaded count names old) err faults loads store same stands }
+
+-- want of memory is no fault
+no_fault : {P : Type 0} (end : End) → end ≡ NoMemory → end ≡ ReadFault → P
+no_fault end memory fault = absurd cc
 
 -- Nothing is run, and the answer says so.
 pub unrun : (words : List (List ℕ)) (reading : Reading) (reason : NotRun) (end : End) (old : Seen)
     (err : Option (List ℕ)) (faults loads : ℕ) (store : Stored) (host : Option Emulated) → IsPrepared words reading old.store.files (Err reason) →
     EndsWithoutRun reason end old.err err → LineFailsOnlyIfRose end old.err_faults faults →
-    LoadsReading {T = Ready} words reading (Err reason) old.store store →
+    LoadsReading {T = Ready} words reading (Err reason) old.store store → ReasonOnlyIfRose {T = Ready} (Err reason) old.load_faults loads →
     AnswersReading words reading old (beside old err faults loads store) 0 end host
-unrun words (WrongAt word) (reasons.Refused refusal) end old err faults loads store host is so cause loaded =
+unrun words (WrongAt word) (reasons.Refused refusal) end old err faults loads store host is so cause loaded rose =
     inr (refused (Usage word) no_names end old err faults loads store host (subst (λ r. EndsRefused r end old.err err) is so) cause loaded)
-unrun words (WrongAt word) reasons.ReadFault end old err faults loads store host is so cause loaded = absurd is
-unrun words (WrongAt word) reasons.NoMemory end old err faults loads store host is so cause loaded =
+unrun words (WrongAt word) reasons.ReadFault end old err faults loads store host is so cause loaded rose = absurd is
+unrun words (WrongAt word) reasons.NoMemory end old err faults loads store host is so cause loaded rose =
     inl (so.0, nothing_done old err faults loads store so.1 loaded)
-unrun words (Asks line) (reasons.Refused refusal) end old err faults loads store host is so cause loaded =
+unrun words (Asks line) (reasons.Refused refusal) end old err faults loads store host is so cause loaded rose =
     inr (Refuse refusal, is, refused refusal (names_of words line) end (once_loaded (Refuse refusal) (names_of words line) old) err faults loads store host so cause loaded)
-unrun words (Asks line) reasons.ReadFault end old err faults loads store host is so cause loaded =
-    inl (stopped (names_of words line) loaded.0 end old err faults loads store (subst (λ e. StopsAfter loaded.0 (names_of words line) e) (sym so.0) loaded.1) so.1 loaded.2)
-unrun words (Asks line) reasons.NoMemory end old err faults loads store host is so cause loaded =
-    inl (stopped (names_of words line) loaded.0 end old err faults loads store (subst (λ e. StopsAfter loaded.0 (names_of words line) e) (sym so.0) tt) so.1 loaded.1)
+unrun words (Asks line) reasons.ReadFault end old err faults loads store host is so cause loaded rose =
+    inl (stopped (names_of words line) loaded.0 end old err faults loads store (subst (λ e. StopsAfter loaded.0 (names_of words line) e) (sym so.0) loaded.1) (λ fault. rose) so.1 loaded.2)
+unrun words (Asks line) reasons.NoMemory end old err faults loads store host is so cause loaded rose =
+    inl (stopped (names_of words line) loaded.0 end old err faults loads store (subst (λ e. StopsAfter loaded.0 (names_of words line) e) (sym so.0) tt) (λ fault. no_fault end so.0 fault) so.1 loaded.1)
 
 -- There is a run
 

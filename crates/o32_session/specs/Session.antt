@@ -171,10 +171,11 @@ StopsAfter count names Blocked = ⊥
 StopsAfter count names (Refused given) = ⊥
 StopsAfter count names WriteFault = ⊥
 
--- nothing is done but that the first files are loaded: memory ran out, or a load failed
+-- Nothing is done but that the first files are loaded: memory ran out, or a load failed, whose count rose.
 pub record StopsEarly (names : Names) (old new : Seen) (turns : ℕ) (end : End) : Type 0 where
   pub count : ℕ
   pub early : StopsAfter count names end
+  pub cause : end ≡ ReadFault → Rose old.load_faults new.load_faults
   pub nothing : DoesNothing (first_loaded count names old) new turns
 
 -- a line that names no file

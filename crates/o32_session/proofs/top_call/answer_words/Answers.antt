@@ -39,7 +39,7 @@ returns-in-Err-clause-answer g c =
     (unrun (texts c.args.words.now) (read_words (texts c.args.words.now)) c.in-Err.reason c.end_without_run.result old
     (g.E.Sink.written c.end_without_run.new.err) (g.E.Sink.faults c.end_without_run.new.err) (g.F.Store.load_faults c.prepare.new.files)
     (stored_of g.F.Store.files g.F.Store.created g.F.Store.loads g.F.Store.turned_away g.F.Store.write_faults c.prepare.new.files) answer.host
-    c.in-Err.ensures.prepared c.end_without_run.ensures.line c.end_without_run.ensures.cause c.in-Err.ensures.loads))
+    c.in-Err.ensures.prepared c.end_without_run.ensures.line c.end_without_run.ensures.cause c.in-Err.ensures.loads c.in-Err.ensures.cause))
 
 pub returns-in-Err-clause-faults : goal.returns-in-Err-clause-faults
 returns-in-Err-clause-faults g c =
