@@ -38,6 +38,7 @@ pub fn entries_call<I: Source, O: Sink, E: Sink>(
         (found args.now cpu.old space.old) (I.left dev.old.input) log.old log.new }
     ensures cause { StopsOnlyIfRose I.faults O.faults E.faults result dev.old dev.new }
     ensures counts { NoCountFell I.faults O.faults E.faults dev.old dev.new }
+    ensures clock { k.new.clock ≡ k.old.clock }
 {
     let [fd, buffer, size, _] = args.reg;
     match args.nr {

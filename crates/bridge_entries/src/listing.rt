@@ -56,6 +56,7 @@ pub(crate) fn getdents64<I: Source, O: Sink, E: Sink>(
         → KeepsCall (getdents_row entry64_form k.old guest fd buffer size) result k.old guest (I.left dev.old.input) log.old log.new }
     ensures cause { StopsOnlyIfRose I.faults O.faults E.faults result dev.old dev.new }
     ensures counts { NoCountFell I.faults O.faults E.faults dev.old dev.new }
+    ensures clock { k.new.clock ≡ k.old.clock }
 {
     k.files_valid();
     let room = space.writable(buffer, size);
@@ -89,6 +90,7 @@ pub(crate) fn getdents<I: Source, O: Sink, E: Sink>(
         → KeepsCall (getdents_row entry_form k.old guest fd buffer size) result k.old guest (I.left dev.old.input) log.old log.new }
     ensures cause { StopsOnlyIfRose I.faults O.faults E.faults result dev.old dev.new }
     ensures counts { NoCountFell I.faults O.faults E.faults dev.old dev.new }
+    ensures clock { k.new.clock ≡ k.old.clock }
 {
     k.files_valid();
     let room = space.writable(buffer, size);
@@ -116,6 +118,7 @@ fn answer_call<I: Source, O: Sink, E: Sink>(
         (contents I.left O.written E.written dev.old) (contents I.left O.written E.written dev.new) log.old log.new }
     ensures cause { StopsOnlyIfRose I.faults O.faults E.faults result dev.old dev.new }
     ensures counts { NoCountFell I.faults O.faults E.faults dev.old dev.new }
+    ensures clock { k.new.clock ≡ k.old.clock }
 {
     k.files_valid();
     let asked = size.min(room + LONGEST_NARROW);

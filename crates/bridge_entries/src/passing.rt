@@ -3,6 +3,7 @@
 ghost use Rattle.std.specs.Prelude.{◌≡◌, ℕ, ◌<◌, ◌^◌, List, Some, ⊤};
 ghost use Rattle.bridge_entries.specs.inside.Listed.{IsListedBy, did_of, place_in, place_there};
 ghost use Rattle.bridge_entries.specs.inside.Passing.{GoesTo, IsQuiet, Replied};
+ghost use Rattle.bridge_log.specs.Arguments.{AreUnusedZero};
 ghost use Rattle.kernel_core.specs.FileSystem.{IsFileSystem};
 ghost use Rattle.kernel_core.specs.declared.reply.Reply.{Reply};
 ghost use Rattle.kernel_model.specs.Descriptions.{node_of, opened};
@@ -34,12 +35,14 @@ fn quiet<I: Source, O: Sink, E: Sink>(
     log: &mut Log,
 ) -> Result<Reply, Stop>
     requires built { built_call nr ≡ native_call nr }
+    requires unused { AreUnusedZero nr args }
     ensures goes { (target : Kernel) (reply : Reply) (memory : List ℕ)
         → ((left : List ℕ) → IsQuiet target reply memory left (native_call nr args k.old mem.old left))
         → GoesTo (Replied reply memory mem.new) result k.old target k.new
         (contents I.left O.written E.written dev.old) (contents I.left O.written E.written dev.new) log.old log.new }
     ensures cause { StopsOnlyIfRose I.faults O.faults E.faults result dev.old dev.new }
     ensures counts { NoCountFell I.faults O.faults E.faults dev.old dev.new }
+    ensures clock { k.new.clock ≡ k.old.clock }
 {
     native(k, nr, args, mem, dev, log)
 }
@@ -56,6 +59,7 @@ pub(crate) fn position<I: Source, O: Sink, E: Sink>(
         (contents I.left O.written E.written dev.old) (contents I.left O.written E.written dev.new) log.old log.new }
     ensures cause { StopsOnlyIfRose I.faults O.faults E.faults result dev.old dev.new }
     ensures counts { NoCountFell I.faults O.faults E.faults dev.old dev.new }
+    ensures clock { k.new.clock ≡ k.old.clock }
 {
     let args = [u64::from(fd), 0, SEEK_CUR, 0, 0, 0];
     let reply = quiet(k, LSEEK, args, mem, dev, log)?;
@@ -86,6 +90,7 @@ pub(crate) fn list<I: Source, O: Sink, E: Sink>(
         (contents I.left O.written E.written dev.old) (contents I.left O.written E.written dev.new) log.old log.new }
     ensures cause { StopsOnlyIfRose I.faults O.faults E.faults result dev.old dev.new }
     ensures counts { NoCountFell I.faults O.faults E.faults dev.old dev.new }
+    ensures clock { k.new.clock ≡ k.old.clock }
 {
     fresh_room(mem, size)?;
     let args = [u64::from(fd), FIRST_ADDRESS, u64::from(size), 0, 0, 0];
@@ -107,6 +112,7 @@ pub(crate) fn put_position<I: Source, O: Sink, E: Sink>(
         (contents I.left O.written E.written dev.old) (contents I.left O.written E.written dev.new) log.old log.new }
     ensures cause { StopsOnlyIfRose I.faults O.faults E.faults result dev.old dev.new }
     ensures counts { NoCountFell I.faults O.faults E.faults dev.old dev.new }
+    ensures clock { k.new.clock ≡ k.old.clock }
 {
     let args = [u64::from(fd), place, SEEK_SET, 0, 0, 0];
     quiet(k, LSEEK, args, mem, dev, log)?;

@@ -53,6 +53,7 @@ pub fn file_call<I: Source, O: Sink, E: Sink>(
         (found args.now cpu.old space.old) (I.left dev.old.input) log.old log.new }
     ensures cause { StopsOnlyIfRose I.faults O.faults E.faults result dev.old dev.new }
     ensures counts { NoCountFell I.faults O.faults E.faults dev.old dev.new }
+    ensures clock { k.new.clock ≡ k.old.clock }
 {
     if is_node_call(args.nr) {
         node_call(alloc, args, cpu, space, k, mem, dev, log)
@@ -85,6 +86,7 @@ fn name_call<I: Source, O: Sink, E: Sink>(
         (found args.now cpu.old space.old) (I.left dev.old.input) log.old log.new }
     ensures cause { StopsOnlyIfRose I.faults O.faults E.faults result dev.old dev.new }
     ensures counts { NoCountFell I.faults O.faults E.faults dev.old dev.new }
+    ensures clock { k.new.clock ≡ k.old.clock }
 {
     let [a0, a1, a2, a3] = args.reg;
     match args.nr {
@@ -135,6 +137,7 @@ fn node_call<I: Source, O: Sink, E: Sink>(
         (found args.now cpu.old space.old) (I.left dev.old.input) log.old log.new }
     ensures cause { StopsOnlyIfRose I.faults O.faults E.faults result dev.old dev.new }
     ensures counts { NoCountFell I.faults O.faults E.faults dev.old dev.new }
+    ensures clock { k.new.clock ≡ k.old.clock }
 {
     let [a0, a1, a2, a3] = args.reg;
     match args.nr {
@@ -170,6 +173,7 @@ fn text_call<I: Source, O: Sink, E: Sink>(
         (found args.now cpu.old space.old) (I.left dev.old.input) log.old log.new }
     ensures cause { StopsOnlyIfRose I.faults O.faults E.faults result dev.old dev.new }
     ensures counts { NoCountFell I.faults O.faults E.faults dev.old dev.new }
+    ensures clock { k.new.clock ≡ k.old.clock }
 {
     let [a0, a1, a2, a3] = args.reg;
     match args.nr {
@@ -197,6 +201,7 @@ fn size_call<I: Source, O: Sink, E: Sink>(
         (found args.now cpu.old space.old) (I.left dev.old.input) log.old log.new }
     ensures cause { StopsOnlyIfRose I.faults O.faults E.faults result dev.old dev.new }
     ensures counts { NoCountFell I.faults O.faults E.faults dev.old dev.new }
+    ensures clock { k.new.clock ≡ k.old.clock }
 {
     let [a0, a1, a2, a3] = args.reg;
     match args.nr {
@@ -224,6 +229,7 @@ fn place_call<I: Source, O: Sink, E: Sink>(
         (found args.now cpu.old space.old) (I.left dev.old.input) log.old log.new }
     ensures cause { StopsOnlyIfRose I.faults O.faults E.faults result dev.old dev.new }
     ensures counts { NoCountFell I.faults O.faults E.faults dev.old dev.new }
+    ensures clock { k.new.clock ≡ k.old.clock }
 {
     let [a0, a1, a2, a3] = args.reg;
     match args.nr {

@@ -1,5 +1,6 @@
 //! o32 calls with paths that are one native call.
 ghost use Rattle.std.specs.Prelude.{◌≡◌, ℕ, ◌<◌, List, None, Ok, length, position, slice_set};
+ghost use Rattle.bridge_log.specs.Arguments.{AreUnusedZero};
 ghost use Rattle.bridge_log.specs.Keeping.{KeepsCall};
 ghost use Rattle.kernel_model.specs.Stops.{StopsOnlyIfRose};
 ghost use Rattle.native_calls.specs.Table.{native_call};
@@ -36,6 +37,7 @@ pub(crate) fn path_call<I: Source, O: Sink, E: Sink>(
     log: &mut Log,
 ) -> Result<Outcome, Stop>
     requires built { built_call nr ≡ native_call nr }
+    requires unused { AreUnusedZero nr args }
     ensures row { (guest : Guest) (step : List ℕ → O32Step) → guest.words ≡ words.now → guest.memory ≡ space.now
         → MirrorsPath guest k.old address (native_call nr args k.old) step
         → IsCall step result k.new guest.memory guest.processor
@@ -45,6 +47,7 @@ pub(crate) fn path_call<I: Source, O: Sink, E: Sink>(
         → KeepsCall step result k.old guest (I.left dev.old.input) log.old log.new }
     ensures cause { StopsOnlyIfRose I.faults O.faults E.faults result dev.old dev.new }
     ensures counts { NoCountFell I.faults O.faults E.faults dev.old dev.new }
+    ensures clock { k.new.clock ≡ k.old.clock }
 {
     match read_path(alloc, space, address)? {
         Err(error) => Ok(Outcome::Error(error)),
@@ -72,6 +75,7 @@ pub(crate) fn paths_call<I: Source, O: Sink, E: Sink>(
     log: &mut Log,
 ) -> Result<Outcome, Stop>
     requires built { built_call nr ≡ native_call nr }
+    requires unused { (at : ℕ) → AreUnusedZero nr (slice_set args place at) }
     requires place { place < 6 }
     ensures row { (guest : Guest) (step : List ℕ → O32Step) → guest.words ≡ words.now → guest.memory ≡ space.now
         → MirrorsPaths guest k.old first second (λ at. native_call nr (slice_set args place at) k.old) step
@@ -82,6 +86,7 @@ pub(crate) fn paths_call<I: Source, O: Sink, E: Sink>(
         → KeepsCall step result k.old guest (I.left dev.old.input) log.old log.new }
     ensures cause { StopsOnlyIfRose I.faults O.faults E.faults result dev.old dev.new }
     ensures counts { NoCountFell I.faults O.faults E.faults dev.old dev.new }
+    ensures clock { k.new.clock ≡ k.old.clock }
 {
     match read_path(alloc, space, first)? {
         Err(error) => Ok(Outcome::Error(error)),
@@ -108,6 +113,7 @@ fn second_call<I: Source, O: Sink, E: Sink>(
     log: &mut Log,
 ) -> Result<Outcome, Stop>
     requires built { built_call nr ≡ native_call nr }
+    requires unused { (at : ℕ) → AreUnusedZero nr (slice_set args place at) }
     requires place { place < 6 }
     requires found { path_at space.now first ≡ Ok one.now }
     requires short { length one.now < path_limit }
@@ -121,6 +127,7 @@ fn second_call<I: Source, O: Sink, E: Sink>(
         → KeepsCall step result k.old guest (I.left dev.old.input) log.old log.new }
     ensures cause { StopsOnlyIfRose I.faults O.faults E.faults result dev.old dev.new }
     ensures counts { NoCountFell I.faults O.faults E.faults dev.old dev.new }
+    ensures clock { k.new.clock ≡ k.old.clock }
 {
     match read_path(alloc, space, second)? {
         Err(error) => Ok(Outcome::Error(error)),

@@ -41,6 +41,7 @@ pub(crate) fn mkdir<I: Source, O: Sink, E: Sink>(
         → KeepsCall (mkdir_row k.old guest (base directory) address mode) result k.old guest (I.left dev.old.input) log.old log.new }
     ensures cause { StopsOnlyIfRose I.faults O.faults E.faults result dev.old dev.new }
     ensures counts { NoCountFell I.faults O.faults E.faults dev.old dev.new }
+    ensures clock { k.new.clock ≡ k.old.clock }
 {
     let args = [
         u64::from(directory),
@@ -76,6 +77,7 @@ pub(crate) fn remove<I: Source, O: Sink, E: Sink>(
         → KeepsCall (remove_row k.old guest (base directory) address (one_flag remove_directory_flag flags)) result k.old guest (I.left dev.old.input) log.old log.new }
     ensures cause { StopsOnlyIfRose I.faults O.faults E.faults result dev.old dev.new }
     ensures counts { NoCountFell I.faults O.faults E.faults dev.old dev.new }
+    ensures clock { k.new.clock ≡ k.old.clock }
 {
     let args = [
         u64::from(directory),
@@ -110,6 +112,7 @@ pub(crate) fn symlink<I: Source, O: Sink, E: Sink>(
         → KeepsCall (symlink_row k.old guest target (base directory) address) result k.old guest (I.left dev.old.input) log.old log.new }
     ensures cause { StopsOnlyIfRose I.faults O.faults E.faults result dev.old dev.new }
     ensures counts { NoCountFell I.faults O.faults E.faults dev.old dev.new }
+    ensures clock { k.new.clock ≡ k.old.clock }
 {
     let args = [FIRST_ADDRESS, u64::from(directory), 0, 0, 0, 0];
     paths_call(
@@ -138,6 +141,7 @@ pub(crate) fn rename<I: Source, O: Sink, E: Sink>(
         → KeepsCall (rename_row k.old guest (base old_directory) old (base new_directory) new) result k.old guest (I.left dev.old.input) log.old log.new }
     ensures cause { StopsOnlyIfRose I.faults O.faults E.faults result dev.old dev.new }
     ensures counts { NoCountFell I.faults O.faults E.faults dev.old dev.new }
+    ensures clock { k.new.clock ≡ k.old.clock }
 {
     let args = [
         u64::from(old_directory),
@@ -175,6 +179,7 @@ pub(crate) fn link<I: Source, O: Sink, E: Sink>(
         → KeepsCall (λ left. gives guest (linked k.old guest (base old_directory) old (base new_directory) new (one_flag follow_flag flags)) left) result k.old guest (I.left dev.old.input) log.old log.new }
     ensures cause { StopsOnlyIfRose I.faults O.faults E.faults result dev.old dev.new }
     ensures counts { NoCountFell I.faults O.faults E.faults dev.old dev.new }
+    ensures clock { k.new.clock ≡ k.old.clock }
 {
     let args = [
         u64::from(old_directory),
@@ -211,6 +216,7 @@ pub(crate) fn linkat<I: Source, O: Sink, E: Sink>(
         → KeepsCall (linkat_row k.old guest (base old_directory) old (base new_directory) new (stack_word words.now 0)) result k.old guest (I.left dev.old.input) log.old log.new }
     ensures cause { StopsOnlyIfRose I.faults O.faults E.faults result dev.old dev.new }
     ensures counts { NoCountFell I.faults O.faults E.faults dev.old dev.new }
+    ensures clock { k.new.clock ≡ k.old.clock }
 {
     match fifth(words) {
         None => Ok(Outcome::Error(Errno::EFAULT)),

@@ -41,6 +41,7 @@ pub(crate) fn access<I: Source, O: Sink, E: Sink>(
         → KeepsCall (access_row k.old guest (base directory) address mode) result k.old guest (I.left dev.old.input) log.old log.new }
     ensures cause { StopsOnlyIfRose I.faults O.faults E.faults result dev.old dev.new }
     ensures counts { NoCountFell I.faults O.faults E.faults dev.old dev.new }
+    ensures clock { k.new.clock ≡ k.old.clock }
 {
     let args = [
         u64::from(directory),
@@ -75,6 +76,7 @@ pub(crate) fn chmod<I: Source, O: Sink, E: Sink>(
         → KeepsCall (chmod_row k.old guest (base directory) address mode) result k.old guest (I.left dev.old.input) log.old log.new }
     ensures cause { StopsOnlyIfRose I.faults O.faults E.faults result dev.old dev.new }
     ensures counts { NoCountFell I.faults O.faults E.faults dev.old dev.new }
+    ensures clock { k.new.clock ≡ k.old.clock }
 {
     let args = [
         u64::from(directory),
@@ -107,6 +109,7 @@ pub(crate) fn chdir<I: Source, O: Sink, E: Sink>(
         → KeepsCall (chdir_row k.old guest address) result k.old guest (I.left dev.old.input) log.old log.new }
     ensures cause { StopsOnlyIfRose I.faults O.faults E.faults result dev.old dev.new }
     ensures counts { NoCountFell I.faults O.faults E.faults dev.old dev.new }
+    ensures clock { k.new.clock ≡ k.old.clock }
 {
     let args = [FIRST_ADDRESS, 0, 0, 0, 0, 0];
     path_call(alloc, words, address, space, k, CHDIR, args, mem, dev, log)
@@ -129,6 +132,7 @@ pub(crate) fn fchmod<I: Source, O: Sink, E: Sink>(
         → KeepsCall (fchmod_row k.old guest fd mode) result k.old guest (I.left dev.old.input) log.old log.new }
     ensures cause { StopsOnlyIfRose I.faults O.faults E.faults result dev.old dev.new }
     ensures counts { NoCountFell I.faults O.faults E.faults dev.old dev.new }
+    ensures clock { k.new.clock ≡ k.old.clock }
 {
     let args = [u64::from(fd), u64::from(mode), 0, 0, 0, 0];
     number_call(words, k, FCHMOD, args, mem, dev, log)
@@ -150,6 +154,7 @@ pub(crate) fn fchdir<I: Source, O: Sink, E: Sink>(
         → KeepsCall (fchdir_row k.old guest fd) result k.old guest (I.left dev.old.input) log.old log.new }
     ensures cause { StopsOnlyIfRose I.faults O.faults E.faults result dev.old dev.new }
     ensures counts { NoCountFell I.faults O.faults E.faults dev.old dev.new }
+    ensures clock { k.new.clock ≡ k.old.clock }
 {
     let args = [u64::from(fd), 0, 0, 0, 0, 0];
     number_call(words, k, FCHDIR, args, mem, dev, log)
@@ -171,6 +176,7 @@ pub(crate) fn fsync<I: Source, O: Sink, E: Sink>(
         → KeepsCall (sync_row k.old guest fd) result k.old guest (I.left dev.old.input) log.old log.new }
     ensures cause { StopsOnlyIfRose I.faults O.faults E.faults result dev.old dev.new }
     ensures counts { NoCountFell I.faults O.faults E.faults dev.old dev.new }
+    ensures clock { k.new.clock ≡ k.old.clock }
 {
     let args = [u64::from(fd), 0, 0, 0, 0, 0];
     number_call(words, k, FSYNC, args, mem, dev, log)
@@ -192,6 +198,7 @@ pub(crate) fn fdatasync<I: Source, O: Sink, E: Sink>(
         → KeepsCall (sync_row k.old guest fd) result k.old guest (I.left dev.old.input) log.old log.new }
     ensures cause { StopsOnlyIfRose I.faults O.faults E.faults result dev.old dev.new }
     ensures counts { NoCountFell I.faults O.faults E.faults dev.old dev.new }
+    ensures clock { k.new.clock ≡ k.old.clock }
 {
     let args = [u64::from(fd), 0, 0, 0, 0, 0];
     number_call(words, k, FDATASYNC, args, mem, dev, log)
@@ -213,6 +220,7 @@ pub(crate) fn umask<I: Source, O: Sink, E: Sink>(
         → KeepsCall (umask_row k.old guest mask) result k.old guest (I.left dev.old.input) log.old log.new }
     ensures cause { StopsOnlyIfRose I.faults O.faults E.faults result dev.old dev.new }
     ensures counts { NoCountFell I.faults O.faults E.faults dev.old dev.new }
+    ensures clock { k.new.clock ≡ k.old.clock }
 {
     k.files_valid();
     let args = [u64::from(mask), 0, 0, 0, 0, 0];

@@ -1,6 +1,7 @@
 //! The calls that move a position: lseek(2), _llseek(2).
 ghost use Rattle.std.specs.Prelude.{◌≡◌, ℕ, List};
 ghost use Rattle.std.specs.Int.{cast_signed, w32};
+ghost use Rattle.bridge_log.specs.Arguments.{AreUnusedZero};
 ghost use Rattle.bridge_log.specs.Keeping.{KeepsCall};
 ghost use Rattle.bridge_log.specs.Mirrors.{Mirrors};
 ghost use Rattle.kernel_model.specs.Stops.{StopsOnlyIfRose};
@@ -46,6 +47,7 @@ pub(crate) fn lseek<I: Source, O: Sink, E: Sink>(
         → KeepsCall (lseek_row k.old guest fd (cast_signed w32 offset) origin) result k.old guest (I.left dev.old.input) log.old log.new }
     ensures cause { StopsOnlyIfRose I.faults O.faults E.faults result dev.old dev.new }
     ensures counts { NoCountFell I.faults O.faults E.faults dev.old dev.new }
+    ensures clock { k.new.clock ≡ k.old.clock }
 {
     let args = [u64::from(fd), widened(offset), u64::from(origin), 0, 0, 0];
     place_call(words, k, LSEEK, args, mem, dev, log)
@@ -62,6 +64,7 @@ fn place_call<I: Source, O: Sink, E: Sink>(
     log: &mut Log,
 ) -> Result<Outcome, Stop>
     requires built { built_call nr ≡ native_call nr }
+    requires unused { AreUnusedZero nr args }
     ensures row { (guest : Guest) (step : List ℕ → O32Step) → guest.words ≡ words.now
         → ((left : List ℕ) → Mirrors guest (told_place guest.words) (native_call nr args k.old mem.old left) (step left))
         → IsCall step result k.new guest.memory guest.processor
@@ -71,6 +74,7 @@ fn place_call<I: Source, O: Sink, E: Sink>(
         → KeepsCall step result k.old guest (I.left dev.old.input) log.old log.new }
     ensures cause { StopsOnlyIfRose I.faults O.faults E.faults result dev.old dev.new }
     ensures counts { NoCountFell I.faults O.faults E.faults dev.old dev.new }
+    ensures clock { k.new.clock ≡ k.old.clock }
 {
     let reply = native(k, nr, args, mem, dev, log)?;
     Ok(outcome_of_place(words, reply))
@@ -107,6 +111,7 @@ pub(crate) fn llseek<I: Source, O: Sink, E: Sink>(
         → KeepsCall (llseek_row k.old guest fd (pair high low) address (stack_word words.now 0)) result k.old guest (I.left dev.old.input) log.old log.new }
     ensures cause { StopsOnlyIfRose I.faults O.faults E.faults result dev.old dev.new }
     ensures counts { NoCountFell I.faults O.faults E.faults dev.old dev.new }
+    ensures clock { k.new.clock ≡ k.old.clock }
 {
     match fifth(words) {
         None => Ok(Outcome::Error(Errno::EFAULT)),

@@ -40,6 +40,7 @@ pub(crate) fn truncate<I: Source, O: Sink, E: Sink>(
         → KeepsCall (truncate_row k.old guest address (cast_signed w64 size)) result k.old guest (I.left dev.old.input) log.old log.new }
     ensures cause { StopsOnlyIfRose I.faults O.faults E.faults result dev.old dev.new }
     ensures counts { NoCountFell I.faults O.faults E.faults dev.old dev.new }
+    ensures clock { k.new.clock ≡ k.old.clock }
 {
     let args = [FIRST_ADDRESS, size, 0, 0, 0, 0];
     path_call(
@@ -65,6 +66,7 @@ pub(crate) fn ftruncate<I: Source, O: Sink, E: Sink>(
         → KeepsCall (ftruncate_row k.old guest fd (cast_signed w64 size)) result k.old guest (I.left dev.old.input) log.old log.new }
     ensures cause { StopsOnlyIfRose I.faults O.faults E.faults result dev.old dev.new }
     ensures counts { NoCountFell I.faults O.faults E.faults dev.old dev.new }
+    ensures clock { k.new.clock ≡ k.old.clock }
 {
     let args = [u64::from(fd), size, 0, 0, 0, 0];
     number_call(words, k, FTRUNCATE, args, mem, dev, log)

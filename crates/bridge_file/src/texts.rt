@@ -49,6 +49,7 @@ pub(crate) fn readlink<I: Source, O: Sink, E: Sink>(
         → KeepsCall (readlink_row k.old guest (base directory) address buffer (cast_signed w32 size)) result k.old guest (I.left dev.old.input) log.old log.new }
     ensures cause { StopsOnlyIfRose I.faults O.faults E.faults result dev.old dev.new }
     ensures counts { NoCountFell I.faults O.faults E.faults dev.old dev.new }
+    ensures clock { k.new.clock ≡ k.old.clock }
 {
     match read_path(alloc, space, address)? {
         Err(error) => Ok(Outcome::Error(error)),
@@ -82,6 +83,7 @@ fn link_text<I: Source, O: Sink, E: Sink>(
         → KeepsCall (readlink_row k.old guest (base directory) address buffer (cast_signed w32 size)) result k.old guest (I.left dev.old.input) log.old log.new }
     ensures cause { StopsOnlyIfRose I.faults O.faults E.faults result dev.old dev.new }
     ensures counts { NoCountFell I.faults O.faults E.faults dev.old dev.new }
+    ensures clock { k.new.clock ≡ k.old.clock }
 {
     let room = space.writable(buffer, size_room(size));
     let at = put_room(mem, path, room)?;
@@ -133,6 +135,7 @@ pub(crate) fn getcwd<I: Source, O: Sink, E: Sink>(
         → KeepsCall (getcwd_row k.old guest buffer size) result k.old guest (I.left dev.old.input) log.old log.new }
     ensures cause { StopsOnlyIfRose I.faults O.faults E.faults result dev.old dev.new }
     ensures counts { NoCountFell I.faults O.faults E.faults dev.old dev.new }
+    ensures clock { k.new.clock ≡ k.old.clock }
 {
     fresh_room(mem, space.writable(buffer, size))?;
     let args = [FIRST_ADDRESS, u64::from(size), 0, 0, 0, 0];

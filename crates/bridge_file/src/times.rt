@@ -71,6 +71,7 @@ pub(crate) fn utimensat<I: Source, O: Sink, E: Sink>(
         → KeepsCall (utimensat_row k.old guest (base directory) address times flags) result k.old guest (I.left dev.old.input) log.old log.new }
     ensures cause { StopsOnlyIfRose I.faults O.faults E.faults result dev.old dev.new }
     ensures counts { NoCountFell I.faults O.faults E.faults dev.old dev.new }
+    ensures clock { k.new.clock ≡ k.old.clock }
 {
     match read_path_or_none(alloc, space, address)? {
         Err(error) => Ok(Outcome::Error(error)),
@@ -104,6 +105,7 @@ fn set_times<I: Source, O: Sink, E: Sink>(
         → KeepsCall (utimensat_row k.old guest (base directory) address times flags) result k.old guest (I.left dev.old.input) log.old log.new }
     ensures cause { StopsOnlyIfRose I.faults O.faults E.faults result dev.old dev.new }
     ensures counts { NoCountFell I.faults O.faults E.faults dev.old dev.new }
+    ensures clock { k.new.clock ≡ k.old.clock }
 {
     match read_times(space, times) {
         Err(error) => Ok(Outcome::Error(error)),

@@ -1,5 +1,5 @@
 //! A call by its number.
-ghost use Rattle.std.specs.Prelude.{IsTrue};
+ghost use Rattle.std.specs.Prelude.{◌≡◌, IsTrue};
 ghost use Rattle.bridge_io.specs.Found.{found};
 ghost use Rattle.bridge_io.specs.inside.Rows.{is_row_there};
 ghost use Rattle.bridge_log.specs.Keeping.{KeepsCall};
@@ -43,6 +43,7 @@ pub fn io_call<I: Source, O: Sink, E: Sink>(
         (found args.now cpu.old space.old) (I.left dev.old.input) log.old log.new }
     ensures cause { StopsOnlyIfRose I.faults O.faults E.faults result dev.old dev.new }
     ensures counts { NoCountFell I.faults O.faults E.faults dev.old dev.new }
+    ensures clock { k.new.clock ≡ k.old.clock }
 {
     by_number(args, cpu, space, k, mem, dev, log, seen)
 }
@@ -65,6 +66,7 @@ fn by_number<I: Source, O: Sink, E: Sink>(
         (found args.now cpu.old space.old) (I.left dev.old.input) log.old log.new }
     ensures cause { StopsOnlyIfRose I.faults O.faults E.faults result dev.old dev.new }
     ensures counts { NoCountFell I.faults O.faults E.faults dev.old dev.new }
+    ensures clock { k.new.clock ≡ k.old.clock }
 {
     let [a0, a1, a2, _] = args.reg;
     match args.nr {

@@ -1,6 +1,7 @@
 //! fcntl(2).
 ghost use Rattle.std.specs.Prelude.{◌≡◌, ◌<◌, ◌≤◌, ℕ, List};
 ghost use Rattle.bridge_io.specs.inside.Outcomes.{native_status_flags, outcome_flags, told_flags};
+ghost use Rattle.bridge_log.specs.Arguments.{AreUnusedZero};
 ghost use Rattle.bridge_log.specs.Keeping.{KeepsCall};
 ghost use Rattle.bridge_log.specs.Mirrors.{Mirrors};
 ghost use Rattle.kernel_core.specs.Bits as bits;
@@ -41,6 +42,7 @@ pub(crate) fn fcntl<I: Source, O: Sink, E: Sink>(
         → KeepsCall (fcntl_row k.old guest fd command argument) result k.old guest (I.left dev.old.input) log.old log.new }
     ensures cause { StopsOnlyIfRose I.faults O.faults E.faults result dev.old dev.new }
     ensures counts { NoCountFell I.faults O.faults E.faults dev.old dev.new }
+    ensures clock { k.new.clock ≡ k.old.clock }
 {
     k.whole();
     let fd = u64::from(fd);
@@ -66,6 +68,7 @@ fn flags_call<I: Source, O: Sink, E: Sink>(
     log: &mut Log,
 ) -> Result<Outcome, Stop>
     requires built { built_call nr ≡ native_call nr }
+    requires unused { AreUnusedZero nr args }
     ensures row { (guest : Guest) (step : List ℕ → O32Step) → guest.words ≡ words.now
         → ((left : List ℕ) → Mirrors guest (told_flags guest.words) (native_call nr args k.old mem.old left) (step left))
         → IsCall step result k.new guest.memory guest.processor
@@ -75,6 +78,7 @@ fn flags_call<I: Source, O: Sink, E: Sink>(
         → KeepsCall step result k.old guest (I.left dev.old.input) log.old log.new }
     ensures cause { StopsOnlyIfRose I.faults O.faults E.faults result dev.old dev.new }
     ensures counts { NoCountFell I.faults O.faults E.faults dev.old dev.new }
+    ensures clock { k.new.clock ≡ k.old.clock }
 {
     let reply = native(k, nr, args, mem, dev, log)?;
     Ok(outcome_flags(words, reply))

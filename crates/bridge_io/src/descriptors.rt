@@ -1,6 +1,7 @@
 //! Closing and duplicating descriptors: close(2), dup(2).
 ghost use Rattle.std.specs.Prelude.{◌≡◌, ◌==◌, true, false, ℕ, List};
 ghost use Rattle.bridge_io.specs.inside.Outcomes.{outcome_with, told_value};
+ghost use Rattle.bridge_log.specs.Arguments.{AreUnusedZero};
 ghost use Rattle.bridge_log.specs.Keeping.{KeepsCall};
 ghost use Rattle.bridge_log.specs.Mirrors.{Mirrors};
 ghost use Rattle.kernel_model.specs.Stops.{StopsOnlyIfRose};
@@ -35,6 +36,7 @@ pub(crate) fn close<I: Source, O: Sink, E: Sink>(
         → KeepsCall (close_row k.old guest fd) result k.old guest (I.left dev.old.input) log.old log.new }
     ensures cause { StopsOnlyIfRose I.faults O.faults E.faults result dev.old dev.new }
     ensures counts { NoCountFell I.faults O.faults E.faults dev.old dev.new }
+    ensures clock { k.new.clock ≡ k.old.clock }
 {
     number_call(
         words,
@@ -63,6 +65,7 @@ pub(crate) fn dup<I: Source, O: Sink, E: Sink>(
         → KeepsCall (dup_row k.old guest fd) result k.old guest (I.left dev.old.input) log.old log.new }
     ensures cause { StopsOnlyIfRose I.faults O.faults E.faults result dev.old dev.new }
     ensures counts { NoCountFell I.faults O.faults E.faults dev.old dev.new }
+    ensures clock { k.new.clock ≡ k.old.clock }
 {
     k.whole();
     number_call(words, k, DUP, [u64::from(fd), 0, 0, 0, 0, 0], mem, dev, log)
@@ -86,6 +89,7 @@ pub(crate) fn dup3<I: Source, O: Sink, E: Sink>(
         → KeepsCall (dup3_row k.old guest fd onto flags) result k.old guest (I.left dev.old.input) log.old log.new }
     ensures cause { StopsOnlyIfRose I.faults O.faults E.faults result dev.old dev.new }
     ensures counts { NoCountFell I.faults O.faults E.faults dev.old dev.new }
+    ensures clock { k.new.clock ≡ k.old.clock }
 {
     let args = [u64::from(fd), u64::from(onto), u64::from(flags), 0, 0, 0];
     number_call(words, k, DUP3, args, mem, dev, log)
@@ -108,6 +112,7 @@ pub(crate) fn dup2<I: Source, O: Sink, E: Sink>(
         → KeepsCall (dup2_row k.old guest fd onto) result k.old guest (I.left dev.old.input) log.old log.new }
     ensures cause { StopsOnlyIfRose I.faults O.faults E.faults result dev.old dev.new }
     ensures counts { NoCountFell I.faults O.faults E.faults dev.old dev.new }
+    ensures clock { k.new.clock ≡ k.old.clock }
 {
     if fd == onto {
         let args = [u64::from(fd), F_GETFD, 0, 0, 0, 0];
@@ -129,6 +134,7 @@ fn told_call<I: Source, O: Sink, E: Sink>(
     log: &mut Log,
 ) -> Result<Outcome, Stop>
     requires built { built_call nr ≡ native_call nr }
+    requires unused { AreUnusedZero nr args }
     ensures row { (guest : Guest) (step : List ℕ → O32Step) → guest.words ≡ words.now
         → ((left : List ℕ) → Mirrors guest (told_value guest.words value) (native_call nr args k.old mem.old left) (step left))
         → IsCall step result k.new guest.memory guest.processor
@@ -138,6 +144,7 @@ fn told_call<I: Source, O: Sink, E: Sink>(
         → KeepsCall step result k.old guest (I.left dev.old.input) log.old log.new }
     ensures cause { StopsOnlyIfRose I.faults O.faults E.faults result dev.old dev.new }
     ensures counts { NoCountFell I.faults O.faults E.faults dev.old dev.new }
+    ensures clock { k.new.clock ≡ k.old.clock }
 {
     let reply = native(k, nr, args, mem, dev, log)?;
     Ok(outcome_with(words, value, reply))

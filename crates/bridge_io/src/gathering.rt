@@ -42,6 +42,7 @@ pub(crate) fn writev<I: Source, O: Sink, E: Sink>(
         → KeepsCall (writev_row k.old guest fd address count) result k.old guest (I.left dev.old.input) log.old log.new }
     ensures cause { StopsOnlyIfRose I.faults O.faults E.faults result dev.old dev.new }
     ensures counts { NoCountFell I.faults O.faults E.faults dev.old dev.new }
+    ensures clock { k.new.clock ≡ k.old.clock }
 {
     match Vector::read(space, address, count) {
         Ok(buffers) => write_buffers(words, fd, &buffers, space, k, mem, dev, log),
@@ -70,6 +71,7 @@ fn write_buffers<I: Source, O: Sink, E: Sink>(
         → KeepsCall (writev_row k.old guest fd address count) result k.old guest (I.left dev.old.input) log.old log.new }
     ensures cause { StopsOnlyIfRose I.faults O.faults E.faults result dev.old dev.new }
     ensures counts { NoCountFell I.faults O.faults E.faults dev.old dev.new }
+    ensures clock { k.new.clock ≡ k.old.clock }
 {
     let total = buffers.total();
     match k.output(fd) {

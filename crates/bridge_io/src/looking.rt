@@ -43,6 +43,7 @@ pub(crate) fn write_flags<I: Source, O: Sink, E: Sink>(
         (contents I.left O.written E.written dev.old) (contents I.left O.written E.written dev.new) log.old log.new }
     ensures cause { StopsOnlyIfRose I.faults O.faults E.faults result dev.old dev.new }
     ensures counts { NoCountFell I.faults O.faults E.faults dev.old dev.new }
+    ensures clock { k.new.clock ≡ k.old.clock }
 {
     let args = [u64::from(fd), F_GETFL, 0, 0, 0, 0];
     let reply = look(k, FCNTL, args, mem, dev, log)?;
@@ -61,6 +62,7 @@ fn position<I: Source, O: Sink, E: Sink>(
         (contents I.left O.written E.written dev.old) (contents I.left O.written E.written dev.new) log.old log.new }
     ensures cause { StopsOnlyIfRose I.faults O.faults E.faults result dev.old dev.new }
     ensures counts { NoCountFell I.faults O.faults E.faults dev.old dev.new }
+    ensures clock { k.new.clock ≡ k.old.clock }
 {
     let args = [u64::from(fd), 0, SEEK_CUR, 0, 0, 0];
     let reply = look(k, LSEEK, args, mem, dev, log)?;
@@ -79,6 +81,7 @@ pub(crate) fn size<I: Source, O: Sink, E: Sink>(
         (contents I.left O.written E.written dev.old) (contents I.left O.written E.written dev.new) log.old log.new }
     ensures cause { StopsOnlyIfRose I.faults O.faults E.faults result dev.old dev.new }
     ensures counts { NoCountFell I.faults O.faults E.faults dev.old dev.new }
+    ensures clock { k.new.clock ≡ k.old.clock }
 {
     fresh_room(mem, STATUS_SIZE)?;
     let args = [u64::from(fd), FIRST_ADDRESS, 0, 0, 0, 0];
@@ -99,6 +102,7 @@ fn begin<I: Source, O: Sink, E: Sink>(
         (contents I.left O.written E.written dev.old) (contents I.left O.written E.written dev.new) log.old log.new }
     ensures cause { StopsOnlyIfRose I.faults O.faults E.faults result dev.old dev.new }
     ensures counts { NoCountFell I.faults O.faults E.faults dev.old dev.new }
+    ensures clock { k.new.clock ≡ k.old.clock }
 {
     if append {
         return size(k, fd, mem, dev, log);
@@ -119,6 +123,7 @@ pub(crate) fn is_ready<I: Source, O: Sink, E: Sink>(
         (contents I.left O.written E.written dev.old) (contents I.left O.written E.written dev.new) log.old log.new }
     ensures cause { StopsOnlyIfRose I.faults O.faults E.faults result dev.old dev.new }
     ensures counts { NoCountFell I.faults O.faults E.faults dev.old dev.new }
+    ensures clock { k.new.clock ≡ k.old.clock }
 {
     let args = [u64::from(fd), FIONREAD, 0, 0, 0, 0];
     let reply = look(k, IOCTL, args, mem, dev, log)?;
@@ -137,6 +142,7 @@ pub(crate) fn room<I: Source, O: Sink, E: Sink>(
         (contents I.left O.written E.written dev.old) (contents I.left O.written E.written dev.new) log.old log.new }
     ensures cause { StopsOnlyIfRose I.faults O.faults E.faults result dev.old dev.new }
     ensures counts { NoCountFell I.faults O.faults E.faults dev.old dev.new }
+    ensures clock { k.new.clock ≡ k.old.clock }
 {
     match write_flags(k, fd, mem, dev, log)? {
         None => Ok(Room::Most(u64::MAX)),
@@ -158,6 +164,7 @@ fn room_under<I: Source, O: Sink, E: Sink>(
         (contents I.left O.written E.written dev.old) (contents I.left O.written E.written dev.new) log.old log.new }
     ensures cause { StopsOnlyIfRose I.faults O.faults E.faults result dev.old dev.new }
     ensures counts { NoCountFell I.faults O.faults E.faults dev.old dev.new }
+    ensures clock { k.new.clock ≡ k.old.clock }
 {
     if flags.largefile {
         return Ok(Room::Most(u64::MAX));
@@ -184,6 +191,7 @@ fn room_from<I: Source, O: Sink, E: Sink>(
         (contents I.left O.written E.written dev.old) (contents I.left O.written E.written dev.new) log.old log.new }
     ensures cause { StopsOnlyIfRose I.faults O.faults E.faults result dev.old dev.new }
     ensures counts { NoCountFell I.faults O.faults E.faults dev.old dev.new }
+    ensures clock { k.new.clock ≡ k.old.clock }
 {
     if begin < SMALL_FILE_LIMIT {
         return Ok(Room::Most(SMALL_FILE_LIMIT - begin));

@@ -1,6 +1,7 @@
 //! Making pipes: pipe(2), pipe2(2).
 ghost use Rattle.std.specs.Prelude.{◌≡◌, ◌<◌, ℕ, List, replicate};
 ghost use Rattle.bridge_io.specs.inside.Outcomes.{outcome_pair, told_pair, native_pipe_flags, int_at, host_place};
+ghost use Rattle.bridge_log.specs.Arguments.{AreUnusedZero};
 ghost use Rattle.bridge_log.specs.Keeping.{KeepsCall};
 ghost use Rattle.bridge_log.specs.Mirrors.{Mirrors};
 ghost use Rattle.kernel_model.specs.Stops.{StopsOnlyIfRose};
@@ -41,6 +42,7 @@ pub(crate) fn pipe<I: Source, O: Sink, E: Sink>(
         → KeepsCall (pipe_row k.old guest) result k.old guest (I.left dev.old.input) log.old log.new }
     ensures cause { StopsOnlyIfRose I.faults O.faults E.faults result dev.old dev.new }
     ensures counts { NoCountFell I.faults O.faults E.faults dev.old dev.new }
+    ensures clock { k.new.clock ≡ k.old.clock }
 {
     k.whole();
     let args = [FIRST_ADDRESS, 0, 0, 0, 0, 0];
@@ -58,6 +60,7 @@ fn pair_call<I: Source, O: Sink, E: Sink>(
     log: &mut Log,
 ) -> Result<Outcome, Stop>
     requires built { built_call nr ≡ native_call nr }
+    requires unused { AreUnusedZero nr args }
     ensures row { (guest : Guest) (step : List ℕ → O32Step) → guest.words ≡ words.now
         → ((left : List ℕ) → Mirrors guest (told_pair guest.words) (native_call nr args k.old (replicate 8 0) left) (step left))
         → IsCall step result k.new guest.memory guest.processor
@@ -67,6 +70,7 @@ fn pair_call<I: Source, O: Sink, E: Sink>(
         → KeepsCall step result k.old guest (I.left dev.old.input) log.old log.new }
     ensures cause { StopsOnlyIfRose I.faults O.faults E.faults result dev.old dev.new }
     ensures counts { NoCountFell I.faults O.faults E.faults dev.old dev.new }
+    ensures clock { k.new.clock ≡ k.old.clock }
 {
     fresh_room(mem, PAIR_SIZE)?;
     let reply = native(k, nr, args, mem, dev, log)?;
@@ -114,6 +118,7 @@ pub(crate) fn pipe2<I: Source, O: Sink, E: Sink>(
         → KeepsCall (pipe2_row k.old guest address flags) result k.old guest (I.left dev.old.input) log.old log.new }
     ensures cause { StopsOnlyIfRose I.faults O.faults E.faults result dev.old dev.new }
     ensures counts { NoCountFell I.faults O.faults E.faults dev.old dev.new }
+    ensures clock { k.new.clock ≡ k.old.clock }
 {
     k.whole();
     let place = host_place(space, address, PAIR_SIZE);

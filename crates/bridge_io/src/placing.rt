@@ -53,6 +53,7 @@ pub(crate) fn pwrite<I: Source, O: Sink, E: Sink>(
         → KeepsCall (pwrite_row k.old guest fd buffer count (stack_pair words.now)) result k.old guest (I.left dev.old.input) log.old log.new }
     ensures cause { StopsOnlyIfRose I.faults O.faults E.faults result dev.old dev.new }
     ensures counts { NoCountFell I.faults O.faults E.faults dev.old dev.new }
+    ensures clock { k.new.clock ≡ k.old.clock }
 {
     match stack_pair(words) {
         None => Ok(Outcome::Error(Errno::EFAULT)),
@@ -80,6 +81,7 @@ fn write_at<I: Source, O: Sink, E: Sink>(
         → KeepsCall (pwrite_row k.old guest fd buffer count (Some place)) result k.old guest (I.left dev.old.input) log.old log.new }
     ensures cause { StopsOnlyIfRose I.faults O.faults E.faults result dev.old dev.new }
     ensures counts { NoCountFell I.faults O.faults E.faults dev.old dev.new }
+    ensures clock { k.new.clock ≡ k.old.clock }
 {
     let plan = plan(k, fd, place, mem, dev, log)?;
     load_buffer(space, mem, buffer, count)?;
@@ -104,6 +106,7 @@ fn write_planned<I: Source, O: Sink, E: Sink>(
         → KeepsCall (place_write_of k.old guest fd place count mem.old) result k.old guest (I.left dev.old.input) log.old log.new }
     ensures cause { StopsOnlyIfRose I.faults O.faults E.faults result dev.old dev.new }
     ensures counts { NoCountFell I.faults O.faults E.faults dev.old dev.new }
+    ensures clock { k.new.clock ≡ k.old.clock }
 {
     match plan {
         Plan::Write { most, place } => {
@@ -131,6 +134,7 @@ fn plan<I: Source, O: Sink, E: Sink>(
         (contents I.left O.written E.written dev.old) (contents I.left O.written E.written dev.new) log.old log.new }
     ensures cause { StopsOnlyIfRose I.faults O.faults E.faults result dev.old dev.new }
     ensures counts { NoCountFell I.faults O.faults E.faults dev.old dev.new }
+    ensures clock { k.new.clock ≡ k.old.clock }
 {
     let most = u64::MAX;
     if place >= FIRST_NEGATIVE {
@@ -159,6 +163,7 @@ fn plan_under<I: Source, O: Sink, E: Sink>(
         (contents I.left O.written E.written dev.old) (contents I.left O.written E.written dev.new) log.old log.new }
     ensures cause { StopsOnlyIfRose I.faults O.faults E.faults result dev.old dev.new }
     ensures counts { NoCountFell I.faults O.faults E.faults dev.old dev.new }
+    ensures clock { k.new.clock ≡ k.old.clock }
 {
     let most = u64::MAX;
     if flags.largefile {
@@ -190,6 +195,7 @@ fn plan_at_end<I: Source, O: Sink, E: Sink>(
         (contents I.left O.written E.written dev.old) (contents I.left O.written E.written dev.new) log.old log.new }
     ensures cause { StopsOnlyIfRose I.faults O.faults E.faults result dev.old dev.new }
     ensures counts { NoCountFell I.faults O.faults E.faults dev.old dev.new }
+    ensures clock { k.new.clock ≡ k.old.clock }
 {
     let most = u64::MAX;
     match size(k, fd, mem, dev, log)? {
@@ -216,6 +222,7 @@ fn plan_behind<I: Source, O: Sink, E: Sink>(
         (contents I.left O.written E.written dev.old) (contents I.left O.written E.written dev.new) log.old log.new }
     ensures cause { StopsOnlyIfRose I.faults O.faults E.faults result dev.old dev.new }
     ensures counts { NoCountFell I.faults O.faults E.faults dev.old dev.new }
+    ensures clock { k.new.clock ≡ k.old.clock }
 {
     if size < SMALL_FILE_LIMIT {
         let most = SMALL_FILE_LIMIT - size;

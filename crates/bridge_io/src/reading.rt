@@ -37,6 +37,7 @@ pub(crate) fn read<I: Source, O: Sink, E: Sink>(
         → KeepsCall (read_row k.old guest fd buffer count) result k.old guest (I.left dev.old.input) log.old log.new }
     ensures cause { StopsOnlyIfRose I.faults O.faults E.faults result dev.old dev.new }
     ensures counts { NoCountFell I.faults O.faults E.faults dev.old dev.new }
+    ensures clock { k.new.clock ≡ k.old.clock }
 {
     let args = [u64::from(fd), FIRST_ADDRESS, u64::from(count), 0, 0, 0];
     fill_call(words, buffer, count, space, k, READ, args, mem, dev, log)
@@ -62,6 +63,7 @@ pub(crate) fn pread<I: Source, O: Sink, E: Sink>(
         → KeepsCall (pread_row k.old guest fd buffer count (stack_pair words.now)) result k.old guest (I.left dev.old.input) log.old log.new }
     ensures cause { StopsOnlyIfRose I.faults O.faults E.faults result dev.old dev.new }
     ensures counts { NoCountFell I.faults O.faults E.faults dev.old dev.new }
+    ensures clock { k.new.clock ≡ k.old.clock }
 {
     let Some(place) = stack_pair(words) else {
         return Ok(Outcome::Error(Errno::EFAULT));

@@ -59,6 +59,7 @@ pub(crate) fn ioctl<I: Source, O: Sink, E: Sink>(
         → KeepsCall (ioctl_row k.old guest fd request address) result k.old guest (I.left dev.old.input) log.old log.new }
     ensures cause { StopsOnlyIfRose I.faults O.faults E.faults result dev.old dev.new }
     ensures counts { NoCountFell I.faults O.faults E.faults dev.old dev.new }
+    ensures clock { k.new.clock ≡ k.old.clock }
 {
     match Request::of_o32(request) {
         Some(found) => listed(words, fd, found, address, space, k, mem, dev, log),
@@ -85,6 +86,7 @@ fn listed<I: Source, O: Sink, E: Sink>(
         → KeepsCall (ioctl_row k.old guest fd asked address) result k.old guest (I.left dev.old.input) log.old log.new }
     ensures cause { StopsOnlyIfRose I.faults O.faults E.faults result dev.old dev.new }
     ensures counts { NoCountFell I.faults O.faults E.faults dev.old dev.new }
+    ensures clock { k.new.clock ≡ k.old.clock }
 {
     let number = request.to_native();
     match purpose_of(request) {
@@ -138,6 +140,7 @@ fn plain<I: Source, O: Sink, E: Sink>(
         → KeepsCall step result k.old guest (I.left dev.old.input) log.old log.new }
     ensures cause { StopsOnlyIfRose I.faults O.faults E.faults result dev.old dev.new }
     ensures counts { NoCountFell I.faults O.faults E.faults dev.old dev.new }
+    ensures clock { k.new.clock ≡ k.old.clock }
 {
     number_call(
         words,
@@ -174,6 +177,7 @@ fn show<I: Source, O: Sink, E: Sink>(
         → KeepsCall step result k.old guest (I.left dev.old.input) log.old log.new }
     ensures cause { StopsOnlyIfRose I.faults O.faults E.faults result dev.old dev.new }
     ensures counts { NoCountFell I.faults O.faults E.faults dev.old dev.new }
+    ensures clock { k.new.clock ≡ k.old.clock }
 {
     let place = host_place(space, address, structure.size_for_program());
     let args = [u64::from(fd), number, place, 0, 0, 0];
@@ -206,6 +210,7 @@ fn take<I: Source, O: Sink, E: Sink>(
         → KeepsCall step result k.old guest (I.left dev.old.input) log.old log.new }
     ensures cause { StopsOnlyIfRose I.faults O.faults E.faults result dev.old dev.new }
     ensures counts { NoCountFell I.faults O.faults E.faults dev.old dev.new }
+    ensures clock { k.new.clock ≡ k.old.clock }
 {
     let place = take_structure(space, address, structure, mem)?;
     let args = [u64::from(fd), number, place, 0, 0, 0];

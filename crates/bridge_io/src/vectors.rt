@@ -44,6 +44,7 @@ pub(crate) fn readv<I: Source, O: Sink, E: Sink>(
         → KeepsCall (readv_row k.old guest fd address count) result k.old guest (I.left dev.old.input) log.old log.new }
     ensures cause { StopsOnlyIfRose I.faults O.faults E.faults result dev.old dev.new }
     ensures counts { NoCountFell I.faults O.faults E.faults dev.old dev.new }
+    ensures clock { k.new.clock ≡ k.old.clock }
 {
     match Vector::read(space, address, count) {
         Ok(buffers) => fill_buffers(words, fd, &buffers, space, k, mem, dev, log),
@@ -83,6 +84,7 @@ fn fill_buffers<I: Source, O: Sink, E: Sink>(
         → KeepsCall (readv_row k.old guest fd address count) result k.old guest (I.left dev.old.input) log.old log.new }
     ensures cause { StopsOnlyIfRose I.faults O.faults E.faults result dev.old dev.new }
     ensures counts { NoCountFell I.faults O.faults E.faults dev.old dev.new }
+    ensures clock { k.new.clock ≡ k.old.clock }
 {
     let total = buffers.total();
     let room = buffers.accessible(space);

@@ -43,6 +43,7 @@ pub(crate) fn write<I: Source, O: Sink, E: Sink>(
         → KeepsCall (write_row k.old guest fd buffer count) result k.old guest (I.left dev.old.input) log.old log.new }
     ensures cause { StopsOnlyIfRose I.faults O.faults E.faults result dev.old dev.new }
     ensures counts { NoCountFell I.faults O.faults E.faults dev.old dev.new }
+    ensures clock { k.new.clock ≡ k.old.clock }
 {
     match k.output(fd) {
         Some(stream) => {
@@ -75,6 +76,7 @@ pub(crate) fn send_loaded<I: Source, O: Sink, E: Sink>(
         → KeepsCall (write_of k.old guest fd count mem.old) result k.old guest (I.left dev.old.input) log.old log.new }
     ensures cause { StopsOnlyIfRose I.faults O.faults E.faults result dev.old dev.new }
     ensures counts { NoCountFell I.faults O.faults E.faults dev.old dev.new }
+    ensures clock { k.new.clock ≡ k.old.clock }
 {
     let args = [u64::from(fd), FIRST_ADDRESS, u64::from(count), 0, 0, 0];
     let reply = native(k, WRITE, args, mem, dev, log)?;
@@ -103,6 +105,7 @@ pub(crate) fn write_loaded<I: Source, O: Sink, E: Sink>(
         → KeepsCall (write_of k.old guest fd count mem.old) result k.old guest (I.left dev.old.input) log.old log.new }
     ensures cause { StopsOnlyIfRose I.faults O.faults E.faults result dev.old dev.new }
     ensures counts { NoCountFell I.faults O.faults E.faults dev.old dev.new }
+    ensures clock { k.new.clock ≡ k.old.clock }
 {
     match room {
         Room::Most(most) => {

@@ -4,7 +4,7 @@ use Rattle.std.proofs.lemmas.Bool.Decides.{nat_tests}
 use Rattle.std.proofs.lemmas.Int.{ints}
 use Rattle.std.proofs.Math.Seq.{take-append_seam}
 use Rattle.guest_space.specs.Access.{first_denied}
-use Rattle.guest_space.specs.Bytes.{copied_out, with_bytes}
+use Rattle.guest_space.specs.Bytes.{copied_out}
 use Rattle.guest_space.specs.Memory.{Memory}
 use Rattle.guest_space.specs.declared.access.Access.TheVariants.{Store}
 use Rattle.host_mem.specs.Memory.{first_address, is_inside, written}
@@ -29,6 +29,7 @@ use Rattle.o32_model.specs.declared.outcome.Outcome.{Outcome}
 use Rattle.outside.specs.Streams.{Contents}
 use Rattle.bridge_log.proofs.Ends.{Alike, called_alike, keeps}
 use Rattle.bridge_log.proofs.Replies.{outcome_of_bytes}
+pub use Rattle.bridge_log.proofs.Stores.{stored_nothing}
 use Rattle.bridge_log.specs.Bounds.{Bounded}
 use Rattle.bridge_log.specs.Fills.{Fills, bytes_back}
 use Rattle.bridge_log.specs.Keeping.{Logged, Keeps, reached}
@@ -59,10 +60,6 @@ back_is room (Refused error) within = back_of_failure room error
 back_is room (Waits wake) within = refl
 
 -- The program's memory
-
-pub stored_nothing : (memory : Memory) (address : ℕ) → with_stored memory address [] ≡ memory
-unfolding first_denied copied_out with_bytes
-stored_nothing memory address = refl
 
 if_storable : (memory : Memory) (address : ℕ) (bytes : List ℕ) → first_denied Store memory.pages address (length bytes) ≡ None → with_stored memory address bytes ≡ copied_out memory address bytes
 if_storable memory address bytes free = rw free

@@ -1,9 +1,10 @@
 -- What a bridge call has kept: the native calls that it made, and its effects on pages and outputs. (The log and the journal are this
 -- project's own.)
-use Rattle.std.specs.Prelude.{◌≡◌, ℕ, List, Option, Some, Result, OnOk}
+use Rattle.std.specs.Prelude.{◌≡◌, ℕ, List, [], ◌∷◌, Option, Some, Result, OnOk}
 use Rattle.guest_space.specs.Memory.{Pages}
 use Rattle.kernel_core.specs.declared.core_error.Stop.{Stop}
 use Rattle.kernel_core.specs.declared.log_entry.LogEntry.{LogEntry}
+use Rattle.kernel_core.specs.declared.log_entry.LogEntry.TheVariants.{Call}
 use Rattle.kernel_core.specs.declared.reply.Reply.{Reply}
 use Rattle.kernel_model.specs.Pipes.{Sent, nothing}
 use Rattle.kernel_model.specs.State.{Kernel}
@@ -21,6 +22,10 @@ pub record Logged (old new : Option (List LogEntry)) (from to : Moment) : Type 0
   pub more : List LogEntry
   pub kept : new ≡ with_more old more
   pub leads : Leads from more to
+
+-- what is kept of native calls, and one call more: its number, its arguments, host memory before and after it, and its reply
+abbrev pub with_call : Option (List LogEntry) → ℕ → List ℕ → List ℕ → List ℕ → Reply → Option (List LogEntry)
+with_call kept number args before after reply = with_more kept (Call number args before after reply ∷ [])
 
 -- What is said of a native call that is kept where the input tells what is left of it, `told`: the entries lead over what the call does,
 -- whatever was sent before it. Of one that stopped early nothing is said.

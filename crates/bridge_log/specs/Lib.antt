@@ -1,7 +1,9 @@
+pub mod Arguments
 pub mod Bounds
 pub mod Fills
 pub mod Keeping
 pub mod Looks
 pub mod Mirrors
+pub mod Moved
 pub mod Outcomes
 pub mod Sending

@@ -1,6 +1,7 @@
 //! Native calls, where they are kept.
 ghost use Rattle.std.specs.Prelude.{◌≡◌, [], ◌∷◌, ◌++◌, IfOk, OnOk};
-ghost use Rattle.bridge_log.specs.Keeping.{LogsCall};
+ghost use Rattle.bridge_log.specs.Arguments.{AreUnusedZero};
+ghost use Rattle.bridge_log.specs.Keeping.{LogsCall, with_call};
 ghost use Rattle.kernel_model.specs.Stops.{StopsOnlyIfRose};
 ghost use Rattle.native_calls.specs.Answered.{IsCall};
 ghost use Rattle.native_calls.specs.Table.{native_call};
@@ -15,7 +16,8 @@ use outside::{Devices, Sink, Source};
 use std::alloc::Global;
 
 /// Makes a native call, by its number and six arguments over host memory, and keeps it where native calls
-/// are kept. Host memory is copied only then. The number is that of a call that the kernel has.
+/// are kept: one entry, and no other. Host memory is copied only then. The number is that of a call that
+/// the kernel has, and arguments that the call doesn't take are 0.
 pub fn native<I: Source, O: Sink, E: Sink>(
     k: &mut NativeKernel,
     nr: u64,
@@ -25,13 +27,16 @@ pub fn native<I: Source, O: Sink, E: Sink>(
     log: &mut Log,
 ) -> Result<Reply, Stop>
     requires built { built_call nr ≡ native_call nr }
+    requires unused { AreUnusedZero nr args }
     ensures row { IsCall (native_call nr args k.old mem.old) result k.new mem.new
         (contents I.left O.written E.written dev.old) (contents I.left O.written E.written dev.new) }
     ensures kept { LogsCall (native_call nr args k.old mem.old) result k.old
         (I.left dev.old.input) log.old.native log.new.native }
+    ensures entry { IfOk result (λ reply. log.new.native ≡ with_call log.old.native nr args mem.old mem.new reply) }
     ensures effects { log.new.effects ≡ log.old.effects }
     ensures cause { StopsOnlyIfRose I.faults O.faults E.faults result dev.old dev.new }
     ensures counts { NoCountFell I.faults O.faults E.faults dev.old dev.new }
+    ensures clock { k.new.clock ≡ k.old.clock }
 {
     match &mut log.native {
         None => make(k, nr, args, mem, dev),
@@ -52,6 +57,7 @@ fn make<I: Source, O: Sink, E: Sink>(
         (contents I.left O.written E.written dev.old) (contents I.left O.written E.written dev.new) }
     ensures cause { StopsOnlyIfRose I.faults O.faults E.faults result dev.old dev.new }
     ensures counts { NoCountFell I.faults O.faults E.faults dev.old dev.new }
+    ensures clock { k.new.clock ≡ k.old.clock }
 {
     k.call(nr, args, mem, dev)
 }
@@ -71,6 +77,7 @@ fn kept_call<I: Source, O: Sink, E: Sink>(
     ensures entry { IfOk result (λ reply. entries.new.items ≡ entries.old.items ++ (LogEntry.Call nr args mem.old mem.new reply ∷ [])) }
     ensures cause { StopsOnlyIfRose I.faults O.faults E.faults result dev.old dev.new }
     ensures counts { NoCountFell I.faults O.faults E.faults dev.old dev.new }
+    ensures clock { k.new.clock ≡ k.old.clock }
 {
     let alloc = *entries.allocator();
     let before = copied(alloc, mem)?;

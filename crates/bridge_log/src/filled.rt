@@ -1,8 +1,11 @@
 //! o32 calls that are one native call which fills a buffer.
-ghost use Rattle.std.specs.Prelude.{◌≡◌, ℕ, List, replicate};
+ghost use Rattle.std.specs.Prelude.{◌≡◌, ℕ, List, replicate, IfOk};
+ghost use Rattle.bridge_log.specs.Arguments.{AreUnusedZero};
 ghost use Rattle.bridge_log.specs.Fills.{Fills};
-ghost use Rattle.bridge_log.specs.Keeping.{KeepsCall};
+ghost use Rattle.bridge_log.specs.Keeping.{KeepsCall, with_call};
+ghost use Rattle.bridge_log.specs.Outcomes.{outcome_of};
 ghost use Rattle.guest_space.specs.Access.{writable_prefix};
+ghost use Rattle.kernel_core.specs.declared.reply.Reply.{Reply};
 ghost use Rattle.kernel_model.specs.Stops.{StopsOnlyIfRose};
 ghost use Rattle.native_calls.specs.Table.{native_call};
 ghost use Rattle.native_kernel.specs.Built.{built_call};
@@ -23,7 +26,8 @@ use outside::{Devices, Sink, Source};
 
 /// Makes the native call that a call of the program is, where it fills a buffer of `count` bytes: over host
 /// memory with as many zeros as bytes of the buffer may be stored to, from where they then go to the
-/// program's buffer. `row` and `kept` hold of every o32 call that this native call fills for.
+/// program's buffer. The call is kept as one entry. `row` and `kept` hold of every o32 call that this
+/// native call fills for.
 pub fn fill_call<I: Source, O: Sink, E: Sink>(
     words: &CallWords,
     buffer: u32,
@@ -37,6 +41,7 @@ pub fn fill_call<I: Source, O: Sink, E: Sink>(
     log: &mut Log,
 ) -> Result<Outcome, Stop>
     requires built { built_call nr ≡ native_call nr }
+    requires unused { AreUnusedZero nr args }
     ensures row { (guest : Guest) (step : List ℕ → O32Step) → guest.words ≡ words.now → guest.memory ≡ space.old
         → (let room = replicate (writable_prefix space.old.pages buffer count) 0 in
         (left : List ℕ) → Fills guest buffer room (native_call nr args k.old room left) (step left))
@@ -46,8 +51,12 @@ pub fn fill_call<I: Source, O: Sink, E: Sink>(
         → (let room = replicate (writable_prefix space.old.pages buffer count) 0 in
         (left : List ℕ) → Fills guest buffer room (native_call nr args k.old room left) (step left))
         → KeepsCall step result k.old guest (I.left dev.old.input) log.old log.new }
+    ensures entry { IfOk result (λ outcome. (reply : Reply) × (outcome ≡ outcome_of words.now reply)
+        × (let room = replicate (writable_prefix space.old.pages buffer count) 0 in
+        log.new.native ≡ with_call log.old.native nr args room mem.new reply)) }
     ensures cause { StopsOnlyIfRose I.faults O.faults E.faults result dev.old dev.new }
     ensures counts { NoCountFell I.faults O.faults E.faults dev.old dev.new }
+    ensures clock { k.new.clock ≡ k.old.clock }
 {
     let room = space.writable(buffer, count);
     fresh_room(mem, room)?;

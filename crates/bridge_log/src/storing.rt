@@ -2,12 +2,14 @@
 ghost use Rattle.std.specs.Prelude.{◌≡◌, ◌<◌, ◌^◌, ◌⊎◌, length, take, IfOk, OnOk};
 ghost use Rattle.bridge_log.specs.Fills.{bytes_back};
 ghost use Rattle.bridge_log.specs.Keeping.{reached};
+ghost use Rattle.bridge_log.specs.Moved as moved;
 ghost use Rattle.bridge_log.specs.Sending.{sent_by};
 ghost use Rattle.guest_space.specs.Memory.{Pages};
 ghost use Rattle.kernel_model.specs.Pipes.{Sent, nothing};
 ghost use Rattle.mips_exec.specs.Processor.{Processor};
 ghost use Rattle.o32_model.specs.Effects.{Effected};
 ghost use Rattle.o32_model.specs.GuestBytes.{is_storable, with_stored};
+ghost use Rattle.o32_model.specs.Logs.{with_more};
 
 use crate::effects::{sent, wrote};
 use bridge_mem::store_structure;
@@ -17,12 +19,13 @@ use kernel_core::{NoMemory, Reply};
 use o32_model::Log;
 
 /// Writes the bytes from `address` on and answers true, or changes nothing and answers false where one of
-/// them may not be stored to. Where effects are kept, what was written is kept.
+/// them may not be stored to. Where effects are kept, what was written is kept as one effect; no byte is none.
 pub fn put(space: &mut Space, address: u32, bytes: &[u8], log: &mut Log) -> Result<bool, NoMemory>
     ensures answer { IfOk result (λ stored. stored ≡ is_storable space.old address (length bytes.now)) }
     ensures stored { OnOk result (space.new ≡ with_stored space.old address bytes.now) }
     ensures effects { OnOk result ((processor : Processor) (sent : Sent)
         → Effected log.old.effects log.new.effects (reached processor space.old.pages sent) (reached processor space.new.pages sent)) }
+    ensures kept { OnOk result (log.new.effects ≡ with_more log.old.effects (moved.stored space.old address bytes.now)) }
     ensures native { log.new.native ≡ log.old.native }
 {
     if !store_structure(space, address, bytes)? {
@@ -44,6 +47,7 @@ pub(crate) fn put_back(
     ensures stored { OnOk result (space.new ≡ with_stored space.old address (bytes_back mem.now reply)) }
     ensures effects { OnOk result ((processor : Processor) (sent : Sent)
         → Effected log.old.effects log.new.effects (reached processor space.old.pages sent) (reached processor space.new.pages sent)) }
+    ensures kept { OnOk result (log.new.effects ≡ with_more log.old.effects (moved.stored space.old address (bytes_back mem.now reply))) }
     ensures native { log.new.native ≡ log.old.native }
 {
     match reply {
@@ -64,6 +68,7 @@ pub fn sent_back(log: &mut Log, stream: u8, mem: &HostMem, reply: Reply) -> Resu
         → (processor : Processor) (pages : Pages)
         → Effected log.old.effects log.new.effects (reached processor pages nothing)
         (reached processor pages (sent_by stream (bytes_back mem.now reply)))) }
+    ensures kept { OnOk result (log.new.effects ≡ with_more log.old.effects (moved.sent_on stream (bytes_back mem.now reply))) }
     ensures native { log.new.native ≡ log.old.native }
 {
     match reply {

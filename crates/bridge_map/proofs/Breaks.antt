@@ -14,8 +14,8 @@ use Rattle.guest_space.specs.Memory.{MappedPage, Memory, Pages, IsValid}
 use Rattle.guest_space.specs.Remapping.{is_in, without}
 use Rattle.kernel_core.specs.declared.record.Effect.{Effect}
 use Rattle.kernel_core.specs.declared.record.Effect.TheVariants.{Map, Unmap}
-use Rattle.o32_model.specs.Effects.{after_map}
 use Rattle.o32_model.specs.Logs.{with_more}
+use Rattle.o32_model.specs.Ranges.{with_new_pages}
 use Rattle.bridge_map.proofs.Journal.{unmap_leads, map_leads, nothing_leads}
 use Rattle.bridge_map.proofs.Runs.{none_past}
 use Rattle.bridge_map.specs.Rows.{Leads, break_effects}
@@ -49,7 +49,7 @@ without_inside pages to from valid = same_map nat_cmp_total nat_cmp-IsAntisymmet
     same_in : (number : ℕ) → number < 524280 → is_in to (min from 524280 - to) number ≡ is_in to (from - to) number
     same_in number inside = ap (λ b. leb to number && b) (grind (arith, nat_tests))
 
-added : (pages : Pages) (first count : ℕ) → 0 < count → may_add pages first count ≡ true → after_map pages first count 3 ≡ Some (with_zeros pages first count 3)
+added : (pages : Pages) (first count : ℕ) → 0 < count → may_add pages first count ≡ true → with_new_pages pages first count 3 ≡ Some (with_zeros pages first count 3)
 added pages first count some may =
     let not_none : (count == 0) ≡ false = grind (arith, nat_tests) in
     let rest : ((absent_count pages first count == count) && nat_le (len pages + count) page_limit) ≡ true =
@@ -76,13 +76,13 @@ module _ (old new : Option (List Effect)) (pages : Pages) (valid : IsValid pages
             let kept_less = kept ∙ ap (λ b. with_more old (if b then Map (pages_up_to break) (pages_up_to wish - pages_up_to break) 3 ∷ [] else rest_effects)) stays in
             elim (cases_lt (pages_up_to wish) (pages_up_to break)) [
               | inl fewer ↦
-                  let shrinks : nat_lt (pages_up_to wish) (pages_up_to break) ≡ true = grind (arith, nat_tests) in
+                  let shrinks : nat_lt (pages_up_to wish) (min (pages_up_to break) 524280) ≡ true = grind (arith, nat_tests) in
                   subst (Leads old new pages) (without_inside pages (pages_up_to wish) (pages_up_to break) valid ∙ between-less pages break wish less)
                   (unmap_leads old new pages (pages_up_to wish) (min (pages_up_to break) 524280 - pages_up_to wish)
                   (kept_less ∙ ap (λ b. with_more old (if b then Unmap (pages_up_to wish) (min (pages_up_to break) 524280 - pages_up_to wish) ∷ [] else [])) shrinks)
                   (record { begins = omega arith; ends = omega arith }))
               | inr equal ↦
-                  let same : nat_lt (pages_up_to wish) (pages_up_to break) ≡ false = grind (arith, nat_tests) in
+                  let same : nat_lt (pages_up_to wish) (min (pages_up_to break) 524280) ≡ false = grind (arith, nat_tests) in
                   let none : pages_up_to break - pages_up_to wish ≡ 0 = omega arith in
                   subst (Leads old new pages)
                   (sym (without-none pages (pages_up_to wish)) ∙ ap (without pages (pages_up_to wish)) (sym none) ∙ between-less pages break wish less)
@@ -92,12 +92,14 @@ module _ (old new : Option (List Effect)) (pages : Pages) (valid : IsValid pages
       ]
     where
       rest_effects : List Effect
-      rest_effects = if nat_lt (pages_up_to wish) (pages_up_to break) then Unmap (pages_up_to wish) (min (pages_up_to break) 524280 - pages_up_to wish) ∷ [] else []
+      rest_effects = if nat_lt (pages_up_to wish) (min (pages_up_to break) 524280) then Unmap (pages_up_to wish) (min (pages_up_to break) 524280 - pages_up_to wish) ∷ [] else []
 
 break_stays : (pages : ℕ) → break_effects pages pages ≡ []
 break_stays pages =
     let same : nat_lt pages pages ≡ false = grind (arith, nat_tests) in
-    ap (λ b. if b then Map pages (pages - pages) 3 ∷ [] else (if b then Unmap pages (min pages 524280 - pages) ∷ [] else [])) same
+    let lower : nat_lt pages (min pages 524280) ≡ false = grind (arith, nat_tests) in
+    ap (λ b. if b then Map pages (pages - pages) 3 ∷ [] else (if nat_lt pages (min pages 524280) then Unmap pages (min pages 524280 - pages) ∷ [] else [])) same
+    ∙ ap (λ b. if b then Unmap pages (min pages 524280 - pages) ∷ [] else []) lower
 
 pub break_leads : (old new : Option (List Effect)) (memory : Memory) (wish : ℕ) → IsValid memory.pages
     → new ≡ with_more old (break_effects (pages_up_to memory.program_break) (pages_up_to (with_break memory wish).program_break))

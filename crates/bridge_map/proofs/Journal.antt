@@ -1,15 +1,16 @@
 -- What is kept of effects over none, one and several of them.
-use Rattle.std.proofs.Common.{◌≡◌, ℕ, ◌≤◌, All, List, [], ◌∷◌, ◌++◌, Option, None, Some, refl, sym, ap, ◌∙◌, append_assoc, append-nil}
+use Rattle.std.proofs.Common.{◌≡◌, ℕ, ◌≤◌, All, List, [], ◌∷◌, ◌++◌, Option, None, Some, Result, Ok, Err, refl, sym, ap, ◌∙◌, append_assoc, append-nil}
 use Rattle.std.proofs.lemmas.List.Elements.{All-append, All-nil, All-cons}
 use Rattle.guest_space.specs.Mapping.{with_protection}
 use Rattle.guest_space.specs.Memory.{Pages}
 use Rattle.guest_space.specs.Remapping.{without}
 use Rattle.kernel_core.specs.declared.record.Effect.{Effect}
 use Rattle.kernel_core.specs.declared.record.Effect.TheVariants.{Map, Unmap, Protect}
-use Rattle.o32_model.specs.Effects.{Target, ArePages, IsFormed, Effected, after_map, after_protect, carried, carried_on, carried_all}
+use Rattle.o32_model.specs.Effects.{Target, Difference, ArePages, IsFormed, Effected, after_protect, carried, carried_on, carried_all}
 use Rattle.o32_model.specs.Effects as effects
 use Rattle.mips_exec.specs.Processor.{Processor}
 use Rattle.o32_model.specs.Logs.{with_more}
+use Rattle.o32_model.specs.Ranges.{with_new_pages}
 use Rattle.bridge_map.specs.Rows.{Leads, on_pages}
 
 pub with_more-none : {A : Type 0} (kept : Option (List A)) → kept ≡ with_more kept []
@@ -20,20 +21,20 @@ pub with_more-twice : {A : Type 0} (kept : Option (List A)) (first second : List
 with_more-twice None first second = refl
 with_more-twice (Some list) first second = ap Some (append_assoc list first second)
 
-carried_on-none : (effects : List Effect) → carried_on effects None ≡ None
-carried_on-none [] = refl
-carried_on-none (effect ∷ effects) = refl
+carried_on-differs : (effects : List Effect) (difference : Difference) → carried_on effects (Err difference) ≡ Err difference
+carried_on-differs [] difference = refl
+carried_on-differs (effect ∷ effects) difference = refl
 
-pub carried_on-append : (first second : List Effect) (reached : Option Target) → carried_on (first ++ second) reached ≡ carried_on second (carried_on first reached)
+pub carried_on-append : (first second : List Effect) (reached : Result Target Difference) → carried_on (first ++ second) reached ≡ carried_on second (carried_on first reached)
 carried_on-append [] second reached = refl
-carried_on-append (effect ∷ first) second None = sym (carried_on-none second)
-carried_on-append (effect ∷ first) second (Some target) = carried_on-append first second (carried target effect)
+carried_on-append (effect ∷ first) second (Err difference) = sym (carried_on-differs second difference)
+carried_on-append (effect ∷ first) second (Ok target) = carried_on-append first second (carried target effect)
 
 pub leads_none : (kept : Option (List Effect)) (pages : Pages) → Leads kept kept pages pages
 leads_none kept pages = λ processor. record { more = []; kept = with_more-none kept; formed = All-nil IsFormed; leads = refl }
 
 pub leads_one : (old new : Option (List Effect)) (effect : Effect) (before after : Pages) → new ≡ with_more old (effect ∷ []) → IsFormed effect
-    → ((target : Target) → target.pages ≡ before → carried target effect ≡ Some (record target { pages = after })) → Leads old new before after
+    → ((target : Target) → target.pages ≡ before → carried target effect ≡ Ok (record target { pages = after })) → Leads old new before after
 leads_one old new effect before after kept formed leads = λ processor. record {
   more = effect ∷ [];
   kept = kept;
@@ -49,11 +50,11 @@ leads_then old middle new before between after p q = λ processor.
       more = first.more ++ second.more;
       kept = second.kept ∙ ap (λ kept. with_more kept second.more) first.kept ∙ with_more-twice old first.more second.more;
       formed = All-append IsFormed first.more second.more first.formed second.formed;
-      leads = carried_on-append first.more second.more (Some (on_pages processor before)) ∙ ap (carried_on second.more) first.leads ∙ second.leads;
+      leads = carried_on-append first.more second.more (Ok (on_pages processor before)) ∙ ap (carried_on second.more) first.leads ∙ second.leads;
     }
 
 pub leads_list : (old new : Option (List Effect)) (effects : List Effect) (before after : Pages) → new ≡ with_more old effects → All IsFormed effects
-    → ((processor : Processor) → carried_all (on_pages processor before) effects ≡ Some (on_pages processor after)) → Leads old new before after
+    → ((processor : Processor) → carried_all (on_pages processor before) effects ≡ Ok (on_pages processor after)) → Leads old new before after
 leads_list old new effects before after kept formed leads = λ processor. record { more = effects; kept = kept; formed = formed; leads = leads processor }
 
 -- one effect on pages
@@ -64,13 +65,13 @@ unmap_leads old new pages first count kept inside =
     leads_list old new (Unmap first count ∷ []) pages (without pages first count) kept (All-cons IsFormed (Unmap first count) [] inside (All-nil IsFormed)) (λ processor. refl)
 
 pub map_leads : (old new : Option (List Effect)) (pages after : Pages) (first count protection : ℕ) → new ≡ with_more old (Map first count protection ∷ []) → ArePages first count
-    → protection ≤ 7 → after_map pages first count protection ≡ Some after → Leads old new pages after
+    → protection ≤ 7 → with_new_pages pages first count protection ≡ Some after → Leads old new pages after
 map_leads old new pages after first count protection kept inside bits mapped =
     leads_list old new (Map first count protection ∷ []) pages after kept (All-cons IsFormed (Map first count protection) [] (inside, bits) (All-nil IsFormed))
-    (λ processor. ap (effects.on_pages (on_pages processor pages)) mapped)
+    (λ processor. ap (λ (o : Option Pages). effects.on_pages (on_pages processor pages) (effects.mapped_or pages o)) mapped)
 
 pub protect_leads : (old new : Option (List Effect)) (pages : Pages) (first count protection : ℕ) → new ≡ with_more old (Protect first count protection ∷ []) → ArePages first count
-    → protection ≤ 7 → after_protect pages first count protection ≡ Some (with_protection pages first count protection) → Leads old new pages (with_protection pages first count protection)
+    → protection ≤ 7 → after_protect pages first count protection ≡ Ok (with_protection pages first count protection) → Leads old new pages (with_protection pages first count protection)
 protect_leads old new pages first count protection kept inside bits protected =
     leads_list old new (Protect first count protection ∷ []) pages _ kept (All-cons IsFormed (Protect first count protection) [] (inside, bits) (All-nil IsFormed))
     (λ processor. ap (effects.on_pages (on_pages processor pages)) protected)

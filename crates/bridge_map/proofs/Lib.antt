@@ -11,6 +11,7 @@ pub mod Protecting
 pub mod Quietly
 pub mod Ranges
 pub mod Resizing
+pub mod Rooms
 pub mod Runs
 pub mod Sizes
 pub mod Travel

@@ -1,10 +1,10 @@
 -- One page, mapped and written at a free number, as its effects lead.
-use Rattle.std.proofs.Common.{◌≡◌, ◌<◌, ◌+◌, ◌*◌, ◌/◌, ◌%◌, ◌==◌, ℕ, Bool, true, false, All, List, [], ◌∷◌, length, take, Option, Some, None, refl, sym, ap, ◌∙◌, arith}
+use Rattle.std.proofs.Common.{◌≡◌, ◌<◌, ◌+◌, ◌*◌, ◌/◌, ◌%◌, ◌==◌, ℕ, Bool, true, false, All, List, [], ◌∷◌, length, take, Option, Some, None, Result, Ok, refl, sym, ap, ◌∙◌, arith}
 use Rattle.std.proofs.lemmas.Bool.Decides.{nat_tests}
 use Rattle.std.proofs.lemmas.List.{take_all}
 use Rattle.std.proofs.lemmas.List.Elements.{All-nil, All-cons}
 use Rattle.std.proofs.lemmas.Slice.{take-put_mid}
-use Rattle.std.specs.Prelude.{is_none, is_some, if◌then◌else◌}
+use Rattle.std.specs.Prelude.{is_some, if◌then◌else◌}
 use Rattle.std.specs.FinMap.{get, insert, len}
 use Rattle.guest_space.proofs.ByteLemmas.{with_bytes-page}
 use Rattle.guest_space.proofs.MappingLemmas.{absent_count-le, len-with_zeros, mapped_run-step, mapped_run-zero, with_protection-more, with_protection-none, with_zeros-more, with_zeros-none}
@@ -14,17 +14,25 @@ use Rattle.guest_space.specs.Bytes.{with_bytes}
 use Rattle.guest_space.specs.Mapping.{mapped_run, with_protection, with_zeros, zero_page, pages_with_protection}
 use Rattle.guest_space.specs.Memory.{IsPage, MappedPage, Pages}
 use Rattle.guest_space.specs.declared.access.Access.TheVariants.{Store}
-use Rattle.guest_space.specs.declared.access.Denied.{Denied}
 use Rattle.kernel_core.specs.declared.record.Effect.{Effect}
 use Rattle.kernel_core.specs.declared.record.Effect.TheVariants.{Map, Protect, Write}
 use Rattle.mips_exec.specs.Processor.{Processor}
 use Rattle.o32_model.specs.Effects as effects
-use Rattle.o32_model.specs.Effects.{IsFormed, after_map, after_protect, after_write, carried_all, carried_on}
+use Rattle.o32_model.specs.Effects.{Difference, IsFormed, after_protect, after_write, carried_all, carried_on, differs, mapped_or, written_unless}
+use Rattle.o32_model.specs.Ranges.{with_new_pages}
 use Rattle.raw_pages.proofs.Puts.{get-insert_same, insert-insert, length-put_at, put_mid-put_at}
 use Rattle.raw_pages.proofs.Zeros.{zeros_whole}
 use Rattle.raw_pages.specs.Pages.{put_at, with_piece, zero_bytes}
 use Rattle.bridge_map.proofs.Ranges.{map_fits}
 use Rattle.bridge_map.specs.Rows.{IsWrittenOrZeros, on_pages, page_effects}
+
+abbrev with_pages : Pages → Result Pages Difference
+with_pages pages = Ok pages
+
+-- what a protection of one page comes to, by how many pages are mapped there
+abbrev protected_if : Pages → ℕ → ℕ → ℕ → Result Pages Difference
+protected_if pages number protection run =
+    if run == 1 then Ok (with_protection pages number 1 protection) else differs (number * 4096) ((number + run) * 4096)
 
 -- a piece as long as the whole takes its place
 put_whole : (all piece : List ℕ) → length piece ≡ length all → put_at all 0 piece ≡ piece
@@ -39,7 +47,7 @@ module _ (pages : Pages) (number : ℕ) (room : len pages < 131072) where
       let here : number + 0 ≡ number = omega arith in
       with_zeros-more pages number protection 0 ∙ (λ i. insert (with_zeros-none pages number protection i) (here i) (zero_page protection))
 
-  pub one_mapped : (protection : ℕ) → after_map pages number 1 protection ≡ Some (insert pages number (zero_page protection))
+  pub one_mapped : (protection : ℕ) → with_new_pages pages number 1 protection ≡ Some (insert pages number (zero_page protection))
   one_mapped protection =
       let grown = len-with_zeros pages number 1 protection in
       let most = absent_count-le pages number 1 in
@@ -72,10 +80,8 @@ module _ (pages : Pages) (number : ℕ) (bytes : List ℕ) (inside : number < 52
   none_denied : first_denied Store blank (number * 4096) (length bytes) ≡ None
   none_denied = writable-none blank (number * 4096) (length bytes) (omega arith) (omega (arith, place_of)) (record { page = zero_page 3; found = blank_there; allowed = refl })
 
-  one_written : after_write blank (number * 4096) bytes ≡ Some filled
-  one_written =
-      ap (λ (o : Option Denied). if is_none o then Some (with_bytes blank (number * 4096) bytes) else None) none_denied
-      ∙ ap Some all_written
+  one_written : after_write blank (number * 4096) bytes ≡ Ok filled
+  one_written = ap (written_unless blank (number * 4096) bytes) none_denied ∙ ap with_pages all_written
 
   module _ (protection : ℕ) where
     filled_there : get filled number ≡ Some (with_piece (zero_page 3) 0 bytes)
@@ -100,23 +106,22 @@ module _ (pages : Pages) (number : ℕ) (bytes : List ℕ) (inside : number < 52
         ∙ ap (λ o. pages_with_protection filled number o protection) filled_there
         ∙ insert-insert pages number (with_piece (zero_page 3) 0 bytes) changed
 
-    one_protected : after_protect filled number 1 protection ≡ Some (insert pages number (record { protection = protection; ready = true; bytes = bytes }))
+    one_protected : after_protect filled number 1 protection ≡ Ok (insert pages number (record { protection = protection; ready = true; bytes = bytes }))
     unfolding changed
     one_protected =
-        let run : (mapped_run filled number 1 == 1) ≡ true = let e = one_run in grind (arith, nat_tests) in
-        ap (λ b. if b then Some (with_protection filled number 1 protection) else None) run
-        ∙ ap Some one_changed
-        ∙ ap (λ bytes. Some (insert pages number (record { protection = protection; ready = true; bytes = bytes })))
+        ap (protected_if filled number protection) one_run
+        ∙ ap with_pages one_changed
+        ∙ ap (λ bytes. with_pages (insert pages number (record { protection = protection; ready = true; bytes = bytes })))
         (put_whole zero_bytes bytes (whole ∙ sym zeros_whole))
 
     pub one_put : (processor : Processor) → len pages < 131072
         → carried_all (on_pages processor pages) (Map number 1 3 ∷ Write (number * 4096) bytes ∷ Protect number 1 protection ∷ [])
-        ≡ Some (on_pages processor (insert pages number (record { protection = protection; ready = true; bytes = bytes })))
+        ≡ Ok (on_pages processor (insert pages number (record { protection = protection; ready = true; bytes = bytes })))
     unfolding blank filled
     one_put processor room =
         let rest : List Effect = Write (number * 4096) bytes ∷ Protect number 1 protection ∷ [] in
         let last : List Effect = Protect number 1 protection ∷ [] in
-        ap (λ o. carried_on rest (effects.on_pages (on_pages processor pages) o)) (one_mapped pages number room 3)
+        ap (λ o. carried_on rest (effects.on_pages (on_pages processor pages) (mapped_or pages o))) (one_mapped pages number room 3)
         ∙ ap (λ o. carried_on last (effects.on_pages (on_pages processor blank) o)) one_written
         ∙ ap (effects.on_pages (on_pages processor filled)) one_protected
 
@@ -128,15 +133,15 @@ module _ (pages : Pages) (number : ℕ) (page : MappedPage) (valid : IsPage numb
       else Map number 1 page.protection ∷ []
 
   abbrev Puts : Processor → List Effect → Type 0
-  Puts processor list = carried_all (on_pages processor pages) list ≡ Some (on_pages processor (insert pages number page))
+  Puts processor list = carried_all (on_pages processor pages) list ≡ Ok (on_pages processor (insert pages number page))
 
   put_if : (processor : Processor) → len pages < 131072 → IsWrittenOrZeros (Some page) → (ready : Bool) → page.ready ≡ ready → Puts processor (effects_if ready)
   put_if processor room zeros true written =
       one_put pages number page.bytes valid.inside valid.whole page.protection processor room
-      ∙ (λ i. Some (on_pages processor (insert pages number (record { protection = page.protection; ready = sym written i; bytes = page.bytes }))))
+      ∙ (λ i. Ok (on_pages processor (insert pages number (record { protection = page.protection; ready = sym written i; bytes = page.bytes }))))
   put_if processor room zeros false unwritten =
-      ap (effects.on_pages (on_pages processor pages)) (one_mapped pages number room page.protection)
-      ∙ (λ i. Some (on_pages processor (insert pages number (record { protection = page.protection; ready = sym unwritten i; bytes = sym (zeros unwritten) i }))))
+      ap (λ o. effects.on_pages (on_pages processor pages) (mapped_or pages o)) (one_mapped pages number room page.protection)
+      ∙ (λ i. Ok (on_pages processor (insert pages number (record { protection = page.protection; ready = sym unwritten i; bytes = sym (zeros unwritten) i }))))
 
   pub page_put : (processor : Processor) → len pages < 131072 → IsWrittenOrZeros (Some page) → Puts processor (page_effects number (Some page))
   page_put processor room zeros = put_if processor room zeros page.ready refl

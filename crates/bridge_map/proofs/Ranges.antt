@@ -14,8 +14,7 @@ use Rattle.kernel_model.specs.Came.{done, with_some}
 use Rattle.o32_model.specs.Mappings.{mapped}
 use Rattle.guest_space.specs.Places.{IsFree, IsGreatestPlace}
 use Rattle.o32_model.proofs.MapLaws.{greatest_place_is}
-use Rattle.o32_model.specs.Effects.{after_map}
-use Rattle.o32_model.specs.Ranges.{is_free, greatest_place, page_size}
+use Rattle.o32_model.specs.Ranges.{is_free, greatest_place, page_size, with_new_pages}
 
 -- where no page is protected all are as they were
 pub protects : (pages : Pages) (first protection : ℕ) → with_protection pages first 0 protection ≡ pages
@@ -31,12 +30,12 @@ at_most n not_more =
     ]
 
 module _ (pages : Pages) (first count protection : ℕ) where
-  pub map_fits : len (with_zeros pages first count protection) ≤ 131072 → after_map pages first count protection ≡ Some (with_zeros pages first count protection)
+  pub map_fits : len (with_zeros pages first count protection) ≤ 131072 → with_new_pages pages first count protection ≡ Some (with_zeros pages first count protection)
   map_fits few =
       let fits : nat_le (len pages + absent_count pages first count) page_limit ≡ true = let e = len-with_zeros pages first count protection in grind (arith, nat_tests) in
       ap (λ b. if b then Some (with_zeros pages first count protection) else None) fits
 
-  pub map_passes : page_limit < len (with_zeros pages first count protection) → after_map pages first count protection ≡ None
+  pub map_passes : page_limit < len (with_zeros pages first count protection) → with_new_pages pages first count protection ≡ None
   map_passes many =
       let passes : nat_le (len pages + absent_count pages first count) page_limit ≡ false = let e = len-with_zeros pages first count protection in grind (arith, nat_tests) in
       ap (λ b. if b then Some (with_zeros pages first count protection) else None) passes
@@ -65,7 +64,7 @@ place_tells pages count told is = by_both told (greatest_place pages count) is (
     by_both (Some first) (Some second) one other = ap Some (let low = one.1 second other.0 in let high = other.1 first one.0 in omega arith)
 
 -- A mapping that begins with no byte
-pub mapped_zeros : (memory : Memory) (after : Pages) (first count protection : ℕ) → after_map memory.pages first count protection ≡ Some after
+pub mapped_zeros : (memory : Memory) (after : Pages) (first count protection : ℕ) → with_new_pages memory.pages first count protection ≡ Some after
     → (mapped memory first count protection []).state ≡ record memory { pages = after }
 unfolding copied_out with_bytes
 mapped_zeros memory after first count protection answer =

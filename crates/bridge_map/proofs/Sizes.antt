@@ -1,5 +1,5 @@
 -- What a change of size leads over.
-use Rattle.std.proofs.Common.{◌≡◌, ◌≢◌, ◌≤◌, ◌<◌, ◌+◌, ◌-◌, zero, suc, ℕ, Bool, true, false, cond, All, List, [], ◌∷◌, ◌++◌, Option, Some, None, IsSome, is_some, refl, sym, ap, subst, ◌∙◌, arith, inl, inr}
+use Rattle.std.proofs.Common.{◌≡◌, ◌≢◌, ◌≤◌, ◌<◌, ◌+◌, ◌-◌, zero, suc, ℕ, Bool, true, false, cond, All, List, [], ◌∷◌, ◌++◌, Option, Some, None, Ok, IsSome, is_some, refl, sym, ap, subst, ◌∙◌, arith, inl, inr}
 use Rattle.std.proofs.lemmas.Bool.{cases_lt}
 use Rattle.std.proofs.lemmas.Bool.Decides.{nat_tests}
 use Rattle.std.proofs.lemmas.List.Elements.{All-append, All-nil, All-cons}
@@ -16,9 +16,9 @@ use Rattle.kernel_core.specs.declared.record.Effect.{Effect}
 use Rattle.kernel_core.specs.declared.record.Effect.TheVariants.{Map, Unmap}
 use Rattle.mips_exec.specs.Processor.{Processor}
 use Rattle.o32_model.specs.Effects as effects
-use Rattle.o32_model.specs.Effects.{IsFormed, after_map, carried_all, carried_on}
+use Rattle.o32_model.specs.Effects.{IsFormed, carried_all, carried_on, mapped_or}
 use Rattle.o32_model.specs.Logs.{with_more}
-use Rattle.o32_model.specs.Ranges.{with_pages_of}
+use Rattle.o32_model.specs.Ranges.{with_new_pages, with_pages_of}
 use Rattle.bridge_map.proofs.Journal.{carried_on-append, leads_list, map_leads, nothing_leads, unmap_leads}
 use Rattle.bridge_map.proofs.Moving.{cut_effects, growth_effects, moves_away, same_effects, stays_put}
 use Rattle.bridge_map.proofs.Ranges.{map_fits}
@@ -36,7 +36,7 @@ get-with_zeros_before pages first (suc count) protection q before =
     ∙ get-with_zeros_before pages first count protection q before
 
 -- zeros that fit
-zeros_fit : (pages : Pages) (first count protection : ℕ) → len pages + count ≤ 131072 → after_map pages first count protection ≡ Some (with_zeros pages first count protection)
+zeros_fit : (pages : Pages) (first count protection : ℕ) → len pages + count ≤ 131072 → with_new_pages pages first count protection ≡ Some (with_zeros pages first count protection)
 zeros_fit pages first count protection few =
     let grown = len-with_zeros pages first count protection in
     let most = absent_count-le pages first count in
@@ -129,7 +129,7 @@ module _ (old_log new_log : Option (List Effect)) (before after : Pages) (first 
         growth_effects after first old new at protection more
         ∙ ap (λ moved. moved ++ Map (at + old) (new - old) protection ∷ []) (moves_away after first old at away)
 
-    grows : after_map arrived (at + old) (new - old) protection ≡ Some after
+    grows : with_new_pages arrived (at + old) (new - old) protection ≡ Some after
     unfolding arrived base
     grows =
         let same_length = len_arrived before first at old whole valid free (let e = inside in omega arith) (let e = fits in omega arith) after stand (zeros away) in
@@ -138,13 +138,13 @@ module _ (old_log new_log : Option (List Effect)) (before after : Pages) (first 
         ∙ ap (λ p. Some (with_zeros other (at + old) (new - old) p)) same
         ∙ ap Some (sym now)
 
-    leads : (processor : Processor) → carried_all (on_pages processor before) (Unmap first old ∷ pages_effects after at old ++ growth) ≡ Some (on_pages processor after)
+    leads : (processor : Processor) → carried_all (on_pages processor before) (Unmap first old ∷ pages_effects after at old ++ growth) ≡ Ok (on_pages processor after)
     unfolding growth arrived base
     leads processor =
-        carried_on-append (pages_effects after at old) (Map (at + old) (new - old) protection ∷ []) (Some (on_pages processor (without before first old)))
+        carried_on-append (pages_effects after at old) (Map (at + old) (new - old) protection ∷ []) (Ok (on_pages processor (without before first old)))
         ∙ ap (carried_on (Map (at + old) (new - old) protection ∷ []))
         (arrives before first at old whole valid free (let e = inside in omega arith) (let e = fits in omega arith) after stand (zeros away) processor)
-        ∙ ap (effects.on_pages (on_pages processor (with_pages_of (without before first old) before first at old))) grows
+        ∙ ap (λ o. effects.on_pages (on_pages processor (with_pages_of (without before first old) before first at old)) (mapped_or (with_pages_of (without before first old) before first at old) o)) grows
 
     all_formed : All IsFormed (Unmap first old ∷ pages_effects after at old ++ growth)
     unfolding growth

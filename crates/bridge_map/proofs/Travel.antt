@@ -1,5 +1,5 @@
 -- A range that gets another size, as its effects lead.
-use Rattle.std.proofs.Common.{◌≡◌, ◌≤◌, ◌<◌, ◌+◌, ◌-◌, zero, suc, ℕ, Bool, true, false, cond, All, Option, Some, None, IsSome, is_some, refl, sym, ap, subst, ◌∙◌, arith}
+use Rattle.std.proofs.Common.{◌≡◌, ◌≤◌, ◌<◌, ◌+◌, ◌-◌, zero, suc, ℕ, Bool, true, false, cond, All, Option, Some, None, Ok, IsSome, is_some, refl, sym, ap, subst, ◌∙◌, arith}
 use Rattle.std.proofs.lemmas.List.Elements.{All-append, All-nil}
 use Rattle.std.specs.Cmp.{nat_cmp_total}
 use Rattle.std.specs.FinMap.{get, insert, len, remove, len-insert, len-remove, empty_of_len, get-empty}
@@ -98,7 +98,7 @@ module _ (before : Pages) (first at old : ℕ) (whole : mapped_run before first 
 
   module _ (after : Pages) (stand : (k : ℕ) → k < old → get after (at + k) ≡ get before (first + k))
       (zeros : (k : ℕ) → k < old → IsWrittenOrZeros (get after (at + k))) where
-    travel : (processor : Processor) (k : ℕ) → k ≤ old → carried_all (on_pages processor base) (pages_effects after at k) ≡ Some (on_pages processor (put k))
+    travel : (processor : Processor) (k : ℕ) → k ≤ old → carried_all (on_pages processor base) (pages_effects after at k) ≡ Ok (on_pages processor (put k))
     unfolding pages_effects put with_pages_of
     travel processor zero below = refl
     travel processor (suc k) below =
@@ -106,11 +106,11 @@ module _ (before : Pages) (first at old : ℕ) (whole : mapped_run before first 
         let now : get after (at + k) ≡ Some found.0 = stand k (omega arith) ∙ found.1 in
         let is_zeros : IsWrittenOrZeros (Some found.0) = subst IsWrittenOrZeros now (zeros k (omega arith)) in
         let room : len (put k) < 131072 = let e = len_put k (omega arith) in let all = len_all in omega arith in
-        carried_on-append (pages_effects after at k) (page_effects (at + k) (get after (at + k))) (Some (on_pages processor base))
+        carried_on-append (pages_effects after at k) (page_effects (at + k) (get after (at + k))) (Ok (on_pages processor base))
         ∙ ap (carried_on (page_effects (at + k) (get after (at + k)))) (travel processor k (omega arith))
         ∙ ap (λ o. carried_all (on_pages processor (put k)) (page_effects (at + k) o)) now
         ∙ page_put (put k) (at + k) found.0 (elsewhere k found.0 (omega arith) found.1) processor room is_zeros
-        ∙ ap (λ o. Some (on_pages processor (with_page (put k) (at + k) o))) (sym found.1)
+        ∙ ap (λ o. Ok (on_pages processor (with_page (put k) (at + k) o))) (sym found.1)
 
     pub travel_formed : (k : ℕ) → k ≤ old → All IsFormed (pages_effects after at k)
     unfolding pages_effects
@@ -126,6 +126,6 @@ module _ (before : Pages) (first at old : ℕ) (whole : mapped_run before first 
     len_arrived = let e = len_put old (omega arith) in let all = len_all in omega arith
 
     pub arrives : (processor : Processor) → carried_all (on_pages processor (without before first old)) (pages_effects after at old)
-        ≡ Some (on_pages processor (with_pages_of (without before first old) before first at old))
+        ≡ Ok (on_pages processor (with_pages_of (without before first old) before first at old))
     unfolding put base
     arrives processor = travel processor old (omega arith)

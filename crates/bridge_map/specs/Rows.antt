@@ -1,5 +1,5 @@
 -- What is said of a row that changes memory alone. (The journal is this project's own.)
-use Rattle.std.specs.Prelude.{◌≡◌, ℕ, zero, suc, ◌+◌, ◌-◌, ◌*◌, ◌^◌, ◌<◌, ◌≤◌, ◌==◌, ◌&&◌, ◌||◌, not, ⊤, min, Bool, true, false, List, [], ◌∷◌, ◌++◌, Option, Some, None, nat_lt, if◌then◌else◌}
+use Rattle.std.specs.Prelude.{◌≡◌, ◌≢◌, ℕ, zero, suc, ◌+◌, ◌-◌, ◌*◌, ◌^◌, ◌<◌, ◌≤◌, ◌==◌, ◌&&◌, ◌||◌, not, ⊤, min, Bool, true, false, List, [], ◌∷◌, ◌++◌, Option, Some, None, nat_lt, if◌then◌else◌}
 use Rattle.std.specs.FinMap.{get}
 use Rattle.guest_space.specs.Mapping.{zero_bytes}
 use Rattle.guest_space.specs.Memory.{MappedPage, Memory, Pages}
@@ -9,17 +9,18 @@ use Rattle.kernel_core.specs.Bits.{has}
 use Rattle.kernel_model.specs.State.{Files, Kernel}
 use Rattle.kernel_model.specs.Came.{Came, Done, Refused, Did, with_given}
 use Rattle.o32_model.specs.Mappings.{first_bytes, mapped, place_for}
-use Rattle.o32_model.specs.Ranges.{page_size}
+use Rattle.o32_model.specs.Ranges.{page_size, with_new_pages}
 use Rattle.o32_model.specs.Step.{Guest, O32Step}
 use Rattle.o32_model.specs.Table.{is_map_call, o32_call}
 use Rattle.o32_model.specs.Words.{argument}
 use Rattle.o32_model.specs.declared.call_words.CallWords.{CallWords}
 use Rattle.o32_model.specs.declared.outcome.Outcome.{Outcome}
+use Rattle.o32_model.specs.declared.outcome.Outcome.TheVariants as outcomes
 use Rattle.kernel_core.specs.declared.record.Effect.{Effect}
 use Rattle.kernel_core.specs.declared.record.Effect.TheVariants.{Map, Protect, Unmap, Write}
 use Rattle.kernel_model.specs.Pipes.{nothing}
 use Rattle.mips_exec.specs.Processor.{Processor}
-use Rattle.o32_model.specs.Effects.{Target, Effected, after_map, user_pages}
+use Rattle.o32_model.specs.Effects.{Target, Effected, user_pages}
 use Rattle.bridge_map.specs.declared.asked.Asked.{Asked}
 
 -- pages as effects act on them, with nothing sent
@@ -32,14 +33,21 @@ Leads old new before after = (processor : Processor) → Effected old new (on_pa
 
 -- Pages of zeros were mapped, or they were more than may be mapped, and nothing changed.
 abbrev pub MapsPages : Bool → Pages → Pages → ℕ → ℕ → ℕ → Type 0
-MapsPages true before after first count protection = after_map before first count protection ≡ Some after
-MapsPages false before after first count protection = (after_map before first count protection ≡ None) × (after ≡ before)
+MapsPages true before after first count protection = with_new_pages before first count protection ≡ Some after
+MapsPages false before after first count protection = (with_new_pages before first count protection ≡ None) × (after ≡ before)
+
+-- an effect on pages that acts on one page or more
+abbrev pub ActsOnPages : Effect → Type 0
+ActsOnPages (Map first count protection) = 0 < count
+ActsOnPages (Unmap first count) = 0 < count
+ActsOnPages (Protect first count protection) = 0 < count
+ActsOnPages _ = ⊥
 
 -- what a break leads over that moves from one number of pages to another; past user space no page is mapped
 abbrev pub break_effects : ℕ → ℕ → List Effect
 break_effects from to =
     if nat_lt from to then Map from (to - from) 3 ∷ []
-    else (if nat_lt to from then Unmap to (min from user_pages - to) ∷ []
+    else (if nat_lt to (min from user_pages) then Unmap to (min from user_pages - to) ∷ []
     else [])
 
 -- new pages at the place that a mapping is given, which begin with these bytes
@@ -107,10 +115,20 @@ IsCallOfMemory words outcome before after =
     (kernel : Kernel) (processor : Processor) (left : List ℕ)
     → o32_call kernel (guest_of words processor before) left ≡ leaves kernel processor left outcome after
 
+-- whatever the kernel, the processor and the input, the call does not come to ENOMEM
+abbrev pub HasRoom : CallWords → Memory → Type 0
+HasRoom words memory =
+    (kernel : Kernel) (processor : Processor) (left : List ℕ)
+    → (o32_call kernel (guest_of words processor memory) left).outcome ≢ outcomes.Error ENOMEM
+
 -- MAP_ANONYMOUS of mmap(2) is set in the flags
 abbrev pub maps_no_file : CallWords → Bool
 maps_no_file words = has (argument words 3) 0x800
 
+-- mmap(2) or mmap2(2)
+abbrev pub is_mmap : CallWords → Bool
+is_mmap words = words.nr == 4090 || words.nr == 4210
+
 -- whether a call on mappings asks the kernel for nothing: one that maps no file
 abbrev pub is_call_of_memory : CallWords → Bool
-is_call_of_memory words = is_map_call words.nr && (not (words.nr == 4090 || words.nr == 4210) || maps_no_file words)
+is_call_of_memory words = is_map_call words.nr && (not (is_mmap words) || maps_no_file words)

@@ -1,17 +1,19 @@
 //! Pages that are mapped, protected and taken away, with the effect of it kept where effects are kept.
-ghost use Rattle.std.specs.Prelude.{◌≡◌, ◌≤◌, ◌+◌, ◌<◌, OnOk, IfOk, [], ◌∷◌};
-ghost use Rattle.bridge_map.specs.Rows.{Leads, MapsPages};
+ghost use Rattle.std.specs.Prelude.{◌≡◌, ◌≢◌, ◌≤◌, ◌+◌, ◌<◌, OnErr, OnOk, IfOk, None, [], ◌∷◌};
+ghost use Rattle.bridge_map.specs.Rows.{ActsOnPages, Leads, MapsPages};
 ghost use Rattle.guest_space.specs.Mapping.{with_protection, mapped_run};
 ghost use Rattle.guest_space.specs.Remapping.{without};
 ghost use Rattle.o32_model.specs.Logs.{with_more};
+ghost use Rattle.o32_model.specs.Ranges.{with_new_pages};
 
 use crate::range::mapped;
 use guest_space::{MapError, Space};
 use kernel_core::{Effect, NoMemory};
 use o32_model::Log;
 
-/// Keeps an effect, where effects are kept.
+/// Keeps an effect on pages, where effects are kept. One that acts on no page is none.
 pub(crate) fn keep(log: &mut Log, effect: Effect) -> Result<(), NoMemory>
+    requires { ActsOnPages effect }
     ensures effects { OnOk result (log.new.effects ≡ with_more log.old.effects (effect ∷ [])) }
     ensures native { log.new.native ≡ log.old.native }
 {
@@ -28,6 +30,7 @@ pub(crate) fn unmap(
     first: u32,
     count: u32,
 ) -> Result<(), NoMemory>
+    requires some { 0 < count }
     requires begins { first < 524280 }
     requires ends { first + count ≤ 524280 }
     ensures memory { OnOk result (space.new ≡ record space.old { pages = without space.old.pages first count }) }
@@ -70,6 +73,7 @@ fn protect_run(
     run: u32,
     protection: u8,
 ) -> Result<(), NoMemory>
+    requires some { 0 < run }
     requires begins { first < 524280 }
     requires ends { first + run ≤ 524280 }
     requires protection { protection ≤ 7 }
@@ -89,7 +93,7 @@ fn protect_run(
 }
 
 /// Maps pages of zeros, whatever stood there, and answers whether that are no more than may be mapped; else
-/// nothing changes.
+/// nothing changes. Of more than may be mapped it never answers that memory ran out.
 #[tactic(auto, using(crate::proofs::Ranges::mappings))]
 pub(crate) fn map(
     space: &mut Space,
@@ -98,11 +102,13 @@ pub(crate) fn map(
     count: u32,
     protection: u8,
 ) -> Result<bool, NoMemory>
+    requires some { 0 < count }
     requires begins { first < 524280 }
     requires ends { first + count ≤ 524280 }
     requires protection { protection ≤ 7 }
     ensures answer { IfOk result (λ done. MapsPages done space.old.pages space.new.pages first count protection) }
     ensures others { OnOk result (space.new ≡ record space.old { pages = space.new.pages }) }
+    ensures no_memory { OnErr result (with_new_pages space.old.pages first count protection ≢ None) }
     ensures effects { OnOk result (Leads log.old.effects log.new.effects space.old.pages space.new.pages) }
     ensures native { log.new.native ≡ log.old.native }
 {
@@ -124,6 +130,7 @@ fn map_pages(space: &mut Space, first: u32, count: u32, protection: u8) -> Resul
     requires protection { protection ≤ 7 }
     ensures answer { IfOk result (λ done. MapsPages done space.old.pages space.new.pages first count protection) }
     ensures others { OnOk result (space.new ≡ record space.old { pages = space.new.pages }) }
+    ensures no_memory { OnErr result (with_new_pages space.old.pages first count protection ≢ None) }
 {
     match space.map(first, count, protection) {
         Ok(()) => Ok(true),

@@ -42,6 +42,7 @@ pub(crate) fn fill<I: Source, O: Sink, E: Sink>(
         space.old space.new log.old log.new address (file_bytes content offset count) }
     ensures cause { StopsOnlyIfRose I.faults O.faults E.faults result dev.old dev.new }
     ensures counts { NoCountFell I.faults O.faults E.faults dev.old dev.new }
+    ensures clock { k.new.clock ≡ k.old.clock }
 {
     for piece in 0..count.div_ceil(PIECE) {
         let done = piece * PIECE;
@@ -89,6 +90,7 @@ fn fill_piece<I: Source, O: Sink, E: Sink>(
         space.old space.new log.old log.new address (file_bytes content offset count) }
     ensures cause { StopsOnlyIfRose I.faults O.faults E.faults result dev.old dev.new }
     ensures counts { NoCountFell I.faults O.faults E.faults dev.old dev.new }
+    ensures clock { k.new.clock ≡ k.old.clock }
 {
     let call = [u64::from(fd), FIRST_ADDRESS, u64::from(count), offset, 0, 0];
     let outcome = fill_call(args, address, count, space, k, PREAD64, call, mem, dev, log)?;

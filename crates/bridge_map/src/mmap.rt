@@ -1,6 +1,8 @@
 //! New mappings of no file: mmap(2).
-ghost use Rattle.std.specs.Prelude.{◌≡◌, ◌≤◌, ◌<◌, ◌+◌, true, [], IfOk, OnOk};
+ghost use Rattle.std.specs.Prelude.{◌≡◌, ◌≢◌, ◌≤◌, ◌<◌, ◌+◌, true, [], IfOk, OnErr, OnOk};
 ghost use Rattle.bridge_map.specs.Rows.{Leads, guest_of, maps_no_file, placed};
+ghost use Rattle.kernel_core.specs.declared.error.Errno.TheVariants.{ENOMEM};
+ghost use Rattle.kernel_model.specs.Came.{Refused};
 ghost use Rattle.kernel_model.specs.State.{Kernel};
 ghost use Rattle.mips_exec.specs.Processor.{Processor};
 ghost use Rattle.o32_model.specs.Mappings.{mapped, mmap_in};
@@ -14,7 +16,8 @@ use kernel_core::address_space::PAGE_SIZE;
 use kernel_core::{Errno, MapFlags, NoMemory};
 use o32_model::{CallWords, Log, Outcome};
 
-/// mmap(2) and mmap2(2) with MAP_ANONYMOUS, whose offset counts so many bytes.
+/// mmap(2) and mmap2(2) with MAP_ANONYMOUS, whose offset counts so many bytes. What is ENOMEM is never answered as
+/// want of memory.
 pub(crate) fn mmap(
     args: &CallWords,
     unit: u32,
@@ -28,6 +31,8 @@ pub(crate) fn mmap(
     ensures stored { OnOk result ((kernel : Kernel) (processor : Processor)
         → space.new ≡ (mmap_in unit kernel (guest_of args.now processor space.old)).state) }
     ensures effects { OnOk result (Leads log.old.effects log.new.effects space.old.pages space.new.pages) }
+    ensures no_memory { OnErr result ((kernel : Kernel) (processor : Processor)
+        → (mmap_in unit kernel (guest_of args.now processor space.old)).came ≢ Refused ENOMEM) }
     ensures native { log.new.native ≡ log.old.native }
 {
     match asked_in(args, unit) {
@@ -58,6 +63,7 @@ pub(crate) fn map_zeros(
     ensures came { IfOk result (λ outcome. (words : CallWords) → outcome ≡ outcome_of value words (placed space.old flags address count protection []).came) }
     ensures stored { OnOk result (space.new ≡ (placed space.old flags address count protection []).state) }
     ensures effects { OnOk result (Leads log.old.effects log.new.effects space.old.pages space.new.pages) }
+    ensures no_memory { OnErr result ((placed space.old flags address count protection []).came ≢ Refused ENOMEM) }
     ensures native { log.new.native ≡ log.old.native }
 {
     match place_for(space, flags, address, count) {
@@ -79,6 +85,7 @@ fn map_at(
     ensures came { IfOk result (λ outcome. (words : CallWords) → outcome ≡ outcome_of value words (mapped space.old first count protection []).came) }
     ensures stored { OnOk result (space.new ≡ (mapped space.old first count protection []).state) }
     ensures effects { OnOk result (Leads log.old.effects log.new.effects space.old.pages space.new.pages) }
+    ensures no_memory { OnErr result ((mapped space.old first count protection []).came ≢ Refused ENOMEM) }
     ensures native { log.new.native ≡ log.old.native }
 {
     if map(space, log, first, count, protection)? {

@@ -41,6 +41,7 @@ pub(crate) fn mmap_file<I: Source, O: Sink, E: Sink>(
         space.old space.new log.old log.new }
     ensures cause { StopsOnlyIfRose I.faults O.faults E.faults result dev.old dev.new }
     ensures counts { NoCountFell I.faults O.faults E.faults dev.old dev.new }
+    ensures clock { k.new.clock ≡ k.old.clock }
 {
     match asked_in(args, unit) {
         Err(error) => Ok(Outcome::Error(error)),
@@ -66,6 +67,7 @@ fn map_file<I: Source, O: Sink, E: Sink>(
         space.old space.new log.old log.new }
     ensures cause { StopsOnlyIfRose I.faults O.faults E.faults result dev.old dev.new }
     ensures counts { NoCountFell I.faults O.faults E.faults dev.old dev.new }
+    ensures clock { k.new.clock ≡ k.old.clock }
 {
     match refusal(asked.fd, asked.flags.kind(), asked.offset, k, mem, dev, log)? {
         Some(error) => Ok(Outcome::Error(error)),
@@ -93,6 +95,7 @@ fn map_shown<I: Source, O: Sink, E: Sink>(
         space.old space.new log.old log.new }
     ensures cause { StopsOnlyIfRose I.faults O.faults E.faults result dev.old dev.new }
     ensures counts { NoCountFell I.faults O.faults E.faults dev.old dev.new }
+    ensures clock { k.new.clock ≡ k.old.clock }
 {
     match place_for(space, asked.flags, asked.address, asked.count) {
         Err(error) => Ok(Outcome::Error(error)),
@@ -122,6 +125,7 @@ fn map_shown_at<I: Source, O: Sink, E: Sink>(
         space.old space.new log.old log.new }
     ensures cause { StopsOnlyIfRose I.faults O.faults E.faults result dev.old dev.new }
     ensures counts { NoCountFell I.faults O.faults E.faults dev.old dev.new }
+    ensures clock { k.new.clock ≡ k.old.clock }
 {
     if !map(space, log, first, asked.count, PROT_READ + PROT_WRITE)? {
         return Ok(Outcome::Error(Errno::ENOMEM));

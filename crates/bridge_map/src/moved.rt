@@ -23,6 +23,7 @@ pub(crate) fn keep_resized(
     at: u32,
     protection: u8,
 ) -> Result<(), NoMemory>
+    requires some { 0 < old }
     requires first { first + old ≤ 524280 }
     requires new { new ≤ 1048576 }
     requires at { at + old ≤ 524280 }
@@ -56,6 +57,7 @@ pub(crate) fn keep_resized(
 
 /// Keeps that a range was taken away where it stood and stands at page `at`, where that is another place.
 fn keep_moved(space: &Space, log: &mut Log, first: u32, old: u32, at: u32) -> Result<(), NoMemory>
+    requires some { 0 < old }
     requires at { at + old ≤ 524280 }
     ensures effects { OnOk result (log.new.effects ≡ with_more log.old.effects (move_effects space.now.pages first old at)) }
     ensures native { log.new.native ≡ log.old.native }

@@ -58,8 +58,9 @@ fn keep_break(log: &mut Log, from: u32, to: u32) -> Result<(), NoMemory>
             },
         );
     }
-    if to < from {
-        let count = from.min(USER_PAGES).saturating_sub(to);
+    let end = from.min(USER_PAGES);
+    if to < end {
+        let count = end - to;
         return keep(log, Effect::Unmap { first: to, count });
     }
     Ok(())

@@ -27,6 +27,7 @@ pub(crate) fn page_of(address: u32) -> u32
 /// How many pages the length has, rounded up as a whole number.
 pub(crate) fn page_count(length: u32) -> u32
     ensures value { result ≡ ranges.page_count length }
+    ensures some { 0 < length → 0 < result }
     ensures small { result ≤ 1048576 }
 {
     u64::from(length).div_ceil(4096) as u32

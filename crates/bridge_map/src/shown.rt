@@ -34,6 +34,7 @@ pub(crate) fn refusal<I: Source, O: Sink, E: Sink>(
     ensures effects { log.new.effects ≡ log.old.effects }
     ensures cause { StopsOnlyIfRose I.faults O.faults E.faults result dev.old dev.new }
     ensures counts { NoCountFell I.faults O.faults E.faults dev.old dev.new }
+    ensures clock { k.new.clock ≡ k.old.clock }
 {
     if let Some(error) = access_refusal(fd, k, mem, dev, log)? {
         return Ok(Some(error));
@@ -58,6 +59,7 @@ fn access_refusal<I: Source, O: Sink, E: Sink>(
     ensures effects { log.new.effects ≡ log.old.effects }
     ensures cause { StopsOnlyIfRose I.faults O.faults E.faults result dev.old dev.new }
     ensures counts { NoCountFell I.faults O.faults E.faults dev.old dev.new }
+    ensures clock { k.new.clock ≡ k.old.clock }
 {
     let reply = native(
         k,
@@ -87,6 +89,7 @@ fn file_refusal<I: Source, O: Sink, E: Sink>(
     ensures effects { log.new.effects ≡ log.old.effects }
     ensures cause { StopsOnlyIfRose I.faults O.faults E.faults result dev.old dev.new }
     ensures counts { NoCountFell I.faults O.faults E.faults dev.old dev.new }
+    ensures clock { k.new.clock ≡ k.old.clock }
 {
     fresh_room(mem, 1)?;
     let args = [u64::from(fd), FIRST_ADDRESS, 1, offset, 0, 0];

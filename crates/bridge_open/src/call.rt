@@ -44,6 +44,7 @@ pub fn open_call<I: Source, O: Sink, E: Sink>(
         (found args.now cpu.old space.old) (I.left dev.old.input) log.old log.new }
     ensures cause { StopsOnlyIfRose I.faults O.faults E.faults result dev.old dev.new }
     ensures counts { NoCountFell I.faults O.faults E.faults dev.old dev.new }
+    ensures clock { k.new.clock ≡ k.old.clock }
 {
     let [a0, a1, a2, a3] = args.reg;
     match args.nr {

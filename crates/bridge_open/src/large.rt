@@ -47,6 +47,7 @@ pub(crate) fn too_large<I: Source, O: Sink, E: Sink>(
         (I.left dev.old.input) log.old log.new }
     ensures cause { StopsOnlyIfRose I.faults O.faults E.faults result dev.old dev.new }
     ensures counts { NoCountFell I.faults O.faults E.faults dev.old dev.new }
+    ensures clock { k.new.clock ≡ k.old.clock }
 {
     mem.clear();
     mem.push_zeros(1)?;

@@ -57,6 +57,7 @@ pub(crate) fn open<I: Source, O: Sink, E: Sink>(
         (I.left dev.old.input) log.old log.new }
     ensures cause { StopsOnlyIfRose I.faults O.faults E.faults result dev.old dev.new }
     ensures counts { NoCountFell I.faults O.faults E.faults dev.old dev.new }
+    ensures clock { k.new.clock ≡ k.old.clock }
 {
     match OpenFlags::of_o32(flags) {
         None => Ok(Outcome::Error(Errno::EINVAL)),
@@ -90,6 +91,7 @@ fn open_listed<I: Source, O: Sink, E: Sink>(
         (I.left dev.old.input) log.old log.new }
     ensures cause { StopsOnlyIfRose I.faults O.faults E.faults result dev.old dev.new }
     ensures counts { NoCountFell I.faults O.faults E.faults dev.old dev.new }
+    ensures clock { k.new.clock ≡ k.old.clock }
 {
     if makes_directory(flags) {
         return Ok(Outcome::Error(Errno::EINVAL));
@@ -136,6 +138,7 @@ fn open_path<I: Source, O: Sink, E: Sink>(
         (I.left dev.old.input) log.old log.new }
     ensures cause { StopsOnlyIfRose I.faults O.faults E.faults result dev.old dev.new }
     ensures counts { NoCountFell I.faults O.faults E.faults dev.old dev.new }
+    ensures clock { k.new.clock ≡ k.old.clock }
 {
     if is_unlimited(flags) {
         return open_now(
@@ -193,6 +196,7 @@ fn open_sized<I: Source, O: Sink, E: Sink>(
         (I.left dev.old.input) log.old log.new }
     ensures cause { StopsOnlyIfRose I.faults O.faults E.faults result dev.old dev.new }
     ensures counts { NoCountFell I.faults O.faults E.faults dev.old dev.new }
+    ensures clock { k.new.clock ≡ k.old.clock }
 {
     k.files_valid();
     if size > SMALL_FILE_LIMIT {
@@ -233,6 +237,7 @@ fn open_now<I: Source, O: Sink, E: Sink>(
         (I.left dev.old.input) log.old log.new }
     ensures cause { StopsOnlyIfRose I.faults O.faults E.faults result dev.old dev.new }
     ensures counts { NoCountFell I.faults O.faults E.faults dev.old dev.new }
+    ensures clock { k.new.clock ≡ k.old.clock }
 {
     k.whole();
     put_one(mem, path)?;

@@ -44,6 +44,7 @@ pub(crate) fn fstat<I: Source, O: Sink, E: Sink>(
         → KeepsCall (open_status form k.old guest fd buffer) result k.old guest (I.left dev.old.input) log.old log.new }
     ensures cause { StopsOnlyIfRose I.faults O.faults E.faults result dev.old dev.new }
     ensures counts { NoCountFell I.faults O.faults E.faults dev.old dev.new }
+    ensures clock { k.new.clock ≡ k.old.clock }
 {
     k.files_valid();
     fresh_room(mem, STATUS_SIZE)?;
@@ -75,6 +76,7 @@ pub(crate) fn fstatat<I: Source, O: Sink, E: Sink>(
         → KeepsCall (path_status form k.old guest (base directory) address buffer flags) result k.old guest (I.left dev.old.input) log.old log.new }
     ensures cause { StopsOnlyIfRose I.faults O.faults E.faults result dev.old dev.new }
     ensures counts { NoCountFell I.faults O.faults E.faults dev.old dev.new }
+    ensures clock { k.new.clock ≡ k.old.clock }
 {
     if !is_listed(flags) {
         return Ok(Outcome::Error(Errno::EINVAL));
@@ -119,6 +121,7 @@ fn path_status<I: Source, O: Sink, E: Sink>(
         → KeepsCall (path_status form k.old guest (base directory) address buffer flags) result k.old guest (I.left dev.old.input) log.old log.new }
     ensures cause { StopsOnlyIfRose I.faults O.faults E.faults result dev.old dev.new }
     ensures counts { NoCountFell I.faults O.faults E.faults dev.old dev.new }
+    ensures clock { k.new.clock ≡ k.old.clock }
 {
     k.files_valid();
     let at = put_behind(mem, STATUS_SIZE, path)?;

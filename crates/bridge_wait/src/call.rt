@@ -1,5 +1,5 @@
 //! A call on time by its number.
-ghost use Rattle.std.specs.Prelude.{IsTrue};
+ghost use Rattle.std.specs.Prelude.{◌≡◌, IsTrue};
 ghost use Rattle.bridge_log.specs.Keeping.{KeepsCall};
 ghost use Rattle.bridge_wait.specs.Found.{found};
 ghost use Rattle.bridge_wait.specs.Numbers.{is_call_there};
@@ -38,6 +38,7 @@ pub fn wait_call<I: Source, O: Sink, E: Sink>(
         (found args.now cpu.old space.old) (I.left dev.old.input) log.old log.new }
     ensures cause { StopsOnlyIfRose I.faults O.faults E.faults result dev.old dev.new }
     ensures counts { NoCountFell I.faults O.faults E.faults dev.old dev.new }
+    ensures clock { k.new.clock ≡ k.old.clock }
 {
     let [a0, a1, a2, _] = args.reg;
     match args.nr {

@@ -37,6 +37,7 @@ pub(crate) fn clock_gettime<I: Source, O: Sink, E: Sink>(
         → KeepsCall (clock_gettime_row quanta k.old guest clock address) result k.old guest (I.left dev.old.input) log.old log.new }
     ensures cause { StopsOnlyIfRose I.faults O.faults E.faults result dev.old dev.new }
     ensures counts { NoCountFell I.faults O.faults E.faults dev.old dev.new }
+    ensures clock { k.new.clock ≡ k.old.clock }
 {
     let shown = shown_time(k, clock, quanta, mem, dev, log)?;
     let outcome = store_time(shown, address, space, log)?;
@@ -60,6 +61,7 @@ pub(crate) fn clock_getres<I: Source, O: Sink, E: Sink>(
         → KeepsCall (clock_getres_row k.old guest clock address) result k.old guest (I.left dev.old.input) log.old log.new }
     ensures cause { StopsOnlyIfRose I.faults O.faults E.faults result dev.old dev.new }
     ensures counts { NoCountFell I.faults O.faults E.faults dev.old dev.new }
+    ensures clock { k.new.clock ≡ k.old.clock }
 {
     let shown = clock_resolution(k, clock, mem, dev, log)?;
     let outcome = store_resolution(shown, address, space, log)?;
@@ -82,6 +84,7 @@ pub(crate) fn time<I: Source, O: Sink, E: Sink>(
         → KeepsCall (time_row k.old guest address) result k.old guest (I.left dev.old.input) log.old log.new }
     ensures cause { StopsOnlyIfRose I.faults O.faults E.faults result dev.old dev.new }
     ensures counts { NoCountFell I.faults O.faults E.faults dev.old dev.new }
+    ensures clock { k.new.clock ≡ k.old.clock }
 {
     let shown = shown_time(k, CLOCK_REALTIME, 0, mem, dev, log)?;
     let outcome = store_seconds(shown, address, space, log)?;
@@ -105,6 +108,7 @@ pub(crate) fn gettimeofday<I: Source, O: Sink, E: Sink>(
         → KeepsCall (gettimeofday_row k.old guest value zone) result k.old guest (I.left dev.old.input) log.old log.new }
     ensures cause { StopsOnlyIfRose I.faults O.faults E.faults result dev.old dev.new }
     ensures counts { NoCountFell I.faults O.faults E.faults dev.old dev.new }
+    ensures clock { k.new.clock ≡ k.old.clock }
 {
     let shown = shown_time(k, CLOCK_REALTIME, 0, mem, dev, log)?;
     let outcome = store_day(shown, value, zone, space, log)?;

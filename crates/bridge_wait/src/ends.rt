@@ -1,5 +1,5 @@
 //! How the waits of sleeps end.
-ghost use Rattle.std.specs.Prelude.{◌≡◌, IfOk, IsTrue, OnOk};
+ghost use Rattle.std.specs.Prelude.{◌≡◌, IfErr, IfOk, IsTrue, OnOk};
 ghost use Rattle.bridge_log.specs.Keeping.{reached};
 ghost use Rattle.bridge_wait.specs.Numbers.{is_sleep};
 ghost use Rattle.bridge_wait.specs.inside.Endings.{interrupted_if};
@@ -13,14 +13,40 @@ ghost use Rattle.o32_model.specs.WaitEnds.{ends_with, sleep_ended, sleep_interru
 use crate::clock_times::ClockTime;
 use bridge_log::put;
 use guest_space::Space;
-use kernel_core::{Errno, NoMemory};
+use host_mem::HostMem;
+use kernel_core::{Errno, NoMemory, Stop};
+use native_kernel::NativeKernel;
 use o32_model::{Cause, Close, Log, Wait};
 
 /// Ends the wait of a sleep for a cause, at a time of the clock in nanoseconds: nanosleep(2) and
 /// clock_nanosleep(2). A handler ends one with EINTR, and of a length of time it stores what is left until the
-/// wait's own deadline, or ends it with EFAULT where that can't be stored. The kernel stays as it is. What is
-/// written is kept where effects are kept.
+/// wait's own deadline, or ends it with EFAULT where that can't be stored. No native call is made: the kernel
+/// and host memory stay as they are. What is written is kept where effects are kept. It stops early only for
+/// want of memory.
 pub fn wait_end(
+    wait: &Wait,
+    cause: Cause,
+    clock: u64,
+    space: &mut Space,
+    k: &mut NativeKernel,
+    mem: &mut HostMem,
+    log: &mut Log,
+) -> Result<Close, Stop>
+    requires { IsTrue (is_sleep wait.now.nr) }
+    ensures ends { IfOk result (λ close. wait_ended wait.now cause clock k.old space.old ≡ ends_with close k.new space.new) }
+    ensures host { mem.new ≡ mem.old }
+    ensures effects { OnOk result ((processor : Processor) (sent : Sent)
+        → Effected log.old.effects log.new.effects (reached processor space.old.pages sent) (reached processor space.new.pages sent)) }
+    ensures native { log.new.native ≡ log.old.native }
+    ensures cause { IfErr result (λ stop. stop ≡ Stop.NoMemory) }
+    ensures clock { k.new.clock ≡ k.old.clock }
+{
+    let close = closed(wait, cause, clock, space, log)?;
+    Ok(close)
+}
+
+/// How the wait of a sleep ends, by the number of its call.
+fn closed(
     wait: &Wait,
     cause: Cause,
     clock: u64,

@@ -1,5 +1,6 @@
 //! What a call finds out about the native clocks, by native calls that change nothing.
 ghost use Rattle.std.specs.Prelude.{◌≡◌, ◌<◌, ℕ, List, option_map, if◌then◌else◌};
+ghost use Rattle.bridge_log.specs.Arguments.{AreUnusedZero};
 ghost use Rattle.bridge_wait.specs.inside.Looks.{IsLook, LooksFor, Replied};
 ghost use Rattle.bridge_wait.specs.inside.Shown.{clock_of, is_over, resolution_of, time_in, time_of, word_in};
 ghost use Rattle.kernel_core.specs.declared.reply.Reply.{Reply};
@@ -40,12 +41,14 @@ fn look<I: Source, O: Sink, E: Sink>(
     log: &mut Log,
 ) -> Result<Reply, Stop>
     requires built { built_call nr ≡ native_call nr }
+    requires unused { AreUnusedZero nr args }
     ensures looks { (reply : Reply) (memory : List ℕ)
         → ((left : List ℕ) → IsLook k.old reply memory left (native_call nr args k.old mem.old left))
         → LooksFor (Replied reply memory mem.new) result k.old k.new
         (contents I.left O.written E.written dev.old) (contents I.left O.written E.written dev.new) log.old log.new }
     ensures cause { StopsOnlyIfRose I.faults O.faults E.faults result dev.old dev.new }
     ensures counts { NoCountFell I.faults O.faults E.faults dev.old dev.new }
+    ensures clock { k.new.clock ≡ k.old.clock }
 {
     native(k, nr, args, mem, dev, log)
 }
@@ -62,6 +65,7 @@ pub(crate) fn clock_shown<I: Source, O: Sink, E: Sink>(
         (contents I.left O.written E.written dev.old) (contents I.left O.written E.written dev.new) log.old log.new }
     ensures cause { StopsOnlyIfRose I.faults O.faults E.faults result dev.old dev.new }
     ensures counts { NoCountFell I.faults O.faults E.faults dev.old dev.new }
+    ensures clock { k.new.clock ≡ k.old.clock }
 {
     fresh_room(mem, NATIVE_SIZE)?;
     let args = [u64::from(clock), FIRST_ADDRESS, 0, 0, 0, 0];
@@ -81,6 +85,7 @@ pub(crate) fn clock_resolution<I: Source, O: Sink, E: Sink>(
         (contents I.left O.written E.written dev.old) (contents I.left O.written E.written dev.new) log.old log.new }
     ensures cause { StopsOnlyIfRose I.faults O.faults E.faults result dev.old dev.new }
     ensures counts { NoCountFell I.faults O.faults E.faults dev.old dev.new }
+    ensures clock { k.new.clock ≡ k.old.clock }
 {
     fresh_room(mem, NATIVE_SIZE)?;
     let args = [u64::from(clock), FIRST_ADDRESS, 0, 0, 0, 0];
@@ -101,6 +106,7 @@ pub(crate) fn is_late<I: Source, O: Sink, E: Sink>(
         (contents I.left O.written E.written dev.old) (contents I.left O.written E.written dev.new) log.old log.new }
     ensures cause { StopsOnlyIfRose I.faults O.faults E.faults result dev.old dev.new }
     ensures counts { NoCountFell I.faults O.faults E.faults dev.old dev.new }
+    ensures clock { k.new.clock ≡ k.old.clock }
 {
     mem.clear();
     let place = push_time(FIRST_LATE_SECOND, 0, mem)?;

@@ -35,6 +35,7 @@ pub(crate) fn nanosleep<I: Source, O: Sink, E: Sink>(
         → KeepsCall (nanosleep_row k.old guest address) result k.old guest (I.left dev.old.input) log.old log.new }
     ensures cause { StopsOnlyIfRose I.faults O.faults E.faults result dev.old dev.new }
     ensures counts { NoCountFell I.faults O.faults E.faults dev.old dev.new }
+    ensures clock { k.new.clock ≡ k.old.clock }
 {
     let place = take_time(space, address, mem)?;
     number_call(words, k, NANOSLEEP, [place, 0, 0, 0, 0, 0], mem, dev, log)
@@ -60,6 +61,7 @@ pub(crate) fn clock_nanosleep<I: Source, O: Sink, E: Sink>(
         → KeepsCall (clock_nanosleep_row k.old guest clock flags address) result k.old guest (I.left dev.old.input) log.old log.new }
     ensures cause { StopsOnlyIfRose I.faults O.faults E.faults result dev.old dev.new }
     ensures counts { NoCountFell I.faults O.faults E.faults dev.old dev.new }
+    ensures clock { k.new.clock ≡ k.old.clock }
 {
     let place = take_time(space, address, mem)?;
     let args = [u64::from(clock), u64::from(flags), place, 0, 0, 0];

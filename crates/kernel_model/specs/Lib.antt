@@ -11,6 +11,7 @@ pub mod NameRows
 pub mod NodeRows
 pub mod Opening
 pub mod Paths
+pub mod Pending
 pub mod Pipes
 pub mod Readiness
 pub mod Shared

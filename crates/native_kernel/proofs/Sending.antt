@@ -1,8 +1,10 @@
 -- What a write is as a call.
-use Rattle.std.proofs.Common.{◌≡◌, ℕ, List, [], Option, None, Result, Ok, Err, ℤ, refl, sym, ap, subst, ◌∙◌, append-nil}
+use Rattle.std.proofs.Common.{◌≡◌, ℕ, List, [], Option, Some, None, Result, Ok, Err, ℤ, refl, sym, ap, subst, ◌∙◌, append-nil}
 use Rattle.kernel_core.specs.declared.core_error.CoreError.{CoreError}
 use Rattle.kernel_core.specs.declared.core_error.CoreError.TheVariants as errors
 use Rattle.kernel_core.specs.declared.core_error.Stop.{Stop}
+use Rattle.kernel_core.specs.declared.core_error.Stop.TheVariants as stops
+use Rattle.kernel_core.specs.declared.error.Errno.TheVariants.{EPIPE}
 use Rattle.kernel_core.specs.declared.reply.Reply.{Reply}
 use Rattle.kernel_model.specs.Came.{Came, Done, Refused, Waits, Did, Given}
 use Rattle.kernel_model.specs.Clock as clock
@@ -11,7 +13,7 @@ use Rattle.kernel_model.specs.Transfers.{Writing, write}
 use Rattle.kernel_model.specs.Whole.{with_files, with_sigpipe, with_writing, kernel_write}
 use Rattle.native_calls.specs.Step.{reply_to, value}
 use Rattle.native_calls.specs.Transfers.{after_write}
-use Rattle.native_files.specs.Answers.{HasWritten, WritesSo, moved}
+use Rattle.native_files.specs.Answers.{HasWritten, WriteStops, WritesSo, moved}
 use Rattle.native_files.specs.declared.progress.Progress.{Progress}
 use Rattle.native_files.specs.declared.progress.Progress.TheVariants as progress
 use Rattle.native_kernel.specs.inside.Moving.{HasSent, HasSentPart, Sends, after_came, settled}
@@ -113,3 +115,13 @@ unfolding kernel_write
 send_vain kernel held files memory left bytes now fd asked came out_before out_after err_before err_after written same time =
     sent_in_vain memory left kernel (write kernel.files None (clock.now kernel) fd asked bytes) came files out_before out_after err_before err_after
     (written_here kernel held files bytes now fd asked came out_before out_after err_before err_after written same time)
+
+-- no output counted a fault in a write that came to EPIPE
+pub vain_stops : (came : Result Progress CoreError) (out_before out_after err_before err_after : ℕ) → moved came ≡ Some (Refused EPIPE)
+    → WriteStops came out_before out_after err_before err_after → (out_after ≡ out_before) × (err_after ≡ err_before)
+vain_stops (Ok (progress.Done count)) out_before out_after err_before err_after broken stops = stops
+vain_stops (Ok (progress.Waits wake)) out_before out_after err_before err_after broken stops = stops
+vain_stops (Err (errors.Refused error)) out_before out_after err_before err_after broken stops = stops
+vain_stops (Err (errors.Stop stops.NoMemory)) out_before out_after err_before err_after broken same = same
+vain_stops (Err (errors.Stop stops.ReadFault)) out_before out_after err_before err_after broken never = absurd never
+vain_stops (Err (errors.Stop stops.WriteFault)) out_before out_after err_before err_after broken rose = absurd cc

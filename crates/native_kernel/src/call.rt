@@ -45,6 +45,7 @@ impl NativeKernel {
             (contents I.left O.written E.written dev.old) (contents I.left O.written E.written dev.new) }
         ensures cause { StopsOnlyIfRose I.faults O.faults E.faults result dev.old dev.new }
         ensures counts { NoCountFell I.faults O.faults E.faults dev.old dev.new }
+        ensures clock { self.new.clock ≡ self.old.clock }
     {
         match nr {
             READ => self.read(low_word(args[0]), args[1], args[2], mem, &mut dev.input),
@@ -76,7 +77,8 @@ impl NativeKernel {
     #[tactic(auto, unfolding(native_calls::specs::Transfers::pread_row))]
     fn quiet_call(&mut self, nr: u64, args: [u64; 6], mem: &mut HostMem) -> Result<Reply, NoMemory>
         requires { (nr < 63) ⊎ (66 < nr) }
-        ensures { IfOk result (λ reply. IsQuiet (built_call nr args self.old mem.old) reply self.new mem.new) }
+        ensures row { IfOk result (λ reply. IsQuiet (built_call nr args self.old mem.old) reply self.new mem.new) }
+        ensures clock { self.new.clock ≡ self.old.clock }
     {
         match nr {
             PREAD64 => Ok(self.pread(
@@ -105,7 +107,8 @@ impl NativeKernel {
         args: [u64; 6],
         mem: &mut HostMem,
     ) -> Result<Reply, NoMemory>
-        ensures { IfOk result (λ reply. IsQuiet (call_of_groups descriptor_groups nr args self.old mem.old) reply self.new mem.new) }
+        ensures row { IfOk result (λ reply. IsQuiet (call_of_groups descriptor_groups nr args self.old mem.old) reply self.new mem.new) }
+        ensures clock { self.new.clock ≡ self.old.clock }
     {
         match nr {
             DUP => Ok(self.dup(low_word(args[0]))),
@@ -121,7 +124,8 @@ impl NativeKernel {
     /// A call on what is open, on ids, or of a later group.
     #[tactic(auto, unfolding(native_calls::specs::Status::getdents_row, native_calls::specs::Status::lseek_row, native_calls::specs::Status::fstat_row, native_calls::specs::Status::sync_row, native_calls::specs::Ids::getpid_row, native_calls::specs::Ids::getppid_row))]
     fn status_call(&mut self, nr: u64, args: [u64; 6], mem: &mut HostMem) -> Result<Reply, NoMemory>
-        ensures { IfOk result (λ reply. IsQuiet (call_of_groups status_groups nr args self.old mem.old) reply self.new mem.new) }
+        ensures row { IfOk result (λ reply. IsQuiet (call_of_groups status_groups nr args self.old mem.old) reply self.new mem.new) }
+        ensures clock { self.new.clock ≡ self.old.clock }
     {
         match nr {
             GETDENTS64 => self.getdents(low_word(args[0]), args[1], low_word(args[2]), mem),
@@ -138,7 +142,8 @@ impl NativeKernel {
     /// A call on names, or of a later group.
     #[tactic(auto, unfolding(native_calls::specs::Names::openat_row, native_calls::specs::Names::mkdirat_row, native_calls::specs::Names::symlinkat_row, native_calls::specs::Names::unlinkat_row, native_calls::specs::Names::linkat_row, native_calls::specs::Names::renameat_row, native_calls::specs::Names::readlinkat_row))]
     fn name_call(&mut self, nr: u64, args: [u64; 6], mem: &mut HostMem) -> Result<Reply, NoMemory>
-        ensures { IfOk result (λ reply. IsQuiet (call_of_groups name_groups nr args self.old mem.old) reply self.new mem.new) }
+        ensures row { IfOk result (λ reply. IsQuiet (call_of_groups name_groups nr args self.old mem.old) reply self.new mem.new) }
+        ensures clock { self.new.clock ≡ self.old.clock }
     {
         match nr {
             MKDIRAT => self.mkdirat(low_word(args[0]), args[1], low_word(args[2]), mem),
@@ -174,7 +179,8 @@ impl NativeKernel {
     /// A call on nodes, or of a later group.
     #[tactic(auto, unfolding(native_calls::specs::Nodes::truncate_row, native_calls::specs::Nodes::ftruncate_row, native_calls::specs::Nodes::faccessat_row, native_calls::specs::Nodes::chdir_row, native_calls::specs::Nodes::fchdir_row, native_calls::specs::Nodes::fchmod_row, native_calls::specs::Nodes::fchmodat_row, native_calls::specs::Nodes::newfstatat_row, native_calls::specs::Nodes::utimensat_row, native_calls::specs::Nodes::umask_row))]
     fn node_call(&mut self, nr: u64, args: [u64; 6], mem: &mut HostMem) -> Result<Reply, NoMemory>
-        ensures { IfOk result (λ reply. IsQuiet (call_of_groups node_groups nr args self.old mem.old) reply self.new mem.new) }
+        ensures row { IfOk result (λ reply. IsQuiet (call_of_groups node_groups nr args self.old mem.old) reply self.new mem.new) }
+        ensures clock { self.new.clock ≡ self.old.clock }
     {
         match nr {
             GETCWD => self.getcwd(args[0], args[1], mem),
@@ -199,7 +205,8 @@ impl NativeKernel {
     /// A call on the system, on clocks, or of a later group.
     #[tactic(auto, unfolding(native_calls::specs::System::uname_row, native_calls::specs::System::getrandom_row, native_calls::specs::Clocks::nanosleep_row, native_calls::specs::Clocks::getitimer_row, native_calls::specs::Clocks::setitimer_row, native_calls::specs::Clocks::clock_gettime_row, native_calls::specs::Clocks::clock_getres_row, native_calls::specs::Clocks::clock_nanosleep_row))]
     fn system_call(&mut self, nr: u64, args: [u64; 6], mem: &mut HostMem) -> Result<Reply, NoMemory>
-        ensures { IfOk result (λ reply. IsQuiet (call_of_groups system_groups nr args self.old mem.old) reply self.new mem.new) }
+        ensures row { IfOk result (λ reply. IsQuiet (call_of_groups system_groups nr args self.old mem.old) reply self.new mem.new) }
+        ensures clock { self.new.clock ≡ self.old.clock }
     {
         match nr {
             UNAME => Ok(self.uname(args[0], mem)),
@@ -227,7 +234,8 @@ impl NativeKernel {
     /// A call on signals.
     #[tactic(auto, unfolding(native_calls::specs::Signals::kill_row, native_calls::specs::Signals::tkill_row, native_calls::specs::Signals::tgkill_row, native_calls::specs::Signals::rt_sigqueueinfo_row, native_calls::specs::Signals::rt_sigaction_row, native_calls::specs::Signals::rt_sigprocmask_row, native_calls::specs::Signals::rt_sigpending_row, native_calls::specs::Signals::rt_sigtimedwait_row, native_calls::specs::Signals::rt_sigsuspend_row, native_calls::specs::Signals::sigaltstack_row))]
     fn signal_call(&mut self, nr: u64, args: [u64; 6], mem: &mut HostMem) -> Result<Reply, NoMemory>
-        ensures { IfOk result (λ reply. IsQuiet (call_of_groups signal_groups nr args self.old mem.old) reply self.new mem.new) }
+        ensures row { IfOk result (λ reply. IsQuiet (call_of_groups signal_groups nr args self.old mem.old) reply self.new mem.new) }
+        ensures clock { self.new.clock ≡ self.old.clock }
     {
         match nr {
             KILL => self.kill(low_word(args[0]).cast_signed(), low_word(args[1])),

@@ -1,7 +1,8 @@
 //! What comes from outside between two calls: the clock moves, and signals are posted.
-ghost use Rattle.std.specs.Prelude.{◌≡◌, ◌-◌, ◌==◌, IfOk, OnErr, OnOk, bit_and, not};
+ghost use Rattle.std.specs.Prelude.{◌≡◌, ◌≤◌, None, ◌-◌, ◌==◌, IfOk, OnErr, OnOk, bit_and, not};
 ghost use Rattle.std.specs.List.{list_any};
-ghost use Rattle.kernel_model.specs.Clock.{next_time};
+ghost use Rattle.kernel_model.specs.Clock.{gone_off, next_time};
+ghost use Rattle.kernel_model.specs.Pending.{CanPend};
 ghost use Rattle.kernel_model.specs.SignalRows as rows;
 ghost use Rattle.kernel_model.specs.SignalRows.{advance, is_deliverable, posted, timer_info, with_signals};
 ghost use Rattle.kernel_model.specs.SignalSets.{without};
@@ -14,12 +15,22 @@ use kernel_model::Post;
 const SENT_BY_KERNEL: i32 = 0x80;
 
 impl NativeKernel {
-    /// Moves the clock to a time, in nanoseconds from 0. The interval timer, where it is due by then, posts
-    /// ALRM once, however late (setitimer(2)); `kept` says that a sigtimedwait waits for ALRM. After NoMemory
+    /// The clock, in nanoseconds from 0. It takes no memory.
+    pub fn clock(&self) -> u64
+        ensures { result ≡ self.now.clock }
+    {
+        self.clock
+    }
+
+    /// Moves the clock on to a time, in nanoseconds from 0. The interval timer, where it is due by then, posts
+    /// ALRM once, however late (setitimer(2)), and is not due then; `kept` says that a sigtimedwait waits for ALRM. After NoMemory
     /// the kernel is not used again.
     #[tactic(auto, unfolding(kernel_model::specs::SignalRows::advance), using(crate::proofs::Expiry::expiry))]
     pub fn advance(&mut self, to: u64, kept: bool) -> Result<(), NoMemory>
-        ensures { OnOk result (self.new ≡ advance self.old to kept) }
+        requires later { self.old.clock ≤ to }
+        ensures row { OnOk result (self.new ≡ advance self.old to kept) }
+        ensures clock { self.new.clock ≡ to }
+        ensures nothing_due { OnOk result (gone_off self.new.clock self.new.timer ≡ None) }
     {
         self.clock = to;
         if self.timers.fire(to) {
@@ -29,8 +40,9 @@ impl NativeKernel {
     }
 
     /// Posts a signal from outside (signal(7)), and tells what became of it; `kept` says that a sigtimedwait
-    /// waits for it. Where there is no memory nothing changes.
+    /// waits for it. Where there is no memory nothing changes. The info has no address, which only a fault has.
     pub fn post(&mut self, info: Info, kept: bool) -> Result<Post, NoMemory>
+        requires can_pend { CanPend info }
         ensures row { IfOk result (λ post. posted self.new.signals post ≡ rows.post self.old.signals info kept) }
         ensures others { self.new ≡ with_signals self.old self.new.signals }
         ensures no_memory { OnErr result (self.new ≡ self.old) }
@@ -57,7 +69,8 @@ impl NativeKernel {
 
 /// ALRM, sent by the kernel.
 fn timer_info() -> Info
-    ensures { result ≡ timer_info }
+    ensures info { result ≡ timer_info }
+    ensures can_pend { CanPend result }
 {
     Info {
         sig: Sig::Alrm,

@@ -43,21 +43,24 @@ pub(crate) const O_CLOEXEC: u64 = 0x80000;
 impl NativeKernel {
     /// close(2): EBADF.
     pub(crate) fn close(&mut self, fd: u32) -> Reply
-        ensures { Gives (told_zero (on_files self.old (close self.old.files fd))) result self.new }
+        ensures row { Gives (told_zero (on_files self.old (close self.old.files fd))) result self.new }
+        ensures clock { self.new.clock ≡ self.old.clock }
     {
         zero(self.files.close(fd))
     }
 
     /// dup(2): EBADF, EMFILE.
     pub(crate) fn dup(&mut self, fd: u32) -> Reply
-        ensures { Gives (on_files self.old (duplicate self.old.files fd (Some 0) false)) result self.new }
+        ensures row { Gives (on_files self.old (duplicate self.old.files fd (Some 0) false)) result self.new }
+        ensures clock { self.new.clock ≡ self.old.clock }
     {
         number(self.files.duplicate(fd, Some(0), false))
     }
 
     /// dup3(2): EBADF, EINVAL onto itself, EBADF past 1023, EINVAL for other flags than O_CLOEXEC.
     pub(crate) fn dup3(&mut self, fd: u32, onto: u32, flags: u32) -> Reply
-        ensures { Gives (on_files self.old (duplicate_onto_with self.old.files fd onto (cloexec_of flags))) result self.new }
+        ensures row { Gives (on_files self.old (duplicate_onto_with self.old.files fd onto (cloexec_of flags))) result self.new }
+        ensures clock { self.new.clock ≡ self.old.clock }
     {
         number(self.files.duplicate_onto_with(fd, onto, cloexec_of(flags)))
     }
@@ -65,7 +68,8 @@ impl NativeKernel {
     /// fcntl(2), by its command.
     #[tactic(auto, unfolding(kernel_model::specs::DescriptorRows::unlisted_command))]
     pub(crate) fn fcntl(&mut self, fd: u32, command: u32, argument: u64) -> Reply
-        ensures { Gives (commanded self.old fd argument (numbered (λ (c : rows.Command). c.number) commands command)) result self.new }
+        ensures row { Gives (commanded self.old fd argument (numbered (λ (c : rows.Command). c.number) commands command)) result self.new }
+        ensures clock { self.new.clock ≡ self.old.clock }
     {
         match command {
             F_DUPFD => self.duplicate_from(fd, argument, false),
@@ -80,7 +84,8 @@ impl NativeKernel {
 
     /// F_DUPFD and F_DUPFD_CLOEXEC.
     fn duplicate_from(&mut self, fd: u32, least: u64, cloexec: bool) -> Reply
-        ensures { Gives (rows.duplicate_from cloexec self.old fd least) result self.new }
+        ensures row { Gives (rows.duplicate_from cloexec self.old fd least) result self.new }
+        ensures clock { self.new.clock ≡ self.old.clock }
     {
         number(self.files.duplicate(fd, Some(low_word(least)), cloexec))
     }
@@ -97,7 +102,8 @@ impl NativeKernel {
 
     /// F_SETFD.
     fn set_descriptor_flags(&mut self, fd: u32, flags: u64) -> Reply
-        ensures { Gives (rows.set_descriptor_flags self.old fd flags) result self.new }
+        ensures row { Gives (rows.set_descriptor_flags self.old fd flags) result self.new }
+        ensures clock { self.new.clock ≡ self.old.clock }
     {
         zero(self.files.set_close_on_exec(fd, has(flags, FD_CLOEXEC)))
     }
@@ -115,7 +121,8 @@ impl NativeKernel {
 
     /// F_SETFL.
     fn set_status_flags(&mut self, fd: u32, flags: u64) -> Reply
-        ensures { Gives (rows.set_status_flags_to self.old fd flags) result self.new }
+        ensures row { Gives (rows.set_status_flags_to self.old fd flags) result self.new }
+        ensures clock { self.new.clock ≡ self.old.clock }
     {
         let append = has(flags, O_APPEND);
         let nonblock = has(flags, O_NONBLOCK);

@@ -58,8 +58,9 @@ impl NativeKernel {
         old: u64,
         mem: &mut HostMem,
     ) -> Reply
-        ensures { StoresUnlessNull (told_as timer_bytes (arm_timer self.old which (unless_null setting (setting_at mem.old setting))))
+        ensures row { StoresUnlessNull (told_as timer_bytes (arm_timer self.old which (unless_null setting (setting_at mem.old setting))))
             old result self.new mem.old mem.new }
+        ensures clock { self.new.clock ≡ self.old.clock }
     {
         match self.arm_timer(which, setting_unless_null(mem, setting)) {
             Err(error) => failure(error),
@@ -74,7 +75,8 @@ impl NativeKernel {
         which: u32,
         setting: Option<Result<TimerSetting, Errno>>,
     ) -> Result<TimerValue, Errno>
-        ensures { Comes (arm_timer self.old which (option_map (read_as setting_told) setting)) result self.new }
+        ensures row { Comes (arm_timer self.old which (option_map (read_as setting_told) setting)) result self.new }
+        ensures clock { self.new.clock ≡ self.old.clock }
     {
         if which != ITIMER_REAL {
             return Err(Errno::EINVAL);
@@ -92,8 +94,9 @@ impl NativeKernel {
 
     /// Gives what the timer shows, and arms it to a setting.
     fn arm_to(&mut self, setting: TimerSetting) -> Result<TimerValue, Errno>
-        ensures { Comes (with_given self.old (length_of_val setting.value) (λ length. with_given self.old (length_of_val setting.period) (λ period.
+        ensures row { Comes (with_given self.old (length_of_val setting.value) (λ length. with_given self.old (length_of_val setting.period) (λ period.
             done (record self.old { timer = armed self.old.clock length period }) (timer_value self.old)))) result self.new }
+        ensures clock { self.new.clock ≡ self.old.clock }
     {
         let length = length_of(setting.value)?;
         let period = length_of(setting.period)?;

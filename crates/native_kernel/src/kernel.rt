@@ -2,6 +2,7 @@
 ghost use Rattle.std.specs.Prelude.{◌≡◌, ◌<◌, ◌^◌, All, length};
 ghost use Rattle.kernel_core.specs.FileSystem.{IsFileSystem};
 ghost use Rattle.kernel_model.specs.Descriptions.{output_of};
+ghost use Rattle.kernel_model.specs.Pending.{AreSound};
 ghost use Rattle.kernel_model.specs.Table.{descriptor_limit};
 ghost use Rattle.kernel_model.specs.declared.limit.Limit.{Limit as Bounds};
 
@@ -78,6 +79,14 @@ impl NativeKernel {
         ensures umask { self.now.files.umask < 2 ^ 16 }
     {
         self.files.valid();
+    }
+
+    /// What pends can, with no address, and neither the mask nor that of an action has KILL or STOP: it changes
+    /// nothing, and tells its caller this.
+    pub fn signals_fit(&self)
+        ensures { AreSound self.now.signals }
+    {
+        self.signals.sound();
     }
 
     /// Each limit fits 64 bits: it changes nothing, and tells its caller this.

@@ -38,7 +38,8 @@ impl NativeKernel {
         mode: u32,
         mem: &HostMem,
     ) -> Result<Reply, NoMemory>
-        ensures { IfOk result (λ reply. Gives (marked self.old (λ files now. open_file files None now (base_of directory) (path_at mem.now path) (open_of_native flags) mode)) reply self.new) }
+        ensures row { IfOk result (λ reply. Gives (marked self.old (λ files now. open_file files None now (base_of directory) (path_at mem.now path) (open_of_native flags) mode)) reply self.new) }
+        ensures clock { self.new.clock ≡ self.old.clock }
     {
         let now = self.real_time();
         match self.files.open_file(
@@ -62,7 +63,8 @@ impl NativeKernel {
         mode: u32,
         mem: &HostMem,
     ) -> Result<Reply, NoMemory>
-        ensures { IfOk result (λ reply. Gives (told_zero (marked self.old (λ files now. rows.make_directory files now (base_of directory) (path_at mem.now path) mode))) reply self.new) }
+        ensures row { IfOk result (λ reply. Gives (told_zero (marked self.old (λ files now. rows.make_directory files now (base_of directory) (path_at mem.now path) mode))) reply self.new) }
+        ensures clock { self.new.clock ≡ self.old.clock }
     {
         let now = self.real_time();
         match self
@@ -83,7 +85,8 @@ impl NativeKernel {
         flags: u32,
         mem: &HostMem,
     ) -> Result<Reply, NoMemory>
-        ensures { IfOk result (λ reply. Gives (told_zero (marked self.old (λ files now. rows.remove_name files now (base_of directory) (path_at mem.now path) (only_flag removedir_flag flags)))) reply self.new) }
+        ensures row { IfOk result (λ reply. Gives (told_zero (marked self.old (λ files now. rows.remove_name files now (base_of directory) (path_at mem.now path) (only_flag removedir_flag flags)))) reply self.new) }
+        ensures clock { self.new.clock ≡ self.old.clock }
     {
         let now = self.real_time();
         match self.files.remove_name(
@@ -106,7 +109,8 @@ impl NativeKernel {
         path: u64,
         mem: &HostMem,
     ) -> Result<Reply, NoMemory>
-        ensures { IfOk result (λ reply. Gives (told_zero (marked self.old (λ files now. rows.make_link files now (path_at mem.now target) (base_of directory) (path_at mem.now path)))) reply self.new) }
+        ensures row { IfOk result (λ reply. Gives (told_zero (marked self.old (λ files now. rows.make_link files now (path_at mem.now target) (base_of directory) (path_at mem.now path)))) reply self.new) }
+        ensures clock { self.new.clock ≡ self.old.clock }
     {
         let now = self.real_time();
         match self.files.make_link(
@@ -131,7 +135,8 @@ impl NativeKernel {
         flags: u32,
         mem: &HostMem,
     ) -> Result<Reply, NoMemory>
-        ensures { IfOk result (λ reply. Gives (told_zero (marked self.old (λ files now. rows.link files now (base_of old_directory) (path_at mem.now old_path) (base_of new_directory) (path_at mem.now new_path) (only_flag follow_flag flags)))) reply self.new) }
+        ensures row { IfOk result (λ reply. Gives (told_zero (marked self.old (λ files now. rows.link files now (base_of old_directory) (path_at mem.now old_path) (base_of new_directory) (path_at mem.now new_path) (only_flag follow_flag flags)))) reply self.new) }
+        ensures clock { self.new.clock ≡ self.old.clock }
     {
         let now = self.real_time();
         match self.files.link(
@@ -157,7 +162,8 @@ impl NativeKernel {
         new_path: u64,
         mem: &HostMem,
     ) -> Result<Reply, NoMemory>
-        ensures { IfOk result (λ reply. Gives (told_zero (marked self.old (λ files now. rows.rename files now (base_of old_directory) (path_at mem.now old_path) (base_of new_directory) (path_at mem.now new_path)))) reply self.new) }
+        ensures row { IfOk result (λ reply. Gives (told_zero (marked self.old (λ files now. rows.rename files now (base_of old_directory) (path_at mem.now old_path) (base_of new_directory) (path_at mem.now new_path)))) reply self.new) }
+        ensures clock { self.new.clock ≡ self.old.clock }
     {
         let now = self.real_time();
         match self.files.rename(

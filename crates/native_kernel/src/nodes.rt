@@ -52,7 +52,8 @@ impl NativeKernel {
         size: i64,
         mem: &HostMem,
     ) -> Result<Reply, NoMemory>
-        ensures { IfOk result (λ reply. Gives (told_zero (marked self.old (λ files now. rows.truncate files now Working (path_at mem.now path) size))) reply self.new) }
+        ensures row { IfOk result (λ reply. Gives (told_zero (marked self.old (λ files now. rows.truncate files now Working (path_at mem.now path) size))) reply self.new) }
+        ensures clock { self.new.clock ≡ self.old.clock }
     {
         let now = self.real_time();
         match self
@@ -67,7 +68,8 @@ impl NativeKernel {
 
     /// ftruncate(2): EBADF, EINVAL, EFBIG.
     pub(crate) fn ftruncate(&mut self, fd: u32, size: i64) -> Reply
-        ensures { Gives (told_zero (marked self.old (λ files now. rows.truncate_open files now fd size))) result self.new }
+        ensures row { Gives (told_zero (marked self.old (λ files now. rows.truncate_open files now fd size))) result self.new }
+        ensures clock { self.new.clock ≡ self.old.clock }
     {
         let now = self.real_time();
         zero(self.files.truncate_open(now, fd, size))
@@ -95,7 +97,8 @@ impl NativeKernel {
 
     /// fchmod(2): EBADF.
     pub(crate) fn fchmod(&mut self, fd: u32, mode: u32) -> Reply
-        ensures { Gives (told_zero (marked self.old (λ files now. rows.change_open_mode files now fd mode))) result self.new }
+        ensures row { Gives (told_zero (marked self.old (λ files now. rows.change_open_mode files now fd mode))) result self.new }
+        ensures clock { self.new.clock ≡ self.old.clock }
     {
         let now = self.real_time();
         zero(self.files.change_open_mode(now, fd, mode))
@@ -109,7 +112,8 @@ impl NativeKernel {
         mode: u32,
         mem: &HostMem,
     ) -> Result<Reply, NoMemory>
-        ensures { IfOk result (λ reply. Gives (told_zero (marked self.old (λ files now. rows.change_mode files now (base_of directory) (path_at mem.now path) mode))) reply self.new) }
+        ensures row { IfOk result (λ reply. Gives (told_zero (marked self.old (λ files now. rows.change_mode files now (base_of directory) (path_at mem.now path) mode))) reply self.new) }
+        ensures clock { self.new.clock ≡ self.old.clock }
     {
         let now = self.real_time();
         match self
@@ -155,7 +159,8 @@ impl NativeKernel {
         flags: u32,
         mem: &HostMem,
     ) -> Result<Reply, NoMemory>
-        ensures { IfOk result (λ reply. Gives (told_zero (marked self.old (λ files now. rows.set_times files now (base_of directory) (unless_null path (path_at mem.now path)) (unless_null times (times_at mem.now times)) (follow_of flags)))) reply self.new) }
+        ensures row { IfOk result (λ reply. Gives (told_zero (marked self.old (λ files now. rows.set_times files now (base_of directory) (unless_null path (path_at mem.now path)) (unless_null times (times_at mem.now times)) (follow_of flags)))) reply self.new) }
+        ensures clock { self.new.clock ≡ self.old.clock }
     {
         let now = self.real_time();
         match self.files.set_times(
@@ -173,7 +178,8 @@ impl NativeKernel {
 
     /// chdir(2): the errors of the path.
     pub(crate) fn chdir(&mut self, path: u64, mem: &HostMem) -> Result<Reply, NoMemory>
-        ensures { IfOk result (λ reply. Gives (told_zero (on_files self.old (rows.change_directory self.old.files (path_at mem.now path)))) reply self.new) }
+        ensures row { IfOk result (λ reply. Gives (told_zero (on_files self.old (rows.change_directory self.old.files (path_at mem.now path)))) reply self.new) }
+        ensures clock { self.new.clock ≡ self.old.clock }
     {
         match self.files.change_directory(path_at(mem, path)) {
             Ok(()) => Ok(Reply::Done(0)),
@@ -184,14 +190,16 @@ impl NativeKernel {
 
     /// fchdir(2): EBADF, ENOTDIR.
     pub(crate) fn fchdir(&mut self, fd: u32) -> Reply
-        ensures { Gives (told_zero (on_files self.old (rows.change_to_open self.old.files fd))) result self.new }
+        ensures row { Gives (told_zero (on_files self.old (rows.change_to_open self.old.files fd))) result self.new }
+        ensures clock { self.new.clock ≡ self.old.clock }
     {
         zero(self.files.change_to_open(fd))
     }
 
     /// umask(2).
     pub(crate) fn umask(&mut self, umask: u32) -> Reply
-        ensures { Gives (on_files self.old (rows.set_umask self.old.files umask)) result self.new }
+        ensures row { Gives (on_files self.old (rows.set_umask self.old.files umask)) result self.new }
+        ensures clock { self.new.clock ≡ self.old.clock }
     {
         Reply::Done(i64::from(self.files.set_umask(umask)))
     }

@@ -29,7 +29,8 @@ impl NativeKernel {
         flags: u32,
         mem: &mut HostMem,
     ) -> Result<Reply, NoMemory>
-        ensures { IfOk result (λ reply. IsQuiet (pipe2_row self.old mem.old address flags) reply self.new mem.new) }
+        ensures row { IfOk result (λ reply. IsQuiet (pipe2_row self.old mem.old address flags) reply self.new mem.new) }
+        ensures clock { self.new.clock ≡ self.old.clock }
     {
         match self.files.make_pipe(pipe_flags(flags)) {
             Ok(ends) => Ok(self.give_pair(ends, address, mem)),
@@ -40,8 +41,9 @@ impl NativeKernel {
 
     /// Stores the descriptors of a new pipe. Where they can't be stored, both are closed again.
     fn give_pair(&mut self, pair: Ends, address: u64, mem: &mut HostMem) -> Reply
-        ensures { IsQuiet (stores mem.old address (told_as pair_bytes
+        ensures row { IsQuiet (stores mem.old address (told_as pair_bytes
             (given_pair (is_inside mem.old address pair_size) (done self.old (ends pair.read pair.write))))) result self.new mem.new }
+        ensures clock { self.new.clock ≡ self.old.clock }
     {
         let mut bytes = [0; PAIR_SIZE];
         write_pair(pair, &mut bytes);

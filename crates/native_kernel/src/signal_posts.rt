@@ -2,6 +2,7 @@
 //! one.
 ghost use Rattle.std.specs.Prelude.{◌≡◌, IfOk};
 ghost use Rattle.kernel_model.specs.Came.{told_zero, with_given};
+ghost use Rattle.kernel_model.specs.Pending.{CanPend};
 ghost use Rattle.kernel_model.specs.SignalRows.{info_of, is_id, kill, kill_thread, kill_thread_of, names_itself, own_id, queue, queued_info, send, send_named};
 ghost use Rattle.native_calls.specs.HostBytes.{read_as};
 ghost use Rattle.native_calls.specs.SignalBytes.{named_by, sent_at};
@@ -22,7 +23,8 @@ impl NativeKernel {
     /// 1,024 real-time signals are queued. The number 0 sends nothing.
     #[tactic(auto, unfolding(kernel_model::specs::SignalRows::kill))]
     pub(crate) fn kill(&mut self, pid: i32, number: u32) -> Result<Reply, NoMemory>
-        ensures { IfOk result (λ reply. Gives (told_zero (kill self.old pid (named_by number))) reply self.new) }
+        ensures row { IfOk result (λ reply. Gives (told_zero (kill self.old pid (named_by number))) reply self.new) }
+        ensures clock { self.new.clock ≡ self.old.clock }
     {
         if !names_itself(pid) {
             return Ok(failure(Errno::ESRCH));
@@ -33,7 +35,8 @@ impl NativeKernel {
     /// tkill(2): EINVAL for an id below 1, ESRCH for another thread, and then as [`NativeKernel::kill`].
     #[tactic(auto, unfolding(kernel_model::specs::SignalRows::kill_thread))]
     pub(crate) fn kill_thread(&mut self, tid: i32, number: u32) -> Result<Reply, NoMemory>
-        ensures { IfOk result (λ reply. Gives (told_zero (kill_thread self.old tid (named_by number))) reply self.new) }
+        ensures row { IfOk result (λ reply. Gives (told_zero (kill_thread self.old tid (named_by number))) reply self.new) }
+        ensures clock { self.new.clock ≡ self.old.clock }
     {
         if tid < 1 {
             return Ok(failure(Errno::EINVAL));
@@ -53,7 +56,8 @@ impl NativeKernel {
         tid: i32,
         number: u32,
     ) -> Result<Reply, NoMemory>
-        ensures { IfOk result (λ reply. Gives (told_zero (kill_thread_of self.old pid tid (named_by number))) reply self.new) }
+        ensures row { IfOk result (λ reply. Gives (told_zero (kill_thread_of self.old pid tid (named_by number))) reply self.new) }
+        ensures clock { self.new.clock ≡ self.old.clock }
     {
         if pid < 1 || tid < 1 {
             return Ok(failure(Errno::EINVAL));
@@ -74,7 +78,8 @@ impl NativeKernel {
         info: u64,
         mem: &HostMem,
     ) -> Result<Reply, NoMemory>
-        ensures { IfOk result (λ reply. Gives (told_zero (queue self.old pid (named_by number) (sent_at mem.now info))) reply self.new) }
+        ensures row { IfOk result (λ reply. Gives (told_zero (queue self.old pid (named_by number) (sent_at mem.now info))) reply self.new) }
+        ensures clock { self.new.clock ≡ self.old.clock }
     {
         if !is_own_id(pid) {
             return Ok(failure(Errno::ESRCH));
@@ -91,8 +96,9 @@ impl NativeKernel {
         signal: Option<Sig>,
         sent: Result<SentInfo, Errno>,
     ) -> Result<Reply, NoMemory>
-        ensures { IfOk result (λ reply. Gives (told_zero (with_given self.old (read_as sent_told sent) (λ sent.
+        ensures row { IfOk result (λ reply. Gives (told_zero (with_given self.old (read_as sent_told sent) (λ sent.
             send_named self.old (named signal) (queued_info sent)))) reply self.new) }
+        ensures clock { self.new.clock ≡ self.old.clock }
     {
         match sent {
             Err(error) => Ok(failure(error)),
@@ -105,7 +111,8 @@ impl NativeKernel {
 
     /// Sends the signal of a number, as the process itself; `code` says by which call.
     fn send_numbered(&mut self, number: u32, code: i32) -> Result<Reply, NoMemory>
-        ensures { IfOk result (λ reply. Gives (told_zero (send_named self.old (named_by number) (λ sig. info_of sig code own_id 0))) reply self.new) }
+        ensures row { IfOk result (λ reply. Gives (told_zero (send_named self.old (named_by number) (λ sig. info_of sig code own_id 0))) reply self.new) }
+        ensures clock { self.new.clock ≡ self.old.clock }
     {
         match signal_named(number) {
             Err(error) => Ok(failure(error)),
@@ -116,7 +123,9 @@ impl NativeKernel {
 
     /// Sends a signal: EAGAIN where 1,024 real-time signals are queued.
     fn send_signal(&mut self, info: Info) -> Result<Reply, NoMemory>
-        ensures { IfOk result (λ reply. Gives (told_zero (send self.old info)) reply self.new) }
+        requires can_pend { CanPend info }
+        ensures row { IfOk result (λ reply. Gives (told_zero (send self.old info)) reply self.new) }
+        ensures clock { self.new.clock ≡ self.old.clock }
     {
         match self.signals.post(info, false)? {
             Post::Queued => Ok(Reply::Done(0)),
@@ -142,7 +151,8 @@ fn is_own_id(number: i32) -> bool
 
 /// A signal that the process sends to itself.
 fn own_info(sig: Sig, code: i32) -> Info
-    ensures { result ≡ info_of sig code own_id 0 }
+    ensures info { result ≡ info_of sig code own_id 0 }
+    ensures can_pend { CanPend result }
 {
     Info {
         sig,
@@ -157,7 +167,8 @@ fn own_info(sig: Sig, code: i32) -> Info
 
 /// A signal with what rt_sigqueueinfo(2) is told of it.
 fn queued_info(sig: Sig, sent: SentInfo) -> Info
-    ensures { result ≡ queued_info (sent_told sent) sig }
+    ensures info { result ≡ queued_info (sent_told sent) sig }
+    ensures can_pend { CanPend result }
 {
     Info {
         sig,

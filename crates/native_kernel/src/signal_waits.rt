@@ -48,8 +48,9 @@ impl NativeKernel {
         size: u64,
         mem: &mut HostMem,
     ) -> Reply
-        ensures { Accepts (accept self.old native_order (λ set. set) (set_at mem.old set) (unless_null time (time_at mem.old time)) size)
+        ensures row { Accepts (accept self.old native_order (λ set. set) (set_at mem.old set) (unless_null time (time_at mem.old time)) size)
             info result self.new mem.old mem.new }
+        ensures clock { self.new.clock ≡ self.old.clock }
     {
         match self.accept(set_at(mem, set), time_unless_null(mem, time), size) {
             Err(error) => failure(error),
@@ -68,6 +69,7 @@ impl NativeKernel {
     ) -> Result<Accepted, Errno>
         ensures came { accepted_of result ≡ (accept self.old native_order (λ set. set) set time size).came }
         ensures state { self.new ≡ (accept self.old native_order (λ set. set) set time size).state }
+        ensures clock { self.new.clock ≡ self.old.clock }
     {
         if size != SET_SIZE {
             return Err(Errno::EINVAL);
@@ -84,6 +86,7 @@ impl NativeKernel {
             (waits_until self.old until (refused self.old EAGAIN))).came }
         ensures state { self.new ≡ (accept_signal self.old (first_pending self.old.signals native_order set.now)
             (waits_until self.old until (refused self.old EAGAIN))).state }
+        ensures clock { self.new.clock ≡ self.old.clock }
     {
         match take_first(&mut self.signals, set) {
             Some(info) => Ok(Accepted::Signal(info)),

@@ -41,8 +41,9 @@ impl NativeKernel {
         size: u64,
         mem: &mut HostMem,
     ) -> Reply
-        ensures { StoresUnlessNull (told_as action_bytes (set_action self.old size (signal_of_native number)
+        ensures row { StoresUnlessNull (told_as action_bytes (set_action self.old size (signal_of_native number)
             (unless_null action (action_at mem.old action)))) old result self.new mem.old mem.new }
+        ensures clock { self.new.clock ≡ self.old.clock }
     {
         let signal = Sig::of_native(u64::from(number));
         match self.change_action(size, signal, action_unless_null(mem, action)) {
@@ -59,7 +60,8 @@ impl NativeKernel {
         signal: Option<Sig>,
         action: Option<Result<Action, Errno>>,
     ) -> Result<Action, Errno>
-        ensures { Comes (set_action self.old size signal action) result self.new }
+        ensures row { Comes (set_action self.old size signal action) result self.new }
+        ensures clock { self.new.clock ≡ self.old.clock }
     {
         if size != SET_SIZE {
             return Err(Errno::EINVAL);
@@ -76,8 +78,9 @@ impl NativeKernel {
         sig: Sig,
         action: Option<Result<Action, Errno>>,
     ) -> Result<Action, Errno>
-        ensures { Comes (refused_if (is_some action && is_unblockable sig) EINVAL self.old
+        ensures row { Comes (refused_if (is_some action && is_unblockable sig) EINVAL self.old
             (with_given self.old (given_or_none action) (λ action. set_action_to self.old sig action))) result self.new }
+        ensures clock { self.new.clock ≡ self.old.clock }
     {
         let before = self.signals.action(sig);
         match action {
@@ -102,8 +105,9 @@ impl NativeKernel {
         size: u64,
         mem: &mut HostMem,
     ) -> Reply
-        ensures { StoresUnlessNull (told_as set_bytes (change_mask self.old size (mask_change_of_native how)
+        ensures row { StoresUnlessNull (told_as set_bytes (change_mask self.old size (mask_change_of_native how)
             (unless_null set (set_at mem.old set)))) old result self.new mem.old mem.new }
+        ensures clock { self.new.clock ≡ self.old.clock }
     {
         let how = MaskChange::of_native(u64::from(how));
         match self.change_mask(size, how, set_unless_null(mem, set)) {
@@ -120,7 +124,8 @@ impl NativeKernel {
         how: Option<MaskChange>,
         set: Option<Result<[u32; 4], Errno>>,
     ) -> Result<[u32; 4], Errno>
-        ensures { Comes (change_mask self.old size how set) result self.new }
+        ensures row { Comes (change_mask self.old size how set) result self.new }
+        ensures clock { self.new.clock ≡ self.old.clock }
     {
         if size != SET_SIZE {
             return Err(Errno::EINVAL);
@@ -137,8 +142,9 @@ impl NativeKernel {
         how: Option<MaskChange>,
         set: Result<[u32; 4], Errno>,
     ) -> Result<[u32; 4], Errno>
-        ensures { Comes (with_some self.old EINVAL how (λ how. with_given self.old set (λ set.
+        ensures row { Comes (with_some self.old EINVAL how (λ how. with_given self.old set (λ set.
             done (with_mask self.old (changed_mask how self.old.signals.mask set)) self.old.signals.mask))) result self.new }
+        ensures clock { self.new.clock ≡ self.old.clock }
     {
         let Some(how) = how else {
             return Err(Errno::EINVAL);
@@ -164,8 +170,9 @@ impl NativeKernel {
     /// is not disabled. The old stack is stored, where its address is not null; the new one stands also where
     /// that is EFAULT.
     pub(crate) fn set_signal_stack(&mut self, stack: u64, old: u64, mem: &mut HostMem) -> Reply
-        ensures { StoresUnlessNull (told_as stack_bytes (set_stack self.old None (unless_null stack (stack_at mem.old stack))))
+        ensures row { StoresUnlessNull (told_as stack_bytes (set_stack self.old None (unless_null stack (stack_at mem.old stack))))
             old result self.new mem.old mem.new }
+        ensures clock { self.new.clock ≡ self.old.clock }
     {
         match self.change_stack(stack_unless_null(mem, stack)) {
             Err(error) => failure(error),
@@ -176,7 +183,8 @@ impl NativeKernel {
     /// Gives the old alternate stack, and sets a new one where there is one.
     #[tactic(auto, unfolding(kernel_model::specs::SignalRows::set_stack))]
     fn change_stack(&mut self, stack: Option<Result<SigStack, Errno>>) -> Result<SigStack, Errno>
-        ensures { Comes (set_stack self.old None stack) result self.new }
+        ensures row { Comes (set_stack self.old None stack) result self.new }
+        ensures clock { self.new.clock ≡ self.old.clock }
     {
         match stack {
             None => Ok(self.signals.stack()),
@@ -187,7 +195,8 @@ impl NativeKernel {
 
     /// The same where there is a new one.
     fn replace_stack(&mut self, stack: SigStack) -> Result<SigStack, Errno>
-        ensures { Comes (set_stack_to self.old None (Some stack)) result self.new }
+        ensures row { Comes (set_stack_to self.old None (Some stack)) result self.new }
+        ensures clock { self.new.clock ≡ self.old.clock }
     {
         if stack.flags > DISABLED {
             return Err(Errno::EINVAL);

@@ -37,7 +37,8 @@ const NANOSECONDS_PER_SECOND: i128 = 1_000_000_000;
 impl NativeKernel {
     /// lseek(2): EBADF, ESPIPE, EINVAL.
     pub(crate) fn lseek(&mut self, fd: u32, offset: i64, origin: u32) -> Reply
-        ensures { Gives (on_files self.old (seek self.old.files fd offset origin)) result self.new }
+        ensures row { Gives (on_files self.old (seek self.old.files fd offset origin)) result self.new }
+        ensures clock { self.new.clock ≡ self.old.clock }
     {
         match self.files.seek(fd, offset, origin) {
             Err(error) => failure(error),
@@ -53,8 +54,9 @@ impl NativeKernel {
         size: u32,
         mem: &mut HostMem,
     ) -> Result<Reply, NoMemory>
-        ensures { IfOk result (λ reply. Fills (written mem.old buffer) (told_as (flat_map entry_bytes)
+        ensures row { IfOk result (λ reply. Fills (written mem.old buffer) (told_as (flat_map entry_bytes)
             (on_files self.old (entries self.old.files fd entry_records size (accessible mem.old buffer size)))) reply self.new mem.old mem.new) }
+        ensures clock { self.new.clock ≡ self.old.clock }
     {
         let room = accessible(mem, buffer, u64::from(size));
         match self.files.entries(fd, size, room) {

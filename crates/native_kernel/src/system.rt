@@ -59,7 +59,8 @@ impl NativeKernel {
         old: u64,
         mem: &mut HostMem,
     ) -> Reply
-        ensures { IsQuiet (prlimit_row self.old mem.old pid resource limit old) result self.new mem.new }
+        ensures row { IsQuiet (prlimit_row self.old mem.old pid resource limit old) result self.new mem.new }
+        ensures clock { self.new.clock ≡ self.old.clock }
     {
         let limit = limit_unless_null(mem, limit);
         match self.set_limit(pid, Resource::of_native(u64::from(resource)), limit) {
@@ -78,6 +79,7 @@ impl NativeKernel {
     ) -> Result<Limit, Errno>
         ensures came { came_of result ≡ (set_limit self.old pid resource limit).came }
         ensures state { self.new ≡ (set_limit self.old pid resource limit).state }
+        ensures clock { self.new.clock ≡ self.old.clock }
     {
         if pid != 0 && pid != OWN_ID {
             return Err(Errno::ESRCH);
@@ -96,6 +98,7 @@ impl NativeKernel {
     fn change_limit(&mut self, resource: Resource, limit: Limit) -> Result<Limit, Errno>
         ensures came { came_of result ≡ (set_limit_to self.old resource (Some limit)).came }
         ensures state { self.new ≡ (set_limit_to self.old resource (Some limit)).state }
+        ensures clock { self.new.clock ≡ self.old.clock }
     {
         if limit.soft > limit.hard {
             return Err(Errno::EINVAL);
@@ -117,8 +120,9 @@ impl NativeKernel {
         flags: u32,
         mem: &mut HostMem,
     ) -> Reply
-        ensures { Fills (written mem.old buffer) (random_bytes self.old count (accessible mem.old buffer count) flags)
+        ensures row { Fills (written mem.old buffer) (random_bytes self.old count (accessible mem.old buffer count) flags)
             result self.new mem.old mem.new }
+        ensures clock { self.new.clock ≡ self.old.clock }
     {
         if !are_random_flags(u64::from(flags)) {
             return failure(Errno::EINVAL);

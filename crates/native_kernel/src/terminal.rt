@@ -28,7 +28,8 @@ impl NativeKernel {
     /// ioctl(2), by its request.
     #[tactic(auto, unfolding(native_calls::specs::Terminal::ioctl_row, kernel_model::specs::DescriptorRows::unlisted_request))]
     pub(crate) fn ioctl(&mut self, fd: u32, request: u32, address: u64, mem: &mut HostMem) -> Reply
-        ensures { IsQuiet (ioctl_row self.old mem.old fd request address) result self.new mem.new }
+        ensures row { IsQuiet (ioctl_row self.old mem.old fd request address) result self.new mem.new }
+        ensures clock { self.new.clock ≡ self.old.clock }
     {
         match Request::of_native(u64::from(request)) {
             None => self.unlisted(fd, Errno::ENOTTY),
@@ -57,7 +58,8 @@ impl NativeKernel {
 
     /// TCSETS, TCSETSW and TCSETSF.
     fn set_settings(&mut self, fd: u32, address: u64, mem: &HostMem) -> Reply
-        ensures { Gives (told_zero (on_files self.old (set_terminal_settings self.old.files fd (settings_at mem.now address)))) result self.new }
+        ensures row { Gives (told_zero (on_files self.old (set_terminal_settings self.old.files fd (settings_at mem.now address)))) result self.new }
+        ensures clock { self.new.clock ≡ self.old.clock }
     {
         zero(
             self.files

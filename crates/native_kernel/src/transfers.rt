@@ -1,10 +1,12 @@
 //! The calls that move bytes of one buffer: read(2), write(2), pread(2), pwrite(2).
-ghost use Rattle.std.specs.Prelude.{◌≡◌, ℕ, ◌+◌, ◌≤◌, List, Some, None, Ok, IfOk, OnOk, length};
+ghost use Rattle.std.specs.Prelude.{◌≡◌, ℕ, ◌+◌, ◌≤◌, List, Some, None, Ok, IfOk, OnErr, OnOk, length};
 ghost use Rattle.host_mem.specs.Memory.{written};
 ghost use Rattle.kernel_core.specs.FileSystem.{IsTime};
+ghost use Rattle.kernel_core.specs.declared.error.Errno.TheVariants.{EPIPE};
 ghost use Rattle.kernel_core.specs.declared.signal.Sig.TheVariants.{Pipe};
-ghost use Rattle.kernel_model.specs.Came.{came_as};
+ghost use Rattle.kernel_model.specs.Came.{Refused, came_as};
 ghost use Rattle.kernel_model.specs.Clock as clock;
+ghost use Rattle.kernel_model.specs.Pending.{CanPend};
 ghost use Rattle.kernel_model.specs.SignalRows.{kill_info};
 ghost use Rattle.kernel_model.specs.Transfers.{read, read_at, transfer_limit};
 ghost use Rattle.kernel_model.specs.Whole.{kernel_write, on_files};
@@ -40,6 +42,7 @@ impl NativeKernel {
         ensures row { IsReading (read_row self.old mem.old fd buffer count) result self.new mem.new (I.left input.old) (I.left input.new) }
         ensures stops { ReadingStops result (I.faults input.old) (I.faults input.new) }
         ensures later { I.faults input.old ≤ I.faults input.new }
+        ensures clock { self.new.clock ≡ self.old.clock }
     {
         let room = accessible(mem, buffer, count);
         let place = part_place(mem, buffer, room);
@@ -71,6 +74,7 @@ impl NativeKernel {
         ensures stops { WritingStops result (O.faults out.old) (O.faults out.new) (E.faults err.old) (E.faults err.new) }
         ensures out_later { O.faults out.old ≤ O.faults out.new }
         ensures err_later { E.faults err.old ≤ E.faults err.new }
+        ensures clock { self.new.clock ≡ self.old.clock }
     {
         self.send(fd, Ok(count), loadable(mem, buffer, count), out, err)
     }
@@ -103,7 +107,8 @@ impl NativeKernel {
         at: i64,
         mem: &HostMem,
     ) -> Result<Reply, NoMemory>
-        ensures { IfOk result (λ reply. IsQuiet (pwrite_row self.old mem.now fd buffer count at) reply self.new mem.now) }
+        ensures row { IfOk result (λ reply. IsQuiet (pwrite_row self.old mem.now fd buffer count at) reply self.new mem.now) }
+        ensures clock { self.new.clock ≡ self.old.clock }
     {
         let now = self.real_time();
         match self
@@ -118,6 +123,7 @@ impl NativeKernel {
 
     /// Writes bytes to what a descriptor has open, and posts SIGPIPE with EPIPE; `asked` is how many bytes
     /// the program names, or what was wrong with its vector.
+    #[tactic(auto, using(crate::proofs::Sending::vain_stops))]
     pub(crate) fn send<O: Sink, E: Sink>(
         &mut self,
         fd: u32,
@@ -131,6 +137,7 @@ impl NativeKernel {
         ensures stops { WritingStops result (O.faults out.old) (O.faults out.new) (E.faults err.old) (E.faults err.new) }
         ensures out_later { O.faults out.old ≤ O.faults out.new }
         ensures err_later { E.faults err.old ≤ E.faults err.new }
+        ensures clock { self.new.clock ≡ self.old.clock }
     {
         let now = self.real_time();
         let came = self.files.write(now, fd, asked, bytes, out, err);
@@ -142,7 +149,9 @@ impl NativeKernel {
 
     /// Posts SIGPIPE where a write came to EPIPE.
     fn post_if_broken(&mut self, came: &Result<Progress, CoreError>) -> Result<(), NoMemory>
-        ensures { OnOk result (self.new ≡ after_came self.old (moved came.now)) }
+        ensures row { OnOk result (self.new ≡ after_came self.old (moved came.now)) }
+        ensures broken { OnErr result (moved came.now ≡ Some (Refused EPIPE)) }
+        ensures clock { self.new.clock ≡ self.old.clock }
     {
         if let Err(CoreError::Refused(Errno::EPIPE)) = came {
             self.signals.post(pipe_info(), false)?;
@@ -200,7 +209,8 @@ fn read_part_at(
 
 /// SIGPIPE, sent by the process itself (pipe(7)).
 fn pipe_info() -> Info
-    ensures { result ≡ kill_info Pipe }
+    ensures info { result ≡ kill_info Pipe }
+    ensures can_pend { CanPend result }
 {
     Info {
         sig: Sig::Pipe,

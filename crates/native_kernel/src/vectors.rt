@@ -41,6 +41,7 @@ impl NativeKernel {
         ensures row { IsReading (readv_row self.old mem.old fd address count) result self.new mem.new (I.left input.old) (I.left input.new) }
         ensures stops { ReadingStops result (I.faults input.old) (I.faults input.new) }
         ensures later { I.faults input.old ≤ I.faults input.new }
+        ensures clock { self.new.clock ≡ self.old.clock }
     {
         match vector(self.alloc, mem, address, count) {
             Ok(ranges) => {
@@ -66,6 +67,7 @@ impl NativeKernel {
         ensures row { ReadsRanges self.old mem.old fd asked ranges.now result self.new mem.new (I.left input.old) (I.left input.new) }
         ensures stops { ReadingStops result (I.faults input.old) (I.faults input.new) }
         ensures later { I.faults input.old ≤ I.faults input.new }
+        ensures clock { self.new.clock ≡ self.old.clock }
     {
         let mut buffer = zeros(self.alloc, all_accessible(mem, ranges))?;
         let came = self.files.read(fd, asked, buffer.as_mut_slice(), input);
@@ -90,6 +92,7 @@ impl NativeKernel {
         ensures stops { WritingStops result (O.faults out.old) (O.faults out.new) (E.faults err.old) (E.faults err.new) }
         ensures out_later { O.faults out.old ≤ O.faults out.new }
         ensures err_later { E.faults err.old ≤ E.faults err.new }
+        ensures clock { self.new.clock ≡ self.old.clock }
     {
         match vector(self.alloc, mem, address, count) {
             Ok(ranges) => {

@@ -223,7 +223,7 @@ fn is_answered(alloc: Global, kernel: &mut NativeKernel, streams: &mut Streams, 
 
 fn is_right(alloc: Global, kernel: &mut NativeKernel, streams: &mut Streams, row: &Row) -> bool {
     match *row {
-        Row::Clock(time) => kernel.advance(time, false).is_ok(),
+        Row::Clock(time) => kernel.clock() <= time && kernel.advance(time, false).is_ok(),
         _ => is_answered(alloc, kernel, streams, row),
     }
 }

@@ -1,4 +1,5 @@
 //! What comes from outside: devices that fail, the clock and posted signals; and the tree at the end.
+ghost use Rattle.kernel_model.specs.Pending.{CanPend};
 
 use crate::calls::{AT, Row, Streams, first_wrong, new_kernel};
 use crate::numbers::{EBADF, READ, WRITE};
@@ -51,7 +52,9 @@ fn devices_that_fail(rt: HostRuntime) -> Result<(), Fail> {
 }
 
 /// USR1, sent from outside (SI_USER).
-fn posted() -> Info {
+fn posted() -> Info
+    ensures { CanPend result }
+{
     Info {
         sig: Sig::Usr1,
         code: 0,
@@ -72,7 +75,9 @@ fn clock_posts_and_tree(rt: HostRuntime) -> Result<(), Fail> {
     assert!(rt; matches!(kernel.post(posted(), false), Ok(Post::Queued)));
     assert!(rt; matches!(kernel.post(posted(), false), Ok(Post::Dropped)));
     assert!(rt; kernel.deliverable());
+    assert_eq!(rt; kernel.clock(), 0);
     assert!(rt; kernel.advance(5_000, false).is_ok());
+    assert_eq!(rt; kernel.clock(), 5_000);
     let tree = kernel.tree().ok().ok_or("no memory")?;
     assert_eq!(rt; tree.nodes.as_slice().len(), 1);
     Ok(())

@@ -74,7 +74,7 @@ none = replicate 128 []
 first_few : sum_by size (drop 31 none) ≤ queue_limit
 first_few = omega (arith, ap (sum_by size) (drop-replicate 31 128 []), sum_by-replicate size 97 [])
 
-zeros : IsMask no_signals
+pub zeros : IsMask no_signals
 zeros = mask_blockable no_signals (refl, words_small 0 0 0 0 (lit< tt) (lit< tt) (lit< tt) (lit< tt))
 
 pub first_kept : AreSignals first_signals

@@ -1,5 +1,6 @@
 //! Sets of signals, as four words with a bit for each place.
-ghost use Rattle.std.specs.Prelude.{◌≡◌, ◌<◌};
+ghost use Rattle.std.specs.Prelude.{◌≡◌, ◌<◌, ◌^◌, All};
+ghost use Rattle.kernel_model.specs.Always.{IsMask};
 ghost use Rattle.kernel_model.specs.SignalSets as spec;
 ghost use Rattle.kernel_model.specs.SignalSets.{signal_count};
 ghost use Rattle.native_signal.specs.inside.Pending.{marked};
@@ -34,7 +35,22 @@ pub fn has(set: &[u32; 4], sig: Sig) -> bool
 
 /// A set without KILL and STOP, which no mask holds.
 pub fn blockable(set: [u32; 4]) -> [u32; 4]
-    ensures { result ≡ spec.blockable set }
+    ensures value { result ≡ spec.blockable set }
+    ensures mask { IsMask result }
 {
+    words_fit(&set);
     [set[0] & !UNBLOCKABLE, set[1], set[2], set[3]]
 }
+
+/// Each word of a set fits 32 bits: it does nothing, and tells its caller this.
+fn words_fit(set: &[u32; 4])
+    ensures { All (λ word. word < 2 ^ 32) set.now }
+{
+    for word in set {
+        fits(*word);
+    }
+}
+
+fn fits(word: u32)
+    ensures { word < 2 ^ 32 }
+{}

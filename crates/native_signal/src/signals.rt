@@ -1,6 +1,7 @@
 //! Signals as callers see them.
 ghost use Rattle.std.specs.Prelude.{◌≡◌, [], false, drop, replicate, slice_get, IfNone, IfOk, OnErr};
 ghost use Rattle.kernel_model.specs.Begin.{first_signals};
+ghost use Rattle.kernel_model.specs.Pending.{AreSound, CanPend};
 ghost use Rattle.kernel_model.specs.SignalRows as rows;
 ghost use Rattle.kernel_model.specs.SignalRows.{action_at, after_action, after_removal, enqueued, is_dropped, is_unblockable, kept_stack, no_action, pending_at, pending_set, posted, with_pending};
 ghost use Rattle.kernel_model.specs.SignalSets.{blockable};
@@ -37,6 +38,7 @@ pub struct Signals {
 
 impl Model for Signals {
     ghost use Rattle.std.specs.Prelude.{◌≡◌, length};
+    ghost use Rattle.kernel_model.specs.Pending.{AreSound};
     ghost use Rattle.kernel_model.specs.SignalSets.{signal_count};
     ghost use Rattle.kernel_model.specs.State.{Signals};
 
@@ -44,7 +46,8 @@ impl Model for Signals {
 
     ghost view = { λ s. record { actions = s.actions.items; pending = s.pending; mask = s.mask; stack = s.stack } };
 
-    ghost invariant = { λ s. length s.actions.items ≡ signal_count };
+    ghost invariant = { λ s. (length s.actions.items ≡ signal_count)
+        × AreSound (record { actions = s.actions.items; pending = s.pending; mask = s.mask; stack = s.stack }) };
 }
 
 /// The action of a signal for which none was set.
@@ -71,6 +74,7 @@ fn default_actions(alloc: Global, count: usize) -> Result<Vec<Action>, NoMemory>
 
 impl Signals {
     /// No signal has an action of its own, none is blocked and none pends; there is no alternate stack.
+    #[tactic(auto, using(crate::proofs::Soundness::sound))]
     pub fn new(alloc: Global) -> Result<Signals, NoMemory>
         ensures { IfOk result (λ signals. signals ≡ first_signals) }
     {
@@ -85,8 +89,10 @@ impl Signals {
     /// Posts a signal (signal(7)). A stop signal removes a pending CONT, and CONT removes pending stop
     /// signals. A signal that is ignored and not blocked is dropped, unless `kept` says that a
     /// sigtimedwait waits for it. A standard signal that pends is dropped. A real-time signal is queued,
-    /// and is dropped where 1,024 are queued. Where there is no memory nothing changes.
+    /// and is dropped where 1,024 are queued. Where there is no memory nothing changes. The info has no
+    /// address, which only a fault has.
     pub fn post(&mut self, info: Info, kept: bool) -> Result<Post, NoMemory>
+        requires can_pend { CanPend info }
         ensures row { IfOk result (λ post. posted self.new post ≡ rows.post self.old info kept) }
         ensures no_memory { OnErr result (self.new ≡ self.old) }
     {
@@ -103,6 +109,7 @@ impl Signals {
     }
 
     /// Takes the first that pends of a signal; None exactly where none does. It takes no memory.
+    #[tactic(auto, using(crate::proofs::Soundness::sound))]
     pub fn take(&mut self, sig: Sig) -> Option<Info>
         ensures first { result ≡ slice_get (pending_at self.old sig) 0 }
         ensures rest { self.new ≡ with_pending self.old sig (drop 1 (pending_at self.old sig)) }
@@ -120,6 +127,7 @@ impl Signals {
 
     /// Sets the action of a signal, which is neither KILL nor STOP (sigaction(2)). Its mask loses KILL
     /// and STOP. Where it ignores the signal, what pends of it goes. It takes no memory.
+    #[tactic(auto, using(crate::proofs::Soundness::sound))]
     pub fn set_action(&mut self, sig: Sig, to: Action)
         requires { is_unblockable sig ≡ false }
         ensures { self.new ≡ after_action self.old sig to }
@@ -143,6 +151,7 @@ impl Signals {
     }
 
     /// Sets the blocked signals, without KILL and STOP. It takes no memory.
+    #[tactic(auto, using(crate::proofs::Soundness::sound))]
     pub fn set_mask(&mut self, to: [u32; 4])
         ensures { self.new ≡ record self.old { mask = blockable to } }
     {
@@ -158,6 +167,7 @@ impl Signals {
 
     /// Sets the alternate stack (sigaltstack(2)): a disabled one has no place and no size, and an
     /// enabled one no flags. It takes no memory.
+    #[tactic(auto, using(crate::proofs::Soundness::sound))]
     pub fn set_stack(&mut self, to: SigStack)
         ensures { self.new ≡ record self.old { stack = kept_stack to } }
     {
@@ -172,6 +182,14 @@ impl Signals {
         };
     }
 
+    /// What pends can, and neither the mask nor that of an action has KILL or STOP: it changes nothing,
+    /// and tells its caller this.
+    pub fn sound(&self)
+        ensures { AreSound self.now }
+    {
+        let _mask = self.mask;
+    }
+
     /// Whether a posted signal is dropped as ignored.
     fn drops(&self, sig: Sig, kept: bool) -> bool
         ensures { result ≡ is_dropped self.now sig kept }
@@ -181,7 +199,9 @@ impl Signals {
     }
 
     /// Puts a signal that is not dropped as ignored to those that pend.
+    #[tactic(auto, using(crate::proofs::Soundness::sound))]
     fn enqueue(&mut self, info: Info) -> Result<Post, NoMemory>
+        requires can_pend { CanPend info }
         ensures row { IfOk result (λ post. posted self.new post ≡ enqueued self.old info) }
         ensures no_memory { OnErr result (self.new ≡ self.old) }
     {
@@ -199,6 +219,7 @@ impl Signals {
 
     /// Posts a signal, and removes nothing.
     fn put(&mut self, info: Info, kept: bool) -> Result<Post, NoMemory>
+        requires can_pend { CanPend info }
         ensures row { IfOk result (λ post. posted self.new post ≡ rows.posted_after self.old info kept) }
         ensures no_memory { OnErr result (self.new ≡ self.old) }
     {
@@ -226,6 +247,7 @@ impl Signals {
     }
 
     /// Removes what pends of a signal.
+    #[tactic(auto, using(crate::proofs::Soundness::sound))]
     fn discard(&mut self, sig: Sig)
         ensures { self.new ≡ with_pending self.old sig [] }
     {

@@ -1,5 +1,7 @@
 //! Each call with ample memory, by lists of calls with what they answer: what pends and is taken, what is
 //! dropped and removed, how many are queued, actions, the mask and the stack.
+ghost use Rattle.kernel_model.specs.Pending.{CanPend};
+
 use super::Signals;
 use bitflags::Flags;
 use kernel_core::{Info, RealTime, SaBits, SaFlags, Sig};
@@ -26,7 +28,9 @@ enum Step {
     Stack((u64, u64, u32), (u64, u64, u32)),
 }
 
-fn info(sig: Sig, value: u32) -> Info {
+fn info(sig: Sig, value: u32) -> Info
+    ensures { CanPend result }
+{
     Info {
         sig,
         code: -1,

@@ -1,5 +1,5 @@
 //! The timer as the kernel keeps it.
-ghost use Rattle.std.specs.Prelude.{◌≡◌, ◌≤◌, is_some};
+ghost use Rattle.std.specs.Prelude.{◌≡◌, ◌≤◌, None, is_some};
 ghost use Rattle.kernel_model.specs.Always.{IsTimer};
 ghost use Rattle.kernel_model.specs.Clock.{gone_off, left_until, next_due, next_time, unarmed};
 ghost use Rattle.native_timer.specs.Timers.{after_firing, armed_at};
@@ -86,6 +86,7 @@ impl Timers {
     pub fn fire(&mut self, now: u64) -> bool
         ensures due { result ≡ is_some (gone_off now self.old) }
         ensures fired { self.new ≡ after_firing now self.old }
+        ensures once { gone_off now self.new ≡ None }
         ensures whole { IsTimer self.new }
     {
         match self.next() {

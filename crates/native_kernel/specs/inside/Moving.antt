@@ -1,5 +1,5 @@
 -- A call that may move bytes of a stream. (The forms are this project's own.)
-use Rattle.std.specs.Prelude.{◌≡◌, ℕ, ◌+◌, ◌-◌, ◌==◌, ⊤, ◌⊎◌, List, [], ◌++◌, length, take, drop, Option, Some, None, Result, Ok, Err, if◌then◌else◌}
+use Rattle.std.specs.Prelude.{◌≡◌, ℕ, ◌+◌, ◌-◌, ◌==◌, ◌⊎◌, List, [], ◌++◌, length, take, drop, Option, Some, None, Result, Ok, Err, if◌then◌else◌}
 use Rattle.host_mem.specs.Memory.{first_address}
 use Rattle.kernel_core.specs.declared.core_error.CoreError.{CoreError}
 use Rattle.kernel_core.specs.declared.core_error.CoreError.TheVariants as errors
@@ -45,10 +45,10 @@ abbrev pub IsReading : (List ℕ → NativeStep) → Result Reply Stop → Kerne
 IsReading step result kernel memory before after =
     (left : List ℕ) → before ≡ Some left → Takes (step left) result kernel memory before after
 
--- when it stops early: `before` and `after` are the input's counts of faults
+-- when it stops early: `before` and `after` are the input's counts of faults, which are the same where it is carried out or memory ran out
 abbrev pub ReadingStops : Result Reply Stop → ℕ → ℕ → Type 0
-ReadingStops (Ok reply) before after = ⊤
-ReadingStops (Err stops.NoMemory) before after = ⊤
+ReadingStops (Ok reply) before after = after ≡ before
+ReadingStops (Err stops.NoMemory) before after = after ≡ before
 ReadingStops (Err stops.ReadFault) before after = Rose before after
 ReadingStops (Err stops.WriteFault) before after = ⊥
 
@@ -97,10 +97,10 @@ abbrev pub IsWriting : (List ℕ → NativeStep) → Result Reply Stop → Kerne
 IsWriting step result kernel memory out_before out_after err_before err_after =
     (left : List ℕ) → Sends (step left) result kernel memory left out_before out_after err_before err_after
 
--- when it stops early: by the outputs' counts of faults
+-- when it stops early: by the outputs' counts of faults, which are the same where it is carried out or memory ran out
 abbrev pub WritingStops : Result Reply Stop → ℕ → ℕ → ℕ → ℕ → Type 0
-WritingStops (Ok reply) out_before out_after err_before err_after = ⊤
-WritingStops (Err stops.NoMemory) out_before out_after err_before err_after = ⊤
+WritingStops (Ok reply) out_before out_after err_before err_after = (out_after ≡ out_before) × (err_after ≡ err_before)
+WritingStops (Err stops.NoMemory) out_before out_after err_before err_after = (out_after ≡ out_before) × (err_after ≡ err_before)
 WritingStops (Err stops.ReadFault) out_before out_after err_before err_after = ⊥
 WritingStops (Err stops.WriteFault) out_before out_after err_before err_after = Rose out_before out_after ⊎ Rose err_before err_after
 

@@ -11,6 +11,12 @@ returns-in-Ok-clause-answer c =
     (at_most _ (λ more. absurd (let full = c.in-Ok.ensures.full.1 more in cc)))
     ∙ ap (λ (m : Memory). Some m.pages) (sym c.in-Ok.ensures.ok)
 
+pub returns-in-Err-NoMemory-clause-no_memory : goal.returns-in-Err-NoMemory-clause-no_memory
+returns-in-Err-NoMemory-clause-no_memory c = λ none.
+    let fits = map_fits c.args.space.now.pages c.args.first c.args.count c.args.protection
+    (at_most _ (λ more. absurd (let full = c.in-Err-NoMemory.ensures.full.1 more in cc))) in
+    cc
+
 pub returns-in-Err-Full-clause-answer : goal.returns-in-Err-Full-clause-answer
 returns-in-Err-Full-clause-answer c = (
   map_passes c.args.space.now.pages c.args.first c.args.count c.args.protection (c.in-Err-Full.ensures.full.0 (cc)),

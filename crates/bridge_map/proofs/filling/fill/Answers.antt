@@ -1,6 +1,7 @@
 -- Piece after piece.
-use Rattle.std.proofs.Common.{◌≡◌, ◌≤◌, ◌<◌, ◌+◌, ◌*◌, ℕ, min, length, rules, ap, ◌∙◌, arith}
+use Rattle.std.proofs.Common.{◌≡◌, ◌≤◌, ◌<◌, ◌+◌, ◌*◌, ℕ, min, length, refl, rules, ap, ◌∙◌, arith}
 use Rattle.kernel_model.specs.Transfers.{file_bytes}
+use Rattle.outside.proofs.StreamLemmas.{NoCountRose-refl, NoCountRose-trans}
 use Rattle.bridge_map.proofs.FileBytes.{length-file_bytes}
 use Rattle.bridge_map.proofs.Pieces.{at_place, filled_as, filled_end, fills_stop, further, so_far_none, still_shows, still_storable, still_told}
 use Rattle.bridge_map.proofs.Quietly.{silent_after}
@@ -9,6 +10,8 @@ use Rattle.bridge_map.proofs.filling.fill.Goals as goal
 pub loop-piece-init : goal.loop-piece-init
 loop-piece-init g c = record {
   counts = search rules;
+  no_fault = NoCountRose-refl _ _ _ _;
+  clock = refl;
   so_far = λ left told content shows free. so_far_none content c.args.k.now left _ c.args.space.now c.args.log.now c.args.address c.args.offset _ (omega arith);
 }
 
@@ -41,6 +44,8 @@ returns-then-got-want-clause-filled g c = λ left told content shows free.
 pub loop-piece-preserved : goal.loop-piece-preserved
 loop-piece-preserved g c = record {
   counts = search (rules, c.in_ok-got.ensures.counts, c.loop-piece.invariant.counts);
+  no_fault = NoCountRose-trans c.loop-piece.invariant.no_fault c.in_ok-got.ensures.cause;
+  clock = c.in_ok-got.ensures.clock ∙ c.loop-piece.invariant.clock;
   so_far = λ left told content shows free.
       let place : ℕ = c.loop-piece.piece * 65536 in
       let want : ℕ = c.min-want.result in

@@ -1,7 +1,7 @@
 -- The pieces so far.
 use Rattle.std.proofs.Common.{◌≡◌, ◌*◌, ℕ, List, Some, min}
 use Rattle.kernel_core.specs.FileContent.{FileContent}
-use Rattle.outside.specs.Streams.{NoCountFell, contents}
+use Rattle.outside.specs.Streams.{NoCountFell, NoCountRose, contents}
 use Rattle.bridge_map.proofs.Pieces.{SoFar}
 use Rattle.bridge_map.specs.Shown.{AreStorable, Shows}
 use Rattle.bridge_map.proofs.filling.fill.Given as goal
@@ -9,6 +9,8 @@ use Rattle.bridge_map.proofs.filling.fill.Given as goal
 abbrev pub invariant-loop-piece : goal.invariant-loop-piece
 invariant-loop-piece g l = record {
   counts : NoCountFell g.I.Source.faults g.O.Sink.faults g.E.Sink.faults l.fn.dev l.dev;
+  no_fault : NoCountRose g.I.Source.faults g.O.Sink.faults g.E.Sink.faults l.fn.dev l.dev;
+  clock : l.k.clock ≡ l.fn.k.clock;
   so_far :
       (left : List ℕ) → g.I.Source.left l.fn.dev.input ≡ Some left
       → (content : FileContent) → Shows l.fn.k.files l.fn.fd content → AreStorable l.fn.space.pages l.fn.address l.fn.count

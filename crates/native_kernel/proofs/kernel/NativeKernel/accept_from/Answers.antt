@@ -21,6 +21,7 @@ returns-in-Some c =
     record {
       came = ap (λ d. d.came) (sym row);
       state = ap (λ (k : Kernel). with_signals k new) c.self.view_is ∙ ap (λ d. d.state) (sym row);
+      clock = ap (λ (k : Kernel). k.clock) c.self.view_is;
     }
 
 pub returns-in-None : goal.returns-in-None
@@ -36,4 +37,5 @@ returns-in-None c =
     record {
       came = c.wait.ensures ∙ ap (λ (k : Kernel). (waits_until k until (refused {V = Info} k EAGAIN)).came) back ∙ ap (λ d. d.came) (sym row.0);
       state = back ∙ sym (wait_leaves kernel until) ∙ ap (λ d. d.state) (sym row.0);
+      clock = ap (λ (k : Kernel). k.clock) c.self.view_is;
     }

@@ -10,4 +10,4 @@ returns-in-Err-clause-row g c = λ left told.
 pub returns-in-Ok-clause-row : goal.returns-in-Ok-clause-row
 returns-in-Ok-clause-row g c =
     call_is (built_call c.args.nr c.args.args c.args.self.now c.args.mem.now) c.in-Ok.reply c.quiet_call.new.self c.quiet_call.new.mem
-    (contents g.I.Source.left g.O.Sink.written g.E.Sink.written c.args.dev.now) c.in-Ok.ensures
+    (contents g.I.Source.left g.O.Sink.written g.E.Sink.written c.args.dev.now) c.in-Ok.ensures.row

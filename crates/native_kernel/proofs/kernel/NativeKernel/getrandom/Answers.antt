@@ -6,8 +6,8 @@ use Rattle.kernel_model.specs.System.{are_random_flags}
 use Rattle.native_kernel.proofs.SystemLemmas.{random_is}
 use Rattle.native_kernel.proofs.kernel.NativeKernel.getrandom.Goals as goal
 
-pub returns : goal.returns
-returns c =
+pub returns-clause-row : goal.returns-clause-row
+returns-clause-row c =
     let known = sym (ap are_random_flags c.from.ensures) ∙ sym c.are_random_flags.ensures ∙ c.if-not-are_random_flags.false in
     let answer : to_z w64 c.min-most.result ≡ pos c.min-most.result = omega (arith, ints) in
     random_is c.args.self.now _ c.put_chance.new.chance c.args.mem.now c.put_chance.new.mem c.args.buffer c.args.count

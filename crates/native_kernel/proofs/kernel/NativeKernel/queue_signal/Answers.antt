@@ -11,8 +11,8 @@ use Rattle.native_kernel.specs.inside.Quiet.{Gives}
 use Rattle.native_kernel.specs.inside.Signals.{named}
 use Rattle.native_kernel.proofs.kernel.NativeKernel.queue_signal.Goals as goal
 
-pub returns-in-Err : goal.returns-in-Err
-returns-in-Err c =
+pub returns-in-Err-clause-row : goal.returns-in-Err-clause-row
+returns-in-Err-clause-row c =
     let kernel = c.args.self.now in
     let pid = to_z-of_z {w = w32} {z = c.args.pid} c.ranges.pid in
     let own : is_id c.args.pid own_id ≡ true = ap (λ z. is_id z own_id) (sym pid) ∙ sym c.if-not-is_own_id.ensures in
@@ -20,12 +20,12 @@ returns-in-Err c =
     subst (λ (did : Did Kernel (Unit {0})). Gives (told_zero did) c.failure-in-Err.result kernel) (sym row)
     (record { answered = c.failure-in-Err.ensures; became = refl })
 
-pub returns-in-Ok : goal.returns-in-Ok
-returns-in-Ok c =
+pub returns-in-Ok-clause-row : goal.returns-in-Ok-clause-row
+returns-in-Ok-clause-row c =
     let kernel = c.args.self.now in
     let pid = to_z-of_z {w = w32} {z = c.args.pid} c.ranges.pid in
     let own : is_id c.args.pid own_id ≡ true = ap (λ z. is_id z own_id) (sym pid) ∙ sym c.if-not-is_own_id.ensures in
     let row = queue_goes_on kernel c.args.pid (named_by c.args.number) (sent_at c.args.mem.now c.args.info) c.in-Ok.signal own c.in-Ok.ensures in
     let read = ap (λ (given : Given SentInfo). with_given kernel given (λ sent. send_named kernel (named c.in-Ok.signal) (queued_info sent))) (sym c.sent_at.ensures) in
     subst (λ (did : Did Kernel (Unit {0})). IfOk c.send_queued.result (λ reply. Gives (told_zero did) reply c.send_queued.new.self)) (sym (row ∙ read))
-    c.send_queued.ensures
+    c.send_queued.ensures.row

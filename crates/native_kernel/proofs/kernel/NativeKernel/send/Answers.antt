@@ -13,7 +13,7 @@ returns-in-Ok-clause-row g c = λ memory left.
     c.write-came.result c.settled.result _ _ _ _ c.write-came.ensures.row
     (ap (λ (k : Kernel). k.files) c.self.view_is) (same ∙ c.real_time-now.ensures.time)
     (ap (λ (k : Kernel). with_files k c.write-came.new.self) c.self.view_is)
-    c.in-Ok.ensures c.settled.ensures
+    c.in-Ok.ensures.row c.settled.ensures
 
 pub returns-in-Err-clause-row : goal.returns-in-Err-clause-row
 returns-in-Err-clause-row g c = λ memory left.
