@@ -90,8 +90,8 @@ pub record IsRun (quantum : ℕ) (machine : Machine) (left : List ℕ) (budget :
 abbrev pub final_tree : Machine → Tree
 final_tree machine = saved machine.kernel.files.nodes
 
--- The run is not over after these turns, and the attempt at the next stopped. What was written lies between what it has sent then and what it has one turn later, and of the input
--- there is left what is left then or what is left one turn later.
+-- The run is not over after these turns, and the attempt at the next stopped. What was written lies between what it has sent then and what it
+-- has sent one turn later, and of the input there is left what is left then or what is left one turn later.
 pub record IsPartOfRun (quantum : ℕ) (machine : Machine) (left : List ℕ) (old new : Seen) (turns : ℕ) : Type 0 where
   pub alive : (reached quantum machine left turns).over ≡ None
   pub first : (j : ℕ) → j < turns → IsRunningAt quantum machine left j
