@@ -100,9 +100,7 @@ fn is_right(alloc: Global, kernel: &mut NativeKernel, streams: &mut Streams, ste
     match step {
         Step::Nothing => true,
         Step::Makes(call) => is_answered(alloc, kernel, streams, call),
-        Step::Clock(time) => {
-            kernel.clock() <= *time && kernel.advance(*time, false).is_ok()
-        }
+        Step::Clock(time) => { kernel.clock() <= *time && kernel.advance(*time, false).is_ok() }
         Step::Posts {
             signal,
             is_awaited,
