@@ -1,4 +1,5 @@
 //! Small images: what each rule refuses and where, and what is read and written.
+ghost use Rattle.kernel_core.specs.ValidTree.{IsValidTree};
 
 use fs_image::{ImageError, ImageRefusal, ImageRule, decode, encode};
 use kernel_core::{Kind, Node, Tree};
@@ -379,13 +380,17 @@ fn comes_in_and_out(rt: &impl Abort, alloc: Global, bytes: &[u8]) -> Result<(), 
 }
 
 /// The text of a tree.
-fn text_of(alloc: Global, tree: &Tree) -> Result<Vec<u8>, &'static str> {
+fn text_of(alloc: Global, tree: &Tree) -> Result<Vec<u8>, &'static str>
+    requires { IsValidTree tree.now }
+{
     let mut text = Vec::new(alloc);
     encode(tree, &mut text).map_err(|_| "memory")?;
     Ok(text)
 }
 
-fn comes_out(rt: &impl Abort, alloc: Global, tree: &Tree, bytes: &[u8]) -> Result<(), Fail> {
+fn comes_out(rt: &impl Abort, alloc: Global, tree: &Tree, bytes: &[u8]) -> Result<(), Fail>
+    requires { IsValidTree tree.now }
+{
     let text = text_of(alloc, tree)?;
     assert!(rt; text.as_slice() == bytes);
     comes_in_again(rt, alloc, text.as_slice())
