@@ -61,11 +61,12 @@ pub record HasNoPlace (pages : Pages) (first old new : ℕ) (may_move : Bool) : 
   pub nowhere : (may_move ≡ false) ⊎ IsGreatestPlace pages new None
 
 -- The answer of a change of size: Full where the limit would be passed, NoPlace where there is no place, which changes nothing,
--- else the range's first page. After want of memory nothing is promised.
+-- else the range's first page. Want of memory comes only where it would be given, and of the pages nothing is promised then.
 abbrev pub IsRemapAnswer : Result ℕ MapError → Pages → Pages → ℕ → ℕ → ℕ → Bool → Type 0
 IsRemapAnswer (Ok at) before after first old new may_move =
     (PassesLimit before old new → ⊥) × IsRemapped before after first old new may_move at
 IsRemapAnswer (Err Full) before after first old new may_move = PassesLimit before old new × (after ≡ before)
 IsRemapAnswer (Err NoPlace) before after first old new may_move =
     (PassesLimit before old new → ⊥) × HasNoPlace before first old new may_move × (after ≡ before)
-IsRemapAnswer (Err NoMemory) before after first old new may_move = Unit {0}
+IsRemapAnswer (Err NoMemory) before after first old new may_move =
+    (PassesLimit before old new → ⊥) × (HasNoPlace before first old new may_move → ⊥)

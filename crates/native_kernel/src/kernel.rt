@@ -5,6 +5,8 @@ ghost use Rattle.kernel_model.specs.Descriptions.{output_of};
 ghost use Rattle.kernel_model.specs.Pending.{AreSound};
 ghost use Rattle.kernel_model.specs.Table.{descriptor_limit};
 ghost use Rattle.kernel_model.specs.declared.limit.Limit.{Limit as Bounds};
+ghost use Rattle.kernel_model.specs.declared.signal.Action.{Action};
+ghost use Rattle.native_signal.specs.Fitting.{IsNumberedStack};
 
 use crate::chance::Chance;
 use crate::system::all_fit;
@@ -81,12 +83,15 @@ impl NativeKernel {
         self.files.valid();
     }
 
-    /// What pends can, with no address, and neither the mask nor that of an action has KILL or STOP: it changes
-    /// nothing, and tells its caller this.
+    /// What pends can, with no address, neither the mask nor that of an action has KILL or STOP, and each handler
+    /// and the alternate stack fit 64 bits: it changes nothing, and tells its caller this.
     pub fn signals_fit(&self)
-        ensures { AreSound self.now.signals }
+        ensures sound { AreSound self.now.signals }
+        ensures handlers { All (λ (action : Action). action.handler < 2 ^ 64) self.now.signals.actions }
+        ensures stack { IsNumberedStack self.now.signals.stack }
     {
         self.signals.sound();
+        self.signals.numbers_fit();
     }
 
     /// Each limit fits 64 bits: it changes nothing, and tells its caller this.

@@ -1,10 +1,12 @@
 //! Signals as callers see them.
-ghost use Rattle.std.specs.Prelude.{◌≡◌, [], false, drop, replicate, slice_get, IfNone, IfOk, OnErr};
+ghost use Rattle.std.specs.Prelude.{◌≡◌, ◌<◌, ◌^◌, [], All, false, drop, replicate, slice_get, IfNone, IfOk, OnErr};
 ghost use Rattle.kernel_model.specs.Begin.{first_signals};
 ghost use Rattle.kernel_model.specs.Pending.{AreSound, CanPend};
 ghost use Rattle.kernel_model.specs.SignalRows as rows;
 ghost use Rattle.kernel_model.specs.SignalRows.{action_at, after_action, after_removal, enqueued, is_dropped, is_unblockable, kept_stack, no_action, pending_at, pending_set, posted, with_pending};
 ghost use Rattle.kernel_model.specs.SignalSets.{blockable};
+ghost use Rattle.kernel_model.specs.declared.signal.Action.{Action as Kept};
+ghost use Rattle.native_signal.specs.Fitting.{IsNumberedStack};
 
 use crate::pending::Pending;
 use crate::places::{DEFAULT_HANDLER, SIGNALS, STANDARD_SIGNALS, ignores, place_of};
@@ -60,6 +62,23 @@ fn no_action() -> Action
         mask: [0; 4],
     }
 }
+
+/// Each of the handlers fits 64 bits.
+fn all_fit(actions: &[Action])
+    ensures { All (λ (action : Kept). action.handler < 2 ^ 64) actions.now }
+{
+    for action in actions {
+        handler_fits(*action);
+    }
+}
+
+fn handler_fits(action: Action)
+    ensures { action.handler < 2 ^ 64 }
+{}
+
+fn stack_fits(stack: SigStack)
+    ensures { IsNumberedStack stack }
+{}
 
 /// As many default actions.
 fn default_actions(alloc: Global, count: usize) -> Result<Vec<Action>, NoMemory>
@@ -188,6 +207,16 @@ impl Signals {
         ensures { AreSound self.now }
     {
         let _mask = self.mask;
+    }
+
+    /// Each handler fits 64 bits, and so do the numbers of the alternate stack: it changes nothing, and tells
+    /// its caller this.
+    pub fn numbers_fit(&self)
+        ensures handlers { All (λ (action : Kept). action.handler < 2 ^ 64) self.now.actions }
+        ensures stack { IsNumberedStack self.now.stack }
+    {
+        all_fit(&self.actions);
+        stack_fits(self.stack);
     }
 
     /// Whether a posted signal is dropped as ignored.

@@ -8,7 +8,7 @@ use Rattle.bridge_open.specs.Numbers.{is_open_call}
 use Rattle.bridge_status.specs.Numbers.{is_status_call}
 use Rattle.bridge_wait.specs.Numbers as wait
 use Rattle.kernel_model.specs.State.{Kernel}
-use Rattle.o32_model.specs.Built.{built_call, built_of, built_file_call_or, built_seeing_of, built_time_call_or, file_numbers, is_file_call_built, is_time_call_built}
+use Rattle.o32_turns.specs.Built.{built_call, built_of, built_file_call_or, built_seeing_of, built_time_call_or, file_numbers, is_file_call_built, is_time_call_built}
 use Rattle.o32_model.specs.Descriptors.{descriptor_calls}
 use Rattle.o32_model.specs.Mappings.{map_calls}
 use Rattle.o32_model.specs.Seeing.{SeeingCall}

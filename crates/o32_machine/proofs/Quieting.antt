@@ -23,12 +23,12 @@ use Rattle.o32_machine.specs.Quiet.{IsQuiet, IsTurnAfter}
 use Rattle.o32_machine.specs.declared.turn.Turn as code
 use Rattle.o32_machine.specs.inside.Finishing.{goes}
 use Rattle.o32_machine.specs.inside.Stepping.{Goes, GoesThen, Steps}
-use Rattle.o32_model.specs.Built.{built}
-use Rattle.o32_model.specs.Instruction.{after_step, at_time, stepped}
-use Rattle.o32_model.specs.Machine.{Machine, Turn}
-use Rattle.o32_model.specs.Posting.{expiry_events}
-use Rattle.o32_model.specs.Runs.{IsRunningAt, Reached, after_attempt, is_blocked, reached, unless_over}
-use Rattle.o32_model.specs.Turn.{after_events, turn_of}
+use Rattle.o32_turns.specs.Built.{built}
+use Rattle.o32_turns.specs.Instruction.{after_step, at_time, stepped}
+use Rattle.o32_turns.specs.Machine.{Machine, Turn}
+use Rattle.o32_turns.specs.Posting.{expiry_events}
+use Rattle.o32_turns.specs.Runs.{IsRunningAt, Reached, after_attempt, is_blocked, reached, unless_over}
+use Rattle.o32_turns.specs.Turn.{after_events, turn_of}
 use Rattle.o32_model.specs.declared.wait.Wait.{Wait}
 use Rattle.outside.specs.Streams.{Contents}
 

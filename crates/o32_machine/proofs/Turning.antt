@@ -14,11 +14,11 @@ use Rattle.o32_machine.specs.declared.turn.Turn as code
 use Rattle.o32_machine.specs.inside.Finishing.{finished, goes}
 use Rattle.o32_machine.specs.inside.Plain.{found}
 use Rattle.o32_model.specs.Answered as o32
-use Rattle.o32_model.specs.Built.{built, built_call}
-use Rattle.o32_model.specs.Instruction.{after_call, after_outcome, at_time, behind, called, seen_of}
-use Rattle.o32_model.specs.Machine.{Machine, Turn}
+use Rattle.o32_turns.specs.Built.{built, built_call}
+use Rattle.o32_turns.specs.Instruction.{after_call, after_outcome, at_time, behind, called, seen_of}
+use Rattle.o32_turns.specs.Machine.{Machine, Turn}
 use Rattle.o32_model.specs.Step.{O32Step}
-use Rattle.o32_model.specs.Turn.{after_events}
+use Rattle.o32_turns.specs.Turn.{after_events}
 use Rattle.o32_model.specs.Words.{call_words}
 use Rattle.o32_model.specs.declared.call_words.CallWords.{CallWords}
 use Rattle.o32_model.specs.declared.outcome.Outcome.{Outcome}

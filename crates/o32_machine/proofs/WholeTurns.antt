@@ -22,12 +22,12 @@ use Rattle.o32_machine.specs.Emulator.{ProcessState, machine_at, machine_of}
 use Rattle.o32_machine.specs.declared.turn.Turn as code
 use Rattle.o32_machine.specs.declared.turn.Turn.TheVariants.{Ended}
 use Rattle.o32_machine.specs.inside.Stepping.{Goes, GoesThen, Steps, jumped_within}
-use Rattle.o32_model.specs.Built.{built, built_end, fault_kills, is_sleep}
-use Rattle.o32_model.specs.Closing.{closed, unwaited}
-use Rattle.o32_model.specs.Instruction.{after_step, at_time, stepped}
-use Rattle.o32_model.specs.Machine.{Machine, Turn, Within, with_change}
-use Rattle.o32_model.specs.Posting.{expiry_events}
-use Rattle.o32_model.specs.Turn.{after_events, ended_by, ended_if_over, first_step, fifth_or_sixth, fifth_step, is_over_at, jumped, next_for, second_step, sixth_step, third_step, turn_of, unless_killed}
+use Rattle.o32_turns.specs.Built.{built, built_end, fault_kills, is_sleep}
+use Rattle.o32_turns.specs.Closing.{closed, unwaited}
+use Rattle.o32_turns.specs.Instruction.{after_step, at_time, stepped}
+use Rattle.o32_turns.specs.Machine.{Machine, Turn, Within, with_change}
+use Rattle.o32_turns.specs.Posting.{expiry_events}
+use Rattle.o32_turns.specs.Turn.{after_events, ended_by, ended_if_over, first_step, fifth_or_sixth, fifth_step, is_over_at, jumped, next_for, second_step, sixth_step, third_step, turn_of, unless_killed}
 use Rattle.o32_model.specs.WaitEnds.{WaitEnd, wait_ended}
 use Rattle.o32_model.specs.declared.wait.Cause.TheVariants.{Due}
 use Rattle.o32_model.specs.declared.wait.Close.{Close}

@@ -6,7 +6,7 @@ use Rattle.kernel_core.specs.declared.finish.Finish.{Finish}
 use Rattle.kernel_core.specs.declared.finish.Finish.TheVariants.{Exited, Killed, Budget, Blocked}
 use Rattle.o32_machine.specs.declared.turn.Turn as code
 use Rattle.o32_machine.specs.declared.turn.Turn.TheVariants.{Went, Ended}
-use Rattle.o32_model.specs.Machine.{Machine, Turn}
+use Rattle.o32_turns.specs.Machine.{Machine, Turn}
 use Rattle.outside.specs.Output.{GainsText, GainsBetween}
 use Rattle.outside.specs.Streams.{Contents}
 

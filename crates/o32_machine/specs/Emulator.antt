@@ -4,7 +4,7 @@ use Rattle.guest_space.specs.Memory.{Memory}
 use Rattle.kernel_core.specs.declared.info.Info.{Info}
 use Rattle.kernel_model.specs.State.{Kernel}
 use Rattle.mips_exec.specs.Processor.{Processor}
-use Rattle.o32_model.specs.Machine.{Machine}
+use Rattle.o32_turns.specs.Machine.{Machine}
 use Rattle.o32_model.specs.declared.wait.Wait.{Wait}
 
 -- The machine; how many nanoseconds of its clock a turn with an instruction takes; how many turns there were; and whether there is no further

@@ -4,9 +4,9 @@ use Rattle.kernel_core.specs.declared.core_error.Stop.{Stop}
 use Rattle.kernel_model.specs.Pipes.{nothing}
 use Rattle.o32_machine.specs.Answered.{IsTurn, turns_done}
 use Rattle.o32_machine.specs.declared.turn.Turn as code
-use Rattle.o32_model.specs.Machine.{Machine}
-use Rattle.o32_model.specs.Runs.{IsRunningAt, reached}
-use Rattle.o32_model.specs.Turn.{turn_of}
+use Rattle.o32_turns.specs.Machine.{Machine}
+use Rattle.o32_turns.specs.Runs.{IsRunningAt, reached}
+use Rattle.o32_turns.specs.Turn.{turn_of}
 use Rattle.outside.specs.Streams.{Contents}
 
 -- k turns lead to this machine, whatever is left of the input: they take nothing of it and send nothing, and the process runs before each of them

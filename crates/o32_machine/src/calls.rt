@@ -4,7 +4,7 @@ ghost use Rattle.bridge_log.specs.Keeping.{KeepsCall};
 ghost use Rattle.kernel_model.specs.Stops.{StopsOnlyIfRose};
 ghost use Rattle.o32_machine.specs.inside.Plain.{found};
 ghost use Rattle.o32_model.specs.Answered.{IsCall};
-ghost use Rattle.o32_model.specs.Built.{built_call};
+ghost use Rattle.o32_turns.specs.Built.{built_call};
 ghost use Rattle.outside.specs.Streams.{NoCountFell, contents};
 
 use crate::files::call_on_files;

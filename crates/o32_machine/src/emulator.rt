@@ -10,9 +10,9 @@ ghost use Rattle.o32_machine.specs.Answered.{IsTurn, is_last, over_of, turns_don
 ghost use Rattle.o32_machine.specs.Emulator.{first_emulated, first_machine, runs};
 ghost use Rattle.o32_machine.specs.Quiet.{IsTurnAfter};
 ghost use Rattle.o32_machine.specs.inside.Stepping.{jumped_within};
-ghost use Rattle.o32_model.specs.Built.{built};
-ghost use Rattle.o32_model.specs.Instruction.{at_time, called};
-ghost use Rattle.o32_model.specs.Turn.{turn_of};
+ghost use Rattle.o32_turns.specs.Built.{built};
+ghost use Rattle.o32_turns.specs.Instruction.{at_time, called};
+ghost use Rattle.o32_turns.specs.Turn.{turn_of};
 ghost use Rattle.outside.specs.Streams.{NoCountFell, contents};
 ghost use Rattle.schedule.specs.Ranges.{IsGivenSchedule};
 

@@ -6,7 +6,7 @@ ghost use Rattle.bridge_entries.specs.Numbers as entries;
 ghost use Rattle.bridge_open.specs.Numbers as opening;
 ghost use Rattle.bridge_status.specs.Numbers as status;
 ghost use Rattle.bridge_wait.specs.Numbers as wait;
-ghost use Rattle.o32_model.specs.Built.{is_file_call_built};
+ghost use Rattle.o32_turns.specs.Built.{is_file_call_built};
 ghost use Rattle.o32_model.specs.Table as table;
 
 use bridge_file::is_call_there;

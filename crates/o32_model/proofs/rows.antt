@@ -1,4 +1,3 @@
-pub mod Built
 pub mod Clocks
 pub mod Descriptors
 pub mod Effects
@@ -18,6 +17,5 @@ pub mod SmallTree
 pub mod Status
 pub mod Terminal
 pub mod Transfers
-pub mod Turns
 pub mod WaitEnds
 pub mod Words

@@ -1,18 +1,12 @@
 pub mod Actions
 pub mod Answered
-pub mod Built
 pub mod Clocks
-pub mod Closing
-pub mod Delivering
 pub mod Descriptors
 pub mod Effects
 pub mod Entries
 pub mod GuestBytes
-pub mod Handling
-pub mod Instruction
 pub mod Laws
 pub mod Logs
-pub mod Machine
 pub mod Mappings
 pub mod Masks
 pub mod Names
@@ -22,11 +16,9 @@ pub mod Opening
 pub mod PathArguments
 pub mod Paths
 pub mod Polling
-pub mod Posting
 pub mod Ranges
 pub mod Results
 pub mod Returns
-pub mod Runs
 pub mod Seeing
 pub mod Selecting
 pub mod Sending
@@ -41,6 +33,5 @@ pub mod Terminal
 pub mod TimeLeft
 pub mod Times
 pub mod Transfers
-pub mod Turn
 pub mod WaitEnds
 pub mod Words

@@ -7,7 +7,7 @@ use Rattle.native_kernel.specs.Settings.{settings_of}
 use Rattle.schedule.specs.declared.Schedule.{Schedule}
 use Rattle.mips_exec.specs.Processor.{Processor}
 use Rattle.o32_machine.specs.Emulator as emulators
-use Rattle.o32_model.specs.Machine.{Machine}
+use Rattle.o32_turns.specs.Machine.{Machine}
 use Rattle.start_stack.specs.Stack.{start_size, start_limit}
 use Rattle.start_stack.specs.Start.{start_memory, start_processor}
 use Rattle.outside.specs.Files.{Files}

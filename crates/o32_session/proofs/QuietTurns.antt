@@ -11,9 +11,9 @@ use Rattle.o32_machine.specs.Answered.{turns_of}
 use Rattle.o32_machine.specs.Quiet.{IsQuiet, IsTurnAfter}
 use Rattle.o32_machine.specs.declared.turn.Turn as code
 use Rattle.o32_machine.specs.declared.turn.Turn.TheVariants.{Went, Ended}
-use Rattle.o32_model.specs.Machine.{Machine, Turn}
-use Rattle.o32_model.specs.Runs.{IsRunningAt, Reached, after_turn, is_blocked, more_sent, reached, unless_blocked, unless_over}
-use Rattle.o32_model.specs.Turn.{turn_of}
+use Rattle.o32_turns.specs.Machine.{Machine, Turn}
+use Rattle.o32_turns.specs.Runs.{IsRunningAt, Reached, after_turn, is_blocked, more_sent, reached, unless_blocked, unless_over}
+use Rattle.o32_turns.specs.Turn.{turn_of}
 use Rattle.o32_session.specs.inside.Runs.{IsCut, IsOver, IsSoFar}
 use Rattle.o32_session.proofs.RunLemmas.{is_cut_by, is_over_by, went_on_by}
 

@@ -10,9 +10,9 @@ use Rattle.kernel_model.specs.Pipes.{Sent}
 use Rattle.o32_machine.specs.Answered.{Stopped, Turned, over_of, turns_of}
 use Rattle.o32_machine.specs.declared.turn.Turn as code
 use Rattle.o32_machine.specs.declared.turn.Turn.TheVariants.{Went, Ended}
-use Rattle.o32_model.specs.Machine.{Machine, Turn}
-use Rattle.o32_model.specs.Runs.{IsOverAt, IsRunningAt, Reached, after_attempt, after_turn, is_block, is_blocked, last_machine, reached, unless_blocked, unless_over}
-use Rattle.o32_model.specs.Turn.{turn_of}
+use Rattle.o32_turns.specs.Machine.{Machine, Turn}
+use Rattle.o32_turns.specs.Runs.{IsOverAt, IsRunningAt, Reached, after_attempt, after_turn, is_block, is_blocked, last_machine, reached, unless_blocked, unless_over}
+use Rattle.o32_turns.specs.Turn.{turn_of}
 use Rattle.o32_session.proofs.TurnEnds.{turn_ends}
 use Rattle.o32_session.specs.inside.Runs.{IsCut, IsOver, IsSoFar}
 

@@ -4,7 +4,7 @@ use Rattle.outside.specs.Files.{Files, ChangesFile}
 use Rattle.kernel_core.specs.declared.tree.Tree.{Tree}
 use Rattle.fs_image.specs.Text.{text_of}
 use Rattle.o32_machine.specs.Emulator.{Emulated}
-use Rattle.o32_model.specs.Machine.{Machine}
+use Rattle.o32_turns.specs.Machine.{Machine}
 use Rattle.o32_session.specs.Asked.{Asked, Refuse, Run, Names, names_of}
 use Rattle.o32_session.specs.Saved.{SavesPart, SavesTree, SavesTreeInPart, StandsOrBegins, Stored}
 use Rattle.o32_session.specs.SavedFile.{HasTreeText, IsFileAfter, SavesReading, SavesTo, StandsOrHasPart}

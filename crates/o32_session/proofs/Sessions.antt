@@ -20,7 +20,7 @@ use Rattle.elf_image.specs.declared.load_plan.Plan.{Plan}
 use Rattle.schedule.specs.declared.Schedule.{Schedule}
 use Rattle.start_stack.specs.Stack.{start_size, start_limit}
 use Rattle.o32_machine.specs.Emulator.{Emulated}
-use Rattle.o32_model.specs.Machine.{Machine}
+use Rattle.o32_turns.specs.Machine.{Machine}
 use Rattle.o32_session.specs.Answers.{IsRefusal}
 use Rattle.o32_session.specs.Asked.{Asked, Refuse, Run, Names, names_of, Found, Bytes, found_at, IsOpened, IsOpenedBy, AsksOf, AsksOfPlan, AsksUnless, AsksFor, IsScheduled, arguments_of, asked_of_schedule, asked_of_tree, first_machine, empty_tree, image_limit, schedule_of_found}
 use Rattle.o32_session.specs.Saved.{SavesTree, SavesTreeInPart, Stored}

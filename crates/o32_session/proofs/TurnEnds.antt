@@ -8,11 +8,11 @@ use Rattle.kernel_model.specs.Shared.{Info}
 use Rattle.mips_exec.specs.Step.{step_of}
 use Rattle.mips_exec.specs.declared.execution.Stepped.{Stepped}
 use Rattle.mips_exec.specs.declared.execution.Stepped.TheVariants.{Next, Syscall, Fault}
-use Rattle.o32_model.specs.Built.{built, fault_kills}
-use Rattle.o32_model.specs.Instruction.{after_outcome, after_step, behind, executed, guest_of, seen_of, stepped}
-use Rattle.o32_model.specs.Machine.{Machine, Rules, Turn, Within, begin, turn, with_change}
-use Rattle.o32_model.specs.Posting.{event_info, events_posted, sent_to}
-use Rattle.o32_model.specs.Turn.{continued, ended_if_over, fifth_or_sixth, fifth_step, first_step, fourth_step, jumped, next_for, second_step, sixth_step, third_step, turn_of}
+use Rattle.o32_turns.specs.Built.{built, fault_kills}
+use Rattle.o32_turns.specs.Instruction.{after_outcome, after_step, behind, executed, guest_of, seen_of, stepped}
+use Rattle.o32_turns.specs.Machine.{Machine, Rules, Turn, Within, begin, turn, with_change}
+use Rattle.o32_turns.specs.Posting.{event_info, events_posted, sent_to}
+use Rattle.o32_turns.specs.Turn.{continued, ended_if_over, fifth_or_sixth, fifth_step, first_step, fourth_step, jumped, next_for, second_step, sixth_step, third_step, turn_of}
 use Rattle.o32_model.specs.declared.call_words.CallWords.{CallWords}
 use Rattle.o32_model.specs.declared.outcome.Outcome.{Outcome}
 use Rattle.o32_model.specs.declared.outcome.Outcome.TheVariants as outcomes

@@ -22,7 +22,7 @@ use Rattle.schedule.specs.Grammar.{meaning_of, first_event_line}
 use Rattle.schedule.specs.declared.Schedule.{Schedule}
 use Rattle.schedule.specs.declared.refusal.ScheduleRefusal.{ScheduleRefusal}
 use Rattle.o32_machine.specs.Emulator as emulators
-use Rattle.o32_model.specs.Machine.{Machine}
+use Rattle.o32_turns.specs.Machine.{Machine}
 use Rattle.o32_session.specs.declared.answer.Refusal.{Refusal}
 use Rattle.o32_session.specs.declared.answer.Refusal.TheVariants.{Missing, TooLong, Elf, Image, Start}
 use Rattle.o32_session.specs.declared.answer.Refusal.TheVariants as refusals

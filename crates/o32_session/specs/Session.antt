@@ -15,8 +15,8 @@ use Rattle.schedule.specs.declared.Schedule.{Schedule}
 use Rattle.o32_session.specs.Words.{Line, Reading, Asks, WrongAt, read_words}
 use Rattle.o32_session.specs.Asked.{Asked, Refuse, Run, Names, names_of, Bytes, found_at, program_limit, image_limit, AsksFor, IsOpened, arguments_of, first_machine, schedule_limit, schedule_of_text, empty_schedule}
 use Rattle.o32_session.specs.Saved.{Stored, after_loads, loaded_by, loaded_names, turned_by, SavesTree, SavesTreeInPart}
-use Rattle.o32_model.specs.Runs.{IsOverAt, IsRunningAt, last_machine, reached}
-use Rattle.o32_model.specs.Machine.{Machine}
+use Rattle.o32_turns.specs.Runs.{IsOverAt, IsRunningAt, last_machine, reached}
+use Rattle.o32_turns.specs.Machine.{Machine}
 use Rattle.o32_session.specs.Lines.{line_of}
 use Rattle.o32_session.specs.declared.answer.Refusal.{Refusal}
 use Rattle.o32_session.specs.declared.answer.Refusal.TheVariants.{Usage}

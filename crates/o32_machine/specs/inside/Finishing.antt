@@ -1,8 +1,8 @@
 -- How an outcome is put into the registers, and which faults and waits there are. (The form is this project's own.)
 use Rattle.std.specs.Prelude.{Bool, ◌&&◌, None, is_none}
 use Rattle.o32_machine.specs.Emulator.{ProcessState, machine_of}
-use Rattle.o32_model.specs.Instruction.{after_outcome, restart_after}
-use Rattle.o32_model.specs.Machine.{Machine, Within}
+use Rattle.o32_turns.specs.Instruction.{after_outcome, restart_after}
+use Rattle.o32_turns.specs.Machine.{Machine, Within}
 use Rattle.o32_model.specs.declared.call_words.CallWords.{CallWords}
 use Rattle.o32_model.specs.declared.outcome.Outcome.{Outcome}
 

@@ -6,8 +6,8 @@ use Rattle.mips_exec.specs.Processor.{Processor}
 use Rattle.mips_exec.specs.Step.{step_of}
 use Rattle.mips_exec.specs.declared.Stepped.{Stepped}
 use Rattle.mips_exec.specs.declared.Stepped.TheVariants.{Next}
-use Rattle.o32_model.specs.Machine.{Machine, Within, begin}
-use Rattle.o32_model.specs.Turn.{jumped, next_for}
+use Rattle.o32_turns.specs.Machine.{Machine, Within, begin}
+use Rattle.o32_turns.specs.Turn.{jumped, next_for}
 
 -- an instruction leads from one processor and memory to others, and came to this
 abbrev pub Steps : Processor → Memory → Stepped → Processor → Memory → Type 0

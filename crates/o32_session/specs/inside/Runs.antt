@@ -7,8 +7,8 @@ use Rattle.kernel_core.specs.declared.core_error.Stop.{Stop}
 use Rattle.kernel_core.specs.declared.finish.Finish.{Finish}
 use Rattle.kernel_core.specs.declared.tree.Tree.{Tree}
 use Rattle.o32_machine.specs.Emulator.{Emulated}
-use Rattle.o32_model.specs.Runs.{IsOverAt, IsRunningAt, last_machine, reached}
-use Rattle.o32_model.specs.Machine.{Machine}
+use Rattle.o32_turns.specs.Runs.{IsOverAt, IsRunningAt, last_machine, reached}
+use Rattle.o32_turns.specs.Machine.{Machine}
 use Rattle.o32_session.specs.Saved.{Stored, SavesTree, SavesTreeInPart}
 use Rattle.o32_session.specs.Session.{final_tree}
 use Rattle.o32_session.specs.inside.Ends.{end_of}

@@ -1,8 +1,13 @@
-use Rattle.std.proofs.Common.{◌≤◌, ◌+◌, ◌-◌, ℕ, sym, ap, subst, refl, ◌∙◌, arith, inl, inr}
+use Rattle.std.proofs.Common.{◌≡◌, ◌≤◌, ◌+◌, ◌-◌, ℕ, sym, ap, subst, refl, ◌∙◌, arith, inl, inr}
 use Rattle.std.specs.Option.{unwrap_or}
 use Rattle.std.specs.FinMap.{get}
 use Rattle.guest_space.specs.Mapping.{with_zeros}
-use Rattle.guest_space.specs.Remapping.{Cut, Grown, Moved, MayGrow, PassesLimit}
+use Rattle.std.specs.Prelude.{Bool, true, false, Some, Result, Ok, Err, IsErrAnd}
+use Rattle.guest_space.specs.declared.access.MapError.{MapError}
+use Rattle.guest_space.specs.declared.access.MapError.TheVariants.{NoMemory}
+use Rattle.guest_space.specs.Memory.{Pages}
+use Rattle.guest_space.specs.Places.{IsGreatestPlace}
+use Rattle.guest_space.specs.Remapping.{Cut, Grown, Moved, HasNoPlace, IsRemapAnswer, MayGrow, PassesLimit}
 use Rattle.guest_space.proofs.Ranges.{protection-looked, protection-bits, apart-runs}
 use Rattle.guest_space.proofs.resize.resize.Goals as goal
 
@@ -60,3 +65,40 @@ returns-in_ok-map_zeros-in-Some-clause-answer c =
       Moved c.if-new-old.false (λ (g : MayGrow c.args.pages.now c.args.first c.args.old c.args.new). let grows = c.may_grow.ensures.1 (omega (arith, g.inside, c.if-new-old.false), g.free) in absurd (cc)) c.if-not-may_move.false c.in-Some.ensures c.move_pages.new.pages c.in_ok-move_pages-in-Some.ensures.ok
           (c.in_ok-map_zeros-in-Some.ensures.ok ∙ ap (with_zeros c.move_pages.new.pages (c.in-Some.to + c.args.old) (c.args.new - c.args.old)) looked),
     )
+
+-- where there is a place for it, it has one
+has_a_place : (pages : Pages) (first old new : ℕ) (may_move : Bool) (at : ℕ) → may_move ≡ true → IsGreatestPlace pages new (Some at)
+    → HasNoPlace pages first old new may_move → ⊥
+has_a_place pages first old new may_move at moves place none =
+    elim none.nowhere [
+      | inl still ↦ let both = sym moves ∙ still in absurd (cc)
+      | inr nowhere ↦ nowhere at place.0
+    ]
+
+-- want of memory where the answer would be another
+wants : (result : Result ℕ MapError) (before after : Pages) (first old new : ℕ) (may_move : Bool)
+    → IsErrAnd result (λ e. e ≡ NoMemory)
+    → (PassesLimit before old new → ⊥) → (HasNoPlace before first old new may_move → ⊥)
+    → IsRemapAnswer result before after first old new may_move
+wants (Ok at) before after first old new may_move same few some = absurd same
+wants (Err e) before after first old new may_move same few some =
+    subst (λ e. IsRemapAnswer (Err e) before after first old new may_move) (sym same) (few, some)
+
+pub returns-in_err-map_zeros-clause-answer : goal.returns-in_err-map_zeros-clause-answer
+returns-in_err-map_zeros-clause-answer c =
+    let may = c.may_grow.ensures.0 c.if-may_grow.true in
+    wants c.from_residual.result c.args.pages.now c.map_zeros.new.pages c.args.first c.args.old c.args.new c.args.may_move c.from_residual.ensures.1
+    (λ (p : PassesLimit c.args.pages.now c.args.old c.args.new). let passes = c.passes_limit.ensures.1 p.1 in absurd (cc))
+    (λ (p : HasNoPlace c.args.pages.now c.args.first c.args.old c.args.new c.args.may_move). p.stuck (record { inside = omega (arith, may.0, c.if-new-old.false); free = may.1 }))
+
+pub returns-in_err-move_pages-in-Some-clause-answer : goal.returns-in_err-move_pages-in-Some-clause-answer
+returns-in_err-move_pages-in-Some-clause-answer c =
+    wants c.from_residual-in_err-move_pages-in-Some.result c.args.pages.now c.move_pages.new.pages c.args.first c.args.old c.args.new c.args.may_move c.from_residual-in_err-move_pages-in-Some.ensures.1
+    (λ (p : PassesLimit c.args.pages.now c.args.old c.args.new). let passes = c.passes_limit.ensures.1 p.1 in absurd (cc))
+    (has_a_place c.args.pages.now c.args.first c.args.old c.args.new c.args.may_move c.in-Some.to c.if-not-may_move.false c.in-Some.ensures)
+
+pub returns-in_err-map_zeros-in-Some-clause-answer : goal.returns-in_err-map_zeros-in-Some-clause-answer
+returns-in_err-map_zeros-in-Some-clause-answer c =
+    wants c.from_residual-in_err-map_zeros-in-Some.result c.args.pages.now c.map_zeros-in-Some.new.pages c.args.first c.args.old c.args.new c.args.may_move c.from_residual-in_err-map_zeros-in-Some.ensures.1
+    (λ (p : PassesLimit c.args.pages.now c.args.old c.args.new). let passes = c.passes_limit.ensures.1 p.1 in absurd (cc))
+    (has_a_place c.args.pages.now c.args.first c.args.old c.args.new c.args.may_move c.in-Some.to c.if-not-may_move.false c.in-Some.ensures)

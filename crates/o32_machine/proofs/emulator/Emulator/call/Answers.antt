@@ -2,8 +2,8 @@
 use Rattle.outside.specs.Streams.{contents}
 use Rattle.o32_machine.proofs.Turning.{call_stopped_here, call_went, fails_before}
 use Rattle.o32_machine.specs.Emulator.{machine_at, machine_of}
-use Rattle.o32_model.specs.Built.{built}
-use Rattle.o32_model.specs.Instruction.{at_time, called}
+use Rattle.o32_turns.specs.Built.{built}
+use Rattle.o32_turns.specs.Instruction.{at_time, called}
 use Rattle.o32_machine.proofs.emulator.Emulator.call.Goals as goal
 
 pub returns-in_err-advance-clause-turn : goal.returns-in_err-advance-clause-turn

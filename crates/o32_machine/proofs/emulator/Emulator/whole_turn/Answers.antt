@@ -7,8 +7,8 @@ use Rattle.o32_machine.specs.Answered.{Answers, Turned}
 use Rattle.o32_machine.specs.Emulator.{Emulated, machine_at, machine_of}
 use Rattle.o32_machine.specs.declared.turn.Turn.TheVariants.{Ended}
 use Rattle.kernel_core.specs.declared.finish.Finish.TheVariants.{Killed}
-use Rattle.o32_model.specs.Machine.{Machine}
-use Rattle.o32_model.specs.Turn.{turn_of}
+use Rattle.o32_turns.specs.Machine.{Machine}
+use Rattle.o32_turns.specs.Turn.{turn_of}
 use Rattle.o32_machine.proofs.emulator.Emulator.whole_turn.Goals as goal
 
 pub returns-in-Some-clause-turn : goal.returns-in-Some-clause-turn

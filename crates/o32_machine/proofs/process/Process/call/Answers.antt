@@ -2,7 +2,7 @@
 use Rattle.std.proofs.Common.{◌≡◌, ◌∙◌, ℕ, ◌-◌, ap, refl, sym}
 use Rattle.o32_machine.proofs.Turning.{call_goes, call_stops}
 use Rattle.o32_machine.specs.Emulator.{ProcessState, machine_of}
-use Rattle.o32_model.specs.Instruction.{seen_of}
+use Rattle.o32_turns.specs.Instruction.{seen_of}
 use Rattle.o32_model.specs.declared.wait.Seen.{Seen}
 use Rattle.o32_machine.proofs.process.Process.call.Goals as goal
 

@@ -6,7 +6,7 @@ use Rattle.kernel_model.specs.Pipes.{nothing}
 use Rattle.kernel_model.specs.State.{Kernel}
 use Rattle.mips_exec.specs.Processor.{Processor}
 use Rattle.o32_model.proofs.rows.Small.{words, guest}
-use Rattle.o32_model.specs.Built.{built_of, built_call, built_seeing_of, file_numbers, time_numbers}
+use Rattle.o32_turns.specs.Built.{built_of, built_call, built_seeing_of, file_numbers, time_numbers}
 use Rattle.o32_model.specs.Descriptors.{descriptor_calls}
 use Rattle.o32_model.specs.Mappings.{map_calls}
 use Rattle.o32_model.specs.Small.{small_calls}

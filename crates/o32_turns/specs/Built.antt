@@ -7,8 +7,8 @@ use Rattle.guest_space.specs.Memory.{Memory}
 use Rattle.kernel_core.specs.declared.signal.Sig.{Sig}
 use Rattle.kernel_model.specs.Shared.{Info}
 use Rattle.kernel_model.specs.State.{Kernel}
-use Rattle.o32_model.specs.Handling.{killed}
-use Rattle.o32_model.specs.Machine.{Machine, Rules, Within, with_machine}
+use Rattle.o32_turns.specs.Handling.{killed}
+use Rattle.o32_turns.specs.Machine.{Machine, Rules, Within, with_machine}
 use Rattle.o32_model.specs.Mappings.{map_calls}
 use Rattle.o32_model.specs.Seeing.{SeeingCall, seeing_clock_calls}
 use Rattle.o32_model.specs.Small.{small_calls}

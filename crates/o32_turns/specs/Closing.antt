@@ -7,7 +7,7 @@ use Rattle.guest_space.specs.Memory.{Memory}
 use Rattle.kernel_core.specs.declared.event.Event.TheVariants as events
 use Rattle.kernel_model.specs.State.{Kernel}
 use Rattle.mips_exec.specs.Processor.{Processor, register, with_register}
-use Rattle.o32_model.specs.Machine.{Change, Machine}
+use Rattle.o32_turns.specs.Machine.{Change, Machine}
 use Rattle.o32_model.specs.SignalWaitEnds.{signal_wait_ended, transfer_ended}
 use Rattle.o32_model.specs.WaitEnds.{WaitEnd, ends_with, wait_ended, wait_word}
 use Rattle.o32_model.specs.Words.{a3, returned, v0}

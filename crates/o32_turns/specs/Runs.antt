@@ -1,10 +1,10 @@
 -- A whole run: what stands after k turns, and how the run for a budget is over. (Turns and budgets are this project's own.)
-use Rattle.std.specs.Prelude.{ℕ, zero, suc, ◌≡◌, ◌<◌, ◌≤◌, Bool, true, false, List, ◌++◌, Option, Some, None, if◌then◌else◌}
+use Rattle.std.specs.Prelude.{ℕ, zero, suc, ◌≡◌, ◌<◌, ◌≤◌, Bool, true, false, List, ◌++◌, Option, Some, None}
 use Rattle.kernel_core.specs.declared.finish.Finish.{Finish}
 use Rattle.kernel_core.specs.declared.finish.Finish.TheVariants.{Exited, Killed, Budget, Blocked}
 use Rattle.kernel_model.specs.Pipes.{Sent, nothing}
-use Rattle.o32_model.specs.Machine.{Machine, Turn}
-use Rattle.o32_model.specs.Turn.{turn_of}
+use Rattle.o32_turns.specs.Machine.{Machine, Turn}
+use Rattle.o32_turns.specs.Turn.{turn_of}
 
 -- The machine, what is left of the input, all that was sent since the start, and how the process has ended
 pub record Reached : Type 0 where

@@ -1,7 +1,7 @@
 -- Worked rows on turns and whole runs, of a machine that stands at 65536 and has no timer armed. A turn with an instruction takes 1000
 -- nanoseconds.
 use Rattle.std.proofs.Common.{arith, ap, sym, ◌∙◌}
-use Rattle.std.specs.Prelude.{◌≡◌, ℕ, zero, suc, ◌+◌, ◌^◌, ◌<◌, true, false, List, [], ◌∷◌, replicate, Option, Some, None, Ok, Err, refl}
+use Rattle.std.specs.Prelude.{◌≡◌, ℕ, zero, suc, ◌+◌, ◌^◌, ◌<◌, false, List, [], ◌∷◌, replicate, Option, Some, None, Ok, Err, refl}
 use Rattle.guest_space.specs.Access.{writable_prefix}
 use Rattle.guest_space.specs.Bytes.{read as loaded}
 use Rattle.guest_space.specs.Memory.{Memory}
@@ -26,13 +26,13 @@ use Rattle.mips_exec.specs.Step.{Step, step_of, effect_at}
 use Rattle.mips_exec.specs.declared.execution.Stepped.TheVariants.{Syscall}
 use Rattle.o32_model.proofs.rows.Small.{at_first, with_pipe_of}
 use Rattle.o32_model.specs.Descriptors.{pipe_row}
-use Rattle.o32_model.specs.Runs.{Reached, after_attempt, reached, is_blocked, unless_over, IsRunningAt, IsOverAt}
+use Rattle.o32_turns.specs.Runs.{Reached, after_attempt, reached, is_blocked, unless_over, IsRunningAt, IsOverAt}
 use Rattle.o32_model.specs.Small.{exit_row}
 use Rattle.o32_model.specs.Transfers.{read_row}
-use Rattle.o32_model.specs.Built.{built}
-use Rattle.o32_model.specs.Instruction.{after_step, at_time, called, fault_info, stepped}
-use Rattle.o32_model.specs.Machine.{Machine, Turn}
-use Rattle.o32_model.specs.Turn.{turn_of}
+use Rattle.o32_turns.specs.Built.{built}
+use Rattle.o32_turns.specs.Instruction.{after_step, at_time, called, fault_info, stepped}
+use Rattle.o32_turns.specs.Machine.{Machine, Turn}
+use Rattle.o32_turns.specs.Turn.{turn_of}
 use Rattle.o32_model.specs.WaitEnds.{ends_with, wait_ended}
 use Rattle.o32_model.specs.Words.{call_words, six_words}
 use Rattle.o32_model.specs.declared.wait.Cause.TheVariants.{Due}

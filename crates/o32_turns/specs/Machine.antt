@@ -1,6 +1,6 @@
 -- The machine of an o32 program over the kernel: what stands between two turns, what stands within one, what one leaves, and what turns are made
 -- of. (Turns and the forms are this project's own.)
-use Rattle.std.specs.Prelude.{ℕ, Bool, List, [], ◌∷◌, ◌++◌, Option, Some, None}
+use Rattle.std.specs.Prelude.{ℕ, Bool, List, [], ◌∷◌, ◌++◌, Option, None}
 use Rattle.guest_space.specs.Memory.{Memory}
 use Rattle.kernel_core.specs.declared.event.Event.{Event}
 use Rattle.kernel_core.specs.declared.finish.Finish.{Finish}
@@ -72,10 +72,13 @@ abbrev pub turn : Within → List ℕ → Sent → Turn
 turn within left sent =
     record { machine = within.machine; left = left; sent = sent; over = within.over; events = within.events }
 
--- What turns are made of: what a call does; which signals a call waits for; how a wait ends, where the action of a handler that ends it restarts
--- calls or not; and what is delivered
+-- how a wait ends for a cause, where the action of a handler that ends it restarts calls or not
+abbrev pub Ends : Type 0
+Ends = Bool → Wait → Cause → Kernel → Memory → WaitEnd
+
+-- What turns are made of: what a call does; which signals a call waits for; how a wait ends; and what is delivered
 pub record Rules : Type 0 where
   pub call : Seen → Kernel → Guest → List ℕ → O32Step
   pub awaited : Machine → List Sig
-  pub ended : Bool → Wait → Cause → Kernel → Memory → WaitEnd
+  pub ended : Ends
   pub deliver : Within → Within

@@ -1,6 +1,6 @@
 -- A signal's handler begins (sigaction(2): SA_SIGINFO, SA_ONSTACK, SA_NODEFER, SA_RESETHAND, SA_RESTART; sigaltstack(2); signal(7)). The frames
 -- and their places are this project's own profile, and so is that a frame which can't be written whole is not written, and changes nothing.
-use Rattle.std.specs.Prelude.{ℕ, ◌+◌, ◌-◌, ◌%◌, ◌^◌, ◌==◌, Bool, true, false, ◌&&◌, not, List, [], ◌∷◌, length, slice_set, nat_abs, pos, Option, Some, None, if◌then◌else◌}
+use Rattle.std.specs.Prelude.{ℕ, ◌+◌, ◌-◌, ◌%◌, ◌^◌, ◌==◌, Bool, true, false, ◌&&◌, not, List, length, nat_abs, pos, Option, Some, None, if◌then◌else◌}
 use Rattle.guest_space.specs.Bytes.{copied_out}
 use Rattle.kernel_core.specs.declared.event.Delivery.TheVariants as deliveries
 use Rattle.kernel_core.specs.declared.event.Event.TheVariants as events
@@ -8,8 +8,8 @@ use Rattle.kernel_core.specs.declared.finish.Finish.TheVariants.{Killed}
 use Rattle.kernel_core.specs.declared.signal.Sig.{Sig}
 use Rattle.kernel_core.specs.declared.signal.Sig.TheVariants as sigs
 use Rattle.kernel_model.specs.Shared.{Info}
-use Rattle.kernel_model.specs.SignalRows.{is_on, no_action, shown_stack, si_kernel, ss_disable, with_mask, with_signals}
-use Rattle.kernel_model.specs.SignalSets.{SignalSet, no_signals, only, place, union}
+use Rattle.kernel_model.specs.SignalRows.{after_action, is_on, no_action, shown_stack, si_kernel, ss_disable, with_mask, with_signals}
+use Rattle.kernel_model.specs.SignalSets.{SignalSet, no_signals, only, union}
 use Rattle.kernel_model.specs.State.{Kernel, Signals}
 use Rattle.kernel_model.specs.declared.signal.Action.{Action}
 use Rattle.kernel_model.specs.declared.signal.SigStack.{SigStack}
@@ -17,9 +17,9 @@ use Rattle.layouts.specs.Frames.{AlternateStack, frame_bytes, rt_frame_bytes}
 use Rattle.layouts.specs.O32.{frame, rt_frame_of, siginfo}
 use Rattle.mips_exec.specs.Processor.{Processor, register}
 use Rattle.number_tables.specs.Signals.{o32_signal}
-use Rattle.o32_model.specs.Closing.{wait_over, whole_end}
+use Rattle.o32_turns.specs.Closing.{wait_over}
 use Rattle.o32_model.specs.GuestBytes.{is_storable}
-use Rattle.o32_model.specs.Machine.{Machine, Within, happens, with_change, with_machine}
+use Rattle.o32_turns.specs.Machine.{Ends, Within, happens, with_change, with_machine}
 use Rattle.o32_model.specs.Words.{sp}
 use Rattle.o32_model.specs.declared.wait.Cause.TheVariants.{Handler}
 use Rattle.o32_model.specs.declared.wait.Wait.{Wait}
@@ -54,6 +54,10 @@ frame_top signals processor action =
 abbrev pub stack_kept : SigStack → AlternateStack
 stack_kept stack = record { sp = stack.sp; size = stack.size; flags = stack.flags }
 
+-- where a handler begins, as addresses have 32 bits
+abbrev pub handler_address : Action → ℕ
+handler_address action = action.handler % 2 ^ 32
+
 -- what a handler is entered with, and the bytes of its frame
 pub record Framed : Type 0 where
   pub entry : Entry
@@ -66,11 +70,11 @@ frame_for kernel processor info action mask =
     let stack = shown_stack kernel.signals.stack (Some (register processor sp)) in
     if action.flags.siginfo
     then record {
-      entry = rt_entry (o32_signal info.sig) action.handler (frame_address top (rt_frame_of siginfo).size);
+      entry = rt_entry (o32_signal info.sig) (handler_address action) (frame_address top (rt_frame_of siginfo).size);
       bytes = rt_frame_bytes (information info) (stack_kept stack) (context_of_processor processor) mask;
     }
     else record {
-      entry = plain_entry (o32_signal info.sig) action.handler (frame_address top frame.size);
+      entry = plain_entry (o32_signal info.sig) (handler_address action) (frame_address top frame.size);
       bytes = frame_bytes (context_of_processor processor) mask;
     }
 
@@ -79,9 +83,9 @@ frame_for kernel processor info action mask =
 abbrev pub own_mask : Sig → Action → SignalSet
 own_mask signal action = if action.flags.nodefer then no_signals else only signal
 
+-- as sigaction(2) sets it
 abbrev pub without_action : Sig → Kernel → Kernel
-without_action signal kernel =
-    with_signals kernel (record kernel.signals { actions = slice_set kernel.signals.actions (place signal) no_action })
+without_action signal kernel = with_signals kernel (after_action kernel.signals signal no_action)
 
 abbrev pub handling : Kernel → Sig → Action → Kernel
 handling kernel signal action =
@@ -132,13 +136,13 @@ abbrev pub sooner_saved : Option SignalSet → Option SignalSet → Option Signa
 sooner_saved None before = before
 sooner_saved (Some mask) before = Some mask
 
-abbrev pub wait_left_by : Action → Option Wait → Within → Within
-wait_left_by action None within = within
-wait_left_by action (Some wait) within =
+abbrev pub wait_left_by : Ends → Action → Option Wait → Within → Within
+wait_left_by ended action None within = within
+wait_left_by ended action (Some wait) within =
     let machine = within.machine in
     with_change (record within { saved = sooner_saved wait.mask within.saved })
-    (wait_over wait (whole_end action.flags.restart wait Handler machine.kernel machine.memory) machine)
+    (wait_over wait (ended action.flags.restart wait Handler machine.kernel machine.memory) machine)
 
-abbrev pub handled : Within → Info → Action → Within
-handled within info action =
-    begun (happens (wait_left_by action within.machine.wait within) (events.Signal info.sig deliveries.Handler)) info action
+abbrev pub handled : Ends → Within → Info → Action → Within
+handled ended within info action =
+    begun (happens (wait_left_by ended action within.machine.wait within) (events.Signal info.sig deliveries.Handler)) info action

@@ -1,7 +1,7 @@
 -- What is due is posted at the beginning of a turn: the events of the schedule (their form is this project's own), and what the interval timer
 -- posts (setitimer(2)). A signal that a call waits for is kept though it be ignored (sigtimedwait(2)), and a stopped process goes on by SIGCONT
 -- or SIGKILL (signal(7)).
-use Rattle.std.specs.Prelude.{ℕ, ◌==◌, nat_le, Bool, true, false, ◌&&◌, ◌||◌, List, [], ◌∷◌, ◌++◌, Option, Some, None, if◌then◌else◌}
+use Rattle.std.specs.Prelude.{◌==◌, nat_le, Bool, true, false, ◌&&◌, ◌||◌, List, [], ◌∷◌, ◌++◌, Option, Some, None, if◌then◌else◌}
 use Rattle.std.specs.List.{list_any}
 use Rattle.kernel_core.specs.declared.event.Event.{Event}
 use Rattle.kernel_core.specs.declared.event.Event.TheVariants as events
@@ -15,7 +15,7 @@ use Rattle.kernel_model.specs.State.{Timer}
 use Rattle.kernel_model.specs.declared.signal.Post.{Post}
 use Rattle.kernel_model.specs.declared.signal.Post.TheVariants as posts
 use Rattle.number_tables.specs.Signals.{signal_of_o32}
-use Rattle.o32_model.specs.Machine.{Machine, Rules, Within, happens, with_machine}
+use Rattle.o32_turns.specs.Machine.{Machine, Rules, Within, happens, with_machine}
 use Rattle.o32_model.specs.SignalWaitEnds.{named_signals}
 use Rattle.o32_model.specs.declared.wait.Wait.{Wait}
 use Rattle.schedule.specs.declared.events.Due.{Due}

@@ -9,12 +9,12 @@ use Rattle.kernel_core.specs.declared.signal.Sig.{Sig}
 use Rattle.kernel_model.specs.Clock.{if_comes, is_due, next_time}
 use Rattle.kernel_model.specs.Pipes.{nothing}
 use Rattle.kernel_model.specs.SignalRows.{pends}
-use Rattle.o32_model.specs.Built.{built}
-use Rattle.o32_model.specs.Closing.{wait_over, whole_end}
-use Rattle.o32_model.specs.Delivering.{deliver}
-use Rattle.o32_model.specs.Instruction.{executed}
-use Rattle.o32_model.specs.Machine.{Change, Machine, Rules, Turn, Within, begin, no_change, turn, with_change, with_machine}
-use Rattle.o32_model.specs.Posting.{awaited, posted}
+use Rattle.o32_turns.specs.Built.{built}
+use Rattle.o32_turns.specs.Closing.{wait_over, whole_end}
+use Rattle.o32_turns.specs.Delivering.{deliver}
+use Rattle.o32_turns.specs.Instruction.{executed}
+use Rattle.o32_turns.specs.Machine.{Change, Machine, Rules, Turn, Within, begin, no_change, turn, with_change, with_machine}
+use Rattle.o32_turns.specs.Posting.{awaited, posted}
 use Rattle.o32_model.specs.Table.{machine_call}
 use Rattle.o32_model.specs.declared.wait.Cause.{Cause}
 use Rattle.o32_model.specs.declared.wait.Cause.TheVariants.{Due, Accepted, Stopped}
@@ -131,7 +131,7 @@ turn_of quantum machine left = turn_by built quantum machine left
 -- One turn with all calls and the delivery of signals. What is built so far is `built` in its place.
 
 abbrev pub whole : Rules
-whole = record { call = machine_call; awaited = awaited; ended = whole_end; deliver = deliver }
+whole = record { call = machine_call; awaited = awaited; ended = whole_end; deliver = deliver whole_end }
 
 unfoldable pub whole_turn_of : ℕ → Machine → List ℕ → Turn
 whole_turn_of quantum machine left = turn_by whole quantum machine left

@@ -1,6 +1,6 @@
 -- One instruction of a turn, with its system call (MIPS32 Architecture for Programmers, Volume II, Release 2, for a step of the processor;
 -- sigreturn(2), restart_syscall(2), exit(2)). That a fault is delivered in a later turn is this project's own.
-use Rattle.std.specs.Prelude.{ℕ, ◌+◌, ◌-◌, ◌==◌, pos, false, List, [], ◌∷◌, Option, Some, None, if◌then◌else◌}
+use Rattle.std.specs.Prelude.{ℕ, ◌+◌, ◌-◌, ◌==◌, pos, false, List, Option, Some, None, if◌then◌else◌}
 use Rattle.std.specs.Int.{w32, cast_signed}
 use Rattle.guest_space.specs.Memory.{Memory}
 use Rattle.kernel_core.specs.declared.event.Event.TheVariants as events
@@ -8,14 +8,13 @@ use Rattle.kernel_core.specs.declared.finish.Finish.TheVariants.{Exited}
 use Rattle.kernel_core.specs.declared.signal.Sig.{Sig}
 use Rattle.kernel_model.specs.Pipes.{nothing}
 use Rattle.kernel_model.specs.Shared.{Info}
-use Rattle.kernel_model.specs.State.{Kernel}
 use Rattle.mips_exec.specs.Processor.{Processor, register}
 use Rattle.mips_exec.specs.Step.{step_of}
 use Rattle.mips_exec.specs.declared.execution.Stepped.{Stepped}
 use Rattle.mips_exec.specs.declared.execution.Stepped.TheVariants.{Next, Syscall, Fault}
-use Rattle.o32_model.specs.Closing.{restart_number}
-use Rattle.o32_model.specs.Handling.{faults, frame_fault}
-use Rattle.o32_model.specs.Machine.{Machine, Rules, Turn, Within, begin, happens, turn, with_machine}
+use Rattle.o32_turns.specs.Closing.{restart_number}
+use Rattle.o32_turns.specs.Handling.{faults, frame_fault}
+use Rattle.o32_turns.specs.Machine.{Machine, Rules, Turn, Within, begin, happens, turn}
 use Rattle.o32_model.specs.Step.{Guest, O32Step}
 use Rattle.o32_model.specs.Words.{a3, call_words, returned, v0}
 use Rattle.o32_model.specs.declared.call_words.CallWords.{CallWords}

@@ -1,0 +1,9 @@
+pub mod Built
+pub mod Closing
+pub mod Delivering
+pub mod Handling
+pub mod Instruction
+pub mod Machine
+pub mod Posting
+pub mod Runs
+pub mod Turn
