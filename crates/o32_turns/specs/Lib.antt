@@ -1,6 +1,7 @@
 pub mod Built
 pub mod Closing
 pub mod Delivering
+pub mod Going
 pub mod Handling
 pub mod Instruction
 pub mod Machine
