@@ -10,7 +10,7 @@ use Rattle.kernel_core.specs.declared.tree.Tree.{Tree}
 use Rattle.elf_image.specs.declared.load_plan.Plan.{Plan}
 use Rattle.schedule.specs.declared.Schedule.{Schedule}
 use Rattle.schedule.specs.declared.refusal.ScheduleRefusal.{ScheduleRefusal}
-use Rattle.schedule.specs.Grammar.{meaning_of, first_event_line}
+use Rattle.schedule.specs.Grammar.{meaning_of}
 use Rattle.o32_session.specs.Asked.{Asked, Names, names_of, Found, Absent, Long, Bytes, IsOpenedBy, image_file, schedule_file, image_limit, schedule_limit, schedule_of_found, taken_schedule}
 use Rattle.o32_session.specs.Saved.{Stored, after_loads, load_of, loaded_by, loaded_names, named, turned_by}
 use Rattle.o32_session.specs.Words.{Reading, Asks, WrongAt}
@@ -139,14 +139,11 @@ schedule_turned : (names : Names) (name : List ℕ) (answer : LoadError) → nam
 schedule_turned names name answer is = cc
 
 -- a text that is refused is refused as a schedule
-text_refused : (names : Names) (name : List ℕ) (refusal : Refusal) (event : Option ℕ) (meaning : Result Schedule ScheduleRefusal) → Err refusal ≡ taken_schedule event meaning → TurnsSchedule names refusal name
-text_refused names name refusal event (Err broken) is =
+text_refused : (names : Names) (name : List ℕ) (refusal : Refusal) (meaning : Result Schedule ScheduleRefusal) → Err refusal ≡ taken_schedule meaning → TurnsSchedule names refusal name
+text_refused names name refusal (Err broken) is =
     let same : refusal ≡ refusals.Schedule broken = cc in
     subst (λ (r : Refusal). TurnsSchedule names r name) (sym same) (refl, refl)
-text_refused names name refusal None (Ok schedule) is = absurd cc
-text_refused names name refusal (Some line) (Ok schedule) is =
-    let same : refusal ≡ refusals.Schedule (record { line = line; rule = 0 }) = cc in
-    subst (λ (r : Refusal). TurnsSchedule names r name) (sym same) (refl, refl)
+text_refused names name refusal (Ok schedule) is = absurd cc
 
 schedule_refused : (names : Names) (name : List ℕ) (refusal : Refusal) (found : Found) → names.schedule ≡ Some name → Err refusal ≡ schedule_of_found found → TurnsSchedule names refusal name
 schedule_refused names name refusal Absent is scheduled =
@@ -155,7 +152,7 @@ schedule_refused names name refusal Absent is scheduled =
 schedule_refused names name refusal Long is scheduled =
     let same : refusal ≡ refusals.TooLong schedule_file = cc in
     subst (λ (r : Refusal). TurnsSchedule names r name) (sym same) (schedule_turned names name answers.TooLong is, refl)
-schedule_refused names name refusal (Bytes text) is scheduled = text_refused names name refusal (first_event_line text) (meaning_of text) scheduled
+schedule_refused names name refusal (Bytes text) is scheduled = text_refused names name refusal (meaning_of text) scheduled
 
 schedule_loaded : (told : Option Files) (names : Names) (name : Option (List ℕ)) (reason : NotRun) (old new : Stored) → names.schedule ≡ name → IsScheduledAs told name (Err reason) →
     LoadsFile {T = Schedule} which.Schedule name (Err reason) (after_loads old (before_schedule names) []) new → LoadsFiles {T = Ready} names (Err reason) old new

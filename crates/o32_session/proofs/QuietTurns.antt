@@ -3,6 +3,7 @@ use Rattle.std.proofs.Common.{◌≡◌, ℕ, zero, suc, ◌+◌, ◌-◌, ◌<�
 use Rattle.std.proofs.lemmas.Bool.{cases_lt}
 use Rattle.outside.specs.Output.{GainsText}
 use Rattle.outside.specs.Streams.{Contents}
+use Rattle.kernel_core.specs.declared.event.Event.{Event}
 use Rattle.kernel_core.specs.declared.core_error.Stop.{Stop}
 use Rattle.kernel_core.specs.declared.finish.Finish.{Finish}
 use Rattle.kernel_core.specs.declared.finish.Finish.TheVariants.{Budget}
@@ -111,25 +112,25 @@ module _ (quantum : ℕ) (machine : Machine) (left : List ℕ) (j k : ℕ) (befo
 
 -- The turns that one call takes: quiet ones, and one more
 
-module _ (quantum : ℕ) (machine : Machine) (left : List ℕ) (j q limit : ℕ) (before at after : Contents) (now then : Machine) (turns : ℕ) (same : q ≡ quantum) (so : IsSoFar quantum machine left j before at now) where
-  quiet_then : (result : Result code.Turn Stop) (turned : IsTurnAfter q limit now j result then turns at after) → IsSoFar quantum machine left (j + turned.quiet) before at turned.middle
+module _ (quantum : ℕ) (machine : Machine) (left : List ℕ) (j q limit : ℕ) (before at after : Contents) (now then : Machine) (turns : ℕ) (events : List Event) (same : q ≡ quantum) (so : IsSoFar quantum machine left j before at now) where
+  quiet_then : (result : Result code.Turn Stop) (turned : IsTurnAfter q limit now j result then turns events at after) → IsSoFar quantum machine left (j + turned.quiet) before at turned.middle
   quiet_then result turned =
       quiet_on quantum machine left j turned.quiet before at now turned.middle so (subst (λ (n : ℕ). IsQuiet n now turned.quiet turned.middle) same turned.first)
 
-  pub went_after : (turn : code.Turn) → turn ≡ Went → IsTurnAfter q limit now j (Ok turn) then turns at after → IsSoFar quantum machine left turns before after then
+  pub went_after : (turn : code.Turn) → turn ≡ Went → IsTurnAfter q limit now j (Ok turn) then turns events at after → IsSoFar quantum machine left turns before after then
   went_after turn is turned =
       let counts : turns ≡ j + turned.quiet + 1 = turned.counted ∙ ap (λ (t : code.Turn). j + turned.quiet + turns_of t) is in
       subst (λ (n : ℕ). IsSoFar quantum machine left n before after then) (sym counts)
-      (went_on_by quantum machine left (j + turned.quiet) q before at after turned.middle then turn same is (quiet_then (Ok turn) turned) turned.last)
+      (went_on_by quantum machine left (j + turned.quiet) q before at after turned.middle then turn events same is (quiet_then (Ok turn) turned) turned.last)
 
-  pub is_over_after : (budget : ℕ) (turn : code.Turn) (finish : Finish) → turn ≡ Ended finish → j < budget → limit ≡ budget - j → IsTurnAfter q limit now j (Ok turn) then turns at after
+  pub is_over_after : (budget : ℕ) (turn : code.Turn) (finish : Finish) → turn ≡ Ended finish → j < budget → limit ≡ budget - j → IsTurnAfter q limit now j (Ok turn) then turns events at after
       → IsOver quantum machine left budget turns finish before after then
   is_over_after budget turn finish is below room turned =
       let within : j + turned.quiet < budget = omega (arith, turned.within) in
       let counts : turns ≡ j + turned.quiet + turns_of (Ended finish) = turned.counted ∙ ap (λ (t : code.Turn). j + turned.quiet + turns_of t) is in
-      is_over_by quantum machine left (j + turned.quiet) q budget turns before at after turned.middle then turn finish same is within counts (quiet_then (Ok turn) turned) turned.last
+      is_over_by quantum machine left (j + turned.quiet) q budget turns before at after turned.middle then turn events finish same is within counts (quiet_then (Ok turn) turned) turned.last
 
-  pub is_cut_after : (stop : Stop) → IsTurnAfter q limit now j (Err stop) then turns at after → IsCut quantum machine left turns before after
+  pub is_cut_after : (stop : Stop) → IsTurnAfter q limit now j (Err stop) then turns events at after → IsCut quantum machine left turns before after
   is_cut_after stop turned =
       let counts : turns ≡ j + turned.quiet = turned.counted ∙ add-zero (j + turned.quiet) in
       subst (λ (n : ℕ). IsCut quantum machine left n before after) (sym counts)

@@ -4,6 +4,7 @@ use Rattle.std.proofs.lemmas.Bool.{cases_eq}
 use Rattle.outside.specs.Output.{GainsText, GainsBetween}
 use Rattle.outside.specs.Streams.{Contents}
 use Rattle.outside.proofs.OutputLemmas.{GainsBetween-part, GainsText-nothing, GainsText-then}
+use Rattle.kernel_core.specs.declared.event.Event.{Event}
 use Rattle.kernel_core.specs.declared.finish.Finish.{Finish}
 use Rattle.kernel_core.specs.declared.finish.Finish.TheVariants.{Exited, Killed, Budget, Blocked}
 use Rattle.kernel_model.specs.Pipes.{Sent}
@@ -68,7 +69,7 @@ module _ (quantum : ℕ) (machine : Machine) (left : List ℕ) (k : ℕ) (before
 
   -- what is gained with a whole turn
 
-  module _ (turn : code.Turn) (after : Contents) (then : Machine) (turned : Turned tried turn then middle after) (awake : is_blocked tried ≡ false) where
+  module _ (turn : code.Turn) (after : Contents) (then : Machine) (events : List Event) (turned : Turned tried turn then events middle after) (awake : is_blocked tried ≡ false) where
     next_over : (reached quantum machine left (k + 1)).over ≡ over_of turn
     next_over = ap (λ (r : Reached). r.over) (next_is awake) ∙ sym turned.came
 
@@ -87,21 +88,21 @@ module _ (quantum : ℕ) (machine : Machine) (left : List ℕ) (k : ℕ) (before
     ended_next : (budget : ℕ) (finish : Finish) → IsOverAt quantum machine left budget (k + 1) finish → then ≡ last_machine quantum machine left (k + 1) finish → IsOver quantum machine left budget (k + 1) finish before after then
     ended_next budget finish over leaves = record { over = over; leaves = leaves; rest = next_left; to_out = next_out; to_err = next_err }
 
-  pub went_on : (after : Contents) (then : Machine) → Turned tried Went then middle after → IsSoFar quantum machine left (k + 1) before after then
-  went_on after then turned =
+  pub went_on : (after : Contents) (then : Machine) (events : List Event) → Turned tried Went then events middle after → IsSoFar quantum machine left (k + 1) before after then
+  went_on after then events turned =
       let awake : is_blocked tried ≡ false = sym (ap is_block turned.came) in
       record {
-        same = sym (next_machine Went after then turned awake);
-        alive = next_over Went after then turned awake;
+        same = sym (next_machine Went after then events turned awake);
+        alive = next_over Went after then events turned awake;
         first = first_k awake;
-        rest = next_left Went after then turned awake;
-        to_out = next_out Went after then turned awake;
-        to_err = next_err Went after then turned awake;
+        rest = next_left Went after then events turned awake;
+        to_out = next_out Went after then events turned awake;
+        to_err = next_err Went after then events turned awake;
       }
 
   -- an attempt that finds the process blocked takes and sends nothing
-  blocked_over : (budget : ℕ) (after : Contents) (then : Machine) → k < budget → Turned tried (Ended Blocked) then middle after → IsOver quantum machine left budget k Blocked before after then
-  blocked_over budget after then within turned =
+  blocked_over : (budget : ℕ) (after : Contents) (then : Machine) (events : List Event) → k < budget → Turned tried (Ended Blocked) then events middle after → IsOver quantum machine left budget k Blocked before after then
+  blocked_over budget after then events within turned =
       let over : tried.over ≡ Some Blocked = sym turned.came in
       let ends = turn_ends quantum now at_k.left Blocked over in
       let waits : is_blocked tried ≡ true = ap is_block over in
@@ -120,19 +121,19 @@ module _ (quantum : ℕ) (machine : Machine) (left : List ℕ) (k : ℕ) (before
   counted Budget = k + 1
   counted Blocked = k
 
-  pub is_over : (budget : ℕ) (finish : Finish) (after : Contents) (then : Machine) → k < budget → Turned tried (Ended finish) then middle after → IsOver quantum machine left budget (counted finish) finish before after then
-  is_over budget (Exited status) after then within turned =
+  pub is_over : (budget : ℕ) (finish : Finish) (after : Contents) (then : Machine) (events : List Event) → k < budget → Turned tried (Ended finish) then events middle after → IsOver quantum machine left budget (counted finish) finish before after then
+  is_over budget (Exited status) after then events within turned =
       let least : k + 1 ≤ budget = omega arith in
       let awake : is_blocked tried ≡ false = sym (ap is_block turned.came) in
-      ended_next (Ended (Exited status)) after then turned awake budget (Exited status)
-      (least, record { ended = next_over (Ended (Exited status)) after then turned awake; first = first_k awake }) (next_machine (Ended (Exited status)) after then turned awake)
-  is_over budget (Killed signal) after then within turned =
+      ended_next (Ended (Exited status)) after then events turned awake budget (Exited status)
+      (least, record { ended = next_over (Ended (Exited status)) after then events turned awake; first = first_k awake }) (next_machine (Ended (Exited status)) after then events turned awake)
+  is_over budget (Killed signal) after then events within turned =
       let least : k + 1 ≤ budget = omega arith in
       let awake : is_blocked tried ≡ false = sym (ap is_block turned.came) in
-      ended_next (Ended (Killed signal)) after then turned awake budget (Killed signal)
-      (least, record { ended = next_over (Ended (Killed signal)) after then turned awake; first = first_k awake }) (next_machine (Ended (Killed signal)) after then turned awake)
-  is_over budget Budget after then within turned = absurd (turn_ends quantum now at_k.left Budget (sym turned.came))
-  is_over budget Blocked after then within turned = blocked_over budget after then within turned
+      ended_next (Ended (Killed signal)) after then events turned awake budget (Killed signal)
+      (least, record { ended = next_over (Ended (Killed signal)) after then events turned awake; first = first_k awake }) (next_machine (Ended (Killed signal)) after then events turned awake)
+  is_over budget Budget after then events within turned = absurd (turn_ends quantum now at_k.left Budget (sym turned.came))
+  is_over budget Blocked after then events within turned = blocked_over budget after then events within turned
 
   -- the next turn stopped early
 
@@ -177,22 +178,22 @@ module _ (quantum : ℕ) (machine : Machine) (left : List ℕ) (k : ℕ) (before
 
 -- The same of an emulator whose quantum is known
 
-pub went_on_by : (quantum : ℕ) (machine : Machine) (left : List ℕ) (k q : ℕ) (before middle after : Contents) (now then : Machine) (turn : code.Turn) → q ≡ quantum → turn ≡ Went → IsSoFar quantum machine left k before middle now
-    → ((left : List ℕ) → middle.left ≡ Some left → Turned (turn_of q now left) turn then middle after) → IsSoFar quantum machine left (k + 1) before after then
-went_on_by quantum machine left k q before middle after now then turn same is so turned =
+pub went_on_by : (quantum : ℕ) (machine : Machine) (left : List ℕ) (k q : ℕ) (before middle after : Contents) (now then : Machine) (turn : code.Turn) (events : List Event) → q ≡ quantum → turn ≡ Went → IsSoFar quantum machine left k before middle now
+    → ((left : List ℕ) → middle.left ≡ Some left → Turned (turn_of q now left) turn then events middle after) → IsSoFar quantum machine left (k + 1) before after then
+went_on_by quantum machine left k q before middle after now then turn events same is so turned =
     let here = (reached quantum machine left k).left in
-    went_on quantum machine left k before middle now so after then
-    (subst (λ (t : code.Turn). Turned (turn_of quantum now here) t then middle after) is
-    (subst (λ (n : ℕ). Turned (turn_of n now here) turn then middle after) same (turned here so.rest)))
+    went_on quantum machine left k before middle now so after then events
+    (subst (λ (t : code.Turn). Turned (turn_of quantum now here) t then events middle after) is
+    (subst (λ (n : ℕ). Turned (turn_of n now here) turn then events middle after) same (turned here so.rest)))
 
-pub is_over_by : (quantum : ℕ) (machine : Machine) (left : List ℕ) (k q budget turns : ℕ) (before middle after : Contents) (now then : Machine) (turn : code.Turn) (finish : Finish) → q ≡ quantum → turn ≡ Ended finish → k < budget → turns ≡ k + turns_of (Ended finish)
-    → IsSoFar quantum machine left k before middle now → ((left : List ℕ) → middle.left ≡ Some left → Turned (turn_of q now left) turn then middle after) → IsOver quantum machine left budget turns finish before after then
-is_over_by quantum machine left k q budget turns before middle after now then turn finish same is within counts so turned =
+pub is_over_by : (quantum : ℕ) (machine : Machine) (left : List ℕ) (k q budget turns : ℕ) (before middle after : Contents) (now then : Machine) (turn : code.Turn) (events : List Event) (finish : Finish) → q ≡ quantum → turn ≡ Ended finish → k < budget → turns ≡ k + turns_of (Ended finish)
+    → IsSoFar quantum machine left k before middle now → ((left : List ℕ) → middle.left ≡ Some left → Turned (turn_of q now left) turn then events middle after) → IsOver quantum machine left budget turns finish before after then
+is_over_by quantum machine left k q budget turns before middle after now then turn events finish same is within counts so turned =
     let here = (reached quantum machine left k).left in
     subst (λ (n : ℕ). IsOver quantum machine left budget n finish before after then) (counted_is finish ∙ sym counts)
-    (is_over quantum machine left k before middle now so budget finish after then within
-    (subst (λ (t : code.Turn). Turned (turn_of quantum now here) t then middle after) is
-    (subst (λ (n : ℕ). Turned (turn_of n now here) turn then middle after) same (turned here so.rest))))
+    (is_over quantum machine left k before middle now so budget finish after then events within
+    (subst (λ (t : code.Turn). Turned (turn_of quantum now here) t then events middle after) is
+    (subst (λ (n : ℕ). Turned (turn_of n now here) turn then events middle after) same (turned here so.rest))))
   where
     counted_is : (finish : Finish) → counted quantum machine left k before middle now so finish ≡ k + turns_of (Ended finish)
     counted_is (Exited status) = refl

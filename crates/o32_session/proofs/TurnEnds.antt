@@ -1,21 +1,31 @@
 -- How a turn ends the process: by an exit or a signal; or it finds the process blocked, and then sends and takes nothing.
-use Rattle.std.proofs.Common.{◌≡◌, ℕ, Bool, true, false, List, [], ◌∷◌, Option, Some, None, refl, sym, ◌∙◌, subst}
-use Rattle.std.specs.Prelude.{⊤, ◌&&◌, ◌||◌, not, nat_le, is_some, if◌then◌else◌}
+use Rattle.std.proofs.Common.{◌≡◌, ℕ, zero, suc, Bool, true, false, List, [], ◌∷◌, length, Option, Some, None, refl, sym, ◌∙◌, subst}
+use Rattle.std.specs.Prelude.{⊤, ◌==◌, ◌&&◌, ◌||◌, not, nat_le, is_some, if◌then◌else◌}
+use Rattle.kernel_core.specs.declared.event.Delivery.TheVariants as deliveries
+use Rattle.kernel_core.specs.declared.event.Event.TheVariants as events
 use Rattle.kernel_core.specs.declared.finish.Finish.{Finish}
 use Rattle.kernel_core.specs.declared.finish.Finish.TheVariants.{Exited, Killed, Budget, Blocked}
+use Rattle.kernel_core.specs.declared.signal.Sig.{Sig}
 use Rattle.kernel_model.specs.Pipes.{nothing}
 use Rattle.kernel_model.specs.Shared.{Info}
+use Rattle.kernel_model.specs.SignalRows.{action_at, default_handler, ignores, is_stop, pending_at}
+use Rattle.kernel_model.specs.SignalSets.{has}
+use Rattle.kernel_model.specs.declared.signal.Action.{Action}
 use Rattle.mips_exec.specs.Step.{step_of}
 use Rattle.mips_exec.specs.declared.execution.Stepped.{Stepped}
 use Rattle.mips_exec.specs.declared.execution.Stepped.TheVariants.{Next, Syscall, Fault}
-use Rattle.o32_turns.specs.Built.{built, fault_kills}
+use Rattle.o32_model.specs.GuestBytes.{is_storable}
+use Rattle.o32_turns.specs.Built.{built, built_end}
+use Rattle.o32_turns.specs.Delivering.{by_default, deliver, delivered, fault_delivered, has_handler, is_delivered, most_rounds, next_signal, next_taken, round_by, rounds, signal_taken, stops, used_up}
+use Rattle.o32_turns.specs.Handling.{Framed, entered_by, entering, faults, frame_fault, frame_for, handled, is_segv, killed, not_entered, saved_or, wait_left_by}
 use Rattle.o32_turns.specs.Instruction.{after_outcome, after_step, behind, executed, guest_of, seen_of, stepped}
-use Rattle.o32_turns.specs.Machine.{Machine, Rules, Turn, Within, begin, turn, with_change}
+use Rattle.o32_turns.specs.Machine.{Ends as WaitEnds, Machine, Rules, Turn, Within, begin, happens, turn, with_change, with_machine}
 use Rattle.o32_turns.specs.Posting.{event_info, events_posted, sent_to}
 use Rattle.o32_turns.specs.Turn.{continued, ended_if_over, fifth_or_sixth, fifth_step, first_step, fourth_step, jumped, next_for, second_step, sixth_step, third_step, turn_of}
 use Rattle.o32_model.specs.declared.call_words.CallWords.{CallWords}
 use Rattle.o32_model.specs.declared.outcome.Outcome.{Outcome}
 use Rattle.o32_model.specs.declared.outcome.Outcome.TheVariants as outcomes
+use Rattle.o32_model.specs.declared.wait.Wait.{Wait}
 use Rattle.schedule.specs.declared.events.Due.{Due}
 
 abbrev pub EndsSo : List ℕ → Turn → Finish → Type 0
@@ -57,13 +67,75 @@ IsKillOrNone (Some (Exited status)) = ⊥
 IsKillOrNone (Some Budget) = ⊥
 IsKillOrNone (Some Blocked) = ⊥
 
-fault_over : (fault : Option Info) (within : Within) → IsKillOrNone within.over → IsKillOrNone (fault_kills fault within).over
-fault_over None within none = none
-fault_over (Some info) within none = tt
+either_kills : (test : Bool) (one other : Within) → IsKillOrNone one.over → IsKillOrNone other.over → IsKillOrNone (if test then one else other).over
+either_kills true one other first second = first
+either_kills false one other first second = second
+
+-- a handler begins, or its frame can't be written
+
+not_entered_kills : (info : Info) (within : Within) → IsKillOrNone within.over → IsKillOrNone (not_entered info within).over
+not_entered_kills info within none = either_kills (is_segv info.sig) (killed info.sig within) (faults frame_fault within) tt none
+
+left_over : (ended : WaitEnds) (action : Action) (wait : Option Wait) (within : Within) → (wait_left_by ended action wait within).over ≡ within.over
+left_over ended action None within = refl
+left_over ended action (Some wait) within = refl
+
+entered_kills : (within : Within) (info : Info) (action : Action) (framed : Framed) → IsKillOrNone within.over → IsKillOrNone (entered_by within info action framed).over
+entered_kills within info action framed none =
+    either_kills (is_storable within.machine.memory framed.entry.frame (length framed.bytes)) (entering within info action framed) (not_entered info within) none
+    (not_entered_kills info within none)
+
+handled_kills : (ended : WaitEnds) (within : Within) (info : Info) (action : Action) → IsKillOrNone within.over → IsKillOrNone (handled ended within info action).over
+handled_kills ended within info action none =
+    let left = happens (wait_left_by ended action within.machine.wait within) (events.Signal info.sig deliveries.Handler) in
+    entered_kills left info action (frame_for left.machine.kernel left.machine.processor info action (saved_or left.saved left.machine.kernel.signals.mask))
+    (subst IsKillOrNone (sym (left_over ended action within.machine.wait within)) none)
+
+-- a signal or a fault is delivered
+
+default_kills : (signal : Sig) (within : Within) → IsKillOrNone within.over → IsKillOrNone (by_default signal within).over
+default_kills signal within none = either_kills (is_stop signal) (stops signal within) (killed signal within) none tt
+
+delivered_kills : (ended : WaitEnds) (within : Within) (info : Info) (action : Action) → IsKillOrNone within.over → IsKillOrNone (delivered ended within info action).over
+delivered_kills ended within info action none =
+    let rest = if action.handler == default_handler then by_default info.sig within else handled ended within info action in
+    either_kills (ignores info.sig action) (happens within (events.Signal info.sig deliveries.Ignored)) rest none
+    (either_kills (action.handler == default_handler) (by_default info.sig within) (handled ended within info action)
+    (default_kills info.sig within none) (handled_kills ended within info action none))
+
+fault_kills : (ended : WaitEnds) (within : Within) (info : Info) (action : Action) → IsKillOrNone within.over → IsKillOrNone (fault_delivered ended within info action).over
+fault_kills ended within info action none =
+    either_kills (not (has within.machine.kernel.signals.mask info.sig) && has_handler action) (handled ended within info action) (killed info.sig within)
+    (handled_kills ended within info action none) tt
+
+taken_kills : (ended : WaitEnds) (within : Within) (signal : Sig) (infos : List Info) → IsKillOrNone within.over → IsKillOrNone (signal_taken ended within signal infos).over
+taken_kills ended within signal [] none = none
+taken_kills ended within signal (info ∷ rest) none =
+    delivered_kills ended (with_machine within (used_up within.machine signal rest)) info (action_at within.machine.kernel.signals signal) none
+
+next_kills : (ended : WaitEnds) (within : Within) (signal : Option Sig) → IsKillOrNone within.over → IsKillOrNone (next_taken ended within signal).over
+next_kills ended within None none = none
+next_kills ended within (Some signal) none = taken_kills ended within signal (pending_at within.machine.kernel.signals signal) none
+
+round_kills : (ended : WaitEnds) (within : Within) (fault : Option Info) → IsKillOrNone within.over → IsKillOrNone (round_by ended within fault).over
+round_kills ended within None none = next_kills ended within (next_signal within.machine.kernel.signals) none
+round_kills ended within (Some info) none =
+    fault_kills ended (with_machine within (record within.machine { fault = None })) info (action_at within.machine.kernel.signals info.sig) none
+
+rounds_kill : (ended : WaitEnds) (count : ℕ) (within : Within) → IsKillOrNone within.over → IsKillOrNone (rounds ended count within).over
+unfolding rounds
+rounds_kill ended zero within none = none
+rounds_kill ended (suc more) within none =
+    either_kills (is_delivered within) within (rounds ended more (round_by ended within within.machine.fault)) none
+    (rounds_kill ended more (round_by ended within within.machine.fault) (round_kills ended within within.machine.fault none))
+
+delivery_kills : (within : Within) → IsKillOrNone within.over → IsKillOrNone (deliver built_end within).over
+delivery_kills within none =
+    either_kills (is_some within.machine.processor.slot) within (rounds built_end most_rounds within) none (rounds_kill built_end most_rounds within none)
 
 third_over : (stopped : Bool) (within : Within) → IsKillOrNone within.over → IsKillOrNone (if stopped then within else built.deliver within).over
 third_over true within none = none
-third_over false within none = fault_over within.machine.fault within none
+third_over false within none = delivery_kills within none
 
 killed_ends : (left : List ℕ) (turn : Turn) (finish : Finish) → IsKillOrNone (Some finish) → EndsSo left turn finish
 killed_ends left turn (Exited status) kill = tt

@@ -18,8 +18,9 @@ use Rattle.o32_session.specs.Words.{Line, word_at}
 use Rattle.kernel_model.specs.Begin.{first_state}
 use Rattle.kernel_model.specs.System.{round}
 use Rattle.native_kernel.specs.Settings.{settings_of}
-use Rattle.schedule.specs.Grammar.{meaning_of, first_event_line}
+use Rattle.schedule.specs.Grammar.{meaning_of}
 use Rattle.schedule.specs.declared.Schedule.{Schedule}
+use Rattle.schedule.specs.declared.events.Due.{Due}
 use Rattle.schedule.specs.declared.refusal.ScheduleRefusal.{ScheduleRefusal}
 use Rattle.o32_machine.specs.Emulator as emulators
 use Rattle.o32_turns.specs.Machine.{Machine}
@@ -120,18 +121,14 @@ IsOpened files (Some name) opened = (found : Found) × IsFound files image_limit
 abbrev pub empty_schedule : Schedule
 empty_schedule = record { quantum = 1000; epoch_s = 0; epoch_n = 0; tty = None; random = 0 ∷ []; events = []; at = 0 }
 
--- A line of an event is refused as rule 0, once the text breaks no other rule: no signal comes from outside so far.
-abbrev pub without_events : Option ℕ → Schedule → Result Schedule Refusal
-without_events None schedule = Ok schedule
-without_events (Some line) schedule = Err (refusals.Schedule (record { line = line; rule = 0 }))
-
-abbrev pub taken_schedule : Option ℕ → Result Schedule ScheduleRefusal → Result Schedule Refusal
-taken_schedule event (Err broken) = Err (refusals.Schedule broken)
-taken_schedule event (Ok schedule) = without_events event schedule
-
 -- a text's schedule, or why it is refused
+
+abbrev pub taken_schedule : Result Schedule ScheduleRefusal → Result Schedule Refusal
+taken_schedule (Err broken) = Err (refusals.Schedule broken)
+taken_schedule (Ok schedule) = Ok schedule
+
 abbrev pub schedule_of_text : List ℕ → Result Schedule Refusal
-schedule_of_text text = taken_schedule (first_event_line text) (meaning_of text)
+schedule_of_text text = taken_schedule (meaning_of text)
 
 -- what was found of a schedule comes to this
 abbrev pub schedule_of_found : Found → Result Schedule Refusal
@@ -151,11 +148,15 @@ IsScheduled files (Some name) scheduled =
 abbrev pub stack_chance : Schedule → List ℕ
 stack_chance schedule = round schedule.random 0 16
 
+-- the events that come from outside, from the schedule's cursor on
+abbrev pub coming_events : Schedule → List Due
+coming_events schedule = drop schedule.at schedule.events
+
 -- the machine of a plan with these arguments and this environment, beside this tree of files, under this schedule
 abbrev pub first_machine : Plan → List (List ℕ) → List (List ℕ) → Tree → Schedule → Machine
 first_machine plan args env tree schedule =
     emulators.first_machine (start_processor plan args env) (start_memory plan args env (stack_chance schedule))
-    (first_state tree (settings_of schedule))
+    (first_state tree (settings_of schedule)) (coming_events schedule)
 
 -- a refusal, or a run: how many nanoseconds of the clock a turn with an instruction takes, its machine, and its budget
 pub data Asked : Type 0 where

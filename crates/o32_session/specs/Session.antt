@@ -213,7 +213,7 @@ HasImage files None = ⊤
 HasImage files (Some name) =
     (bytes : List ℕ) × (found_at image_limit (files name) ≡ Bytes bytes) × (images.first_failure bytes ≡ None)
 
--- the schedule that is named is there, in its limit, in its form and without events; and where none is named it is that of the empty text
+-- the schedule that is named is there, in its limit and in its form; and where none is named it is that of the empty text
 abbrev pub HasSchedule : Files → Option (List ℕ) → Schedule → Type 0
 HasSchedule files None schedule = schedule ≡ empty_schedule
 HasSchedule files (Some name) schedule =

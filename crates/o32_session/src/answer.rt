@@ -26,8 +26,7 @@ pub enum Refusal {
     Elf(ElfRefusal),
     /// The image breaks this rule of its format, at this byte.
     Image(ImageRefusal),
-    /// The schedule breaks this rule of its format, at this line, counted from 1. Rule 0 stands at the first line of a
-    /// signal from outside, where the text breaks no other: no such signal comes so far.
+    /// The schedule breaks this rule of its format, at this line, counted from 1.
     Schedule(ScheduleRefusal),
     /// The guest's arguments and environment, with the words of its first stack, pass 131,072 bytes.
     Start,

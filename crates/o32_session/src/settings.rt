@@ -8,19 +8,15 @@ ghost use Rattle.o32_session.specs.Saved.{stored_of};
 ghost use Rattle.o32_session.specs.Words.{texts, word_at};
 ghost use Rattle.o32_session.specs.declared.load.SessionFile.TheVariants as which;
 
-use crate::answer::Refusal;
 use crate::load::{SessionFile, load_file};
 use crate::not_run::NotRun;
 use crate::words::word_at;
 use outside::Store;
-use schedule::{Schedule, ScheduleRefusal, first_event_line, parse};
+use schedule::{Schedule, parse};
 use std::alloc::Global;
 
 /// How many bytes of chance the first stack takes. (This project's own.)
 const STACK_CHANCE: usize = 16;
-
-/// The number by which an event is refused, which stands beside those of the rules on a schedule's lines. (This project's own.)
-const NO_EVENTS: u8 = 0;
 
 /// The schedule of the empty text.
 #[tactic(auto, unfolding(schedule::specs::Grammar::meaning_of))]
@@ -35,19 +31,12 @@ fn empty_schedule(alloc: Global) -> Result<Schedule, NotRun>
     }
 }
 
-/// The schedule of a text without events.
+/// The schedule of a text.
 fn schedule_of_text(alloc: Global, text: &[u8]) -> Result<Schedule, NotRun>
     ensures taken { IsTaken text.now result }
     ensures given { IfOk result IsGivenSchedule }
 {
-    let schedule = parse(alloc, text)?;
-    match first_event_line(text) {
-        Some(line) => Err(NotRun::Refused(Refusal::Schedule(ScheduleRefusal {
-            line,
-            rule: NO_EVENTS,
-        }))),
-        None => Ok(schedule),
-    }
+    Ok(parse(alloc, text)?)
 }
 
 /// The schedule of the file of this name.

@@ -32,7 +32,7 @@ loop-emulator-preserved g c =
       on = c.in-Ok-Went.ensures.over ∙ ap is_end c.in-Ok-Went.field-0-is;
       long = c.next_turns.ensures.quantum ∙ i.long;
       so = λ left told.
-          went_after c.args.emulator.now.quantum c.args.emulator.now.machine left c.loop-emulator.emulator.turns c.loop-emulator.emulator.quantum (c.args.budget - c.turns-in-loop-emulator.result) (contents g.I.Source.left g.O.Sink.written g.E.Sink.written c.args.dev.now) (contents g.I.Source.left g.O.Sink.written g.E.Sink.written c.loop-emulator.dev) (contents g.I.Source.left g.O.Sink.written g.E.Sink.written c.next_turns.new.dev) c.loop-emulator.emulator.machine c.next_turns.new.self.machine c.next_turns.new.self.turns i.long (i.so left told) c.in-Ok-Went.field-0 c.in-Ok-Went.field-0-is turned;
+          went_after c.args.emulator.now.quantum c.args.emulator.now.machine left c.loop-emulator.emulator.turns c.loop-emulator.emulator.quantum (c.args.budget - c.turns-in-loop-emulator.result) (contents g.I.Source.left g.O.Sink.written g.E.Sink.written c.args.dev.now) (contents g.I.Source.left g.O.Sink.written g.E.Sink.written c.loop-emulator.dev) (contents g.I.Source.left g.O.Sink.written g.E.Sink.written c.next_turns.new.dev) c.loop-emulator.emulator.machine c.next_turns.new.self.machine c.next_turns.new.self.turns c.next_turns.new.self.events i.long (i.so left told) c.in-Ok-Went.field-0 c.in-Ok-Went.field-0-is turned;
       later = record {
         input_later = omega (arith, i.later.input_later, c.next_turns.ensures.counts.input_later);
         out_later = omega (arith, i.later.out_later, c.next_turns.ensures.counts.out_later);
@@ -54,14 +54,14 @@ returns-in-Ok-Ended-clause-run g c = λ left told.
     let below : c.loop-emulator.emulator.turns < c.args.budget = omega arith in
     let room : c.args.budget - c.turns-in-loop-emulator.result ≡ c.args.budget - c.loop-emulator.emulator.turns = ap (λ (n : ℕ). c.args.budget - n) c.turns-in-loop-emulator.ensures in
     subst (λ (n : ℕ). IsOver c.args.emulator.now.quantum c.args.emulator.now.machine left c.args.budget n c.in-Ok-Ended.finish (contents g.I.Source.left g.O.Sink.written g.E.Sink.written c.args.dev.now) (contents g.I.Source.left g.O.Sink.written g.E.Sink.written c.next_turns.new.dev) c.next_turns.new.self.machine) (sym c.turns-in-Ok-Ended.ensures)
-    (is_over_after c.args.emulator.now.quantum c.args.emulator.now.machine left c.loop-emulator.emulator.turns c.loop-emulator.emulator.quantum (c.args.budget - c.turns-in-loop-emulator.result) (contents g.I.Source.left g.O.Sink.written g.E.Sink.written c.args.dev.now) (contents g.I.Source.left g.O.Sink.written g.E.Sink.written c.loop-emulator.dev) (contents g.I.Source.left g.O.Sink.written g.E.Sink.written c.next_turns.new.dev) c.loop-emulator.emulator.machine c.next_turns.new.self.machine c.next_turns.new.self.turns i.long (i.so left told)
+    (is_over_after c.args.emulator.now.quantum c.args.emulator.now.machine left c.loop-emulator.emulator.turns c.loop-emulator.emulator.quantum (c.args.budget - c.turns-in-loop-emulator.result) (contents g.I.Source.left g.O.Sink.written g.E.Sink.written c.args.dev.now) (contents g.I.Source.left g.O.Sink.written g.E.Sink.written c.loop-emulator.dev) (contents g.I.Source.left g.O.Sink.written g.E.Sink.written c.next_turns.new.dev) c.loop-emulator.emulator.machine c.next_turns.new.self.machine c.next_turns.new.self.turns c.next_turns.new.self.events i.long (i.so left told)
     c.args.budget c.in-Ok-Ended.field-0 c.in-Ok-Ended.finish c.in-Ok-Ended.field-0-is below room c.in-Ok-Ended.ensures.turns)
 
 pub returns-in-Err-clause-run : goal.returns-in-Err-clause-run
 returns-in-Err-clause-run g c = λ left told.
     let i = c.loop-emulator.invariant in
     subst (λ (n : ℕ). IsCut c.args.emulator.now.quantum c.args.emulator.now.machine left n (contents g.I.Source.left g.O.Sink.written g.E.Sink.written c.args.dev.now) (contents g.I.Source.left g.O.Sink.written g.E.Sink.written c.next_turns.new.dev)) (sym c.turns-in-Err.ensures)
-    (is_cut_after c.args.emulator.now.quantum c.args.emulator.now.machine left c.loop-emulator.emulator.turns c.loop-emulator.emulator.quantum (c.args.budget - c.turns-in-loop-emulator.result) (contents g.I.Source.left g.O.Sink.written g.E.Sink.written c.args.dev.now) (contents g.I.Source.left g.O.Sink.written g.E.Sink.written c.loop-emulator.dev) (contents g.I.Source.left g.O.Sink.written g.E.Sink.written c.next_turns.new.dev) c.loop-emulator.emulator.machine c.next_turns.new.self.machine c.next_turns.new.self.turns i.long (i.so left told)
+    (is_cut_after c.args.emulator.now.quantum c.args.emulator.now.machine left c.loop-emulator.emulator.turns c.loop-emulator.emulator.quantum (c.args.budget - c.turns-in-loop-emulator.result) (contents g.I.Source.left g.O.Sink.written g.E.Sink.written c.args.dev.now) (contents g.I.Source.left g.O.Sink.written g.E.Sink.written c.loop-emulator.dev) (contents g.I.Source.left g.O.Sink.written g.E.Sink.written c.next_turns.new.dev) c.loop-emulator.emulator.machine c.next_turns.new.self.machine c.next_turns.new.self.turns c.next_turns.new.self.events i.long (i.so left told)
     c.in-Err.stop c.in-Err.ensures.turns)
 
 pub returns-clause-run : goal.returns-clause-run
