@@ -6,13 +6,12 @@ use Rattle.kernel_model.specs.Pipes.{nothing}
 use Rattle.kernel_model.specs.State.{Kernel}
 use Rattle.mips_exec.specs.Processor.{Processor}
 use Rattle.o32_model.proofs.rows.Small.{words, guest}
-use Rattle.o32_turns.specs.Built.{built_of, built_call, built_seeing_of, file_numbers, time_numbers}
+use Rattle.o32_turns.specs.Built.{built_of, built_call, file_numbers, signal_numbers, time_numbers}
 use Rattle.o32_model.specs.Descriptors.{descriptor_calls}
 use Rattle.o32_model.specs.Mappings.{map_calls}
 use Rattle.o32_model.specs.Small.{small_calls}
 use Rattle.o32_model.specs.Step.{O32Step, O32Call}
-use Rattle.o32_model.specs.Seeing.{SeeingCall, seeing_clock_calls}
-use Rattle.o32_model.specs.Table.{call_of, machine_call, seeing_call_of}
+use Rattle.o32_model.specs.Table.{call_of, machine_call}
 use Rattle.o32_model.specs.Terminal.{terminal_calls}
 use Rattle.o32_model.specs.Transfers.{transfer_calls}
 use Rattle.o32_model.specs.declared.outcome.Outcome.TheVariants.{Error}
@@ -43,7 +42,7 @@ small = refl
 mappings : in_built map_calls ≡ in_table map_calls
 mappings = refl
 
--- and of the calls on files and on time
+-- and of the calls on files, on time and on signals
 
 abbrev numbers_in_table : List ℕ → List (Option O32Call)
 numbers_in_table [] = []
@@ -59,16 +58,8 @@ files = refl
 times : numbers_in_built time_numbers ≡ numbers_in_table time_numbers
 times = refl
 
-abbrev seeing_in_table : List SeeingCall → List (Option SeeingCall)
-seeing_in_table [] = []
-seeing_in_table (call ∷ more) = seeing_call_of call.number ∷ seeing_in_table more
-
-abbrev seeing_in_built : List SeeingCall → List (Option SeeingCall)
-seeing_in_built [] = []
-seeing_in_built (call ∷ more) = built_seeing_of call.number ∷ seeing_in_built more
-
-clocks : seeing_in_built seeing_clock_calls ≡ seeing_in_table seeing_clock_calls
-clocks = refl
+signals : numbers_in_built signal_numbers ≡ numbers_in_table signal_numbers
+signals = refl
 
 module _ (seen : Seen) (kernel : Kernel) (processor : Processor) (memory : Memory) (left : List ℕ) where
   abbrev built : ℕ → O32Step
@@ -107,14 +98,21 @@ module _ (seen : Seen) (kernel : Kernel) (processor : Processor) (memory : Memor
   tells_time = refl
 
   -- alarm, kill and restart_syscall
-  sets_no_timer : built 4027 ≡ not_built
-  sets_no_timer = refl
+  sets_a_timer : built 4027 ≡ in_full 4027
+  sets_a_timer = refl
 
-  kills : built 4037 ≡ not_built
+  kills : built 4037 ≡ in_full 4037
   kills = refl
 
-  goes_on_with_nothing : built 4253 ≡ not_built
-  goes_on_with_nothing = refl
+  goes_on : built 4253 ≡ in_full 4253
+  goes_on = refl
+
+  -- poll and rt_sigtimedwait
+  looks_at_nothing : built 4188 ≡ not_built
+  looks_at_nothing = refl
+
+  accepts_nothing : built 4197 ≡ not_built
+  accepts_nothing = refl
 
   -- a number that no call has
   no_such_call : built 4999 ≡ not_built

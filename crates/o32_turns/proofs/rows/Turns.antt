@@ -1,7 +1,7 @@
--- Worked rows on turns and whole runs, of a machine that stands at 65536 and has no timer armed. A turn with an instruction takes 1000
--- nanoseconds.
+-- Worked rows on turns and whole runs, of a machine that stands at 65536, has no timer armed, and to which no signal is to be delivered at first.
+-- A turn with an instruction takes 1000 nanoseconds.
 use Rattle.std.proofs.Common.{arith, ap, sym, ◌∙◌}
-use Rattle.std.specs.Prelude.{◌≡◌, ℕ, zero, suc, ◌+◌, ◌^◌, ◌<◌, false, List, [], ◌∷◌, replicate, Option, Some, None, Ok, Err, refl}
+use Rattle.std.specs.Prelude.{true, ◌≡◌, ℕ, zero, suc, ◌+◌, ◌^◌, ◌<◌, false, List, [], ◌∷◌, replicate, Option, Some, None, Ok, Err, refl, is_none, not, Bool, ◌&&◌, if◌then◌else◌}
 use Rattle.guest_space.specs.Access.{writable_prefix}
 use Rattle.guest_space.specs.Bytes.{read as loaded}
 use Rattle.guest_space.specs.Memory.{Memory}
@@ -15,7 +15,7 @@ use Rattle.kernel_core.specs.declared.signal.Sig.TheVariants.{Alrm, Segv}
 use Rattle.kernel_model.specs.Clock.{unarmed}
 use Rattle.kernel_model.specs.DescriptorRows.{make_pipe}
 use Rattle.kernel_model.specs.Pipes.{nothing}
-use Rattle.kernel_model.specs.SignalRows.{advance, post, timer_info}
+use Rattle.kernel_model.specs.SignalRows.{advance, post, timer_info, Posted, action_at, no_action}
 use Rattle.kernel_model.specs.State.{Kernel, Signals}
 use Rattle.kernel_model.specs.declared.signal.Post.TheVariants.{Queued}
 use Rattle.kernel_model.specs.Transfers.{read}
@@ -29,21 +29,34 @@ use Rattle.o32_model.specs.Descriptors.{pipe_row}
 use Rattle.o32_turns.specs.Runs.{Reached, after_attempt, reached, is_blocked, unless_over, IsRunningAt, IsOverAt}
 use Rattle.o32_model.specs.Small.{exit_row}
 use Rattle.o32_model.specs.Transfers.{read_row}
-use Rattle.o32_turns.specs.Built.{built}
+use Rattle.o32_turns.specs.Built.{built, built_end}
 use Rattle.o32_turns.specs.Instruction.{after_step, at_time, called, fault_info, stepped}
-use Rattle.o32_turns.specs.Machine.{Machine, Turn}
-use Rattle.o32_turns.specs.Turn.{turn_of}
+use Rattle.o32_turns.specs.Machine.{Machine, Turn, Within, with_machine}
+use Rattle.o32_turns.specs.Turn.{turn_of, unless_killed}
 use Rattle.o32_model.specs.WaitEnds.{ends_with, wait_ended}
 use Rattle.o32_model.specs.Words.{call_words, six_words}
 use Rattle.o32_model.specs.declared.wait.Cause.TheVariants.{Due}
 use Rattle.o32_model.specs.declared.wait.Close.TheVariants as closes
 use Rattle.o32_model.specs.declared.wait.Wait.{Wait}
+use Rattle.kernel_model.specs.SignalSets.{has}
+use Rattle.o32_turns.specs.Delivering.{fault_delivered, fault_taken, next_signal, rounds}
+use Rattle.o32_turns.specs.Handling as handling
+use Rattle.o32_turns.specs.Handling.{handled}
+use Rattle.o32_turns.proofs.Still.{before_delivery, nothing_delivered, still}
 
 -- what the registers hold: $v0, $v1, $a0, $a1, $a2, $a3
 abbrev registers : ℕ → ℕ → ℕ → ℕ → ℕ → ℕ → List ℕ
 registers first second a b c failed = 0 ∷ 0 ∷ first ∷ second ∷ a ∷ b ∷ c ∷ failed ∷ replicate 24 0
 
-module _ (whole : Kernel) (nodes : Nodes) (memory : Memory) (left : List ℕ) where
+neither : {A : Type 0} (test : Bool) (one other : A) → (if test && false then one else other) ≡ other
+neither true one other = refl
+neither false one other = refl
+
+module _ (whole : Kernel) (nodes : Nodes) (memory : Memory) (left : List ℕ) (none : next_signal whole.signals ≡ None) where
+  -- so nothing is delivered
+  abbrev is_still : is_none (next_signal whole.signals) ≡ true
+  is_still = ap is_none none
+
   abbrev at : Kernel → ℕ → List ℕ → Machine
   at kernel pc registers = record {
     processor = record (fresh pc) { registers = registers };
@@ -88,28 +101,31 @@ module _ (whole : Kernel) (nodes : Nodes) (memory : Memory) (left : List ℕ) wh
   module _ (syscall : loaded memory 65536 4 ≡ Ok 12) where
     -- $v0 becomes the error's number, and $a3 says that it is one
     no_such_call : turn_of 1000 (at first 65536 (registers 4999 5 6 7 8 9)) left ≡ goes_on (at (a_turn_later first) 65540 (registers 89 5 6 7 8 1)) (events.Call 4999 (6 ∷ 7 ∷ 8 ∷ 9 ∷ []) 89 1 ∷ [])
-    unfolding turn_of advance step_of effect_at special_rows call_words
-    no_such_call = simp syscall refl
+    unfolding advance step_of effect_at special_rows call_words
+    no_such_call = nothing_delivered 1000 (at first 65536 (registers 4999 5 6 7 8 9)) left is_still ∙ simp syscall refl
 
     -- both ends are told, in $v0 and $v1
     two_results : turn_of 1000 (at first 65536 (registers 4042 5 6 7 8 9)) left ≡ goes_on (at (a_turn_later with_pipe) 65540 (registers 3 4 6 7 8 0)) (events.Call 4042 (6 ∷ 7 ∷ 8 ∷ 9 ∷ []) 3 0 ∷ [])
-    unfolding turn_of advance step_of effect_at special_rows call_words pipe_row make_pipe
-    two_results = simp syscall refl
+    unfolding advance step_of effect_at special_rows call_words pipe_row make_pipe
+    two_results = nothing_delivered 1000 (at first 65536 (registers 4042 5 6 7 8 9)) left is_still ∙ simp syscall refl
 
     -- the turn that ends the process takes its time and counts
 
     exits : turn_of 1000 (at first 65536 (registers 4001 5 7 0 0 9)) left ≡ ends (at (a_turn_later first) 65540 (registers 4001 5 7 0 0 9)) (events.Exit 7 ∷ []) (Exited 7)
-    unfolding turn_of advance step_of effect_at special_rows call_words exit_row
-    exits = simp syscall refl
+    unfolding advance step_of effect_at special_rows call_words exit_row
+    exits = nothing_delivered 1000 (at first 65536 (registers 4001 5 7 0 0 9)) left is_still ∙ simp syscall refl
 
     before_exit : (j : ℕ) → j < 1 → IsRunningAt 1000 (at first 65536 (registers 4001 5 7 0 0 9)) left j
-    unfolding reached turn_of advance step_of effect_at special_rows call_words exit_row
-    before_exit zero below = record { alive = refl; awake = simp syscall refl }
+    unfolding reached
+    before_exit zero below = record { alive = refl; awake = ap is_blocked exits }
     before_exit (suc j) below = absurd (omega arith)
 
     exited : IsOverAt 1000 (at first 65536 (registers 4001 5 7 0 0 9)) left 1 1 (Exited 7)
-    unfolding reached turn_of advance step_of effect_at special_rows call_words exit_row
-    exited = (omega arith, record { ended = simp syscall refl; first = before_exit })
+    unfolding reached
+    exited = (
+      omega arith,
+      record { ended = ap (λ (t : Turn). (after_attempt (so_far (at first 65536 (registers 4001 5 7 0 0 9))) t).over) exits; first = before_exit },
+    )
 
     -- a read of the empty pipe waits, and no turn follows
     module _ (room : writable_prefix memory.pages 65792 1 ≡ 1) where
@@ -136,14 +152,15 @@ module _ (whole : Kernel) (nodes : Nodes) (memory : Memory) (left : List ℕ) wh
       sleeps = simp room refl
 
       waits : turn_of 1000 reading left ≡ goes_on waiting (events.Wait 4003 (3 ∷ 65792 ∷ 1 ∷ 9 ∷ []) ∷ [])
-      unfolding turn_of advance
+      unfolding advance
       waits =
-          ap (λ (s : Step). at_time (with_pipe.clock + 1000) (after_step built (stepped reading s.processor s.memory) s.came left)) takes
+          nothing_delivered 1000 reading left is_still
+          ∙ ap (λ (s : Step). at_time (with_pipe.clock + 1000) (after_step still (stepped reading s.processor s.memory) s.came left)) takes
           ∙ ap (at_time (with_pipe.clock + 1000)) sleeps
 
       finds_blocked : turn_of 1000 waiting left ≡ ends waiting [] Blocked
-      unfolding turn_of advance
-      finds_blocked = refl
+      unfolding advance
+      finds_blocked = nothing_delivered 1000 waiting left is_still
 
       after_one : reached 1000 reading left 1 ≡ so_far waiting
       unfolding reached
@@ -183,35 +200,38 @@ module _ (whole : Kernel) (nodes : Nodes) (memory : Memory) (left : List ℕ) wh
 
     -- the clock jumps to the deadline in a turn of its own, and no clock of CPU time counts that
     jumps : turn_of 1000 (sleeping 6000 (Some 1_000_005_000) 300) left ≡ goes_on (sleeping 1_000_005_000 (Some 1_000_005_000) 999_999_300) []
-    unfolding turn_of advance
-    jumps = refl
+    unfolding advance
+    jumps = nothing_delivered 1000 (sleeping 6000 (Some 1_000_005_000) 300) left is_still
 
     -- a deadline that never comes is none: the process is blocked, and so it is without one
     never_comes : turn_of 1000 (sleeping 6000 (Some (2 ^ 61 + 1)) 0) left ≡ ends (sleeping 6000 (Some (2 ^ 61 + 1)) 0) [] Blocked
-    unfolding turn_of advance
-    never_comes = refl
+    unfolding advance
+    never_comes = nothing_delivered 1000 (sleeping 6000 (Some (2 ^ 61 + 1)) 0) left is_still
 
     without_end : turn_of 1000 (sleeping 6000 None 0) left ≡ ends (sleeping 6000 None 0) [] Blocked
-    unfolding turn_of advance
-    without_end = refl
+    unfolding advance
+    without_end = nothing_delivered 1000 (sleeping 6000 None 0) left is_still
 
     comes_at_last : is_blocked (turn_of 1000 (sleeping 6000 (Some (2 ^ 61)) 0) left) ≡ false
-    unfolding turn_of advance
-    comes_at_last = refl
+    unfolding advance
+    comes_at_last = ap is_blocked (nothing_delivered 1000 (sleeping 6000 (Some (2 ^ 61)) 0) left is_still)
 
-    -- The attempt lets a timer go off that is due, and finds the process blocked all the same, since that signal is not delivered so far.
-    blocked_behind_a_timer : (signals : Signals) → post first.signals timer_info false ≡ record { signals = signals; post = Queued }
+    -- The attempt lets a timer go off that is due, and finds the process blocked all the same, where that signal is blocked.
+    blocked_behind_a_timer : (signals : Signals) → post first.signals timer_info false ≡ record { signals = signals; post = Queued } → next_signal signals ≡ None
         → turn_of 1000 (record (sleeping 6000 None 0) { kernel = record first { clock = 6000; timer = record { due = Some 5500; period = 0 } } }) left
         ≡ ends (record (sleeping 6000 None 0) { kernel = record first { clock = 6000; timer = unarmed; signals = signals } }) (events.Post Alrm ∷ []) Blocked
-    unfolding turn_of advance
-    blocked_behind_a_timer signals posted = simp posted refl
+    unfolding advance
+    blocked_behind_a_timer signals posted blocked =
+        nothing_delivered 1000 (record (sleeping 6000 None 0) { kernel = record first { clock = 6000; timer = record { due = Some 5500; period = 0 } } }) left
+        (ap (λ (p : Posted). is_none (next_signal p.signals)) posted ∙ ap is_none blocked)
+        ∙ simp posted refl
 
     -- at its deadline the call ends with 0, and the turn goes on with the next instruction, an SLL of nothing
     wakes : loaded memory 65540 4 ≡ Ok 0
         → turn_of 1000 (sleeping 1_000_005_000 (Some 1_000_005_000) 300) left
         ≡ goes_on (record (at (record first { clock = 1_000_006_000 }) 65544 (registers 0 5 65792 0 8 0)) { idle = 300 }) (events.Done 0 0 ∷ [])
-    unfolding turn_of advance step_of effect_at plain_rows special_rows
-    wakes next = simp next refl
+    unfolding advance step_of effect_at plain_rows special_rows
+    wakes next = nothing_delivered 1000 (sleeping 1_000_005_000 (Some 1_000_005_000) 300) left is_still ∙ simp next refl
 
     -- so do both calls that sleep, by how waits end
     ends_so : (wait : Wait) (clock : ℕ) (kernel : Kernel) → wait_ended (record wait { nr = 4166 }) Due clock kernel memory ≡ ends_with (closes.Value 0) kernel memory
@@ -223,87 +243,115 @@ module _ (whole : Kernel) (nodes : Nodes) (memory : Memory) (left : List ℕ) wh
     -- a timer that is set for an earlier time is where the clock jumps to
     to_the_timer : turn_of 1000 (record (sleeping 6000 (Some 1_000_005_000) 300) { kernel = record first { clock = 6000; timer = record { due = Some 7000; period = 0 } } }) left
         ≡ goes_on (record (sleeping 7000 (Some 1_000_005_000) 1300) { kernel = record first { clock = 7000; timer = record { due = Some 7000; period = 0 } } }) []
-    unfolding turn_of advance
-    to_the_timer = refl
+    unfolding advance
+    to_the_timer =
+        nothing_delivered 1000 (record (sleeping 6000 (Some 1_000_005_000) 300) { kernel = record first { clock = 6000; timer = record { due = Some 7000; period = 0 } } }) left is_still
+
+  -- A fault whose signal has no action: the turn after its own takes no time, kills, and uses the fault up.
+
+  abbrev faulted : Kernel → Machine
+  faulted kernel = record (at kernel 65536 (registers 5 5 6 7 8 9)) { fault = Some (fault_info Segv 1 0) }
+
+  module _ (plain : action_at whole.signals Segv ≡ no_action) where
+    kills_by : (within : Within) → action_at within.machine.kernel.signals Segv ≡ no_action
+        → fault_taken built_end within (fault_info Segv 1 0) ≡ handling.killed Segv (with_machine within (record within.machine { fault = None }))
+    kills_by within without =
+        let used = with_machine within (record within.machine { fault = None }) in
+        ap (fault_delivered built_end used (fault_info Segv 1 0)) without
+        ∙ neither (not (has within.machine.kernel.signals.mask Segv)) (handled built_end used (fault_info Segv 1 0) no_action) (handling.killed Segv used)
+
+    kills : (clock : ℕ) → turn_of 1000 (faulted (record first { clock = clock })) left ≡ ends (at (record first { clock = clock }) 65536 (registers 5 5 6 7 8 9)) (events.Killed Segv ∷ []) (Killed 11)
+    unfolding turn_of advance rounds
+    kills clock =
+        ap (λ (w : Within). unless_killed built 1000 w left)
+        (ap (λ (w : Within). rounds built_end 2111 w) (kills_by (before_delivery (faulted (record first { clock = clock }))) plain))
 
   -- LW $v0, 0($zero) stands there, and the page at 0 is absent
-  module _ (load : loaded memory 65536 4 ≡ Ok 0x8C02_0000) (absent : loaded memory 0 4 ≡ Err (record { addr = 0; why = Absent })) where
+  module _ (load : loaded memory 65536 4 ≡ Ok 0x8C02_0000) (absent : loaded memory 0 4 ≡ Err (record { addr = 0; why = Absent })) (plain : action_at whole.signals Segv ≡ no_action) where
     abbrev loading : Machine
     loading = at first 65536 (registers 5 5 6 7 8 9)
 
     -- the fault is found in a turn that takes its time
     faults : turn_of 1000 loading left ≡ goes_on (record (at (a_turn_later first) 65536 (registers 5 5 6 7 8 9)) { fault = Some (fault_info Segv 1 0) }) (events.Fault Segv 1 0 ∷ [])
-    unfolding turn_of advance step_of effect_at memory_rows immediate_form signed_immediate
-    faults = simp (load, absent) refl
+    unfolding advance step_of effect_at memory_rows immediate_form signed_immediate
+    faults = nothing_delivered 1000 loading left is_still ∙ simp (load, absent) refl
+
+    after_fault : reached 1000 loading left 1 ≡ so_far (faulted (a_turn_later first))
+    unfolding reached
+    after_fault = ap (after_attempt (so_far loading)) faults
 
     before_kill : (j : ℕ) → j < 2 → IsRunningAt 1000 loading left j
-    unfolding reached turn_of advance step_of effect_at memory_rows immediate_form signed_immediate
-    before_kill zero below = record { alive = refl; awake = simp (load, absent) refl }
-    before_kill (suc zero) below = record { alive = simp (load, absent) refl; awake = simp (load, absent) refl }
+    unfolding reached
+    before_kill zero below = record { alive = refl; awake = ap is_blocked faults }
+    before_kill (suc zero) below = record {
+      alive = ap (λ (r : Reached). r.over) after_fault;
+      awake = ap (λ (r : Reached). is_blocked (turn_of 1000 r.machine r.left)) after_fault ∙ ap is_blocked (kills plain (first.clock + 1000));
+    }
     before_kill (suc (suc j)) below = absurd (omega arith)
 
     killed : IsOverAt 1000 loading left 2 2 (Killed 11)
-    unfolding reached turn_of advance step_of effect_at memory_rows immediate_form signed_immediate
-    killed = (omega arith, record { ended = simp (load, absent) refl; first = before_kill })
+    unfolding reached
+    killed = (
+      omega arith,
+      record {
+        ended = ap (λ (r : Reached). (unless_over 1000 r r.over).over) after_fault
+            ∙ ap (λ (t : Turn). (after_attempt (so_far (faulted (a_turn_later first))) t).over) (kills plain (first.clock + 1000));
+        first = before_kill;
+      },
+    )
 
     killed_past_the_budget : IsOverAt 1000 loading left 1 1 Budget
-    unfolding reached turn_of advance step_of effect_at memory_rows immediate_form signed_immediate
-    killed_past_the_budget = (refl, λ j below. before_kill j (omega arith), simp (load, absent) refl)
-
-  -- the turn after it takes no time, and uses the fault up
-  kills : turn_of 1000 (record (at first 65536 (registers 5 5 6 7 8 9)) { fault = Some (fault_info Segv 1 0) }) left ≡ ends (at first 65536 (registers 5 5 6 7 8 9)) (events.Killed Segv ∷ []) (Killed 11)
-  unfolding turn_of advance
-  kills = refl
+    killed_past_the_budget = (refl, λ j below. before_kill j (omega arith), ap (λ (r : Reached). r.over) after_fault)
 
   -- a branch to itself stands there, with an SLL of nothing in its slot: the budget's turns are done, and nothing is sent
   module _ (branch : loaded memory 65536 4 ≡ Ok 0x1000_FFFF) (slot : loaded memory 65540 4 ≡ Ok 0) where
-    abbrev looping : Kernel → Machine
-    looping kernel = at (record kernel { timer = unarmed }) 65536 (registers 5 5 6 7 8 9)
+    abbrev looping : ℕ → Machine
+    looping clock = at (record first { clock = clock }) 65536 (registers 5 5 6 7 8 9)
 
-    abbrev in_slot : Kernel → Machine
-    in_slot kernel = record (at (record kernel { timer = unarmed }) 65540 (registers 5 5 6 7 8 9)) {
+    abbrev in_slot : ℕ → Machine
+    in_slot clock = record (at (record first { clock = clock }) 65540 (registers 5 5 6 7 8 9)) {
       processor = record (fresh 65540) { registers = registers 5 5 6 7 8 9; slot = Some (record { branch = 65536; target = 65536 }) };
     }
 
-    branches : (kernel : Kernel) → turn_of 1000 (looping kernel) left ≡ goes_on (in_slot (a_turn_later kernel)) []
-    unfolding turn_of advance step_of effect_at plain_rows special_rows immediate_form signed_immediate
-    branches kernel = simp branch refl
+    branches : (clock : ℕ) → turn_of 1000 (looping clock) left ≡ goes_on (in_slot (clock + 1000)) []
+    unfolding advance step_of effect_at plain_rows special_rows immediate_form signed_immediate
+    branches clock = nothing_delivered 1000 (looping clock) left is_still ∙ simp branch refl
 
-    comes_back : (kernel : Kernel) → turn_of 1000 (in_slot kernel) left ≡ goes_on (looping (a_turn_later kernel)) []
-    unfolding turn_of advance step_of effect_at plain_rows special_rows
-    comes_back kernel = simp slot refl
+    comes_back : (clock : ℕ) → turn_of 1000 (in_slot clock) left ≡ goes_on (looping (clock + 1000)) []
+    unfolding advance step_of effect_at plain_rows special_rows
+    comes_back clock = nothing_delivered 1000 (in_slot clock) left is_still ∙ simp slot refl
 
-    after_first : reached 1000 (looping first) left 1 ≡ so_far (in_slot (a_turn_later first))
+    after_first : reached 1000 (looping 0) left 1 ≡ so_far (in_slot 1000)
     unfolding reached
-    after_first = ap (after_attempt (so_far (looping first))) (branches first)
+    after_first = ap (after_attempt (so_far (looping 0))) (branches 0)
 
-    after_second : reached 1000 (looping first) left 2 ≡ so_far (looping (a_turn_later (a_turn_later first)))
+    after_second : reached 1000 (looping 0) left 2 ≡ so_far (looping 2000)
     unfolding reached
     after_second =
         ap (λ (r : Reached). unless_over 1000 r r.over) after_first
-        ∙ ap (after_attempt (so_far (in_slot (a_turn_later first)))) (comes_back (a_turn_later first))
+        ∙ ap (after_attempt (so_far (in_slot 1000))) (comes_back 1000)
 
-    after_third : reached 1000 (looping first) left 3 ≡ so_far (in_slot (a_turn_later (a_turn_later (a_turn_later first))))
+    after_third : reached 1000 (looping 0) left 3 ≡ so_far (in_slot 3000)
     unfolding reached
     after_third =
         ap (λ (r : Reached). unless_over 1000 r r.over) after_second
-        ∙ ap (after_attempt (so_far (looping (a_turn_later (a_turn_later first))))) (branches (a_turn_later (a_turn_later first)))
+        ∙ ap (after_attempt (so_far (looping 2000))) (branches 2000)
 
-    running : (j : ℕ) (now : Machine) → reached 1000 (looping first) left j ≡ so_far now → is_blocked (turn_of 1000 now left) ≡ false
-        → IsRunningAt 1000 (looping first) left j
+    running : (j : ℕ) (now : Machine) → reached 1000 (looping 0) left j ≡ so_far now → is_blocked (turn_of 1000 now left) ≡ false
+        → IsRunningAt 1000 (looping 0) left j
     running j now there awake =
         record { alive = ap (λ (r : Reached). r.over) there; awake = ap (λ (r : Reached). is_blocked (turn_of 1000 r.machine r.left)) there ∙ awake }
 
-    in_the_loop : (j : ℕ) → j < 3 → IsRunningAt 1000 (looping first) left j
+    in_the_loop : (j : ℕ) → j < 3 → IsRunningAt 1000 (looping 0) left j
     unfolding reached
-    in_the_loop zero below = running 0 (looping first) refl (ap is_blocked (branches first))
-    in_the_loop (suc zero) below = running 1 (in_slot (a_turn_later first)) after_first (ap is_blocked (comes_back (a_turn_later first)))
+    in_the_loop zero below = running 0 (looping 0) refl (ap is_blocked (branches 0))
+    in_the_loop (suc zero) below = running 1 (in_slot 1000) after_first (ap is_blocked (comes_back 1000))
     in_the_loop (suc (suc zero)) below =
-        running 2 (looping (a_turn_later (a_turn_later first))) after_second (ap is_blocked (branches (a_turn_later (a_turn_later first))))
+        running 2 (looping 2000) after_second (ap is_blocked (branches 2000))
     in_the_loop (suc (suc (suc j))) below = absurd (omega arith)
 
-    budget_done : IsOverAt 1000 (looping first) left 3 3 Budget
+    budget_done : IsOverAt 1000 (looping 0) left 3 3 Budget
     budget_done = (refl, in_the_loop, ap (λ (r : Reached). r.over) after_third)
 
-    nothing_sent : (reached 1000 (looping first) left 3).sent ≡ nothing
+    nothing_sent : (reached 1000 (looping 0) left 3).sent ≡ nothing
     nothing_sent = ap (λ (r : Reached). r.sent) after_third
