@@ -1,4 +1,4 @@
-//! The tests of `raw_pages`, `guest_space`, `mips_code`, `mips_exec` and `start_stack`, and nothing else.
+//! The tests of `mips_code` and `mips_exec`, and nothing else.
 #![tactic(auto)]
 
 #[cfg(test)]
@@ -9,11 +9,5 @@ mod codes;
 mod computing;
 #[cfg(test)]
 mod machine;
-#[cfg(test)]
-mod memory;
-#[cfg(test)]
-mod pages;
-#[cfg(test)]
-mod starting;
 #[cfg(test)]
 mod steps;
