@@ -1,6 +1,7 @@
 -- What is said of turns that are taken at once: quiet ones, and one more behind them. (The form is this project's own.)
 use Rattle.std.specs.Prelude.{◌≡◌, ℕ, ◌+◌, ◌<◌, List, None, Result}
 use Rattle.kernel_core.specs.declared.core_error.Stop.{Stop}
+use Rattle.kernel_core.specs.declared.event.Event.{Event}
 use Rattle.kernel_model.specs.Pipes.{nothing}
 use Rattle.o32_machine.specs.Answered.{IsTurn, turns_done}
 use Rattle.o32_machine.specs.declared.turn.Turn as code
@@ -15,10 +16,10 @@ pub record IsQuiet (quantum : ℕ) (machine : Machine) (k : ℕ) (then : Machine
   pub reaches : (left : List ℕ) → reached quantum machine left k ≡ record { machine = then; left = left; sent = nothing; over = None }
 
 -- Some quiet turns, and one more, which is answered; together at most `limit`. The quiet ones count, and the last one counts where it is finished.
-pub record IsTurnAfter (quantum limit : ℕ) (machine : Machine) (turns : ℕ) (result : Result code.Turn Stop) (became : Machine) (turns_then : ℕ) (before after : Contents) : Type 0 where
+pub record IsTurnAfter (quantum limit : ℕ) (machine : Machine) (turns : ℕ) (result : Result code.Turn Stop) (became : Machine) (turns_then : ℕ) (events : List Event) (before after : Contents) : Type 0 where
   pub quiet : ℕ
   pub middle : Machine
   pub first : IsQuiet quantum machine quiet middle
-  pub last : IsTurn (turn_of quantum middle) result became before after
+  pub last : IsTurn (turn_of quantum middle) result became events before after
   pub counted : turns_then ≡ turns + quiet + turns_done result
   pub within : quiet < limit

@@ -8,10 +8,14 @@ ghost use Rattle.o32_turns.specs.Built.{built_call};
 ghost use Rattle.outside.specs.Streams.{NoCountFell, contents};
 
 use crate::files::call_on_files;
-use crate::numbers::{is_file_call, is_io_call, is_map_call, is_time_call};
+use crate::numbers::{
+    is_file_call, is_io_call, is_map_call, is_signal_call, is_time_call, is_timer_call,
+};
 use crate::small::small_call;
 use bridge_io::io_call;
 use bridge_map::map_call;
+use bridge_signal::signal_call;
+use bridge_timer::timer_call;
 use bridge_wait::wait_call;
 use guest_space::Space;
 use host_mem::HostMem;
@@ -54,6 +58,12 @@ pub(crate) fn make_call<I: Source, O: Sink, E: Sink>(
     }
     if is_time_call(args.nr) {
         return wait_call(args, cpu, space, k, mem, dev, log, seen);
+    }
+    if is_timer_call(args.nr) {
+        return timer_call(args, cpu, space, k, mem, dev, log, seen);
+    }
+    if is_signal_call(args.nr) {
+        return signal_call(args, cpu, space, k, mem, dev, log, seen);
     }
     small_call(args, cpu, space, k, mem, dev, log)
 }

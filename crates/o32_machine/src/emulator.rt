@@ -1,15 +1,15 @@
 //! An emulator: a process, its clock and the turns that it took.
-ghost use Rattle.std.specs.Prelude.{◌≡◌, ◌↔◌, ◌⊎◌, ◌+◌, ◌*◌, ◌^◌, ◌<◌, ◌≤◌, ℕ, Contains, false, true, IfOk, None};
+ghost use Rattle.std.specs.Prelude.{◌≡◌, ◌↔◌, ◌+◌, ◌*◌, ◌<◌, ◌≤◌, ℕ, Contains, false, true, IfOk, IfSome, None};
 ghost use Rattle.kernel_core.specs.LoadedTree.{saved};
 ghost use Rattle.kernel_core.specs.ValidTree.{IsReached, IsValidTree, numbers};
 ghost use Rattle.kernel_model.specs.Begin.{first_state};
 ghost use Rattle.kernel_model.specs.Clock.{gone_off};
 ghost use Rattle.kernel_model.specs.Stops.{StopsOnlyIfRose};
 ghost use Rattle.native_kernel.specs.Settings.{settings_of};
-ghost use Rattle.o32_machine.specs.Answered.{IsTurn, is_last, over_of, turns_done, turns_of};
-ghost use Rattle.o32_machine.specs.Emulator.{first_emulated, first_machine, runs};
+ghost use Rattle.o32_machine.specs.Answered.{IsTurn, is_last, turns_done};
+ghost use Rattle.o32_machine.specs.Emulator.{coming_of, first_emulated, first_machine, runs};
 ghost use Rattle.o32_machine.specs.Quiet.{IsTurnAfter};
-ghost use Rattle.o32_machine.specs.inside.Stepping.{jumped_within};
+ghost use Rattle.o32_machine.specs.inside.Quieting.{OnlyExecutes};
 ghost use Rattle.o32_turns.specs.Built.{built};
 ghost use Rattle.o32_turns.specs.Instruction.{at_time, called};
 ghost use Rattle.o32_turns.specs.Turn.{turn_of};
@@ -17,10 +17,10 @@ ghost use Rattle.outside.specs.Streams.{NoCountFell, contents};
 ghost use Rattle.schedule.specs.Ranges.{IsGivenSchedule};
 
 use crate::process::Process;
+use crate::times::{later, most_quiet};
 use crate::turn::Turn;
-use kernel_core::{Finish, NoMemory, Stop, Tree};
+use kernel_core::{Event, NoMemory, Stop, Tree};
 use native_kernel::NativeKernel;
-use number_tables::O32Number;
 use outside::{Devices, Sink, Source};
 use schedule::Schedule;
 use start_stack::Start;
@@ -30,8 +30,8 @@ use std::marker::Model;
 /// An emulator of one o32 program. Contracts see it as `Emulated`: its machine, the nanoseconds of a turn with
 /// an instruction, the turns so far, and whether there is no further one. (Turns are this project's own.)
 ///
-/// The kernel's own clock is moved at the beginning of a turn, so that between two turns it stands behind the
-/// machine's: the machine's kernel is the native one at the machine's time.
+/// The kernel's own clock is moved within a turn, once what is due is posted, so that between two turns it stands behind
+/// the machine's: the machine's kernel is the native one at the machine's time.
 #[derive(Drop)]
 pub struct Emulator {
     process: Process,
@@ -54,15 +54,15 @@ impl Model for Emulator {
 
     ghost coded = { Prim.hlevel (codes, memory_code, nodes_code) };
 
-    ghost view = { λ e. record { machine = machine_at e.clock (machine_of e.process); quantum = e.quantum; turns = e.turns; over = e.over } };
+    ghost view = { λ e. record { machine = machine_at e.clock (machine_of e.process); quantum = e.quantum; turns = e.turns; over = e.over; events = e.process.going.events } };
 
-    ghost invariant = { λ e. (e.quantum ≤ 1_000_000) × (e.clock ≤ 2 ^ 61 + 1_000_000 * e.turns) × (e.process.idle ≤ e.clock)
+    ghost invariant = { λ e. (1 ≤ e.quantum) × (e.quantum ≤ 1_000_000) × (e.clock ≤ 2 ^ 61 + 1_000_000 * e.turns) × (e.process.idle ≤ e.clock)
         × (e.process.kernel.clock ≤ e.clock) };
 }
 
 impl Emulator {
     /// The emulator of a program at its first instruction, over the nodes of a file tree, with what a schedule
-    /// says of the clock, the terminal and chance. It takes its memory from `alloc`.
+    /// says of the clock, the terminal and chance, and before its events. It takes its memory from `alloc`.
     #[tactic(auto, unfolding(kernel_model::specs::Begin::first_state))]
     pub fn new(
         alloc: Global,
@@ -73,22 +73,23 @@ impl Emulator {
         requires tree { IsValidTree tree }
         requires schedule { IsGivenSchedule schedule }
         ensures first { IfOk result (λ emulator. emulator
-            ≡ first_emulated schedule.quantum (first_machine start.cpu start.space (first_state tree (settings_of schedule)))) }
+            ≡ first_emulated schedule.quantum (first_machine start.cpu start.space (first_state tree (settings_of schedule)) (coming_of schedule))) }
     {
         let kernel = NativeKernel::new(alloc, tree, &schedule)?;
+        let quantum = schedule.quantum;
         Ok(Emulator {
-            process: Process::new(alloc, start, kernel),
+            process: Process::new(alloc, start, kernel, schedule),
             clock: 0,
-            quantum: schedule.quantum,
+            quantum,
             turns: 0,
             over: false,
         })
     }
 
-    /// Takes one turn: the timer that is due goes off, and a call whose deadline is over ends. Then a fault that is to be
-    /// delivered kills the process. Where a call still waits the clock jumps to its deadline or to the timer, or neither
-    /// can come, and the process is blocked: that attempt is no turn. Else one instruction is carried out with its call,
-    /// and the clock gains a quantum.
+    /// Takes one turn: the events of the schedule that are due are posted, and then the timer's signal; a call ends whose
+    /// deadline is over; signals are delivered; and a call that a stop interrupted ends, where the process goes on. Where
+    /// the process is stopped or a call waits the clock jumps to what comes next, or nothing can come, and the process is
+    /// blocked: that attempt is no turn. Else one instruction is carried out with its call, and the clock gains a quantum.
     ///
     /// # Errors
     ///
@@ -100,7 +101,7 @@ impl Emulator {
     ) -> Result<Turn, Stop>
         requires on { self.old.over ≡ false }
         requires few { self.old.turns < 1_000_000_000_000 }
-        ensures turn { IsTurn (turn_of self.old.quantum self.old.machine) result self.new.machine
+        ensures turn { IsTurn (turn_of self.old.quantum self.old.machine) result self.new.machine self.new.events
             (contents I.left O.written E.written dev.old) (contents I.left O.written E.written dev.new) }
         ensures quantum { self.new.quantum ≡ self.old.quantum }
         ensures turns { self.new.turns ≡ self.old.turns + turns_done result }
@@ -111,9 +112,9 @@ impl Emulator {
         self.next_turns(1, dev)
     }
 
-    /// Takes turns, at least one and at most `limit`, up to the first that makes a call, meets a fault, ends the
-    /// process, or begins while a call waits. It answers for the last of them, as `turn` does; those before it are quiet: they take nothing of the
-    /// input and send nothing.
+    /// Takes turns, at least one and at most `limit`, up to the first in which more is done than an instruction that makes
+    /// no call and meets no fault. It answers for the last of them, as `turn` does; those before it are quiet: they take
+    /// nothing of the input and send nothing.
     ///
     /// # Errors
     ///
@@ -126,7 +127,7 @@ impl Emulator {
         requires on { self.old.over ≡ false }
         requires some { 0 < limit }
         requires few { self.old.turns + limit ≤ 1_000_000_000_000 }
-        ensures turns { IsTurnAfter self.old.quantum limit self.old.machine self.old.turns result self.new.machine self.new.turns
+        ensures turns { IsTurnAfter self.old.quantum limit self.old.machine self.old.turns result self.new.machine self.new.turns self.new.events
             (contents I.left O.written E.written dev.old) (contents I.left O.written E.written dev.new) }
         ensures quantum { self.new.quantum ≡ self.old.quantum }
         ensures over { self.new.over ≡ is_last result }
@@ -140,8 +141,7 @@ impl Emulator {
         result
     }
 
-    /// The same, but for whether a further turn follows. The clock of the kernel is moved once, before the last turn:
-    /// a timer that goes off more than once before its signal is taken posts it once.
+    /// The same, but for whether a further turn follows.
     fn attempt<I: Source, O: Sink, E: Sink>(
         &mut self,
         limit: u64,
@@ -149,35 +149,68 @@ impl Emulator {
     ) -> Result<Turn, Stop>
         requires some { 0 < limit }
         requires few { self.old.turns + limit ≤ 1_000_000_000_000 }
-        ensures turns { IsTurnAfter self.old.quantum limit self.old.machine self.old.turns result self.new.machine self.new.turns
+        ensures turns { IsTurnAfter self.old.quantum limit self.old.machine self.old.turns result self.new.machine self.new.turns self.new.events
             (contents I.left O.written E.written dev.old) (contents I.left O.written E.written dev.new) }
         ensures quantum { self.new.quantum ≡ self.old.quantum }
         ensures over { self.new.over ≡ self.old.over }
         ensures cause { StopsOnlyIfRose I.faults O.faults E.faults result dev.old dev.new }
         ensures counts { NoCountFell I.faults O.faults E.faults dev.old dev.new }
     {
-        if !self.process.goes() {
-            return self.whole_turn(dev);
+        match self.most_quiet(limit) {
+            None => self.whole_turn(dev),
+            Some(most) => self.quick_turns(most, limit, dev),
         }
-        let ran = self.process.run(most_quiet(self.clock, limit));
+    }
+
+    /// How many quiet turns can be taken at once before the last one, of at most `limit` in all; None where the next turn
+    /// is one in all its steps. Nothing is due in any of them, and nothing can be delivered.
+    fn most_quiet(&self, limit: u64) -> Option<u64>
+        requires some { 0 < limit }
+        ensures few { IfSome result (λ most. most < limit) }
+        ensures quiet { IfSome result (λ most. OnlyExecutes self.now.quantum self.now.machine most) }
+    {
+        if !self.process.goes() {
+            return None;
+        }
+        most_quiet(self.clock, self.quantum, self.process.next_due(), limit)
+    }
+
+    /// Turns that do no more than their instructions: at most `most` that make no call and meet no fault, and one more.
+    fn quick_turns<I: Source, O: Sink, E: Sink>(
+        &mut self,
+        most: u64,
+        limit: u64,
+        dev: &mut Devices<I, O, E>,
+    ) -> Result<Turn, Stop>
+        requires some { most < limit }
+        requires few { self.old.turns + limit ≤ 1_000_000_000_000 }
+        requires quiet { OnlyExecutes self.old.quantum self.old.machine most }
+        ensures turns { IsTurnAfter self.old.quantum limit self.old.machine self.old.turns result self.new.machine self.new.turns self.new.events
+            (contents I.left O.written E.written dev.old) (contents I.left O.written E.written dev.new) }
+        ensures quantum { self.new.quantum ≡ self.old.quantum }
+        ensures over { self.new.over ≡ self.old.over }
+        ensures cause { StopsOnlyIfRose I.faults O.faults E.faults result dev.old dev.new }
+        ensures counts { NoCountFell I.faults O.faults E.faults dev.old dev.new }
+    {
+        self.process.begin();
+        let ran = self.process.run(most);
         self.clock = later(self.clock, self.quantum, ran.quiet);
         self.turns += ran.quiet;
         let came = ran.came?;
-        self.process.advance(self.clock)?;
+        self.process.set_clock(self.clock)?;
         let turn = self.process.end_turn(came, self.clock, dev)?;
         self.clock += self.quantum;
         self.turns += 1;
         Ok(turn)
     }
 
-    /// A turn in all its steps, which there are so far: what is due is posted, a wait ends, a fault is delivered, and then
-    /// the clock jumps, or one instruction is carried out with its call.
+    /// A turn in all its steps.
     fn whole_turn<I: Source, O: Sink, E: Sink>(
         &mut self,
         dev: &mut Devices<I, O, E>,
     ) -> Result<Turn, Stop>
         requires few { self.old.turns < 1_000_000_000_000 }
-        ensures turn { IsTurn (turn_of self.old.quantum self.old.machine) result self.new.machine
+        ensures turn { IsTurn (turn_of self.old.quantum self.old.machine) result self.new.machine self.new.events
             (contents I.left O.written E.written dev.old) (contents I.left O.written E.written dev.new) }
         ensures quantum { self.new.quantum ≡ self.old.quantum }
         ensures turns { self.new.turns ≡ self.old.turns + turns_done result }
@@ -185,42 +218,11 @@ impl Emulator {
         ensures cause { StopsOnlyIfRose I.faults O.faults E.faults result dev.old dev.new }
         ensures counts { NoCountFell I.faults O.faults E.faults dev.old dev.new }
     {
-        self.process.advance(self.clock)?;
-        self.process.wake(self.clock)?;
-        if let Some(fault) = self.process.take_fault() {
-            self.turns += 1;
-            return Ok(Turn::Ended(Finish::Killed(fault.sig.to_o32() as u8)));
-        }
-        if self.process.waits() {
-            return Ok(self.jump());
-        }
-        let came = self.process.run(0).came?;
-        let turn = self.process.end_turn(came, self.clock, dev)?;
-        self.clock = later(self.clock, self.quantum, 1);
-        self.turns += 1;
-        Ok(turn)
-    }
-
-    /// The clock goes to the time of the next thing that can come, and never back, in a turn without an instruction. Where
-    /// nothing can come the process is blocked, and it is no turn.
-    fn jump(&mut self) -> Turn
-        requires few { self.old.turns < 1_000_000_000_000 }
-        ensures machine { self.new.machine ≡ (jumped_within self.old.machine).machine }
-        ensures end { over_of result ≡ (jumped_within self.old.machine).over }
-        ensures quantum { self.new.quantum ≡ self.old.quantum }
-        ensures turns { self.new.turns ≡ self.old.turns + turns_of result }
-        ensures over { self.new.over ≡ self.old.over }
-    {
-        match self.process.next_time() {
-            None => Turn::Ended(Finish::Blocked),
-            Some(time) => {
-                let to = self.clock.max(time);
-                self.process.idle(to - self.clock);
-                self.clock = to;
-                self.turns += 1;
-                Turn::Went
-            }
-        }
+        self.process.settle(self.clock, dev)?;
+        let last = self.process.last_steps(self.clock, self.quantum, dev)?;
+        self.clock = last.clock;
+        self.turns += last.turn.count();
+        Ok(last.turn)
     }
 
     /// Makes the call of the SYSCALL that was just executed, whose address is pc - 4. It counts no turn, and the
@@ -235,7 +237,7 @@ impl Emulator {
     ) -> Result<Turn, Stop>
         requires running { runs self.old ≡ true }
         requires timer { gone_off self.old.machine.kernel.clock self.old.machine.kernel.timer ≡ None }
-        ensures turn { IsTurn (λ left. at_time self.old.machine.kernel.clock (called built self.old.machine left)) result self.new.machine
+        ensures turn { IsTurn (λ left. at_time self.old.machine.kernel.clock (called built self.old.machine left)) result self.new.machine self.new.events
             (contents I.left O.written E.written dev.old) (contents I.left O.written E.written dev.new) }
         ensures quantum { self.new.quantum ≡ self.old.quantum }
         ensures turns { self.new.turns ≡ self.old.turns }
@@ -244,7 +246,8 @@ impl Emulator {
         ensures counts { NoCountFell I.faults O.faults E.faults dev.old dev.new }
     {
         self.over = true;
-        self.process.advance(self.clock)?;
+        self.process.begin();
+        self.process.set_clock(self.clock)?;
         let turn = self.process.call(self.clock, dev)?;
         self.over = turn.is_end();
         Ok(turn)
@@ -264,6 +267,14 @@ impl Emulator {
         self.turns
     }
 
+    /// What happened in the last turn, or in the last call alone, in order. After one that stopped early nothing is said of
+    /// it. (The events are those of a trace.)
+    pub fn events(&self) -> &[Event]
+        ensures { result.now ≡ self.now.events }
+    {
+        self.process.events()
+    }
+
     /// Whether the process runs: it is not over, and no call waits.
     pub fn is_running(&self) -> bool
         ensures { result ≡ runs self.now }
@@ -279,35 +290,5 @@ impl Emulator {
         ensures reached { IfOk result (λ tree. (number : ℕ) → Contains (numbers tree.nodes) number ↔ IsReached tree.nodes number) }
     {
         self.process.tree()
-    }
-}
-
-/// The clock's time, in nanoseconds, after so many turns with an instruction.
-#[inline]
-fn later(clock: u64, quantum: u64, turns: u64) -> u64
-    requires quantum { quantum ≤ 1_000_000 }
-    requires clock { clock + 1_000_000 * turns < 2 ^ 64 }
-    ensures time { result ≡ clock + turns * quantum }
-    ensures bound { result ≤ clock + 1_000_000 * turns }
-{
-    clock + turns * quantum
-}
-
-/// The last time of the clock that comes, in nanoseconds. (This project's own.)
-const LAST_TIME: u64 = 1 << 61;
-
-/// How many quiet turns are taken at once, of at most `limit` turns. Past the last time at which a timer goes off it is
-/// one turn at a time, since the timer's next time then depends on when it is looked at.
-#[inline]
-fn most_quiet(clock: u64, limit: u64) -> u64
-    requires some { 0 < limit }
-    requires few { limit ≤ 1_000_000_000_000 }
-    ensures within { result < limit }
-    ensures early { (result ≡ 0) ⊎ (clock + 1_000_000 * result ≤ 2 ^ 61) }
-{
-    if clock < LAST_TIME && limit - 1 <= (LAST_TIME - clock) / 1_000_000 {
-        limit - 1
-    } else {
-        0
     }
 }

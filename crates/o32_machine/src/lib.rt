@@ -9,13 +9,15 @@ mod limits;
 mod names;
 mod numbers;
 mod plain;
+mod posting;
 mod process;
 mod rlimit;
 mod running;
 mod small;
 mod telling;
+mod times;
 mod turn;
 
 pub use emulator::Emulator;
-pub use kernel_core::{Finish, NoMemory, Stop};
+pub use kernel_core::{Event, Finish, NoMemory, Stop};
 pub use turn::Turn;

@@ -4,7 +4,9 @@
 ghost use Rattle.std.specs.Prelude.{◌≡◌};
 ghost use Rattle.bridge_entries.specs.Numbers as entries;
 ghost use Rattle.bridge_open.specs.Numbers as opening;
+ghost use Rattle.bridge_signal.specs.Numbers as signal;
 ghost use Rattle.bridge_status.specs.Numbers as status;
+ghost use Rattle.bridge_timer.specs.Numbers as timer;
 ghost use Rattle.bridge_wait.specs.Numbers as wait;
 ghost use Rattle.o32_turns.specs.Built.{is_file_call_built};
 ghost use Rattle.o32_model.specs.Table as table;
@@ -86,7 +88,7 @@ pub(crate) fn is_entries_call(nr: u32) -> bool
     nr == 4141 || nr == 4219
 }
 
-/// Whether a number is that of a call on time, of those that there are.
+/// Whether a number is that of a call on clocks or a sleep, of those that there are.
 pub(crate) fn is_time_call(nr: u32) -> bool
     ensures { result ≡ wait.is_call_there nr }
 {
@@ -97,6 +99,35 @@ pub(crate) fn is_time_call(nr: u32) -> bool
         4263 => true,
         4264 => true,
         4265 => true,
+        _ => false,
+    }
+}
+
+/// Whether a number is that of a call on the timer.
+pub(crate) fn is_timer_call(nr: u32) -> bool
+    ensures { result ≡ timer.is_call_there nr }
+{
+    nr == 4027 || nr == 4104 || nr == 4105
+}
+
+/// Whether a number is that of a call on signals, of those that there are.
+pub(crate) fn is_signal_call(nr: u32) -> bool
+    ensures { result ≡ signal.is_call_there nr }
+{
+    match nr {
+        4029 => true,
+        4037 => true,
+        4119 => true,
+        4193 => true,
+        4194 => true,
+        4195 => true,
+        4196 => true,
+        4198 => true,
+        4199 => true,
+        4206 => true,
+        4236 => true,
+        4253 => true,
+        4266 => true,
         _ => false,
     }
 }

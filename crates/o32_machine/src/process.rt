@@ -1,36 +1,47 @@
-//! The process of an o32 program: its processor and memory, and the kernel that it calls.
-ghost use Rattle.std.specs.Prelude.{◌≡◌, ◌+◌, ◌<◌, ◌^◌, ◌≤◌, ◌↔◌, ℕ, Contains, false, if◌then◌else◌, IfErr, IfOk, IfSome, None, OnOk, is_some};
+//! The process of an o32 program: its processor and memory, the kernel that it calls, and the steps of its turns.
+ghost use Rattle.std.specs.Prelude.{◌≡◌, ◌+◌, ◌*◌, ◌<◌, ◌^◌, ◌≤◌, ◌↔◌, ◌++◌, [], ◌∷◌, max, ℕ, Contains, false, if◌then◌else◌, IfErr, IfOk, IfSome, None, OnOk, is_some};
+ghost use Rattle.bridge_ends.specs.Ended.{ended_wait};
 ghost use Rattle.kernel_core.specs.LoadedTree.{saved};
 ghost use Rattle.kernel_core.specs.ValidTree.{IsReached, IsValidTree, numbers};
-ghost use Rattle.kernel_model.specs.Clock.{if_comes};
-ghost use Rattle.kernel_model.specs.SignalRows as signals;
+ghost use Rattle.kernel_core.specs.declared.event.Event.TheVariants as events;
+ghost use Rattle.kernel_model.specs.Clock.{gone_off};
 ghost use Rattle.kernel_model.specs.Stops.{StopsOnlyIfRose};
+ghost use Rattle.mips_exec.specs.Processor.{register};
 ghost use Rattle.o32_machine.specs.Answered.{IsTurn, over_of, turns_of};
-ghost use Rattle.o32_machine.specs.Emulator.{first_process, machine_of};
-ghost use Rattle.o32_machine.specs.inside.Finishing.{finished, goes, unwaiting};
+ghost use Rattle.o32_machine.specs.Emulator.{at_clock, coming_of, first_process, first_standing, machine_at, machine_of, within_at, within_now};
+ghost use Rattle.o32_machine.specs.inside.Finishing.{finished};
+ghost use Rattle.o32_machine.specs.inside.Quieting.{goes, next_due};
 ghost use Rattle.o32_machine.specs.inside.Stepping.{GoesThen};
-ghost use Rattle.o32_turns.specs.Built.{built, built_end, is_sleep};
-ghost use Rattle.o32_turns.specs.Closing.{closed, put_back};
-ghost use Rattle.o32_turns.specs.Handling.{frame_fault};
+ghost use Rattle.o32_machine.specs.inside.Steps.{IsLast, Settles, Takes, begun, goes_on, jumped_within, last_steps, resumes, wakes};
+ghost use Rattle.o32_turns.specs.Built.{built};
+ghost use Rattle.o32_turns.specs.Handling.{faults, frame_fault};
 ghost use Rattle.o32_turns.specs.Instruction.{after_step, called, fault_info, restart_after};
-ghost use Rattle.o32_turns.specs.Turn.{deadline_of, ended_if_over, is_over_at, next_for, sooner};
-ghost use Rattle.o32_model.specs.WaitEnds.{ends_with};
-ghost use Rattle.o32_model.specs.Words.{with_result};
+ghost use Rattle.o32_turns.specs.Machine.{Machine, begin};
+ghost use Rattle.o32_turns.specs.Posting.{posted};
+ghost use Rattle.o32_turns.specs.Turn.{after_events, next_event, next_for, second_step, sixth_step, third_step};
+ghost use Rattle.o32_model.specs.Words.{a3, v0, with_result};
+ghost use Rattle.o32_model.specs.declared.call_words.CallWords.{CallWords};
 ghost use Rattle.outside.specs.Streams.{NoCountFell, contents};
+ghost use Rattle.schedule.specs.Ranges.{IsGivenSchedule};
 
 use crate::calls::make_call;
+use crate::posting::post_due;
 use crate::running::{Ran, run};
+use crate::times::{deadline_in, if_comes, is_over_at, later, sooner};
 use crate::turn::Turn;
+use bridge_delivery::{deliver, is_quiet};
+use bridge_ends::{end_wait, post_timer};
 use bridge_mem::args;
-use bridge_wait::wait_end;
 use guest_space::Space;
 use host_mem::HostMem;
-use kernel_core::{Finish, Info, NoMemory, Sig, Stop, Tree};
+use kernel_core::{Event, Finish, Info, NoMemory, Sig, Stop, Tree};
 use mips_exec::{Cpu, Stepped};
 use native_kernel::NativeKernel;
 use number_tables::O32Number;
-use o32_model::{CallWords, Cause, Close, Log, Outcome, Seen, Wait};
+use o32_model::{CallWords, Cause, Log, Outcome, Seen};
+use o32_turns::Going;
 use outside::{Devices, Sink, Source};
+use schedule::Schedule;
 use start_stack::Start;
 use std::alloc::Global;
 use std::marker::Model;
@@ -49,14 +60,16 @@ const A3: u8 = 7;
 /// The number of restart_syscall(2).
 const RESTART_SYSCALL: u32 = 4253;
 
-/// The bytes of a SYSCALL, past which the program counter stands while its call waits.
-const SYSCALL_SIZE: u32 = 4;
-
 /// Who sends the signal of a frame that can't be read: the kernel (SI_KERNEL).
 const SENT_BY_KERNEL: i32 = 0x80;
 
-/// The last time of the clock that comes, in nanoseconds. (This project's own.)
-const LAST_TIME: u64 = 1 << 61;
+/// What the last steps of a turn come to.
+#[derive(Clone, Copy)]
+pub(crate) struct Last {
+    pub turn: Turn,
+    /// The machine's time then, in nanoseconds.
+    pub clock: u64,
+}
 
 /// A process. Contracts see it as `ProcessState`, whose kernel is the native one as it stands.
 #[derive(Drop)]
@@ -68,33 +81,40 @@ pub(crate) struct Process {
     mem: HostMem,
     /// What gives the calls on files the memory for paths.
     alloc: Global,
-    /// The call that waits.
-    wait: Option<Wait>,
-    /// The wait that restart_syscall(2) goes on with.
-    restart: Option<Wait>,
-    /// The fault that a turn met and that is to be delivered, with its code and its address.
-    fault: Option<Info>,
-    /// The nanoseconds that the clock has jumped while calls waited.
+    /// What stands within a turn, and what happened in the last one.
+    going: Going,
+    /// The events that are still to come, from its cursor on.
+    schedule: Schedule,
+    /// The nanoseconds that the clock has jumped while no instruction was executed.
     idle: u64,
 }
 
 impl Model for Process {
     ghost use Rattle.guest_space.specs.Memory.{memory_code};
     ghost use Rattle.kernel_core.specs.Nodes.{nodes_code};
-    ghost use Rattle.o32_machine.specs.Emulator.{ProcessState};
+    ghost use Rattle.o32_machine.specs.Emulator.{ProcessState, coming_of};
+    ghost use Rattle.schedule.specs.Ranges.{IsGivenSchedule};
     ghost use Rattle.std.specs.Coded.{codes};
 
     ghost Value = { ProcessState };
 
     ghost coded = { Prim.hlevel (codes, memory_code, nodes_code) };
 
-    ghost view = { λ p. record { processor = p.cpu; memory = p.space; kernel = p.kernel; wait = p.wait; restart = p.restart; fault = p.fault; idle = p.idle } };
+    ghost view = { λ p. record { processor = p.cpu; memory = p.space; kernel = p.kernel; going = p.going; coming = coming_of p.schedule; idle = p.idle } };
+
+    ghost invariant = { λ p. IsGivenSchedule p.schedule };
 }
 
 impl Process {
-    /// A process at its first instruction.
-    pub(crate) fn new(alloc: Global, start: Start, kernel: NativeKernel) -> Process
-        ensures { result ≡ first_process start.cpu start.space kernel }
+    /// A process at its first instruction, before the events of a schedule.
+    pub(crate) fn new(
+        alloc: Global,
+        start: Start,
+        kernel: NativeKernel,
+        schedule: Schedule,
+    ) -> Process
+        requires { IsGivenSchedule schedule }
+        ensures { result ≡ first_process start.cpu start.space kernel (coming_of schedule) }
     {
         Process {
             cpu: start.cpu,
@@ -102,119 +122,42 @@ impl Process {
             kernel,
             mem: HostMem::new(alloc),
             alloc,
-            wait: None,
-            restart: None,
-            fault: None,
+            going: first_going(alloc),
+            schedule,
             idle: 0,
         }
     }
 
     /// Whether a call waits.
     pub(crate) fn waits(&self) -> bool
-        ensures { result ≡ is_some self.now.wait }
+        ensures { result ≡ is_some self.now.going.wait }
     {
-        self.wait.is_some()
+        self.going.wait.is_some()
     }
 
-    /// Whether there is nothing to be done but instructions: no call waits, and no fault is to be delivered.
+    /// What happened in the last turn, in order.
+    pub(crate) fn events(&self) -> &[Event]
+        ensures { result.now ≡ self.now.going.events }
+    {
+        self.going.events.as_slice()
+    }
+
+    /// Whether there is nothing to be done but instructions, unless something is due: no call waits, no fault is to be
+    /// delivered, the process isn't stopped, and no signal can be delivered.
     pub(crate) fn goes(&self) -> bool
-        ensures { result ≡ goes self.now }
+        ensures { result ≡ goes (machine_of self.now) }
     {
-        self.wait.is_none() && self.fault.is_none()
+        self.going.wait.is_none()
+            && self.going.fault.is_none()
+            && !self.going.stopped
+            && is_quiet(&self.kernel)
     }
 
-    /// The time of the next thing that can come while a call waits, its deadline or the timer, in nanoseconds of the
-    /// clock; None where neither can come.
-    pub(crate) fn next_time(&self) -> Option<u64>
-        ensures time { result ≡ next_for (machine_of self.now) }
-        ensures early { IfSome result (λ time. time ≤ 2 ^ 61) }
+    /// The time at which an event of the schedule or the timer is due next, in nanoseconds of the clock.
+    pub(crate) fn next_due(&self) -> Option<u64>
+        ensures { result ≡ next_due (machine_of self.now) }
     {
-        sooner(self.kernel.next_time(), deadline_of(self.wait))
-    }
-
-    /// Ends the call that waits where its deadline is over, at the kernel's time `clock`, in nanoseconds.
-    ///
-    /// # Errors
-    ///
-    /// `NoMemory` alone.
-    pub(crate) fn wake(&mut self, clock: u64) -> Result<(), Stop>
-        requires { self.old.kernel.clock ≡ clock }
-        ensures woken { OnOk result (machine_of self.new ≡ (ended_if_over built (machine_of self.old) self.old.wait).machine) }
-        ensures idle { self.new.idle ≡ self.old.idle }
-        ensures clock { self.new.kernel.clock ≡ clock }
-        ensures cause { IfErr result (λ stop. stop ≡ Stop.NoMemory) }
-    {
-        if let Some(wait) = self.wait {
-            if is_over_at(clock, wait.deadline) {
-                let close = self.end_wait(&wait, clock)?;
-                self.close(&wait, close);
-            }
-        }
-        Ok(())
-    }
-
-    /// Ends a wait whose deadline is over: a sleep by its row, and any other with 0.
-    fn end_wait(&mut self, wait: &Wait, clock: u64) -> Result<Close, Stop>
-        requires { self.old.kernel.clock ≡ clock }
-        ensures ended { IfOk result (λ close.
-            built_end false wait.now Cause.Due self.old.kernel self.old.memory ≡ ends_with close self.new.kernel self.new.memory) }
-        ensures others { self.new ≡ record self.old { kernel = self.new.kernel; memory = self.new.memory } }
-        ensures clock { self.new.kernel.clock ≡ clock }
-        ensures cause { IfErr result (λ stop. stop ≡ Stop.NoMemory) }
-    {
-        if !is_sleep(wait.nr) {
-            return Ok(Close::Value(0));
-        }
-        let mut log = Log {
-            native: None,
-            effects: None,
-        };
-        let (space, k, mem) = (&mut self.space, &mut self.kernel, &mut self.mem);
-        wait_end(wait, Cause::Due, clock, space, k, mem, &mut log)
-    }
-
-    /// Puts the end of a wait into the registers: its call returns, or is carried out again, or goes on by
-    /// restart_syscall(2).
-    fn close(&mut self, wait: &Wait, close: Close)
-        ensures closed { machine_of self.new ≡ (closed wait.now close (unwaiting self.old)).machine }
-        ensures kernel { self.new.kernel ≡ self.old.kernel }
-        ensures idle { self.new.idle ≡ self.old.idle }
-    {
-        self.wait = None;
-        match close {
-            Close::Value(value) => self.set_result(value, false),
-            Close::Error(error) => self.set_result(error.to_o32(), true),
-            Close::Again => self.put_back(wait, wait.nr),
-            Close::Restart => {
-                self.restart = Some(*wait);
-                self.put_back(wait, RESTART_SYSCALL);
-            }
-        }
-    }
-
-    /// Has the SYSCALL of a wait come again, with this number in $v0, and with the argument in $a3 that was there.
-    fn put_back(&mut self, wait: &Wait, number: u32)
-        ensures { self.new ≡ record self.old { processor = put_back number wait.now self.old.processor } }
-    {
-        let syscall = self.cpu.pc.wrapping_sub(SYSCALL_SIZE);
-        self.cpu.set_register(V0, number);
-        self.cpu.set_register(A3, wait.words[3]);
-        self.cpu.pc = syscall;
-    }
-
-    /// Counts a jump of the clock by so many nanoseconds.
-    pub(crate) fn idle(&mut self, by: u64)
-        requires { self.old.idle + by < 2 ^ 64 }
-        ensures { self.new ≡ record self.old { idle = self.old.idle + by } }
-    {
-        self.idle += by;
-    }
-
-    /// The nanoseconds that the clock has jumped.
-    pub(crate) fn idle_time(&self) -> u64
-        ensures { result ≡ self.now.idle }
-    {
-        self.idle
+        sooner(next_event(&self.schedule), self.kernel.next_time())
     }
 
     /// The nodes as a file tree, as the kernel tells it. It copies every byte once.
@@ -226,10 +169,20 @@ impl Process {
         self.kernel.tree()
     }
 
-    /// Moves the kernel's clock to a time, in nanoseconds, which is not before its own.
-    pub(crate) fn advance(&mut self, clock: u64) -> Result<(), NoMemory>
+    /// Begins a turn, in which nothing has happened so far. The room for events is kept.
+    pub(crate) fn begin(&mut self)
+        ensures { self.new ≡ record self.old { going = begun self.old.going } }
+    {
+        self.going.saved = None;
+        self.going.over = None;
+        self.going.events.clear();
+    }
+
+    /// Moves the kernel's clock to a time, in nanoseconds, which is not before its own, and by which no timer is due.
+    pub(crate) fn set_clock(&mut self, clock: u64) -> Result<(), NoMemory>
         requires later { self.old.kernel.clock ≤ clock }
-        ensures moved { OnOk result (self.new ≡ record self.old { kernel = signals.advance self.old.kernel clock false }) }
+        requires timer { gone_off clock self.old.kernel.timer ≡ None }
+        ensures moved { OnOk result (self.new ≡ record self.old { kernel = at_clock clock self.old.kernel }) }
         ensures clock { self.new.kernel.clock ≡ clock }
         ensures idle { self.new.idle ≡ self.old.idle }
     {
@@ -237,14 +190,311 @@ impl Process {
         Ok(())
     }
 
-    /// The fault that is to be delivered, which is used up by that.
-    pub(crate) fn take_fault(&mut self) -> Option<Info>
-        ensures fault { result ≡ self.old.fault }
-        ensures used { self.new ≡ record self.old { fault = None } }
+    /// The first step of a turn: posts what is due at a time of the clock, in nanoseconds, the events of the schedule
+    /// and then the timer's. The kernel's clock, which is not past that time, goes there.
+    pub(crate) fn post(&mut self, clock: u64) -> Result<(), NoMemory>
+        requires later { self.old.kernel.clock ≤ clock }
+        ensures posted { OnOk result (within_now self.new ≡ posted built (within_at clock self.old)) }
+        ensures clock { OnOk result (self.new.kernel.clock ≡ clock) }
+        ensures behind { self.new.kernel.clock ≤ clock }
+        ensures idle { self.new.idle ≡ self.old.idle }
     {
-        let fault = self.fault;
-        self.fault = None;
-        fault
+        post_due(clock, &mut self.schedule, &mut self.going, &mut self.kernel)?;
+        post_timer(clock, &mut self.going, &mut self.kernel)
+    }
+
+    /// Ends the call that waits for a cause, at the kernel's time `clock`, in nanoseconds. It is not a handler that
+    /// ends it.
+    fn end_wait<I: Source, O: Sink, E: Sink>(
+        &mut self,
+        cause: Cause,
+        clock: u64,
+        dev: &mut Devices<I, O, E>,
+    ) -> Result<(), Stop>
+        requires clock { self.old.kernel.clock ≡ clock }
+        ensures ended { Takes (λ within. ended_wait false cause within within.machine.wait) result self.old self.new
+            (contents I.left O.written E.written dev.old) (contents I.left O.written E.written dev.new) }
+        ensures clock { self.new.kernel.clock ≡ clock }
+        ensures idle { self.new.idle ≡ self.old.idle }
+        ensures cause { StopsOnlyIfRose I.faults O.faults E.faults result dev.old dev.new }
+        ensures counts { NoCountFell I.faults O.faults E.faults dev.old dev.new }
+    {
+        let mut log = no_log();
+        end_wait(
+            false,
+            cause,
+            clock,
+            &mut self.going,
+            &mut self.cpu,
+            &mut self.space,
+            &mut self.kernel,
+            &mut self.mem,
+            dev,
+            &mut log,
+        )
+    }
+
+    /// Whether the second step ends the call that waits: its deadline is over, and no stop has interrupted it.
+    fn wakes(&self, clock: u64) -> bool
+        ensures { result ≡ wakes clock (machine_of self.now) }
+    {
+        !(self.going.stopped || self.going.interrupted)
+            && is_over_at(clock, deadline_in(self.going.wait))
+    }
+
+    /// The second step of a turn: ends the call that waits where its deadline is over, at the kernel's time `clock`, in
+    /// nanoseconds.
+    fn wake<I: Source, O: Sink, E: Sink>(
+        &mut self,
+        clock: u64,
+        dev: &mut Devices<I, O, E>,
+    ) -> Result<(), Stop>
+        requires clock { self.old.kernel.clock ≡ clock }
+        ensures woken { Takes (second_step built) result self.old self.new
+            (contents I.left O.written E.written dev.old) (contents I.left O.written E.written dev.new) }
+        ensures clock { self.new.kernel.clock ≡ clock }
+        ensures idle { self.new.idle ≡ self.old.idle }
+        ensures cause { StopsOnlyIfRose I.faults O.faults E.faults result dev.old dev.new }
+        ensures counts { NoCountFell I.faults O.faults E.faults dev.old dev.new }
+    {
+        if self.wakes(clock) {
+            return self.end_wait(Cause::Due, clock, dev);
+        }
+        Ok(())
+    }
+
+    /// The third step of a turn: delivers signals, unless the process is stopped.
+    fn deliver<I: Source, O: Sink, E: Sink>(
+        &mut self,
+        clock: u64,
+        dev: &mut Devices<I, O, E>,
+    ) -> Result<(), Stop>
+        requires clock { self.old.kernel.clock ≡ clock }
+        ensures delivered { Takes (third_step built) result self.old self.new
+            (contents I.left O.written E.written dev.old) (contents I.left O.written E.written dev.new) }
+        ensures clock { self.new.kernel.clock ≡ clock }
+        ensures idle { self.new.idle ≡ self.old.idle }
+        ensures cause { StopsOnlyIfRose I.faults O.faults E.faults result dev.old dev.new }
+        ensures counts { NoCountFell I.faults O.faults E.faults dev.old dev.new }
+    {
+        if self.going.stopped {
+            return Ok(());
+        }
+        let mut log = no_log();
+        deliver(
+            clock,
+            &mut self.going,
+            &mut self.cpu,
+            &mut self.space,
+            &mut self.kernel,
+            &mut self.mem,
+            dev,
+            &mut log,
+        )
+    }
+
+    /// Whether the fourth step ends the call that waits: a stop interrupted it, and the process goes on.
+    fn resumes(&self) -> bool
+        ensures { result ≡ resumes self.now.going }
+    {
+        self.going.over.is_none() && self.going.interrupted && !self.going.stopped
+    }
+
+    /// The fourth step of a turn, which a process that was killed doesn't take: ends the call that a stop interrupted,
+    /// where the process goes on.
+    fn resume<I: Source, O: Sink, E: Sink>(
+        &mut self,
+        clock: u64,
+        dev: &mut Devices<I, O, E>,
+    ) -> Result<(), Stop>
+        requires clock { self.old.kernel.clock ≡ clock }
+        ensures resumed { Takes goes_on result self.old self.new
+            (contents I.left O.written E.written dev.old) (contents I.left O.written E.written dev.new) }
+        ensures clock { self.new.kernel.clock ≡ clock }
+        ensures idle { self.new.idle ≡ self.old.idle }
+        ensures cause { StopsOnlyIfRose I.faults O.faults E.faults result dev.old dev.new }
+        ensures counts { NoCountFell I.faults O.faults E.faults dev.old dev.new }
+    {
+        if self.resumes() {
+            return self.end_wait(Cause::Stopped, clock, dev);
+        }
+        Ok(())
+    }
+
+    /// The third and the fourth step of a turn.
+    fn deliver_and_resume<I: Source, O: Sink, E: Sink>(
+        &mut self,
+        clock: u64,
+        dev: &mut Devices<I, O, E>,
+    ) -> Result<(), Stop>
+        requires clock { self.old.kernel.clock ≡ clock }
+        ensures took { Takes (λ within. goes_on (third_step built within)) result self.old self.new
+            (contents I.left O.written E.written dev.old) (contents I.left O.written E.written dev.new) }
+        ensures clock { self.new.kernel.clock ≡ clock }
+        ensures idle { self.new.idle ≡ self.old.idle }
+        ensures cause { StopsOnlyIfRose I.faults O.faults E.faults result dev.old dev.new }
+        ensures counts { NoCountFell I.faults O.faults E.faults dev.old dev.new }
+    {
+        self.deliver(clock, dev)?;
+        self.resume(clock, dev)
+    }
+
+    /// The second to the fourth step of a turn.
+    fn wake_to_resume<I: Source, O: Sink, E: Sink>(
+        &mut self,
+        clock: u64,
+        dev: &mut Devices<I, O, E>,
+    ) -> Result<(), Stop>
+        requires clock { self.old.kernel.clock ≡ clock }
+        ensures took { Takes (λ within. goes_on (third_step built (second_step built within))) result self.old self.new
+            (contents I.left O.written E.written dev.old) (contents I.left O.written E.written dev.new) }
+        ensures clock { self.new.kernel.clock ≡ clock }
+        ensures idle { self.new.idle ≡ self.old.idle }
+        ensures cause { StopsOnlyIfRose I.faults O.faults E.faults result dev.old dev.new }
+        ensures counts { NoCountFell I.faults O.faults E.faults dev.old dev.new }
+    {
+        self.wake(clock, dev)?;
+        self.deliver_and_resume(clock, dev)
+    }
+
+    /// The first four steps of a turn, at a time of the clock, in nanoseconds: what is due is posted, a wait ends whose
+    /// deadline is over, signals are delivered, and a wait ends that a stop interrupted.
+    ///
+    /// # Errors
+    ///
+    /// `NoMemory`, and `ReadFault` and `WriteFault` only where that device's count rose. The process is not used again
+    /// then.
+    pub(crate) fn settle<I: Source, O: Sink, E: Sink>(
+        &mut self,
+        clock: u64,
+        dev: &mut Devices<I, O, E>,
+    ) -> Result<(), Stop>
+        requires later { self.old.kernel.clock ≤ clock }
+        ensures settled { Settles clock result self.old self.new
+            (contents I.left O.written E.written dev.old) (contents I.left O.written E.written dev.new) }
+        ensures clock { OnOk result (self.new.kernel.clock ≡ clock) }
+        ensures behind { self.new.kernel.clock ≤ clock }
+        ensures idle { self.new.idle ≡ self.old.idle }
+        ensures cause { StopsOnlyIfRose I.faults O.faults E.faults result dev.old dev.new }
+        ensures counts { NoCountFell I.faults O.faults E.faults dev.old dev.new }
+    {
+        self.begin();
+        self.post(clock)?;
+        self.wake_to_resume(clock, dev)
+    }
+
+    /// The last steps of a turn, at the kernel's time `clock`, in nanoseconds: a process that was killed has ended; where
+    /// it is stopped or a call waits, the clock jumps, or the process is blocked; else one instruction is carried out
+    /// with its call, which takes a quantum.
+    ///
+    /// # Errors
+    ///
+    /// As those of a turn.
+    pub(crate) fn last_steps<I: Source, O: Sink, E: Sink>(
+        &mut self,
+        clock: u64,
+        quantum: u64,
+        dev: &mut Devices<I, O, E>,
+    ) -> Result<Last, Stop>
+        requires clock { self.old.kernel.clock ≡ clock }
+        requires quantum { quantum ≤ 1_000_000 }
+        requires few { clock + 1_000_000 < 2 ^ 64 }
+        requires idle { self.old.idle ≤ clock }
+        ensures last { IsLast (last_steps quantum (within_now self.old)) result self.new
+            (contents I.left O.written E.written dev.old) (contents I.left O.written E.written dev.new) }
+        ensures bound { IfOk result (λ last. last.clock ≤ max clock (2 ^ 61) + 1_000_000 * turns_of last.turn) }
+        ensures later { IfOk result (λ last. clock ≤ last.clock) }
+        ensures clock { self.new.kernel.clock ≡ clock }
+        ensures idle { IfOk result (λ last. self.new.idle ≤ last.clock) }
+        ensures idle_before { IfErr result (λ stop. self.new.idle ≤ clock) }
+        ensures cause { StopsOnlyIfRose I.faults O.faults E.faults result dev.old dev.new }
+        ensures counts { NoCountFell I.faults O.faults E.faults dev.old dev.new }
+    {
+        if let Some(finish) = self.going.over {
+            return Ok(Last {
+                turn: Turn::Ended(finish),
+                clock,
+            });
+        }
+        if self.going.stopped || self.going.wait.is_some() {
+            return Ok(self.jump(clock));
+        }
+        self.execute(clock, quantum, dev)
+    }
+
+    /// The time of the next thing that can come while no instruction is executed, in nanoseconds of the clock: an event,
+    /// the timer, or the deadline of the call that waits, unless the process is stopped. None where nothing can come.
+    fn next_time(&self) -> Option<u64>
+        ensures time { result ≡ next_for (machine_of self.now) }
+        ensures early { IfSome result (λ time. time ≤ 2 ^ 61) }
+    {
+        let deadline = if self.going.stopped {
+            None
+        } else {
+            if_comes(deadline_in(self.going.wait))
+        };
+        sooner(
+            next_event(&self.schedule),
+            sooner(self.kernel.next_time(), deadline),
+        )
+    }
+
+    /// The fifth step of a turn: the clock goes to the time of the next thing that can come, and never back. Where nothing
+    /// can come the process is blocked, and it is no turn. The kernel's own clock stands, which the next turn moves.
+    fn jump(&mut self, clock: u64) -> Last
+        requires clock { self.old.kernel.clock ≡ clock }
+        requires alive { self.old.going.over ≡ None }
+        requires few { clock + 1_000_000 < 2 ^ 64 }
+        requires idle { self.old.idle ≤ clock }
+        ensures machine { machine_at result.clock (machine_of self.new) ≡ (jumped_within (within_now self.old)).machine }
+        ensures over { over_of result.turn ≡ (jumped_within (within_now self.old)).over }
+        ensures events { self.new.going.events ≡ self.old.going.events }
+        ensures bound { result.clock ≤ max clock (2 ^ 61) }
+        ensures later { clock ≤ result.clock }
+        ensures clock { self.new.kernel.clock ≡ clock }
+        ensures idle { self.new.idle ≤ result.clock }
+    {
+        match self.next_time() {
+            None => Last {
+                turn: Turn::Ended(Finish::Blocked),
+                clock,
+            },
+            Some(time) => {
+                let to = clock.max(time);
+                self.idle += to - clock;
+                Last {
+                    turn: Turn::Went,
+                    clock: to,
+                }
+            }
+        }
+    }
+
+    /// The sixth step of a turn: one instruction is carried out with its call, which takes a quantum, in nanoseconds.
+    fn execute<I: Source, O: Sink, E: Sink>(
+        &mut self,
+        clock: u64,
+        quantum: u64,
+        dev: &mut Devices<I, O, E>,
+    ) -> Result<Last, Stop>
+        requires clock { self.old.kernel.clock ≡ clock }
+        requires quantum { quantum ≤ 1_000_000 }
+        requires few { clock + 1_000_000 < 2 ^ 64 }
+        ensures last { IsLast (sixth_step built quantum (within_now self.old)) result self.new
+            (contents I.left O.written E.written dev.old) (contents I.left O.written E.written dev.new) }
+        ensures time { IfOk result (λ last. last.clock ≡ clock + quantum) }
+        ensures counted { IfOk result (λ last. turns_of last.turn ≡ 1) }
+        ensures clock { self.new.kernel.clock ≡ clock }
+        ensures idle { self.new.idle ≡ self.old.idle }
+        ensures cause { StopsOnlyIfRose I.faults O.faults E.faults result dev.old dev.new }
+        ensures counts { NoCountFell I.faults O.faults E.faults dev.old dev.new }
+    {
+        let came = self.run(0).came?;
+        let turn = self.end_turn(came, clock, dev)?;
+        Ok(Last {
+            turn,
+            clock: later(clock, quantum, 1),
+        })
     }
 
     /// Carries out instructions, one after the other: at most `most` that make no call and meet no fault, and one
@@ -266,7 +516,8 @@ impl Process {
         dev: &mut Devices<I, O, E>,
     ) -> Result<Turn, Stop>
         requires clock { self.old.kernel.clock ≡ clock }
-        ensures turn { IsTurn (after_step built (machine_of self.old) came) result (machine_of self.new)
+        ensures turn { IsTurn (λ left. after_events self.old.going.events (after_step built (machine_of self.old) came left)) result
+            (machine_of self.new) self.new.going.events
             (contents I.left O.written E.written dev.old) (contents I.left O.written E.written dev.new) }
         ensures clock { self.new.kernel.clock ≡ clock }
         ensures counted { IfOk result (λ turn. turns_of turn ≡ 1) }
@@ -278,7 +529,7 @@ impl Process {
             Stepped::Next => Ok(Turn::Went),
             Stepped::Syscall => self.call(clock, dev),
             Stepped::Fault { sig, code, addr } => {
-                self.fault = Some(fault_info(sig, code, addr));
+                self.keep_fault(fault_info(sig, code, addr))?;
                 Ok(Turn::Went)
             }
         }
@@ -294,7 +545,8 @@ impl Process {
         dev: &mut Devices<I, O, E>,
     ) -> Result<Turn, Stop>
         requires { self.old.kernel.clock ≡ clock }
-        ensures turn { IsTurn (called built (machine_of self.old)) result (machine_of self.new)
+        ensures turn { IsTurn (λ left. after_events self.old.going.events (called built (machine_of self.old) left)) result
+            (machine_of self.new) self.new.going.events
             (contents I.left O.written E.written dev.old) (contents I.left O.written E.written dev.new) }
         ensures clock { self.new.kernel.clock ≡ clock }
         ensures counted { IfOk result (λ turn. turns_of turn ≡ 1) }
@@ -303,13 +555,10 @@ impl Process {
         ensures counts { NoCountFell I.faults O.faults E.faults dev.old dev.new }
     {
         let words = args(&self.space, &self.cpu);
-        let mut log = Log {
-            native: None,
-            effects: None,
-        };
+        let mut log = no_log();
         let seen = Seen {
             quanta: clock.saturating_sub(self.idle),
-            restart: self.restart,
+            restart: self.going.restart,
         };
         let outcome = make_call(
             self.alloc,
@@ -322,40 +571,69 @@ impl Process {
             &mut log,
             &seen,
         )?;
-        Ok(self.finish(&words, outcome))
+        let turn = self.finish(&words, outcome)?;
+        Ok(turn)
     }
 
     /// Puts the outcome of a call of these words into the registers, or keeps its wait, or makes a fault of it, or ends
-    /// the process.
-    fn finish(&mut self, words: &CallWords, outcome: Outcome) -> Turn
-        ensures machine { machine_of self.new ≡ (finished words.now (machine_of self.old) outcome).machine }
-        ensures over { over_of result ≡ (finished words.now (machine_of self.old) outcome).over }
+    /// the process, and keeps what happened.
+    fn finish(&mut self, words: &CallWords, outcome: Outcome) -> Result<Turn, NoMemory>
+        ensures machine { OnOk result (machine_of self.new ≡ (finished words.now (machine_of self.old) outcome).machine) }
+        ensures events { OnOk result (self.new.going.events ≡ self.old.going.events ++ (finished words.now (machine_of self.old) outcome).events) }
+        ensures over { IfOk result (λ turn. over_of turn ≡ (finished words.now (machine_of self.old) outcome).over) }
+        ensures counted { IfOk result (λ turn. turns_of turn ≡ 1) }
         ensures kernel { self.new.kernel ≡ self.old.kernel }
-        ensures counted { turns_of result ≡ 1 }
+        ensures idle { self.new.idle ≡ self.old.idle }
+    {
+        let event = self.put_outcome(words, outcome);
+        self.keep_event(event)?;
+        Ok(turn_of(outcome))
+    }
+
+    /// Puts the outcome of a call of these words into the registers, or keeps its wait, or makes a fault of it, and tells
+    /// what happened.
+    fn put_outcome(&mut self, words: &CallWords, outcome: Outcome) -> Event
+        ensures machine { machine_of self.new ≡ (finished words.now (machine_of self.old) outcome).machine }
+        ensures event { (finished words.now (machine_of self.old) outcome).events ≡ result ∷ [] }
+        ensures kernel { self.new.kernel ≡ self.old.kernel }
+        ensures events { self.new.going.events ≡ self.old.going.events }
         ensures idle { self.new.idle ≡ self.old.idle }
     {
         self.use_restart(words.nr);
         match outcome {
-            Outcome::Value(value) => self.set_result(value, false),
+            Outcome::Value(value) => {
+                self.set_result(value, false);
+                self.call_told(words)
+            }
             Outcome::Pair(first, second) => {
                 self.set_result(first, false);
                 self.cpu.set_register(V1, second);
+                self.call_told(words)
             }
-            Outcome::Error(error) => self.set_result(error.to_o32(), true),
-            Outcome::Sleep(wait) => self.wait = Some(wait),
-            Outcome::Frame => {}
-            Outcome::BadFrame => self.fault = Some(frame_fault()),
-            Outcome::Exit(status) => return Turn::Ended(Finish::Exited(status)),
+            Outcome::Error(error) => {
+                self.set_result(error.to_o32(), true);
+                self.call_told(words)
+            }
+            Outcome::Sleep(wait) => {
+                self.going.wait = Some(wait);
+                self.going.interrupted = false;
+                Event::Wait {
+                    nr: words.nr,
+                    args: words.reg,
+                }
+            }
+            Outcome::Frame => Event::Return,
+            Outcome::BadFrame => self.meet(frame_fault()),
+            Outcome::Exit(status) => Event::Exit { status },
         }
-        Turn::Went
     }
 
     /// A call of this number was made: restart_syscall(2) uses up the wait that it goes on with.
     fn use_restart(&mut self, number: u32)
-        ensures { self.new ≡ record self.old { restart = restart_after number self.old.restart } }
+        ensures { self.new ≡ record self.old { going = record self.old.going { restart = restart_after number self.old.going.restart } } }
     {
         if number == RESTART_SYSCALL {
-            self.restart = None;
+            self.going.restart = None;
         }
     }
 
@@ -366,13 +644,100 @@ impl Process {
         self.cpu.set_register(V0, value);
         self.cpu.set_register(A3, u32::from(failed));
     }
+
+    /// That a call of these words has ended, with what the registers hold of it.
+    fn call_told(&self, words: &CallWords) -> Event
+        ensures { result ≡ events.Call words.now.nr words.now.reg (register self.now.processor v0) (register self.now.processor a3) }
+    {
+        Event::Call {
+            nr: words.nr,
+            args: words.reg,
+            v0: self.cpu.register(V0),
+            a3: self.cpu.register(A3),
+        }
+    }
+
+    /// Meets a fault, which is to be delivered, and tells what happened.
+    fn meet(&mut self, info: Info) -> Event
+        ensures machine { machine_of self.new ≡ (faults info (begin (machine_of self.old))).machine }
+        ensures event { (faults info (begin (machine_of self.old))).events ≡ result ∷ [] }
+        ensures kernel { self.new.kernel ≡ self.old.kernel }
+        ensures events { self.new.going.events ≡ self.old.going.events }
+        ensures idle { self.new.idle ≡ self.old.idle }
+    {
+        self.going.fault = Some(info);
+        Event::Fault {
+            sig: info.sig,
+            code: info.code.unsigned_abs(),
+            addr: info.addr,
+        }
+    }
+
+    /// Meets a fault, and keeps what happened.
+    fn keep_fault(&mut self, info: Info) -> Result<(), NoMemory>
+        ensures machine { OnOk result (machine_of self.new ≡ (faults info (begin (machine_of self.old))).machine) }
+        ensures events { OnOk result (self.new.going.events ≡ self.old.going.events ++ (faults info (begin (machine_of self.old))).events) }
+        ensures kernel { self.new.kernel ≡ self.old.kernel }
+        ensures idle { self.new.idle ≡ self.old.idle }
+    {
+        let event = self.meet(info);
+        self.keep_event(event)
+    }
+
+    /// Keeps what happened, behind what happened before in the turn.
+    fn keep_event(&mut self, event: Event) -> Result<(), NoMemory>
+        ensures kept { OnOk result (self.new ≡ record self.old { going = record self.old.going { events = self.old.going.events ++ event ∷ [] } }) }
+        ensures kernel { self.new.kernel ≡ self.old.kernel }
+        ensures idle { self.new.idle ≡ self.old.idle }
+    {
+        self.going.events.push(event)?;
+        Ok(())
+    }
 }
 
-/// Whether a call's wait is that of a sleep: nanosleep(2), clock_nanosleep(2).
-fn is_sleep(number: u32) -> bool
-    ensures { result ≡ is_sleep number }
+/// What a process has at first: no call waits, nothing is to be delivered, and nothing has happened.
+fn first_going(alloc: Global) -> Going
+    ensures { result ≡ first_standing }
 {
-    number == 4166 || number == 4265
+    Going {
+        wait: None,
+        interrupted: false,
+        restart: None,
+        stopped: false,
+        fault: None,
+        saved: None,
+        over: None,
+        events: Vec::new(alloc),
+    }
+}
+
+/// A log in which nothing is kept.
+fn no_log() -> Log
+{
+    Log {
+        native: None,
+        effects: None,
+    }
+}
+
+/// The time of the next event of a schedule.
+fn next_event(schedule: &Schedule) -> Option<u64>
+    requires { IsGivenSchedule schedule.now }
+    ensures time { result ≡ next_event (coming_of schedule.now) }
+    ensures early { IfSome result (λ time. time ≤ 2 ^ 60) }
+{
+    schedule.next()
+}
+
+/// The turn of a call that came to this.
+fn turn_of(outcome: Outcome) -> Turn
+    ensures over { (words : CallWords) (machine : Machine) → over_of result ≡ (finished words machine outcome).over }
+    ensures counted { turns_of result ≡ 1 }
+{
+    match outcome {
+        Outcome::Exit(status) => Turn::Ended(Finish::Exited(status)),
+        _ => Turn::Went,
+    }
 }
 
 /// What is known of the signal of a fault that an instruction met.
@@ -402,48 +767,5 @@ fn frame_fault() -> Info
         uid: 0,
         value: 0,
         addr: 0,
-    }
-}
-
-/// The deadline of a call that waits, where it can come.
-fn deadline_of(wait: Option<Wait>) -> Option<u64>
-    ensures { result ≡ deadline_of wait }
-{
-    match wait {
-        None => None,
-        Some(wait) => if_comes(wait.deadline),
-    }
-}
-
-/// A time that can come: one past 2^61 never does.
-fn if_comes(time: Option<u64>) -> Option<u64>
-    ensures { result ≡ if_comes time }
-{
-    match time {
-        Some(time) if time <= LAST_TIME => Some(time),
-        _ => None,
-    }
-}
-
-/// Whether a deadline is over.
-fn is_over_at(clock: u64, deadline: Option<u64>) -> bool
-    ensures { result ≡ is_over_at clock deadline }
-{
-    match deadline {
-        None => false,
-        Some(deadline) => deadline <= clock && deadline <= LAST_TIME,
-    }
-}
-
-/// The lesser of two times that may not be there.
-fn sooner(one: Option<u64>, other: Option<u64>) -> Option<u64>
-    ensures { result ≡ sooner one other }
-{
-    match one {
-        None => other,
-        Some(time) => match other {
-            None => Some(time),
-            Some(other) => Some(time.min(other)),
-        },
     }
 }

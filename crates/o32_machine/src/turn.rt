@@ -23,4 +23,14 @@ impl Turn {
             Turn::Ended(_) => true,
         }
     }
+
+    /// How many turns it counts for: an attempt that finds the process blocked counts for none.
+    pub(crate) fn count(self) -> u64
+        ensures { result ≡ turns_of self }
+    {
+        match self {
+            Turn::Ended(Finish::Blocked) => 0,
+            Turn::Went | Turn::Ended(_) => 1,
+        }
+    }
 }

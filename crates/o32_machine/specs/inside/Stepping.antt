@@ -6,8 +6,6 @@ use Rattle.mips_exec.specs.Processor.{Processor}
 use Rattle.mips_exec.specs.Step.{step_of}
 use Rattle.mips_exec.specs.declared.Stepped.{Stepped}
 use Rattle.mips_exec.specs.declared.Stepped.TheVariants.{Next}
-use Rattle.o32_turns.specs.Machine.{Machine, Within, begin}
-use Rattle.o32_turns.specs.Turn.{jumped, next_for}
 
 -- an instruction leads from one processor and memory to others, and came to this
 abbrev pub Steps : Processor → Memory → Stepped → Processor → Memory → Type 0
@@ -22,7 +20,3 @@ Goes (suc k) processor memory next stored = (middle : Processor) × (kept : Memo
 abbrev pub GoesThen : ℕ → Processor → Memory → Result Stepped NoMemory → Processor → Memory → Type 0
 GoesThen k processor memory (Ok came) next stored = (middle : Processor) × (kept : Memory) × Goes k processor memory middle kept × Steps middle kept came next stored
 GoesThen k processor memory (Err error) next stored = Goes k processor memory next stored
-
--- Where the clock jumps, by the machine alone
-abbrev pub jumped_within : Machine → Within
-jumped_within machine = jumped (next_for machine) (begin machine)
