@@ -16,7 +16,7 @@ use Rattle.elf_image.specs.Rules.{first_failure}
 use Rattle.elf_image.specs.Loading.{plan_of, IsValidPlan}
 use Rattle.elf_image.specs.declared.load_plan.Plan.{Plan}
 use Rattle.o32_session.specs.Words.{Line}
-use Rattle.o32_session.specs.Asked.{Asked, Refuse, Run, names_of, Absent, Long, Bytes, IsFound, IsOpened, IsScheduled, asked_of_schedule, AsksOfPlan, AsksUnless, AsksFor, arguments_of, coming_events, first_machine, program_limit, stack_chance}
+use Rattle.o32_session.specs.Asked.{Asked, Refuse, Run, names_of, Absent, Long, Bytes, IsFound, IsOpened, IsScheduled, asked_of_schedule, AsksOfPlan, AsksUnless, AsksFor, arguments_of, first_machine, program_limit, stack_chance}
 use Rattle.o32_session.specs.inside.Prepared.{IsLoaded, IsElfReason, IsRefusedFor, is_absent, is_long, is_broken, IsPlanOf, IsPlanned, IsTree, IsScheduledAs, IsStartReason, IsPreparedLine}
 use Rattle.o32_session.specs.declared.answer.Refusal.{Refusal}
 use Rattle.o32_session.specs.declared.answer.Refusal.TheVariants.{Usage, Missing, TooLong, Elf, Image, Start}
@@ -139,13 +139,13 @@ unplanned_line words line told NoMemory is = tt
 -- the emulator of a start that fits, over the kernel of this tree and schedule
 pub machine_ready : (args : List (List ℕ)) (line : Line) (plan : Plan) (tree : Tree) (schedule : Schedule) (cpu : Processor) (space : Memory) (quantum : ℕ) (machine : Machine)
     → (start_limit < start_size args line.environment → ⊥) → cpu ≡ start_processor plan args line.environment → space ≡ start_memory plan args line.environment (stack_chance schedule) → quantum ≡ schedule.quantum
-    → machine ≡ emulators.first_machine cpu space (first_state tree (settings_of schedule)) (coming_events schedule) → asked_of_schedule args line plan tree schedule ≡ Run quantum machine line.budget
+    → machine ≡ emulators.first_machine cpu space (first_state tree (settings_of schedule)) (emulators.coming_of schedule) → asked_of_schedule args line plan tree schedule ≡ Run quantum machine line.budget
 machine_ready args line plan tree schedule cpu space quantum machine fits cpu_is space_is quantum_is machine_is =
     let within : start_size args line.environment ≤ start_limit = omega arith in
     let same : first_machine plan args line.environment tree schedule ≡ machine =
     sym (machine_is
-    ∙ ap (λ (p : Processor). emulators.first_machine p space (first_state tree (settings_of schedule)) (coming_events schedule)) cpu_is
-    ∙ ap (λ (m : Memory). emulators.first_machine (start_processor plan args line.environment) m (first_state tree (settings_of schedule)) (coming_events schedule)) space_is) in
+    ∙ ap (λ (p : Processor). emulators.first_machine p space (first_state tree (settings_of schedule)) (emulators.coming_of schedule)) cpu_is
+    ∙ ap (λ (m : Memory). emulators.first_machine (start_processor plan args line.environment) m (first_state tree (settings_of schedule)) (emulators.coming_of schedule)) space_is) in
     ap (λ (b : Bool). cond b (Refuse Start) (Run schedule.quantum (first_machine plan args line.environment tree schedule) line.budget))
     (le-ltb start_limit (start_size args line.environment) within)
     ∙ (ap (λ (m : Machine). Run schedule.quantum m line.budget) same ∙ ap (λ (q : ℕ). Run q machine line.budget) (sym quantum_is))

@@ -20,7 +20,6 @@ use Rattle.kernel_model.specs.System.{round}
 use Rattle.native_kernel.specs.Settings.{settings_of}
 use Rattle.schedule.specs.Grammar.{meaning_of}
 use Rattle.schedule.specs.declared.Schedule.{Schedule}
-use Rattle.schedule.specs.declared.events.Due.{Due}
 use Rattle.schedule.specs.declared.refusal.ScheduleRefusal.{ScheduleRefusal}
 use Rattle.o32_machine.specs.Emulator as emulators
 use Rattle.o32_turns.specs.Machine.{Machine}
@@ -148,15 +147,11 @@ IsScheduled files (Some name) scheduled =
 abbrev pub stack_chance : Schedule → List ℕ
 stack_chance schedule = round schedule.random 0 16
 
--- the events that come from outside, from the schedule's cursor on
-abbrev pub coming_events : Schedule → List Due
-coming_events schedule = drop schedule.at schedule.events
-
 -- the machine of a plan with these arguments and this environment, beside this tree of files, under this schedule
 abbrev pub first_machine : Plan → List (List ℕ) → List (List ℕ) → Tree → Schedule → Machine
 first_machine plan args env tree schedule =
     emulators.first_machine (start_processor plan args env) (start_memory plan args env (stack_chance schedule))
-    (first_state tree (settings_of schedule)) (coming_events schedule)
+    (first_state tree (settings_of schedule)) (emulators.coming_of schedule)
 
 -- a refusal, or a run: how many nanoseconds of the clock a turn with an instruction takes, its machine, and its budget
 pub data Asked : Type 0 where
