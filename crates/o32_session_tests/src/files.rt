@@ -1,5 +1,5 @@
 //! The files that a session loads, where one is missing or is refused.
-use crate::script::first_wrong;
+use session_scripts::first_wrong;
 use std::test::Fail;
 
 /// The program that writes `Hi`.

@@ -1,5 +1,5 @@
 //! Programs, by what they do with their devices and how they end.
-use crate::script::first_wrong;
+use session_scripts::first_wrong;
 use std::test::Fail;
 
 /// Each exits with the error of its call, or with whether it failed. ENOSYS is 89.

@@ -1,5 +1,5 @@
 //! The file that a final tree is saved to, and devices that fail.
-use crate::script::first_wrong;
+use session_scripts::first_wrong;
 use std::test::Fail;
 
 /// The program that writes `Hi`, an image, a file `s`, and input.

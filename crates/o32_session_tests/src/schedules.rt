@@ -1,5 +1,5 @@
 //! The schedule of a run: what its settings do, and how it is refused.
-use crate::script::first_wrong;
+use session_scripts::first_wrong;
 use std::test::Fail;
 
 /// Four bytes of getrandom(2), which are written to standard output.

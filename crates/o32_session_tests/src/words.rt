@@ -1,5 +1,5 @@
 //! The words of a session: those that are wrong, and budgets and arguments.
-use crate::script::first_wrong;
+use session_scripts::first_wrong;
 use std::test::Fail;
 
 /// The program that writes `Hi`.

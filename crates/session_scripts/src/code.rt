@@ -21,6 +21,10 @@ const INSTRUCTIONS: &str = "
     lbu 0x90000000 rt immediate rs
     ll 0xC0000000 rt immediate rs
     sc 0xE0000000 rt immediate rs
+    sw 0xAC000000 rt immediate rs
+    beq 0x10000000 rs rt immediate
+    bne 0x14000000 rs rt immediate
+    jr 0x00000008 rs
     syscall 0x0000000C
     nop 0x00000000
     break 0x0000000D code
@@ -28,6 +32,9 @@ const INSTRUCTIONS: &str = "
     rdhwr 0x7C00003B rt rd
     movf 0x00000001 rd rs condition
 ";
+
+/// Where a text stands in a program's segment.
+const TEXT: usize = 0x100;
 
 /// The length of a page.
 const PAGE: usize = 0x1000;
@@ -113,18 +120,20 @@ fn executable(alloc: Global, segment: &[u8]) -> Result<Vec<u8>, Fail> {
     Ok(file)
 }
 
-/// The bytes of these words, with `Hi` and a newline at 0x100.
+/// The bytes of these words, with `Hi` and a newline at 0x100, where they end before.
 fn segment(alloc: Global, code: &[u32]) -> Result<Vec<u8>, Fail> {
     let mut segment = Vec::new(alloc);
     for word in code {
         segment.extend_from_slice(&word.to_be_bytes())?;
     }
-    segment.resize(0x100, 0)?;
-    segment.extend_from_slice(b"Hi\n")?;
+    if segment.len() <= TEXT {
+        segment.resize(TEXT, 0)?;
+        segment.extend_from_slice(b"Hi\n")?;
+    }
     Ok(segment)
 }
 
-/// An executable of one page: these words, `Hi` and a newline at 0x00400100, and `abc` at the end of the page, behind
+/// An executable of one page: these words, `Hi` and a newline at 0x00400100 where the words end before, and `abc` at the end of the page, behind
 /// which there is none.
 pub(crate) fn one_page(alloc: Global, code: &[u32]) -> Result<Vec<u8>, Fail> {
     let mut page = segment(alloc, code)?;

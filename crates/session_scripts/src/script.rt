@@ -88,7 +88,7 @@ fn common(alloc: Global, text: &str) -> Result<Setting, Fail> {
 }
 
 /// The first session of a script that comes out otherwise, counted from 0. Some lines are common to all of them.
-pub(crate) fn first_wrong(
+pub fn first_wrong(
     alloc: Global,
     common_lines: &str,
     script: &str,

@@ -1,0 +1,9 @@
+//! Tests of signals: programs with handlers, under schedules, by whole sessions.
+#![tactic(auto)]
+
+#[cfg(test)]
+mod arriving;
+#[cfg(test)]
+mod frames;
+#[cfg(test)]
+mod waits;
