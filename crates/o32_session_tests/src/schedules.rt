@@ -65,7 +65,6 @@ const HELLO: &str = r"
     file p @hello
 ";
 
-/// The last two break no rule: no signal comes from outside yet, which is looked at behind the rules.
 const REFUSED_SCHEDULES: &str = r"
     file t quantum\t1\n
     o32run run --schedule t p ! schedule 1 1 : o32run: schedule rule 1 line 1
@@ -90,12 +89,19 @@ const REFUSED_SCHEDULES: &str = r"
 
     file t at 5 kill 14
     o32run run --schedule t p ! schedule 8 1 : o32run: schedule rule 8 line 1
+";
+
+/// A signal from outside kills a program that has no handler for it: in the sixth turn of 1,000 nanoseconds or of one, and in the first.
+/// That turn counts.
+const SIGNALS_FROM_OUTSIDE: &str = r"
+    file t at 5000 kill 15\n
+    o32run run --schedule t p = killed 15 143 6
 
     file t quantum 1\nat 5 kill 14\nat 6 kill 14\n
-    o32run run --schedule t p ! schedule 0 2 : o32run: schedule rule 0 line 2
+    o32run run --schedule t p = killed 14 142 6
 
     file t at 0 queue 33 9\n
-    o32run run --schedule t p ! schedule 0 1 : o32run: schedule rule 0 line 1
+    o32run run --schedule t p = killed 33 161 1
 ";
 
 const MISSING_SCHEDULE: &str = r"
@@ -139,6 +145,12 @@ fn settings(rt: HostRuntime) -> Result<(), Fail> {
 #[test]
 fn refused_schedules(rt: HostRuntime) -> Result<(), Fail> {
     assert_eq!(rt; first_wrong(rt.alloc(), HELLO, REFUSED_SCHEDULES)?, None);
+    Ok(())
+}
+
+#[test]
+fn signals_from_outside(rt: HostRuntime) -> Result<(), Fail> {
+    assert_eq!(rt; first_wrong(rt.alloc(), HELLO, SIGNALS_FROM_OUTSIDE)?, None);
     Ok(())
 }
 
