@@ -8,7 +8,7 @@ use Rattle.kernel_core.specs.declared.finish.Finish.TheVariants.{Killed}
 use Rattle.kernel_core.specs.declared.signal.Sig.{Sig}
 use Rattle.kernel_core.specs.declared.signal.Sig.TheVariants as sigs
 use Rattle.kernel_model.specs.Shared.{Info}
-use Rattle.kernel_model.specs.SignalRows.{after_action, is_on, no_action, shown_stack, si_kernel, ss_disable, with_mask, with_signals}
+use Rattle.kernel_model.specs.SignalRows.{after_action, is_on, is_unblockable, no_action, shown_stack, si_kernel, ss_disable, with_mask, with_signals}
 use Rattle.kernel_model.specs.SignalSets.{SignalSet, no_signals, only, union}
 use Rattle.kernel_model.specs.State.{Kernel, Signals}
 use Rattle.kernel_model.specs.declared.signal.Action.{Action}
@@ -83,9 +83,10 @@ frame_for kernel processor info action mask =
 abbrev pub own_mask : Sig → Action → SignalSet
 own_mask signal action = if action.flags.nodefer then no_signals else only signal
 
--- as sigaction(2) sets it
+-- as sigaction(2) sets it, by which KILL and STOP get no action
 abbrev pub without_action : Sig → Kernel → Kernel
-without_action signal kernel = with_signals kernel (after_action kernel.signals signal no_action)
+without_action signal kernel =
+    if is_unblockable signal then kernel else with_signals kernel (after_action kernel.signals signal no_action)
 
 abbrev pub handling : Kernel → Sig → Action → Kernel
 handling kernel signal action =

@@ -1,0 +1,9 @@
+pub mod Carrying
+pub mod FrameSizes
+pub mod Framing
+pub mod Lookup
+pub mod Numbers
+pub mod Quiet
+pub mod Rounds
+pub mod Takings
+pub mod Unions

@@ -1,0 +1,12 @@
+use Rattle.std.proofs.Common.{◌≡◌, ◌&&◌, not, find}
+use Rattle.kernel_core.specs.declared.signal.Sig.{Sig}
+use Rattle.kernel_model.specs.SignalSets.{has}
+use Rattle.o32_model.specs.Suspending.{all_signals}
+use Rattle.bridge_delivery.proofs.Lookup.{found_from}
+use Rattle.bridge_delivery.proofs.choosing.choose.Given as goal
+
+-- of the numbers so far none has such a signal
+abbrev pub invariant-loop-number : goal.invariant-loop-number
+invariant-loop-number l =
+    find (λ (signal : Sig). has l.pending signal && not (has l.mask signal)) all_signals
+    ≡ found_from (λ (signal : Sig). has l.pending signal && not (has l.mask signal)) l.number

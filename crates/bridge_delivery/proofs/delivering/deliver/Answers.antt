@@ -1,0 +1,51 @@
+-- Round by round, until it is over or all rounds are done.
+use Rattle.std.proofs.Common.{◌≡◌, ◌∙◌, ◌+◌, ◌-◌, ap, sym, List, ℕ, Some, true, false, arith, rules}
+use Rattle.std.specs.Prelude.{is_some}
+use Rattle.mips_exec.specs.Processor.{Processor}
+use Rattle.o32_turns.specs.Built.{built_end}
+use Rattle.o32_turns.specs.Delivering.{rounds}
+use Rattle.o32_turns.specs.Going.{within_of}
+use Rattle.o32_turns.specs.Machine.{Within}
+use Rattle.outside.specs.Streams.{Contents}
+use Rattle.schedule.specs.declared.events.Due.{Due}
+use Rattle.bridge_delivery.proofs.Rounds.{all_done, one_round, over_so}
+use Rattle.bridge_delivery.proofs.delivering.deliver.Goals as goal
+
+pub returns-then-is_delivered-clause-delivered : goal.returns-then-is_delivered-clause-delivered
+returns-then-is_delivered-clause-delivered g c = λ left told.
+    let so = c.loop-round.invariant.carried left told in
+    let none = ap (λ (p : Processor). is_some p.slot) (sym c.cpu.view_is) ∙ sym c.is_some.ensures ∙ c.if-is_some.false in (
+      so.0,
+      λ (coming : List Due) (idle : ℕ).
+          over_so c.loop-round._round (within_of c.args.going.now c.args.cpu.now c.args.space.now c.args.k.now coming idle)
+          (within_of c.loop-round.going c.loop-round.cpu c.loop-round.space c.loop-round.k coming idle)
+          none (sym c.is_delivered.ensures ∙ c.if-is_delivered.true) (so.1 coming idle),
+    )
+
+pub loop-round-preserved : goal.loop-round-preserved
+loop-round-preserved g c = record {
+  clock = search rules;
+  carried = λ left told.
+      let so = c.loop-round.invariant.carried left told in
+      let done = c.in_ok-round.ensures.delivered left (ap (λ (at : Contents). at.left) so.0 ∙ told) in (
+        done.0 ∙ so.0,
+        λ (coming : List Due) (idle : ℕ).
+            ap (λ (w : Within). rounds built_end (2112 - (c.loop-round._round + 1)) w) (done.1 coming idle)
+            ∙ sym (one_round c.loop-round._round (within_of c.loop-round.going c.loop-round.cpu c.loop-round.space c.loop-round.k coming idle)
+            (omega arith) (sym c.is_delivered.ensures ∙ c.if-is_delivered.false))
+            ∙ so.1 coming idle,
+      );
+  later = search rules;
+  stays = search rules;
+}
+
+pub returns-clause-delivered : goal.returns-clause-delivered
+returns-clause-delivered g c = λ left told.
+    let so = c.loop-round.invariant.carried left told in
+    let none = ap (λ (p : Processor). is_some p.slot) (sym c.cpu.view_is) ∙ sym c.is_some.ensures ∙ c.if-is_some.false in (
+      so.0,
+      λ (coming : List Due) (idle : ℕ).
+          all_done c.loop-round._round (within_of c.args.going.now c.args.cpu.now c.args.space.now c.args.k.now coming idle)
+          (within_of c.loop-round.going c.loop-round.cpu c.loop-round.space c.loop-round.k coming idle)
+          none (omega arith) (so.1 coming idle),
+    )

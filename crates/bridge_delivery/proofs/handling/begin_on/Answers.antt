@@ -1,0 +1,34 @@
+-- The handler's frame was written or not.
+use Rattle.std.proofs.Common.{◌≡◌, ◌∙◌, ℕ, Bool, List, ap, sym, refl, rules}
+use Rattle.std.specs.Prelude.{if◌then◌else◌}
+use Rattle.o32_turns.specs.Handling.{handling}
+use Rattle.schedule.specs.declared.events.Due.{Due}
+use Rattle.bridge_delivery.proofs.Carrying.{begins}
+use Rattle.bridge_delivery.proofs.handling.begin_on.Goals as goal
+
+pub returns-in_ok-run_handler-clause-begun : goal.returns-in_ok-run_handler-clause-begun
+returns-in_ok-run_handler-clause-begun g c = λ mask stack left told.
+    let run = c.in_ok-run_handler.ensures.handling mask left told in
+    let k = c.args.k.now in
+    let written = c.in_ok-written.written in
+    let frame = c.in_ok-written.ensures in (
+      run.0,
+      λ (coming : List Due) (idle : ℕ).
+          begins c.args.going.now c.args.cpu.now c.args.space.now k c.args.info.now c.args.action.now coming idle
+          c.args.blocked c.unwrap_or-kept.result c.args.stack written c.after_frame.new.going c.enter.new.cpu c.enter.new.space c.run_handler.new.k
+          mask stack (search rules) frame.0 frame.1 frame.2 c.in_ok-after_frame.ensures
+          (run.1 ∙ ap (λ (b : Bool). if b then handling k c.args.info.now.sig c.args.action.now else k) (sym c.if-written.true)),
+    )
+
+pub returns-else-written-clause-begun : goal.returns-else-written-clause-begun
+returns-else-written-clause-begun g c = λ mask stack left told.
+    let k = c.args.k.now in
+    let written = c.in_ok-written.written in
+    let frame = c.in_ok-written.ensures in (
+      refl,
+      λ (coming : List Due) (idle : ℕ).
+          begins c.args.going.now c.args.cpu.now c.args.space.now k c.args.info.now c.args.action.now coming idle
+          c.args.blocked c.unwrap_or-kept.result c.args.stack written c.after_frame.new.going c.enter.new.cpu c.enter.new.space k
+          mask stack (search rules) frame.0 frame.1 frame.2 c.in_ok-after_frame.ensures
+          (ap (λ (b : Bool). if b then handling k c.args.info.now.sig c.args.action.now else k) (sym c.if-written.false)),
+    )

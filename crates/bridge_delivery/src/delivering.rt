@@ -1,0 +1,250 @@
+//! The delivery of signals, round by round.
+ghost use Rattle.std.specs.Prelude.{◌≡◌, Some};
+ghost use Rattle.bridge_delivery.specs.inside.Standings.{Finds, is_over};
+ghost use Rattle.kernel_model.specs.Stops.{StopsOnlyIfRose};
+ghost use Rattle.o32_turns.specs.Built.{built_end};
+ghost use Rattle.o32_turns.specs.Delivering as spec;
+ghost use Rattle.o32_turns.specs.Delivering.{fault_delivered, next_signal, next_taken};
+ghost use Rattle.o32_turns.specs.Going.{Carries, within_of};
+ghost use Rattle.outside.specs.Streams.{NoCountFell, contents};
+
+use crate::choosing::{choose, is_quiet};
+use crate::dispositions::{dispose, has_handler, kill};
+use crate::handling::handle;
+use crate::sets::has;
+use bridge_signal_state::{action, mask, pending, take};
+use guest_space::Space;
+use host_mem::HostMem;
+use kernel_core::{Info, Sig, Stop};
+use kernel_model::Action;
+use mips_exec::Cpu;
+use native_kernel::NativeKernel;
+use o32_model::Log;
+use o32_turns::Going;
+use outside::{Devices, Sink, Source};
+
+/// At most how many rounds a delivery has: each uses up a fault or a signal that pends, of which there are 1,024
+/// real-time ones and one of each of 31 others at most, and a signal makes at most one fault.
+const MOST_ROUNDS: u32 = 2 * (1024 + 31) + 2;
+
+/// Delivers signals at the kernel's time `clock`, in nanoseconds, until none is left, or the process was stopped or
+/// killed: first the fault that it met, then the unblocked ones that pend, by rising numbers of the program (signal(7)).
+/// A fault whose signal is blocked or ignored kills. What happens is added to the events. In a branch delay slot nothing
+/// is delivered. It stops early for want of memory, or by a device.
+pub fn deliver<I: Source, O: Sink, E: Sink>(
+    clock: u64,
+    going: &mut Going,
+    cpu: &mut Cpu,
+    space: &mut Space,
+    k: &mut NativeKernel,
+    mem: &mut HostMem,
+    dev: &mut Devices<I, O, E>,
+    log: &mut Log,
+) -> Result<(), Stop>
+    requires clock { k.old.clock ≡ clock }
+    ensures delivered { Carries (spec.deliver built_end) result
+        (within_of going.old cpu.old space.old k.old) (within_of going.new cpu.new space.new k.new)
+        (contents I.left O.written E.written dev.old) (contents I.left O.written E.written dev.new) }
+    ensures cause { StopsOnlyIfRose I.faults O.faults E.faults result dev.old dev.new }
+    ensures counts { NoCountFell I.faults O.faults E.faults dev.old dev.new }
+    ensures clock { k.new.clock ≡ clock }
+{
+    if cpu.slot.is_some() {
+        return Ok(());
+    }
+    for _round in 0..MOST_ROUNDS {
+        if is_delivered(going, k) {
+            return Ok(());
+        }
+        round(clock, going, cpu, space, k, mem, dev, log)?;
+    }
+    Ok(())
+}
+
+/// Whether nothing is left to deliver, or the process was stopped or killed.
+fn is_delivered(going: &Going, k: &NativeKernel) -> bool
+    ensures { result ≡ is_over going.now k.now }
+{
+    going.over.is_some() || going.stopped || (going.fault.is_none() && is_quiet(k))
+}
+
+/// One round: the fault, or the next signal.
+fn round<I: Source, O: Sink, E: Sink>(
+    clock: u64,
+    going: &mut Going,
+    cpu: &mut Cpu,
+    space: &mut Space,
+    k: &mut NativeKernel,
+    mem: &mut HostMem,
+    dev: &mut Devices<I, O, E>,
+    log: &mut Log,
+) -> Result<(), Stop>
+    requires { k.old.clock ≡ clock }
+    ensures delivered { Carries (λ within. spec.round_by built_end within within.machine.fault) result
+        (within_of going.old cpu.old space.old k.old) (within_of going.new cpu.new space.new k.new)
+        (contents I.left O.written E.written dev.old) (contents I.left O.written E.written dev.new) }
+    ensures cause { StopsOnlyIfRose I.faults O.faults E.faults result dev.old dev.new }
+    ensures counts { NoCountFell I.faults O.faults E.faults dev.old dev.new }
+    ensures clock { k.new.clock ≡ clock }
+{
+    match going.fault {
+        Some(info) => take_fault(clock, &info, going, cpu, space, k, mem, dev, log),
+        None => take_next(clock, going, cpu, space, k, mem, dev, log),
+    }
+}
+
+/// The fault that the process met is used up and delivered.
+fn take_fault<I: Source, O: Sink, E: Sink>(
+    clock: u64,
+    info: &Info,
+    going: &mut Going,
+    cpu: &mut Cpu,
+    space: &mut Space,
+    k: &mut NativeKernel,
+    mem: &mut HostMem,
+    dev: &mut Devices<I, O, E>,
+    log: &mut Log,
+) -> Result<(), Stop>
+    requires { k.old.clock ≡ clock }
+    ensures delivered { Carries (λ within. spec.fault_taken built_end within info.now) result
+        (within_of going.old cpu.old space.old k.old) (within_of going.new cpu.new space.new k.new)
+        (contents I.left O.written E.written dev.old) (contents I.left O.written E.written dev.new) }
+    ensures cause { StopsOnlyIfRose I.faults O.faults E.faults result dev.old dev.new }
+    ensures counts { NoCountFell I.faults O.faults E.faults dev.old dev.new }
+    ensures clock { k.new.clock ≡ clock }
+{
+    going.fault = None;
+    let action = action(info.sig, k, mem, dev, log)?;
+    let blocked = mask(k, mem, dev, log)?;
+    deliver_fault(
+        clock, info, &action, blocked, going, cpu, space, k, mem, dev, log,
+    )
+}
+
+/// A fault is delivered whose action this is, where this is the mask that stands.
+fn deliver_fault<I: Source, O: Sink, E: Sink>(
+    clock: u64,
+    info: &Info,
+    action: &Action,
+    blocked: [u32; 4],
+    going: &mut Going,
+    cpu: &mut Cpu,
+    space: &mut Space,
+    k: &mut NativeKernel,
+    mem: &mut HostMem,
+    dev: &mut Devices<I, O, E>,
+    log: &mut Log,
+) -> Result<(), Stop>
+    requires { k.old.clock ≡ clock }
+    ensures delivered { blocked ≡ k.old.signals.mask
+        → Carries (λ within. fault_delivered built_end within info.now action.now) result
+        (within_of going.old cpu.old space.old k.old) (within_of going.new cpu.new space.new k.new)
+        (contents I.left O.written E.written dev.old) (contents I.left O.written E.written dev.new) }
+    ensures cause { StopsOnlyIfRose I.faults O.faults E.faults result dev.old dev.new }
+    ensures counts { NoCountFell I.faults O.faults E.faults dev.old dev.new }
+    ensures clock { k.new.clock ≡ clock }
+{
+    if !has(&blocked, info.sig) && has_handler(action) {
+        return handle(clock, info, action, going, cpu, space, k, mem, dev, log);
+    }
+    kill(info.sig, going)?;
+    Ok(())
+}
+
+/// The unblocked signal of the lowest number that pends, if there is one, is used up and delivered.
+fn take_next<I: Source, O: Sink, E: Sink>(
+    clock: u64,
+    going: &mut Going,
+    cpu: &mut Cpu,
+    space: &mut Space,
+    k: &mut NativeKernel,
+    mem: &mut HostMem,
+    dev: &mut Devices<I, O, E>,
+    log: &mut Log,
+) -> Result<(), Stop>
+    requires { k.old.clock ≡ clock }
+    ensures delivered { Carries (λ within. next_taken built_end within (next_signal within.machine.kernel.signals)) result
+        (within_of going.old cpu.old space.old k.old) (within_of going.new cpu.new space.new k.new)
+        (contents I.left O.written E.written dev.old) (contents I.left O.written E.written dev.new) }
+    ensures cause { StopsOnlyIfRose I.faults O.faults E.faults result dev.old dev.new }
+    ensures counts { NoCountFell I.faults O.faults E.faults dev.old dev.new }
+    ensures clock { k.new.clock ≡ clock }
+{
+    match next(k, mem, dev, log)? {
+        None => Ok(()),
+        Some(sig) => take_signal(clock, sig, going, cpu, space, k, mem, dev, log),
+    }
+}
+
+/// Which signal is delivered next.
+fn next<I: Source, O: Sink, E: Sink>(
+    k: &mut NativeKernel,
+    mem: &mut HostMem,
+    dev: &mut Devices<I, O, E>,
+    log: &mut Log,
+) -> Result<Option<Sig>, Stop>
+    ensures looks { Finds (λ signal. signal ≡ next_signal k.old.signals) result k.old k.new
+        (contents I.left O.written E.written dev.old) (contents I.left O.written E.written dev.new) }
+    ensures cause { StopsOnlyIfRose I.faults O.faults E.faults result dev.old dev.new }
+    ensures counts { NoCountFell I.faults O.faults E.faults dev.old dev.new }
+    ensures clock { k.new.clock ≡ k.old.clock }
+{
+    let pending = pending(k, mem, dev, log)?;
+    let blocked = mask(k, mem, dev, log)?;
+    Ok(choose(pending, blocked))
+}
+
+/// The first that pends of a signal is used up and delivered.
+fn take_signal<I: Source, O: Sink, E: Sink>(
+    clock: u64,
+    sig: Sig,
+    going: &mut Going,
+    cpu: &mut Cpu,
+    space: &mut Space,
+    k: &mut NativeKernel,
+    mem: &mut HostMem,
+    dev: &mut Devices<I, O, E>,
+    log: &mut Log,
+) -> Result<(), Stop>
+    requires { k.old.clock ≡ clock }
+    ensures delivered { Carries (λ within. next_taken built_end within (Some sig)) result
+        (within_of going.old cpu.old space.old k.old) (within_of going.new cpu.new space.new k.new)
+        (contents I.left O.written E.written dev.old) (contents I.left O.written E.written dev.new) }
+    ensures cause { StopsOnlyIfRose I.faults O.faults E.faults result dev.old dev.new }
+    ensures counts { NoCountFell I.faults O.faults E.faults dev.old dev.new }
+    ensures clock { k.new.clock ≡ clock }
+{
+    let action = action(sig, k, mem, dev, log)?;
+    match take(sig, k, mem, dev, log)? {
+        None => Ok(()),
+        Some(info) => deliver_sent(clock, &info, &action, going, cpu, space, k, mem, dev, log),
+    }
+}
+
+/// A signal that was sent is delivered, whose action this is.
+fn deliver_sent<I: Source, O: Sink, E: Sink>(
+    clock: u64,
+    info: &Info,
+    action: &Action,
+    going: &mut Going,
+    cpu: &mut Cpu,
+    space: &mut Space,
+    k: &mut NativeKernel,
+    mem: &mut HostMem,
+    dev: &mut Devices<I, O, E>,
+    log: &mut Log,
+) -> Result<(), Stop>
+    requires { k.old.clock ≡ clock }
+    ensures delivered { Carries (λ within. spec.delivered built_end within info.now action.now) result
+        (within_of going.old cpu.old space.old k.old) (within_of going.new cpu.new space.new k.new)
+        (contents I.left O.written E.written dev.old) (contents I.left O.written E.written dev.new) }
+    ensures cause { StopsOnlyIfRose I.faults O.faults E.faults result dev.old dev.new }
+    ensures counts { NoCountFell I.faults O.faults E.faults dev.old dev.new }
+    ensures clock { k.new.clock ≡ clock }
+{
+    if has_handler(action) {
+        return handle(clock, info, action, going, cpu, space, k, mem, dev, log);
+    }
+    dispose(info.sig, action, going)?;
+    Ok(())
+}

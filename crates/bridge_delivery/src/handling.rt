@@ -1,0 +1,189 @@
+//! A handler begins.
+ghost use Rattle.std.specs.Prelude.{◌≡◌};
+ghost use Rattle.bridge_delivery.specs.inside.Standings.{Becomes};
+ghost use Rattle.kernel_model.specs.Stops.{StopsOnlyIfRose};
+ghost use Rattle.o32_turns.specs.Built.{built_end};
+ghost use Rattle.o32_turns.specs.Going.{Carries, within_of};
+ghost use Rattle.o32_turns.specs.Handling as spec;
+ghost use Rattle.o32_turns.specs.Handling.{begun, wait_left_by, without_action};
+ghost use Rattle.outside.specs.Streams.{NoCountFell, contents};
+
+use crate::dispositions::{after_frame, keep_mask, tell};
+use crate::frames::enter;
+use crate::sets::{handling_mask, is_unblockable};
+use bridge_ends::end_wait;
+use bridge_signal_state::{mask, set_default, set_mask, stack};
+use guest_space::Space;
+use host_mem::HostMem;
+use kernel_core::{Delivery, Info, Sig, Stop};
+use kernel_model::{Action, SigStack};
+use mips_exec::Cpu;
+use native_kernel::NativeKernel;
+use o32_model::{Cause, Log};
+use o32_turns::Going;
+use outside::{Devices, Sink, Source};
+
+/// A signal's handler begins, whose action this is: the call that waits ends, the handler's frame is written, and the
+/// signals that it blocks are blocked. A frame that can't be written whole is not written, and then neither the mask nor
+/// the action changes: the process meets a SIGSEGV, and where that is its signal it is killed.
+pub(crate) fn handle<I: Source, O: Sink, E: Sink>(
+    clock: u64,
+    info: &Info,
+    action: &Action,
+    going: &mut Going,
+    cpu: &mut Cpu,
+    space: &mut Space,
+    k: &mut NativeKernel,
+    mem: &mut HostMem,
+    dev: &mut Devices<I, O, E>,
+    log: &mut Log,
+) -> Result<(), Stop>
+    requires { k.old.clock ≡ clock }
+    ensures handled { Carries (λ within. spec.handled built_end within info.now action.now) result
+        (within_of going.old cpu.old space.old k.old) (within_of going.new cpu.new space.new k.new)
+        (contents I.left O.written E.written dev.old) (contents I.left O.written E.written dev.new) }
+    ensures cause { StopsOnlyIfRose I.faults O.faults E.faults result dev.old dev.new }
+    ensures counts { NoCountFell I.faults O.faults E.faults dev.old dev.new }
+    ensures clock { k.new.clock ≡ clock }
+{
+    leave_wait(clock, action, going, cpu, space, k, mem, dev, log)?;
+    tell(info.sig, Delivery::Handler, going)?;
+    begin(info, action, going, cpu, space, k, mem, dev, log)
+}
+
+/// The call that waits, if there is one, ends by a handler with this action.
+fn leave_wait<I: Source, O: Sink, E: Sink>(
+    clock: u64,
+    action: &Action,
+    going: &mut Going,
+    cpu: &mut Cpu,
+    space: &mut Space,
+    k: &mut NativeKernel,
+    mem: &mut HostMem,
+    dev: &mut Devices<I, O, E>,
+    log: &mut Log,
+) -> Result<(), Stop>
+    requires { k.old.clock ≡ clock }
+    ensures left { Carries (λ within. wait_left_by built_end action.now within.machine.wait within) result
+        (within_of going.old cpu.old space.old k.old) (within_of going.new cpu.new space.new k.new)
+        (contents I.left O.written E.written dev.old) (contents I.left O.written E.written dev.new) }
+    ensures cause { StopsOnlyIfRose I.faults O.faults E.faults result dev.old dev.new }
+    ensures counts { NoCountFell I.faults O.faults E.faults dev.old dev.new }
+    ensures clock { k.new.clock ≡ clock }
+{
+    let restarts = action.flags.restart();
+    keep_mask(going);
+    end_wait(
+        restarts,
+        Cause::Handler,
+        clock,
+        going,
+        cpu,
+        space,
+        k,
+        mem,
+        dev,
+        log,
+    )
+}
+
+/// The handler's frame is written below the stack that stands, with the mask that its return is to put back.
+fn begin<I: Source, O: Sink, E: Sink>(
+    info: &Info,
+    action: &Action,
+    going: &mut Going,
+    cpu: &mut Cpu,
+    space: &mut Space,
+    k: &mut NativeKernel,
+    mem: &mut HostMem,
+    dev: &mut Devices<I, O, E>,
+    log: &mut Log,
+) -> Result<(), Stop>
+    ensures begun { Carries (λ within. begun within info.now action.now) result
+        (within_of going.old cpu.old space.old k.old) (within_of going.new cpu.new space.new k.new)
+        (contents I.left O.written E.written dev.old) (contents I.left O.written E.written dev.new) }
+    ensures cause { StopsOnlyIfRose I.faults O.faults E.faults result dev.old dev.new }
+    ensures counts { NoCountFell I.faults O.faults E.faults dev.old dev.new }
+    ensures clock { k.new.clock ≡ k.old.clock }
+{
+    let blocked = mask(k, mem, dev, log)?;
+    let stack = stack(k, mem, dev, log)?;
+    begin_on(
+        info, action, blocked, stack, going, cpu, space, k, mem, dev, log,
+    )
+}
+
+/// The same, where this is the mask that stands and the alternate stack.
+fn begin_on<I: Source, O: Sink, E: Sink>(
+    info: &Info,
+    action: &Action,
+    blocked: [u32; 4],
+    stack: SigStack,
+    going: &mut Going,
+    cpu: &mut Cpu,
+    space: &mut Space,
+    k: &mut NativeKernel,
+    mem: &mut HostMem,
+    dev: &mut Devices<I, O, E>,
+    log: &mut Log,
+) -> Result<(), Stop>
+    ensures begun { blocked ≡ k.old.signals.mask → stack ≡ k.old.signals.stack
+        → Carries (λ within. begun within info.now action.now) result
+        (within_of going.old cpu.old space.old k.old) (within_of going.new cpu.new space.new k.new)
+        (contents I.left O.written E.written dev.old) (contents I.left O.written E.written dev.new) }
+    ensures cause { StopsOnlyIfRose I.faults O.faults E.faults result dev.old dev.new }
+    ensures counts { NoCountFell I.faults O.faults E.faults dev.old dev.new }
+    ensures clock { k.new.clock ≡ k.old.clock }
+{
+    let kept = going.saved.unwrap_or(blocked);
+    let written = enter(info, action, kept, stack, cpu, space)?;
+    after_frame(written, info.sig, going)?;
+    if written {
+        run_handler(info.sig, action, blocked, k, mem, dev, log)?;
+    }
+    Ok(())
+}
+
+/// The kernel once a handler begins: what it blocks is blocked, and under SA_RESETHAND the signal has its default
+/// action again (sigaction(2)).
+fn run_handler<I: Source, O: Sink, E: Sink>(
+    sig: Sig,
+    action: &Action,
+    blocked: [u32; 4],
+    k: &mut NativeKernel,
+    mem: &mut HostMem,
+    dev: &mut Devices<I, O, E>,
+    log: &mut Log,
+) -> Result<(), Stop>
+    ensures handling { blocked ≡ k.old.signals.mask → Becomes (λ kernel. spec.handling kernel sig action.now) result k.old k.new
+        (contents I.left O.written E.written dev.old) (contents I.left O.written E.written dev.new) }
+    ensures cause { StopsOnlyIfRose I.faults O.faults E.faults result dev.old dev.new }
+    ensures counts { NoCountFell I.faults O.faults E.faults dev.old dev.new }
+    ensures clock { k.new.clock ≡ k.old.clock }
+{
+    set_mask(handling_mask(blocked, sig, action), k, mem, dev, log)?;
+    if action.flags.resethand() {
+        reset(sig, k, mem, dev, log)?;
+    }
+    Ok(())
+}
+
+/// A signal has its default action again; KILL and STOP always have it.
+fn reset<I: Source, O: Sink, E: Sink>(
+    sig: Sig,
+    k: &mut NativeKernel,
+    mem: &mut HostMem,
+    dev: &mut Devices<I, O, E>,
+    log: &mut Log,
+) -> Result<(), Stop>
+    ensures reset { Becomes (without_action sig) result k.old k.new
+        (contents I.left O.written E.written dev.old) (contents I.left O.written E.written dev.new) }
+    ensures cause { StopsOnlyIfRose I.faults O.faults E.faults result dev.old dev.new }
+    ensures counts { NoCountFell I.faults O.faults E.faults dev.old dev.new }
+    ensures clock { k.new.clock ≡ k.old.clock }
+{
+    if is_unblockable(sig) {
+        return Ok(());
+    }
+    set_default(sig, k, mem, dev, log)
+}

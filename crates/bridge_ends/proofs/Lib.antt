@@ -1,0 +1,3 @@
+pub mod KeptEnds
+pub mod Posts
+pub mod SameEnds

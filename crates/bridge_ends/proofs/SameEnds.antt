@@ -1,0 +1,37 @@
+-- An end that is the same as another, and the machine behind it.
+use Rattle.std.proofs.Common.{◌≡◌, ◌∙◌, Bool, false, subst, sym, ap, refl}
+use Rattle.std.specs.Prelude.{Result, if◌then◌else◌}
+use Rattle.bridge_ends.specs.inside.Endings.{Closes, old_mask, suspension_end}
+use Rattle.guest_space.specs.Memory.{Memory}
+use Rattle.kernel_core.specs.declared.core_error.Stop.{Stop}
+use Rattle.kernel_model.specs.State.{Kernel}
+use Rattle.o32_model.specs.SignalWaitEnds.{suspension_ended, transfer_ended}
+use Rattle.o32_model.specs.WaitEnds.{WaitEnd, ends_with, wait_ended, with_old_mask}
+use Rattle.o32_model.specs.declared.wait.Cause.{Cause}
+use Rattle.o32_model.specs.declared.wait.Cause.TheVariants.{Due, Accepted, Handler, Stopped}
+use Rattle.o32_model.specs.declared.wait.Close.{Close}
+use Rattle.o32_model.specs.declared.wait.Wait.{Wait}
+use Rattle.o32_turns.specs.Built.{built_end, is_sleep}
+use Rattle.o32_turns.specs.Closing.{is_one_of, transfer_waits}
+use Rattle.outside.specs.Streams.{Contents}
+
+pub closes_as : (end other : WaitEnd) (result : Result Close Stop) (kernel : Kernel) (memory : Memory) (before after : Contents) → other ≡ end
+    → Closes end result kernel memory before after → Closes other result kernel memory before after
+closes_as end other result kernel memory before after same closes =
+    subst (λ (e : WaitEnd). Closes e result kernel memory before after) (sym same) closes
+
+pub suspended : (wait : Wait) (cause : Cause) (kernel : Kernel) (memory : Memory)
+    → suspension_ended wait cause kernel memory ≡ ends_with (suspension_end cause) (with_old_mask (old_mask wait cause) kernel) memory
+suspended wait Due kernel memory = refl
+suspended wait Accepted kernel memory = refl
+suspended wait Handler kernel memory = refl
+suspended wait Stopped kernel memory = refl
+
+-- neither a sleep nor a transfer
+pub by_suspension : (restarts : Bool) (wait : Wait) (cause : Cause) (kernel : Kernel) (memory : Memory) → is_sleep wait.nr ≡ false
+    → is_one_of transfer_waits wait ≡ false → built_end restarts wait cause kernel memory ≡ suspension_ended wait cause kernel memory
+by_suspension restarts wait cause kernel memory no_sleep no_transfer =
+    let suspended = suspension_ended wait cause kernel memory in
+    let moved = ends_with (transfer_ended restarts wait cause) kernel memory in
+    ap (λ (b : Bool). if b then wait_ended wait cause kernel.clock kernel memory else (if is_one_of transfer_waits wait then moved else suspended)) no_sleep
+    ∙ ap (λ (b : Bool). if b then moved else suspended) no_transfer

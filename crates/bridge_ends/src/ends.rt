@@ -1,0 +1,187 @@
+//! How a wait ends.
+ghost use Rattle.std.specs.Prelude.{◌≡◌};
+ghost use Rattle.bridge_ends.specs.Ended.{KeepsEnd, ended_wait};
+ghost use Rattle.bridge_ends.specs.inside.Endings.{Closes, old_mask, suspension_end};
+ghost use Rattle.guest_space.specs.Memory.{Memory, Pages};
+ghost use Rattle.kernel_model.specs.Stops.{StopsOnlyIfRose};
+ghost use Rattle.o32_model.specs.SignalWaitEnds.{suspension_ended, transfer_ended};
+ghost use Rattle.o32_model.specs.WaitEnds.{ends_with, with_old_mask};
+ghost use Rattle.o32_turns.specs.Built.{built_end, is_sleep};
+ghost use Rattle.o32_turns.specs.Closing.{is_one_of, transfer_waits};
+ghost use Rattle.o32_turns.specs.Going.{Carries, within_of};
+ghost use Rattle.outside.specs.Streams.{NoCountFell, contents};
+
+use crate::closing::close;
+use bridge_signal_state::set_mask;
+use bridge_wait::wait_end;
+use guest_space::Space;
+use host_mem::HostMem;
+use kernel_core::{Errno, Stop};
+use mips_exec::Cpu;
+use native_kernel::NativeKernel;
+use o32_model::{Cause, Close, Log, Wait};
+use o32_turns::Going;
+use outside::{Devices, Sink, Source};
+
+/// Ends the call that waits, if there is one, for a cause, at the kernel's time `clock`, in nanoseconds; `restarts`
+/// says that the action of the handler that ends it restarts calls (SA_RESTART of sigaction(2)). The call returns a
+/// result or an error, or its SYSCALL comes again, with its own number or with that of restart_syscall(2), which then
+/// goes on with the wait. A mask that the call has set is taken back, but not where a handler ends it (sigsuspend(2)).
+/// It stops early for want of memory, or by a device.
+pub fn end_wait<I: Source, O: Sink, E: Sink>(
+    restarts: bool,
+    cause: Cause,
+    clock: u64,
+    going: &mut Going,
+    cpu: &mut Cpu,
+    space: &mut Space,
+    k: &mut NativeKernel,
+    mem: &mut HostMem,
+    dev: &mut Devices<I, O, E>,
+    log: &mut Log,
+) -> Result<(), Stop>
+    requires clock { k.old.clock ≡ clock }
+    ensures ends { Carries (λ within. ended_wait restarts cause within within.machine.wait) result
+        (within_of going.old cpu.old space.old k.old) (within_of going.new cpu.new space.new k.new)
+        (contents I.left O.written E.written dev.old) (contents I.left O.written E.written dev.new) }
+    ensures kept { KeepsEnd result (I.left dev.old.input) k.old k.new space.old.pages space.new.pages log.old log.new }
+    ensures cause { StopsOnlyIfRose I.faults O.faults E.faults result dev.old dev.new }
+    ensures counts { NoCountFell I.faults O.faults E.faults dev.old dev.new }
+    ensures clock { k.new.clock ≡ clock }
+{
+    let Some(wait) = going.wait else {
+        return Ok(());
+    };
+    let end = wait_close(restarts, &wait, cause, clock, space, k, mem, dev, log)?;
+    close(&wait, end, going, cpu)?;
+    Ok(())
+}
+
+/// What the end of a wait comes to, by the number of its call; what it stores is stored.
+fn wait_close<I: Source, O: Sink, E: Sink>(
+    restarts: bool,
+    wait: &Wait,
+    cause: Cause,
+    clock: u64,
+    space: &mut Space,
+    k: &mut NativeKernel,
+    mem: &mut HostMem,
+    dev: &mut Devices<I, O, E>,
+    log: &mut Log,
+) -> Result<Close, Stop>
+    requires { k.old.clock ≡ clock }
+    ensures ends { Closes (built_end restarts wait.now cause k.old space.old) result k.new space.new
+        (contents I.left O.written E.written dev.old) (contents I.left O.written E.written dev.new) }
+    ensures kept { KeepsEnd result (I.left dev.old.input) k.old k.new space.old.pages space.new.pages log.old log.new }
+    ensures cause { StopsOnlyIfRose I.faults O.faults E.faults result dev.old dev.new }
+    ensures counts { NoCountFell I.faults O.faults E.faults dev.old dev.new }
+    ensures clock { k.new.clock ≡ clock }
+{
+    if is_sleep(wait.nr) {
+        return wait_end(wait, cause, clock, space, k, mem, log);
+    }
+    if is_transfer(wait) {
+        return Ok(transfer_close(restarts, wait, cause));
+    }
+    suspension_close(wait, cause, k, mem, dev, log)
+}
+
+/// Whether a call's wait is that of a sleep: nanosleep(2), clock_nanosleep(2).
+fn is_sleep(number: u32) -> bool
+    ensures { result ≡ is_sleep number }
+{
+    number == 4166 || number == 4265
+}
+
+/// Whether a wait is that of a transfer: read(2), write(2), readv(2), writev(2).
+fn is_transfer(wait: &Wait) -> bool
+    ensures { result ≡ is_one_of transfer_waits wait.now }
+{
+    matches!(wait.nr, 4003 | 4004 | 4145 | 4146)
+}
+
+/// The end of a transfer: the bytes that it has put already are its result. Without any it is carried out again, but
+/// where a handler ends it whose action doesn't restart calls.
+fn transfer_close(restarts: bool, wait: &Wait, cause: Cause) -> Close
+    ensures { result ≡ transfer_ended restarts wait.now cause }
+{
+    if wait.done != 0 {
+        return Close::Value(wait.done);
+    }
+    match cause {
+        Cause::Handler if !restarts => Close::Error(Errno::EINTR),
+        _ => Close::Again,
+    }
+}
+
+/// The end of pause(2) and of sigsuspend(2).
+fn suspension_close<I: Source, O: Sink, E: Sink>(
+    wait: &Wait,
+    cause: Cause,
+    k: &mut NativeKernel,
+    mem: &mut HostMem,
+    dev: &mut Devices<I, O, E>,
+    log: &mut Log,
+) -> Result<Close, Stop>
+    ensures ends { (memory : Memory) → Closes (suspension_ended wait.now cause k.old memory) result k.new memory
+        (contents I.left O.written E.written dev.old) (contents I.left O.written E.written dev.new) }
+    ensures kept { (pages : Pages) → KeepsEnd result (I.left dev.old.input) k.old k.new pages pages log.old log.new }
+    ensures cause { StopsOnlyIfRose I.faults O.faults E.faults result dev.old dev.new }
+    ensures counts { NoCountFell I.faults O.faults E.faults dev.old dev.new }
+    ensures clock { k.new.clock ≡ k.old.clock }
+{
+    with_old_mask(
+        old_mask(wait, cause),
+        suspension_end(cause),
+        k,
+        mem,
+        dev,
+        log,
+    )
+}
+
+/// The mask that the end of a suspension puts back: that from before the call, if it has set one of its own. Where a
+/// handler ends it the handler's frame keeps that mask, and the return puts it back.
+fn old_mask(wait: &Wait, cause: Cause) -> Option<[u32; 4]>
+    ensures { result ≡ old_mask wait.now cause }
+{
+    match cause {
+        Cause::Handler => None,
+        _ => wait.mask,
+    }
+}
+
+/// How a suspension ends.
+fn suspension_end(cause: Cause) -> Close
+    ensures { result ≡ suspension_end cause }
+{
+    match cause {
+        Cause::Stopped => Close::Again,
+        _ => Close::Error(Errno::EINTR),
+    }
+}
+
+/// An end at which the mask from before the call, if it has set one of its own, is put back.
+fn with_old_mask<I: Source, O: Sink, E: Sink>(
+    mask: Option<[u32; 4]>,
+    close: Close,
+    k: &mut NativeKernel,
+    mem: &mut HostMem,
+    dev: &mut Devices<I, O, E>,
+    log: &mut Log,
+) -> Result<Close, Stop>
+    ensures ends { (memory : Memory) → Closes (ends_with close (with_old_mask mask k.old) memory) result k.new memory
+        (contents I.left O.written E.written dev.old) (contents I.left O.written E.written dev.new) }
+    ensures kept { (pages : Pages) → KeepsEnd result (I.left dev.old.input) k.old k.new pages pages log.old log.new }
+    ensures cause { StopsOnlyIfRose I.faults O.faults E.faults result dev.old dev.new }
+    ensures counts { NoCountFell I.faults O.faults E.faults dev.old dev.new }
+    ensures clock { k.new.clock ≡ k.old.clock }
+{
+    match mask {
+        None => Ok(close),
+        Some(mask) => {
+            set_mask(mask, k, mem, dev, log)?;
+            Ok(close)
+        }
+    }
+}

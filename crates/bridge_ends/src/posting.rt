@@ -1,0 +1,126 @@
+//! Signals that come from outside, and the timer's.
+ghost use Rattle.std.specs.Prelude.{◌≡◌, ◌≤◌, ℕ, List, OnOk};
+ghost use Rattle.bridge_ends.specs.inside.Endings.{happened, has_come, timer_told};
+ghost use Rattle.guest_space.specs.Memory.{Memory};
+ghost use Rattle.kernel_model.specs.Pending.{CanPend};
+ghost use Rattle.kernel_model.specs.SignalRows.{info_of, parent_id};
+ghost use Rattle.kernel_model.specs.State.{Kernel};
+ghost use Rattle.mips_exec.specs.Processor.{Processor};
+ghost use Rattle.o32_turns.specs.Built.{built};
+ghost use Rattle.o32_turns.specs.Going.{within_of};
+ghost use Rattle.o32_turns.specs.Posting.{event_info, let_go, post_event, sent_to, timer_posted};
+ghost use Rattle.schedule.specs.declared.events.Due.{Due};
+
+use kernel_core::{Event, Info, NoMemory, Sig};
+use kernel_model::Post;
+use native_kernel::NativeKernel;
+use number_tables::{O32Number, SI_QUEUE, SI_USER};
+use o32_turns::Going;
+use schedule::Due;
+
+/// The process that sends what comes from outside: the parent of the program's.
+const PARENT_ID: u32 = 1;
+
+/// Posts the signal of an event of the schedule, and tells what became of it; a stopped process goes on by SIGCONT and
+/// by SIGKILL (signal(7)). No call waits for a signal that it names.
+pub fn post_event(due: Due, going: &mut Going, k: &mut NativeKernel) -> Result<(), NoMemory>
+    ensures posts { OnOk result ((processor : Processor) (memory : Memory) (coming : List Due) (idle : ℕ)
+        → within_of going.new processor memory k.new coming idle
+        ≡ sent_to built (within_of going.old processor memory k.old coming idle) (event_info due)) }
+    ensures clock { k.new.clock ≡ k.old.clock }
+{
+    let info = event_info(due);
+    let post = k.post(info, false)?;
+    tell_post(info.sig, post, going)?;
+    let_go(info.sig, going)?;
+    Ok(())
+}
+
+/// Moves the kernel's clock to a time, in nanoseconds, which is not before its own, and tells of the timer's signal,
+/// where the timer was due by then (setitimer(2)). No call waits for it by name.
+pub fn post_timer(clock: u64, going: &mut Going, k: &mut NativeKernel) -> Result<(), NoMemory>
+    requires later { k.old.clock ≤ clock }
+    ensures posts { OnOk result ((processor : Processor) (memory : Memory) (coming : List Due) (idle : ℕ)
+        → within_of going.new processor memory k.new coming idle
+        ≡ timer_posted built (within_of going.old processor memory (record k.old { clock = clock }) coming idle)) }
+    ensures clock { k.new.clock ≡ clock }
+{
+    let next = k.next_time();
+    k.advance(clock, false)?;
+    tell_timer(next, clock, going)?;
+    Ok(())
+}
+
+/// What is known of the signal of an event: sent by kill(2), or queued with a value by sigqueue(3). An event has the
+/// number of a signal.
+fn event_info(due: Due) -> Info
+    ensures info { result ≡ event_info due }
+    ensures can_pend { CanPend result }
+{
+    let sig = Sig::of_o32(u32::from(due.sig)).unwrap_or(Sig::Hup);
+    match due.value {
+        None => outside_info(sig, SI_USER, 0),
+        Some(value) => outside_info(sig, SI_QUEUE, value),
+    }
+}
+
+/// A signal that comes from outside.
+fn outside_info(sig: Sig, code: i32, value: u32) -> Info
+    ensures info { result ≡ info_of sig code parent_id value }
+    ensures can_pend { CanPend result }
+{
+    Info {
+        sig,
+        code,
+        errno: 0,
+        pid: PARENT_ID,
+        uid: 0,
+        value,
+        addr: 0,
+    }
+}
+
+/// Tells what became of a signal that was posted.
+fn tell_post(sig: Sig, post: Post, going: &mut Going) -> Result<(), NoMemory>
+    ensures { OnOk result (going.new ≡ happened going.old (post_event sig post)) }
+{
+    going.events.push(match post {
+        Post::Queued | Post::Dropped => Event::Post { sig },
+        Post::Full => Event::Dropped { sig },
+    })?;
+    Ok(())
+}
+
+/// A stopped process goes on by SIGCONT and by SIGKILL.
+fn let_go(sig: Sig, going: &mut Going) -> Result<(), NoMemory>
+    ensures { OnOk result ((processor : Processor) (memory : Memory) (kernel : Kernel) (coming : List Due) (idle : ℕ)
+        → within_of going.new processor memory kernel coming idle
+        ≡ let_go sig (within_of going.old processor memory kernel coming idle)) }
+{
+    if going.stopped && matches!(sig, Sig::Kill | Sig::Cont) {
+        going.stopped = false;
+        going.events.push(Event::Cont)?;
+    }
+    Ok(())
+}
+
+/// Tells of the timer's signal, where the time at which it is due next has come by a time of the clock.
+fn tell_timer(next: Option<u64>, clock: u64, going: &mut Going) -> Result<(), NoMemory>
+    ensures { OnOk result (going.new ≡ timer_told going.old clock next) }
+{
+    if !has_come(next, clock) {
+        return Ok(());
+    }
+    going.events.push(Event::Post { sig: Sig::Alrm })?;
+    Ok(())
+}
+
+/// Whether a time that may not be there has come by a time of the clock.
+fn has_come(time: Option<u64>, clock: u64) -> bool
+    ensures { result ≡ has_come clock time }
+{
+    match time {
+        None => false,
+        Some(time) => time <= clock,
+    }
+}

@@ -1,0 +1,5 @@
+pub mod Moving
+pub mod OneSignal
+pub mod Rooms
+pub mod StateLooks
+pub mod TakeLooks

@@ -1,0 +1,27 @@
+//! The native numbers (Linux `include/uapi/asm-generic/unistd.h`), and the sizes of structures there
+//! (`include/uapi/asm-generic/signal.h` and `siginfo.h`).
+
+pub(crate) const SIGALTSTACK: u64 = 132;
+
+pub(crate) const RT_SIGACTION: u64 = 134;
+
+pub(crate) const RT_SIGPROCMASK: u64 = 135;
+
+pub(crate) const RT_SIGPENDING: u64 = 136;
+
+pub(crate) const RT_SIGTIMEDWAIT: u64 = 137;
+
+/// SIG_SETMASK: the mask becomes the set.
+pub(crate) const SIG_SETMASK: u64 = 2;
+
+/// The size of a set, in bytes.
+pub(crate) const SET_SIZE: usize = 16;
+
+/// The same, as an argument.
+pub(crate) const SIGSETSIZE: u64 = 16;
+
+pub(crate) const ACTION_SIZE: u32 = 32;
+
+pub(crate) const STACK_SIZE: usize = 24;
+
+pub(crate) const INFO_SIZE: u64 = 128;

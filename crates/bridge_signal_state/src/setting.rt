@@ -1,0 +1,90 @@
+//! What the native kernel keeps of signals, set by native calls.
+ghost use Rattle.std.specs.Prelude.{◌≡◌, false};
+ghost use Rattle.bridge_signal_state.specs.Acts.{Acts};
+ghost use Rattle.bridge_signal_state.specs.Setting.{SetsStack};
+ghost use Rattle.kernel_model.specs.SignalRows.{after_action, is_unblockable, no_action, with_mask, with_signals};
+ghost use Rattle.kernel_model.specs.Stops.{StopsOnlyIfRose};
+ghost use Rattle.outside.specs.Streams.{NoCountFell, contents};
+
+use crate::acting::act;
+use crate::filling::{put_set, put_stack};
+use crate::numbers::{
+    ACTION_SIZE, RT_SIGACTION, RT_SIGPROCMASK, SIG_SETMASK, SIGALTSTACK, SIGSETSIZE,
+};
+use crate::showing::is_fine;
+use crate::words::{is_set, stack_fits};
+use bridge_mem::fresh_room;
+use host_mem::{FIRST_ADDRESS, HostMem};
+use kernel_core::{Sig, Stop};
+use kernel_model::SigStack;
+use native_kernel::NativeKernel;
+use number_tables::NativeNumber;
+use o32_model::Log;
+use outside::{Devices, Sink, Source};
+
+/// Blocks the signals of a set and no others (sigprocmask(2)): four words of 32 bits, with bit s - 1 for the signal of
+/// number s of an o32 program. KILL and STOP are left out. It stops for want of memory or by a device alone, as each
+/// call here does.
+pub fn set_mask<I: Source, O: Sink, E: Sink>(
+    mask: [u32; 4],
+    k: &mut NativeKernel,
+    mem: &mut HostMem,
+    dev: &mut Devices<I, O, E>,
+    log: &mut Log,
+) -> Result<(), Stop>
+    ensures acts { Acts (λ _ became. became ≡ with_mask k.old mask) result k.old k.new
+        (contents I.left O.written E.written dev.old) (contents I.left O.written E.written dev.new) log.old log.new }
+    ensures cause { StopsOnlyIfRose I.faults O.faults E.faults result dev.old dev.new }
+    ensures counts { NoCountFell I.faults O.faults E.faults dev.old dev.new }
+    ensures clock { k.new.clock ≡ k.old.clock }
+{
+    is_set(mask);
+    put_set(mask, mem)?;
+    let args = [SIG_SETMASK, FIRST_ADDRESS, 0, SIGSETSIZE, 0, 0];
+    act(k, RT_SIGPROCMASK, args, mem, dev, log)?;
+    Ok(())
+}
+
+/// Gives a signal, which is neither KILL nor STOP, its default action again, with no flag and an empty mask
+/// (sigaction(2)). What pends of one that is ignored by default goes.
+pub fn set_default<I: Source, O: Sink, E: Sink>(
+    sig: Sig,
+    k: &mut NativeKernel,
+    mem: &mut HostMem,
+    dev: &mut Devices<I, O, E>,
+    log: &mut Log,
+) -> Result<(), Stop>
+    requires blockable { is_unblockable sig ≡ false }
+    ensures acts { Acts (λ _ became. became ≡ with_signals k.old (after_action k.old.signals sig no_action)) result k.old k.new
+        (contents I.left O.written E.written dev.old) (contents I.left O.written E.written dev.new) log.old log.new }
+    ensures cause { StopsOnlyIfRose I.faults O.faults E.faults result dev.old dev.new }
+    ensures counts { NoCountFell I.faults O.faults E.faults dev.old dev.new }
+    ensures clock { k.new.clock ≡ k.old.clock }
+{
+    fresh_room(mem, ACTION_SIZE)?;
+    let args = [sig.to_native(), FIRST_ADDRESS, 0, SIGSETSIZE, 0, 0];
+    act(k, RT_SIGACTION, args, mem, dev, log)?;
+    Ok(())
+}
+
+/// Sets the alternate stack (sigaltstack(2)) and answers true. False, and nothing is set, where its flags are more than
+/// SS_DISABLE (EINVAL), or it is enabled with fewer than 2048 bytes (ENOMEM). No stack pointer is looked at.
+pub fn set_stack<I: Source, O: Sink, E: Sink>(
+    stack: SigStack,
+    k: &mut NativeKernel,
+    mem: &mut HostMem,
+    dev: &mut Devices<I, O, E>,
+    log: &mut Log,
+) -> Result<bool, Stop>
+    ensures acts { Acts (SetsStack k.old stack) result k.old k.new
+        (contents I.left O.written E.written dev.old) (contents I.left O.written E.written dev.new) log.old log.new }
+    ensures cause { StopsOnlyIfRose I.faults O.faults E.faults result dev.old dev.new }
+    ensures counts { NoCountFell I.faults O.faults E.faults dev.old dev.new }
+    ensures clock { k.new.clock ≡ k.old.clock }
+{
+    stack_fits(stack);
+    put_stack(stack, mem)?;
+    let args = [FIRST_ADDRESS, 0, 0, 0, 0, 0];
+    let reply = act(k, SIGALTSTACK, args, mem, dev, log)?;
+    Ok(is_fine(reply))
+}

@@ -1,0 +1,42 @@
+//! A signal that pends is taken.
+ghost use Rattle.std.specs.Prelude.{◌≡◌};
+ghost use Rattle.bridge_signal_state.specs.Acts.{Acts};
+ghost use Rattle.bridge_signal_state.specs.Setting.{Takes};
+ghost use Rattle.kernel_model.specs.Stops.{StopsOnlyIfRose};
+ghost use Rattle.outside.specs.Streams.{NoCountFell, contents};
+
+use crate::acting::act;
+use crate::filling::put_taking;
+use crate::numbers::{INFO_SIZE, RT_SIGTIMEDWAIT, SIGSETSIZE};
+use crate::showing::{INFO_PLACE, info_shown};
+use host_mem::{FIRST_ADDRESS, HostMem};
+use kernel_core::{Info, Sig, Stop};
+use native_kernel::NativeKernel;
+use o32_model::Log;
+use outside::{Devices, Sink, Source};
+
+/// Where the time lies, behind what is known of a signal.
+const TIME_PLACE: u64 = INFO_PLACE + INFO_SIZE;
+
+/// Takes the first that pends of a signal, blocked or not, and tells what is known of it; None, and nothing is taken,
+/// where it doesn't pend (rt_sigtimedwait(2), with a time of 0, so that it never waits). It stops for want of memory or
+/// by a device alone.
+pub fn take<I: Source, O: Sink, E: Sink>(
+    sig: Sig,
+    k: &mut NativeKernel,
+    mem: &mut HostMem,
+    dev: &mut Devices<I, O, E>,
+    log: &mut Log,
+) -> Result<Option<Info>, Stop>
+    ensures acts { Acts (Takes k.old sig) result k.old k.new
+        (contents I.left O.written E.written dev.old) (contents I.left O.written E.written dev.new) log.old log.new }
+    ensures cause { StopsOnlyIfRose I.faults O.faults E.faults result dev.old dev.new }
+    ensures counts { NoCountFell I.faults O.faults E.faults dev.old dev.new }
+    ensures clock { k.new.clock ≡ k.old.clock }
+{
+    k.signals_fit();
+    put_taking(sig, mem)?;
+    let args = [FIRST_ADDRESS, INFO_PLACE, TIME_PLACE, SIGSETSIZE, 0, 0];
+    let reply = act(k, RT_SIGTIMEDWAIT, args, mem, dev, log)?;
+    Ok(info_shown(mem, reply))
+}
