@@ -27,7 +27,7 @@ use outside::{Devices, Sink, Source};
 /// says that the action of the handler that ends it restarts calls (SA_RESTART of sigaction(2)). The call returns a
 /// result or an error, or its SYSCALL comes again, with its own number or with that of restart_syscall(2), which then
 /// goes on with the wait. A mask that the call has set is taken back, but not where a handler ends it (sigsuspend(2)).
-/// It stops early for want of memory, or by a device.
+/// It stops early for want of memory, or by a device, and then process and kernel are not used again.
 pub fn end_wait<I: Source, O: Sink, E: Sink>(
     restarts: bool,
     cause: Cause,

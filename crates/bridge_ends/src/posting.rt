@@ -21,8 +21,9 @@ use schedule::Due;
 /// The process that sends what comes from outside: the parent of the program's.
 const PARENT_ID: u32 = 1;
 
-/// Posts the signal of an event of the schedule, and tells what became of it; a stopped process goes on by SIGCONT and
-/// by SIGKILL (signal(7)). No call waits for a signal that it names.
+/// Posts the signal of an event of the schedule, whatever its time, and tells what became of it; a stopped process goes
+/// on by SIGCONT and by SIGKILL (signal(7)). The signal's number is an o32 one, 1 to 128, and any other is SIGHUP's. No
+/// call waits for a signal that it names. After NoMemory process and kernel are not used again.
 pub fn post_event(due: Due, going: &mut Going, k: &mut NativeKernel) -> Result<(), NoMemory>
     ensures posts { OnOk result ((processor : Processor) (memory : Memory) (coming : List Due) (idle : ℕ)
         → within_of going.new processor memory k.new coming idle
@@ -37,7 +38,8 @@ pub fn post_event(due: Due, going: &mut Going, k: &mut NativeKernel) -> Result<(
 }
 
 /// Moves the kernel's clock to a time, in nanoseconds, which is not before its own, and tells of the timer's signal,
-/// where the timer was due by then (setitimer(2)). No call waits for it by name.
+/// where the timer was due by then (setitimer(2)). No call waits for it by name. After NoMemory process and kernel are
+/// not used again.
 pub fn post_timer(clock: u64, going: &mut Going, k: &mut NativeKernel) -> Result<(), NoMemory>
     requires later { k.old.clock ≤ clock }
     ensures posts { OnOk result ((processor : Processor) (memory : Memory) (coming : List Due) (idle : ℕ)

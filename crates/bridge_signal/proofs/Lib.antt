@@ -1,0 +1,11 @@
+pub mod ActionBytes
+pub mod Asking
+pub mod Calls
+pub mod Ends
+pub mod Frames
+pub mod HostInfos
+pub mod Naming
+pub mod NewActions
+pub mod SendingMirrors
+pub mod Waits
+pub mod Zeros

@@ -1,0 +1,62 @@
+//! A call on signals by its number.
+ghost use Rattle.std.specs.Prelude.{◌≡◌, IsTrue};
+ghost use Rattle.bridge_log.specs.Keeping.{KeepsCall};
+ghost use Rattle.bridge_signal.specs.Found.{found};
+ghost use Rattle.bridge_signal.specs.Numbers.{is_call_there};
+ghost use Rattle.kernel_model.specs.Stops.{StopsOnlyIfRose};
+ghost use Rattle.o32_model.specs.Answered.{IsCall};
+ghost use Rattle.o32_model.specs.Table.{machine_call};
+ghost use Rattle.outside.specs.Streams.{NoCountFell, contents};
+
+use crate::returning::{rt_sigreturn, sigreturn};
+use crate::sending::{kill, rt_sigqueueinfo, tgkill, tkill};
+use crate::suspending::{pause, restart_syscall, rt_sigsuspend};
+use crate::telling::{rt_sigaction, rt_sigpending, rt_sigprocmask, sigaltstack};
+use guest_space::Space;
+use host_mem::HostMem;
+use kernel_core::Stop;
+use mips_exec::Cpu;
+use native_kernel::NativeKernel;
+use o32_model::{CallWords, Log, Outcome, Seen};
+use outside::{Devices, Sink, Source};
+
+/// Makes a call of the program on signals, by its words: kill(2), tkill(2), tgkill(2), rt_sigqueueinfo(2); rt_sigaction(2),
+/// rt_sigprocmask(2), rt_sigpending(2), sigaltstack(2); pause(2), rt_sigsuspend(2), restart_syscall(2); sigreturn(2) and
+/// rt_sigreturn. `seen` has the wait that restart_syscall(2) goes on with. It stops early for want of memory, or by a
+/// device.
+pub fn signal_call<I: Source, O: Sink, E: Sink>(
+    args: &CallWords,
+    cpu: &mut Cpu,
+    space: &mut Space,
+    k: &mut NativeKernel,
+    mem: &mut HostMem,
+    dev: &mut Devices<I, O, E>,
+    log: &mut Log,
+    seen: &Seen,
+) -> Result<Outcome, Stop>
+    requires { IsTrue (is_call_there args.now.nr) }
+    ensures row { IsCall (machine_call seen.now k.old (found args.now cpu.old space.old)) result k.new space.new cpu.new
+        (contents I.left O.written E.written dev.old) (contents I.left O.written E.written dev.new) }
+    ensures kept { KeepsCall (machine_call seen.now k.old (found args.now cpu.old space.old)) result k.old
+        (found args.now cpu.old space.old) (I.left dev.old.input) log.old log.new }
+    ensures cause { StopsOnlyIfRose I.faults O.faults E.faults result dev.old dev.new }
+    ensures counts { NoCountFell I.faults O.faults E.faults dev.old dev.new }
+    ensures clock { k.new.clock ≡ k.old.clock }
+{
+    let [a0, a1, a2, a3] = args.reg;
+    match args.nr {
+        4029 => pause(args, k, mem, dev, log),
+        4037 => kill(args, a0, a1, k, mem, dev, log),
+        4119 => sigreturn(cpu, space, k, mem, dev, log),
+        4193 => rt_sigreturn(cpu, space, k, mem, dev, log),
+        4194 => rt_sigaction(a0, a1, a2, a3, space, k, mem, dev, log),
+        4195 => rt_sigprocmask(a0, a1, a2, a3, space, k, mem, dev, log),
+        4196 => rt_sigpending(a0, a1, space, k, mem, dev, log),
+        4198 => rt_sigqueueinfo(args, a0, a1, a2, space, k, mem, dev, log),
+        4199 => rt_sigsuspend(args, a0, a1, space, k, mem, dev, log),
+        4206 => sigaltstack(cpu, a0, a1, space, k, mem, dev, log),
+        4236 => tkill(args, a0, a1, k, mem, dev, log),
+        4253 => Ok(restart_syscall(seen.restart)),
+        _ => tgkill(args, a0, a1, a2, k, mem, dev, log),
+    }
+}

@@ -1,0 +1,127 @@
+//! The mask, set and told: sigprocmask(2).
+ghost use Rattle.std.specs.Prelude.{◌≡◌, ◌-◌, bit_and};
+ghost use Rattle.bridge_signal.specs.inside.Asked.{mask_changed, mask_from, mask_set};
+ghost use Rattle.bridge_signal.specs.inside.Told.{did};
+ghost use Rattle.bridge_signal_state.specs.Acts.{Acts};
+ghost use Rattle.kernel_model.specs.SignalRows as rows;
+ghost use Rattle.kernel_model.specs.SignalSets as sets;
+ghost use Rattle.kernel_model.specs.Stops.{StopsOnlyIfRose};
+ghost use Rattle.outside.specs.Streams.{NoCountFell, contents};
+
+use crate::asked::MaskSetting;
+use bridge_signal_state::{mask, set_mask};
+use host_mem::HostMem;
+use kernel_core::{Errno, MaskChange, Stop};
+use native_kernel::NativeKernel;
+use o32_model::Log;
+use outside::{Devices, Sink, Source};
+
+/// Tells the mask and changes it as is asked, or tells the error.
+pub(crate) fn change_mask<I: Source, O: Sink, E: Sink>(
+    asked: Result<Option<MaskSetting>, Errno>,
+    k: &mut NativeKernel,
+    mem: &mut HostMem,
+    dev: &mut Devices<I, O, E>,
+    log: &mut Log,
+) -> Result<Result<[u32; 4], Errno>, Stop>
+    ensures acts { Acts (λ told became. mask_changed k.old asked ≡ did became told) result k.old k.new
+        (contents I.left O.written E.written dev.old) (contents I.left O.written E.written dev.new) log.old log.new }
+    ensures cause { StopsOnlyIfRose I.faults O.faults E.faults result dev.old dev.new }
+    ensures counts { NoCountFell I.faults O.faults E.faults dev.old dev.new }
+    ensures clock { k.new.clock ≡ k.old.clock }
+{
+    match asked {
+        Err(error) => Ok(Err(error)),
+        Ok(change) => {
+            let before = replace_mask(change, k, mem, dev, log)?;
+            Ok(Ok(before))
+        }
+    }
+}
+
+/// Tells the mask, and changes it where there is a change.
+fn replace_mask<I: Source, O: Sink, E: Sink>(
+    change: Option<MaskSetting>,
+    k: &mut NativeKernel,
+    mem: &mut HostMem,
+    dev: &mut Devices<I, O, E>,
+    log: &mut Log,
+) -> Result<[u32; 4], Stop>
+    ensures acts { Acts (λ before became. (before ≡ k.old.signals.mask) × (became ≡ mask_set k.old change)) result k.old k.new
+        (contents I.left O.written E.written dev.old) (contents I.left O.written E.written dev.new) log.old log.new }
+    ensures cause { StopsOnlyIfRose I.faults O.faults E.faults result dev.old dev.new }
+    ensures counts { NoCountFell I.faults O.faults E.faults dev.old dev.new }
+    ensures clock { k.new.clock ≡ k.old.clock }
+{
+    let before = mask(k, mem, dev, log)?;
+    set_from(before, change, k, mem, dev, log)?;
+    Ok(before)
+}
+
+/// Changes the mask, which was `before`, where there is a change.
+fn set_from<I: Source, O: Sink, E: Sink>(
+    before: [u32; 4],
+    change: Option<MaskSetting>,
+    k: &mut NativeKernel,
+    mem: &mut HostMem,
+    dev: &mut Devices<I, O, E>,
+    log: &mut Log,
+) -> Result<(), Stop>
+    ensures acts { Acts (λ _ became. became ≡ mask_from k.old before change) result k.old k.new
+        (contents I.left O.written E.written dev.old) (contents I.left O.written E.written dev.new) log.old log.new }
+    ensures cause { StopsOnlyIfRose I.faults O.faults E.faults result dev.old dev.new }
+    ensures counts { NoCountFell I.faults O.faults E.faults dev.old dev.new }
+    ensures clock { k.new.clock ≡ k.old.clock }
+{
+    match change {
+        None => Ok(()),
+        Some(change) => {
+            let becomes = changed_mask(change.how, before, change.set);
+            set_mask(becomes, k, mem, dev, log)
+        }
+    }
+}
+
+/// A mask that is changed by a set.
+fn changed_mask(how: MaskChange, mask: [u32; 4], set: [u32; 4]) -> [u32; 4]
+    ensures { result ≡ rows.changed_mask how mask set }
+{
+    match how {
+        MaskChange::Block => union(mask, set),
+        MaskChange::Unblock => without(mask, set),
+        MaskChange::Set => set,
+    }
+}
+
+/// The signals of two sets.
+#[tactic(auto, using(native_kernel::proofs::MaskLemmas::union_words))]
+fn union(set: [u32; 4], other: [u32; 4]) -> [u32; 4]
+    ensures { result ≡ sets.union set other }
+{
+    [
+        set[0] | other[0],
+        set[1] | other[1],
+        set[2] | other[2],
+        set[3] | other[3],
+    ]
+}
+
+/// The signals of a set that are not in another.
+#[tactic(auto, using(native_kernel::proofs::Unblocked::without_words))]
+fn without(set: [u32; 4], other: [u32; 4]) -> [u32; 4]
+    ensures { result ≡ sets.without set other }
+{
+    [
+        free_bits(set[0], other[0]),
+        free_bits(set[1], other[1]),
+        free_bits(set[2], other[2]),
+        free_bits(set[3], other[3]),
+    ]
+}
+
+/// The bits of a word that another does not have.
+fn free_bits(word: u32, other: u32) -> u32
+    ensures { result ≡ word - bit_and word other }
+{
+    word - (word & other)
+}

@@ -1,0 +1,127 @@
+//! Sending signals: kill(2), tkill(2), tgkill(2), rt_sigqueueinfo(2).
+ghost use Rattle.std.specs.Prelude.{◌≡◌};
+ghost use Rattle.std.specs.Int.{w32, cast_signed};
+ghost use Rattle.bridge_log.specs.Keeping.{KeepsCall};
+ghost use Rattle.kernel_model.specs.Stops.{StopsOnlyIfRose};
+ghost use Rattle.o32_model.specs.Answered.{IsCall};
+ghost use Rattle.o32_model.specs.Sending.{kill_row, rt_sigqueueinfo_row, tgkill_row, tkill_row};
+ghost use Rattle.o32_model.specs.Step.{Guest};
+ghost use Rattle.outside.specs.Streams.{NoCountFell, contents};
+
+use crate::infos::take_info;
+use crate::named::native_number;
+use crate::numbers::{KILL, RT_SIGQUEUEINFO, TGKILL, TKILL};
+use bridge_log::number_call;
+use guest_space::Space;
+use host_mem::HostMem;
+use kernel_core::Stop;
+use native_kernel::NativeKernel;
+use o32_model::{CallWords, Log, Outcome};
+use outside::{Devices, Sink, Source};
+
+/// kill(2): ESRCH for another process than this one and its group, EINVAL for a number above 128, EAGAIN where as
+/// many signals as may be queued are. The number 0 sends nothing.
+pub(crate) fn kill<I: Source, O: Sink, E: Sink>(
+    words: &CallWords,
+    pid: u32,
+    number: u32,
+    k: &mut NativeKernel,
+    mem: &mut HostMem,
+    dev: &mut Devices<I, O, E>,
+    log: &mut Log,
+) -> Result<Outcome, Stop>
+    ensures row { (guest : Guest) → guest.words ≡ words.now
+        → IsCall (kill_row k.old guest (cast_signed w32 pid) number) result k.new guest.memory guest.processor
+        (contents I.left O.written E.written dev.old) (contents I.left O.written E.written dev.new) }
+    ensures kept { (guest : Guest) → guest.words ≡ words.now
+        → KeepsCall (kill_row k.old guest (cast_signed w32 pid) number) result k.old guest (I.left dev.old.input) log.old log.new }
+    ensures cause { StopsOnlyIfRose I.faults O.faults E.faults result dev.old dev.new }
+    ensures counts { NoCountFell I.faults O.faults E.faults dev.old dev.new }
+    ensures clock { k.new.clock ≡ k.old.clock }
+{
+    let args = [u64::from(pid), native_number(number), 0, 0, 0, 0];
+    number_call(words, k, KILL, args, mem, dev, log)
+}
+
+/// tkill(2): EINVAL for a thread below 1, ESRCH for another than the one of this process; then as [`kill`].
+pub(crate) fn tkill<I: Source, O: Sink, E: Sink>(
+    words: &CallWords,
+    tid: u32,
+    number: u32,
+    k: &mut NativeKernel,
+    mem: &mut HostMem,
+    dev: &mut Devices<I, O, E>,
+    log: &mut Log,
+) -> Result<Outcome, Stop>
+    ensures row { (guest : Guest) → guest.words ≡ words.now
+        → IsCall (tkill_row k.old guest (cast_signed w32 tid) number) result k.new guest.memory guest.processor
+        (contents I.left O.written E.written dev.old) (contents I.left O.written E.written dev.new) }
+    ensures kept { (guest : Guest) → guest.words ≡ words.now
+        → KeepsCall (tkill_row k.old guest (cast_signed w32 tid) number) result k.old guest (I.left dev.old.input) log.old log.new }
+    ensures cause { StopsOnlyIfRose I.faults O.faults E.faults result dev.old dev.new }
+    ensures counts { NoCountFell I.faults O.faults E.faults dev.old dev.new }
+    ensures clock { k.new.clock ≡ k.old.clock }
+{
+    let args = [u64::from(tid), native_number(number), 0, 0, 0, 0];
+    number_call(words, k, TKILL, args, mem, dev, log)
+}
+
+/// tgkill(2): EINVAL for a process or a thread below 1, ESRCH for another than this one; then as [`kill`].
+pub(crate) fn tgkill<I: Source, O: Sink, E: Sink>(
+    words: &CallWords,
+    pid: u32,
+    tid: u32,
+    number: u32,
+    k: &mut NativeKernel,
+    mem: &mut HostMem,
+    dev: &mut Devices<I, O, E>,
+    log: &mut Log,
+) -> Result<Outcome, Stop>
+    ensures row { (guest : Guest) → guest.words ≡ words.now
+        → IsCall (tgkill_row k.old guest (cast_signed w32 pid) (cast_signed w32 tid) number) result k.new guest.memory guest.processor
+        (contents I.left O.written E.written dev.old) (contents I.left O.written E.written dev.new) }
+    ensures kept { (guest : Guest) → guest.words ≡ words.now
+        → KeepsCall (tgkill_row k.old guest (cast_signed w32 pid) (cast_signed w32 tid) number) result k.old guest
+        (I.left dev.old.input) log.old log.new }
+    ensures cause { StopsOnlyIfRose I.faults O.faults E.faults result dev.old dev.new }
+    ensures counts { NoCountFell I.faults O.faults E.faults dev.old dev.new }
+    ensures clock { k.new.clock ≡ k.old.clock }
+{
+    let args = [
+        u64::from(pid),
+        u64::from(tid),
+        native_number(number),
+        0,
+        0,
+        0,
+    ];
+    number_call(words, k, TGKILL, args, mem, dev, log)
+}
+
+/// rt_sigqueueinfo(2): ESRCH for another process, EINVAL for a number above 128, EFAULT, EAGAIN. The code, errno, pid,
+/// uid and value of the structure are those of the signal.
+pub(crate) fn rt_sigqueueinfo<I: Source, O: Sink, E: Sink>(
+    words: &CallWords,
+    pid: u32,
+    number: u32,
+    address: u32,
+    space: &Space,
+    k: &mut NativeKernel,
+    mem: &mut HostMem,
+    dev: &mut Devices<I, O, E>,
+    log: &mut Log,
+) -> Result<Outcome, Stop>
+    ensures row { (guest : Guest) → guest.words ≡ words.now → guest.memory ≡ space.now
+        → IsCall (rt_sigqueueinfo_row k.old guest (cast_signed w32 pid) number address) result k.new space.now guest.processor
+        (contents I.left O.written E.written dev.old) (contents I.left O.written E.written dev.new) }
+    ensures kept { (guest : Guest) → guest.words ≡ words.now → guest.memory ≡ space.now
+        → KeepsCall (rt_sigqueueinfo_row k.old guest (cast_signed w32 pid) number address) result k.old guest
+        (I.left dev.old.input) log.old log.new }
+    ensures cause { StopsOnlyIfRose I.faults O.faults E.faults result dev.old dev.new }
+    ensures counts { NoCountFell I.faults O.faults E.faults dev.old dev.new }
+    ensures clock { k.new.clock ≡ k.old.clock }
+{
+    let place = take_info(space, address, mem)?;
+    let args = [u64::from(pid), native_number(number), place, 0, 0, 0];
+    number_call(words, k, RT_SIGQUEUEINFO, args, mem, dev, log)
+}

@@ -1,0 +1,128 @@
+//! New actions in host memory, and the native call that sets them.
+ghost use Rattle.std.specs.Prelude.{◌≡◌, ◌∷◌, ◌<◌, ◌^◌, [], ℕ, List, All, OnOk, false, map, pos};
+ghost use Rattle.bridge_log.specs.Arguments.{AreUnusedZero};
+ghost use Rattle.bridge_signal.specs.inside.Asked.{action_set_to};
+ghost use Rattle.bridge_signal_state.specs.Acts.{Acts};
+ghost use Rattle.bridge_signal_state.specs.inside.Acting.{Answers, IsAct};
+ghost use Rattle.kernel_core.specs.declared.reply.Reply.{Reply};
+ghost use Rattle.kernel_model.specs.Always.{IsSet};
+ghost use Rattle.kernel_model.specs.SignalRows.{is_unblockable};
+ghost use Rattle.kernel_model.specs.State.{Kernel};
+ghost use Rattle.kernel_model.specs.Stops.{StopsOnlyIfRose};
+ghost use Rattle.native_calls.specs.SignalBytes as spec;
+ghost use Rattle.native_calls.specs.Table.{native_call};
+ghost use Rattle.native_kernel.specs.Built.{built_call};
+ghost use Rattle.number_tables.specs.SaNumbers.{native_sa};
+ghost use Rattle.outside.specs.Streams.{NoCountFell, contents};
+ghost use Rattle.signal_sets.specs.NativeSets.{native_of};
+
+use crate::numbers::{RT_SIGACTION, SIGSETSIZE};
+use bridge_log::native;
+use host_mem::{FIRST_ADDRESS, HostMem};
+use kernel_core::{NoMemory, Reply, Sig, Stop};
+use kernel_model::Action;
+use layouts::{NativeStructure, native_layout, put_record};
+use native_kernel::NativeKernel;
+use number_tables::NativeNumber;
+use o32_model::Log;
+use outside::{Devices, Sink, Source};
+use signal_sets::to_native;
+
+/// How many bytes an action has in host memory (struct sigaction of Linux `include/uapi/asm-generic/signal.h`).
+const ACTION_SIZE: usize = 32;
+
+/// Sets the action of a signal, which is neither KILL nor STOP.
+pub(crate) fn set_action<I: Source, O: Sink, E: Sink>(
+    sig: Sig,
+    action: Action,
+    k: &mut NativeKernel,
+    mem: &mut HostMem,
+    dev: &mut Devices<I, O, E>,
+    log: &mut Log,
+) -> Result<(), Stop>
+    requires blockable { is_unblockable sig ≡ false }
+    ensures acts { Acts (λ _ became. became ≡ action_set_to k.old sig action) result k.old k.new
+        (contents I.left O.written E.written dev.old) (contents I.left O.written E.written dev.new) log.old log.new }
+    ensures cause { StopsOnlyIfRose I.faults O.faults E.faults result dev.old dev.new }
+    ensures counts { NoCountFell I.faults O.faults E.faults dev.old dev.new }
+    ensures clock { k.new.clock ≡ k.old.clock }
+{
+    is_set(action.mask);
+    put_action(action, mem)?;
+    let args = [sig.to_native(), FIRST_ADDRESS, 0, SIGSETSIZE, 0, 0];
+    act(k, RT_SIGACTION, args, mem, dev, log)?;
+    Ok(())
+}
+
+/// A set has four words of 32 bits: it does nothing, and tells its caller this.
+fn is_set(set: [u32; 4])
+    ensures { IsSet set }
+{
+    words_fit(&set);
+}
+
+fn words_fit(set: &[u32; 4])
+    ensures { All (λ word. word < 2 ^ 32) set.now }
+{
+    for word in set {
+        fits(*word);
+    }
+}
+
+fn fits(word: u32)
+    ensures { word < 2 ^ 32 }
+{}
+
+/// Makes a native call that takes and sends nothing.
+fn act<I: Source, O: Sink, E: Sink>(
+    k: &mut NativeKernel,
+    nr: u64,
+    args: [u64; 6],
+    mem: &mut HostMem,
+    dev: &mut Devices<I, O, E>,
+    log: &mut Log,
+) -> Result<Reply, Stop>
+    requires built { built_call nr ≡ native_call nr }
+    requires unused { AreUnusedZero nr args }
+    ensures acts { (to : Kernel) (reply : Reply) (memory : List ℕ)
+        → ((left : List ℕ) → IsAct to reply memory left (native_call nr args k.old mem.old left))
+        → Acts (Answers to reply memory mem.new) result k.old k.new
+        (contents I.left O.written E.written dev.old) (contents I.left O.written E.written dev.new) log.old log.new }
+    ensures cause { StopsOnlyIfRose I.faults O.faults E.faults result dev.old dev.new }
+    ensures counts { NoCountFell I.faults O.faults E.faults dev.old dev.new }
+    ensures clock { k.new.clock ≡ k.old.clock }
+{
+    native(k, nr, args, mem, dev, log)
+}
+
+/// Makes host memory of an action.
+fn put_action(action: Action, mem: &mut HostMem) -> Result<(), NoMemory>
+    ensures { OnOk result (mem.new ≡ spec.action_bytes action) }
+{
+    mem.clear();
+    mem.push(&action_bytes(action))?;
+    Ok(())
+}
+
+/// The structure of an action.
+fn action_bytes(action: Action) -> [u8; ACTION_SIZE]
+    ensures { result ≡ spec.action_bytes action }
+{
+    let values = action_values(action);
+    let mut bytes = [0; ACTION_SIZE];
+    put_record(native_layout(NativeStructure::Sigaction), &values, &mut bytes);
+    bytes
+}
+
+/// Its fields: flags, handler and the two words of its mask.
+fn action_values(action: Action) -> [i128; 4]
+    ensures { result ≡ map pos (native_sa action.flags ∷ action.handler ∷ native_of action.mask) }
+{
+    let mask = to_native(action.mask);
+    [
+        i128::from(action.flags.to_native()),
+        i128::from(action.handler),
+        i128::from(mask[0]),
+        i128::from(mask[1]),
+    ]
+}

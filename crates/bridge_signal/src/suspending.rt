@@ -1,0 +1,157 @@
+//! Waiting for signals: pause(2), rt_sigsuspend(2); and restart_syscall(2), by which a wait goes on.
+ghost use Rattle.std.specs.Prelude.{◌≡◌};
+ghost use Rattle.bridge_log.specs.Keeping.{KeepsCall};
+ghost use Rattle.bridge_log.specs.Looks.{LooksFor};
+ghost use Rattle.bridge_signal.specs.inside.Waiting.{asleep, masked, restart_outcome};
+ghost use Rattle.bridge_signal_state.specs.Acts.{Acts};
+ghost use Rattle.kernel_model.specs.SignalRows as rows;
+ghost use Rattle.kernel_model.specs.Stops.{StopsOnlyIfRose};
+ghost use Rattle.o32_model.specs.Answered.{IsCall};
+ghost use Rattle.o32_model.specs.Step.{Guest};
+ghost use Rattle.o32_model.specs.Suspending.{pause_row, rt_sigsuspend_row};
+ghost use Rattle.outside.specs.Streams.{NoCountFell, contents};
+
+use crate::asked::asked_mask;
+use crate::numbers::{RT_SIGSUSPEND, SIGSETSIZE};
+use crate::sets::put_set;
+use bridge_log::{look, outcome_of};
+use bridge_signal_state::{mask, set_mask};
+use guest_space::Space;
+use host_mem::{FIRST_ADDRESS, HostMem};
+use kernel_core::{Errno, Stop};
+use native_kernel::NativeKernel;
+use o32_model::{CallWords, Log, Outcome, Wait};
+use outside::{Devices, Sink, Source};
+
+/// pause(2), which waits as rt_sigsuspend(2) does with the mask as it is.
+pub(crate) fn pause<I: Source, O: Sink, E: Sink>(
+    words: &CallWords,
+    k: &mut NativeKernel,
+    mem: &mut HostMem,
+    dev: &mut Devices<I, O, E>,
+    log: &mut Log,
+) -> Result<Outcome, Stop>
+    ensures row { (guest : Guest) → guest.words ≡ words.now
+        → IsCall (pause_row k.old guest) result k.new guest.memory guest.processor
+        (contents I.left O.written E.written dev.old) (contents I.left O.written E.written dev.new) }
+    ensures kept { (guest : Guest) → guest.words ≡ words.now
+        → KeepsCall (pause_row k.old guest) result k.old guest (I.left dev.old.input) log.old log.new }
+    ensures cause { StopsOnlyIfRose I.faults O.faults E.faults result dev.old dev.new }
+    ensures counts { NoCountFell I.faults O.faults E.faults dev.old dev.new }
+    ensures clock { k.new.clock ≡ k.old.clock }
+{
+    let set = mask(k, mem, dev, log)?;
+    let outcome = sleep(words, set, k, mem, dev, log)?;
+    Ok(outcome)
+}
+
+/// rt_sigsuspend(2): EINVAL for another size of a set than 16; EFAULT. While it waits the set is the mask, and the wait
+/// keeps the one before.
+pub(crate) fn rt_sigsuspend<I: Source, O: Sink, E: Sink>(
+    words: &CallWords,
+    address: u32,
+    size: u32,
+    space: &Space,
+    k: &mut NativeKernel,
+    mem: &mut HostMem,
+    dev: &mut Devices<I, O, E>,
+    log: &mut Log,
+) -> Result<Outcome, Stop>
+    ensures row { (guest : Guest) → guest.words ≡ words.now → guest.memory ≡ space.now
+        → IsCall (rt_sigsuspend_row k.old guest address size) result k.new space.now guest.processor
+        (contents I.left O.written E.written dev.old) (contents I.left O.written E.written dev.new) }
+    ensures kept { (guest : Guest) → guest.words ≡ words.now → guest.memory ≡ space.now
+        → KeepsCall (rt_sigsuspend_row k.old guest address size) result k.old guest (I.left dev.old.input) log.old log.new }
+    ensures cause { StopsOnlyIfRose I.faults O.faults E.faults result dev.old dev.new }
+    ensures counts { NoCountFell I.faults O.faults E.faults dev.old dev.new }
+    ensures clock { k.new.clock ≡ k.old.clock }
+{
+    match asked_mask(address, size, space) {
+        Err(error) => Ok(Outcome::Error(error)),
+        Ok(set) => suspend(words, set, k, mem, dev, log),
+    }
+}
+
+/// Waits with a mask, and keeps the one before.
+fn suspend<I: Source, O: Sink, E: Sink>(
+    words: &CallWords,
+    set: [u32; 4],
+    k: &mut NativeKernel,
+    mem: &mut HostMem,
+    dev: &mut Devices<I, O, E>,
+    log: &mut Log,
+) -> Result<Outcome, Stop>
+    ensures acts { Acts (λ outcome became. (outcome ≡ masked (asleep words.now) k.old.signals.mask) × (became ≡ rows.with_mask k.old set)) result k.old k.new
+        (contents I.left O.written E.written dev.old) (contents I.left O.written E.written dev.new) log.old log.new }
+    ensures cause { StopsOnlyIfRose I.faults O.faults E.faults result dev.old dev.new }
+    ensures counts { NoCountFell I.faults O.faults E.faults dev.old dev.new }
+    ensures clock { k.new.clock ≡ k.old.clock }
+{
+    let before = mask(k, mem, dev, log)?;
+    let outcome = sleep_with(words, set, k, mem, dev, log)?;
+    Ok(masked(outcome, before))
+}
+
+/// Waits with a mask, which stays.
+fn sleep_with<I: Source, O: Sink, E: Sink>(
+    words: &CallWords,
+    set: [u32; 4],
+    k: &mut NativeKernel,
+    mem: &mut HostMem,
+    dev: &mut Devices<I, O, E>,
+    log: &mut Log,
+) -> Result<Outcome, Stop>
+    ensures acts { Acts (λ outcome became. (outcome ≡ asleep words.now) × (became ≡ rows.with_mask k.old set)) result k.old k.new
+        (contents I.left O.written E.written dev.old) (contents I.left O.written E.written dev.new) log.old log.new }
+    ensures cause { StopsOnlyIfRose I.faults O.faults E.faults result dev.old dev.new }
+    ensures counts { NoCountFell I.faults O.faults E.faults dev.old dev.new }
+    ensures clock { k.new.clock ≡ k.old.clock }
+{
+    let outcome = sleep(words, set, k, mem, dev, log)?;
+    set_mask(set, k, mem, dev, log)?;
+    Ok(outcome)
+}
+
+/// Makes the native call that waits with a mask, which leaves the mask as it is.
+fn sleep<I: Source, O: Sink, E: Sink>(
+    words: &CallWords,
+    set: [u32; 4],
+    k: &mut NativeKernel,
+    mem: &mut HostMem,
+    dev: &mut Devices<I, O, E>,
+    log: &mut Log,
+) -> Result<Outcome, Stop>
+    ensures looks { LooksFor (λ outcome. outcome ≡ asleep words.now) result k.old k.new
+        (contents I.left O.written E.written dev.old) (contents I.left O.written E.written dev.new) log.old log.new }
+    ensures cause { StopsOnlyIfRose I.faults O.faults E.faults result dev.old dev.new }
+    ensures counts { NoCountFell I.faults O.faults E.faults dev.old dev.new }
+    ensures clock { k.new.clock ≡ k.old.clock }
+{
+    put_set(set, mem)?;
+    let args = [FIRST_ADDRESS, SIGSETSIZE, 0, 0, 0, 0];
+    let reply = look(k, RT_SIGSUSPEND, args, mem, dev, log)?;
+    Ok(outcome_of(words, reply))
+}
+
+/// A wait with the mask that was before it.
+fn masked(outcome: Outcome, before: [u32; 4]) -> Outcome
+    ensures { result ≡ masked outcome before }
+{
+    match outcome {
+        Outcome::Sleep(wait) => Outcome::Sleep(Wait {
+            mask: Some(before),
+            ..wait
+        }),
+        other => other,
+    }
+}
+
+/// restart_syscall(2): the wait goes on as it was, or EINTR where there is none.
+pub(crate) fn restart_syscall(restart: Option<Wait>) -> Outcome
+    ensures { result ≡ restart_outcome restart }
+{
+    match restart {
+        None => Outcome::Error(Errno::EINTR),
+        Some(wait) => Outcome::Sleep(wait),
+    }
+}
