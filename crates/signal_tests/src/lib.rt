@@ -6,4 +6,6 @@ mod arriving;
 #[cfg(test)]
 mod frames;
 #[cfg(test)]
+mod refusals;
+#[cfg(test)]
 mod waits;

@@ -33,7 +33,9 @@ const A_READ: &str = r"
 ";
 
 /// A sleep of a second. A stop after 0.3 s and SIGCONT after 0.8 s leave its deadline, and it gives 0; the clock is then told, four
-/// turns behind it. A handler after 0.5 s ends it with EINTR, 4, and what is left is stored.
+/// turns behind it. A handler after 0.5 s ends it with EINTR, 4, and what is left is stored. So
+/// does one after 0.7 s behind a stop at 0.3 s and SIGCONT at 0.5 s, by the first deadline: the stop, the SYSCALL that comes again and
+/// each jump of the clock take a turn.
 const A_SLEEP: &str = r"
     addiu $t0 $zero 1; sw $t0 0xFFF0 $sp; addiu $a0 $sp 0xFFF0; addiu $a1 $zero 0; addiu $v0 $zero nanosleep; syscall
     addiu $t0 $v0 0
@@ -55,9 +57,22 @@ const A_SLEEP: &str = r"
     file t at 500000000 kill 16\n
     out \0\0\0\0\x1D\xCD\xA3\x80
     o32run run --schedule t p = exited 4 4 31
+
+    beq $zero $zero 3; nop
+    jr $ra; nop
+    lui $t0 0x40; ori $t0 $t0 8; sw $t0 0xFFC4 $sp
+    addiu $a0 $zero 16; addiu $a1 $sp 0xFFC0; addiu $a2 $zero 0; addiu $a3 $zero 16; addiu $v0 $zero rt_sigaction; syscall
+    addiu $t0 $zero 1; sw $t0 0xFFF0 $sp; addiu $a0 $sp 0xFFF0; addiu $a1 $sp 0xFFE8; addiu $v0 $zero nanosleep; syscall
+    addiu $t0 $v0 0
+    addiu $a0 $zero 1; addiu $a1 $sp 0xFFE8; addiu $a2 $zero 8; addiu $v0 $zero write; syscall
+    addiu $a0 $t0 0; addiu $v0 $zero exit; syscall
+    file t at 300000000 kill 23\nat 500000000 kill 25\nat 700000000 kill 16\n
+    out \0\0\0\0\x11\xE1\xE1\x80
+    o32run run --schedule t p = exited 4 4 34
 ";
 
-/// A write of 70,000 bytes to an empty pipe puts 65,536, which is its result once a handler ends it.
+/// A write of 70,000 bytes to an empty pipe puts 65,536, which is its result once a handler ends it; and so many are then in the pipe, by
+/// FIONREAD of ioctl(2), 0x467F.
 const A_WRITE: &str = r"
     beq $zero $zero 3; nop
     jr $ra; nop
@@ -71,6 +86,19 @@ const A_WRITE: &str = r"
     file t at 1000000 kill 16\n
     out \0\x01\0\0
     o32run run --schedule t p = exited 0 0 33
+
+    beq $zero $zero 3; nop
+    jr $ra; nop
+    lui $t0 0x40; ori $t0 $t0 8; sw $t0 0xFFC4 $sp
+    addiu $a0 $zero 16; addiu $a1 $sp 0xFFC0; addiu $a2 $zero 0; addiu $a3 $zero 16; addiu $v0 $zero rt_sigaction; syscall
+    addiu $v0 $zero pipe; syscall
+    addiu $a0 $zero 4; lui $a1 0x7F80; lui $a2 1; ori $a2 $a2 0x1170; addiu $v0 $zero write; syscall
+    addiu $a0 $zero 3; addiu $a1 $zero 0x467F; addiu $a2 $sp 0xFFF8; addiu $v0 $zero ioctl; syscall
+    addiu $a0 $zero 1; addiu $a1 $sp 0xFFF8; addiu $a2 $zero 4; addiu $v0 $zero write; syscall
+    addiu $a0 $zero 0; addiu $v0 $zero exit; syscall
+    file t at 1000000 kill 16\n
+    out \0\x01\0\0
+    o32run run --schedule t p = exited 0 0 37
 ";
 
 /// pause(2) without anything to come; and beside a timer with a period whose signal is ignored.
