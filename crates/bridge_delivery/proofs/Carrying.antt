@@ -1,7 +1,6 @@
 -- Parts of a turn, one after the other.
 use Rattle.std.proofs.Common.{◌≡◌, ℕ, Bool, true, false, List, refl, sym, ap, ◌∙◌, Option, Some, None, Result, Ok, Err, OnOk}
 use Rattle.std.specs.Prelude.{if◌then◌else◌, unwrap_or}
-use Rattle.bridge_delivery.specs.inside.Frames as frames
 use Rattle.bridge_delivery.specs.inside.Frames.{framed, has_room, plain, with_info}
 use Rattle.bridge_delivery.specs.inside.Standings as standings
 use Rattle.bridge_delivery.specs.inside.Standings.{keeping, kept_of}

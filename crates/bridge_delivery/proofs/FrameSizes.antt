@@ -1,7 +1,7 @@
 -- How long frames are, and that a frame holds the low words of an alternate stack.
-use Rattle.std.proofs.Common.{◌≡◌, ℕ, suc, ◌+◌, ◌/◌, ◌%◌, ◌^◌, Bool, true, false, List, [], ◌∷◌, ◌++◌, length, map, replicate, take, drop, ℤ, pos, refl, sym, ap, ◌∙◌, arith, All, append_assoc}
+use Rattle.std.proofs.Common.{◌≡◌, ℕ, suc, ◌+◌, ◌/◌, ◌%◌, Bool, true, false, List, [], ◌∷◌, ◌++◌, length, map, replicate, take, drop, ℤ, pos, refl, sym, ap, ◌∙◌, arith, All, append_assoc}
 use Rattle.std.specs.Prelude.{◌==◌, if◌then◌else◌}
-use Rattle.std.proofs.lemmas.List.{length-replicate, length-map}
+use Rattle.std.proofs.lemmas.List.{length-replicate}
 use Rattle.layouts.proofs.RecordLaws.{length-with_value}
 use Rattle.layouts.proofs.SoundTables.{sound_from_test}
 use Rattle.layouts.specs.declared.field.Field.{Field}

@@ -1,5 +1,5 @@
 -- What the write of a frame comes to.
-use Rattle.std.proofs.Common.{◌≡◌, ℕ, Bool, true, false, List, length, refl, sym, ap, subst, ◌∙◌, Option, Some, None, Result, Ok, Err, IsErr}
+use Rattle.std.proofs.Common.{◌≡◌, ℕ, Bool, true, false, length, sym, ap, subst, ◌∙◌, Option, Some, None, Result, Ok, Err, IsErr}
 use Rattle.std.specs.Prelude.{is_none}
 use Rattle.guest_space.specs.Access.{first_denied}
 use Rattle.guest_space.specs.declared.access.Denied.{Denied}

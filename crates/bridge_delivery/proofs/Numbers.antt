@@ -1,5 +1,5 @@
 -- The numbers of signals are few.
-use Rattle.std.proofs.Common.{ℕ, ◌+◌, ◌<◌, ◌≤◌, arith}
+use Rattle.std.proofs.Common.{◌≤◌, arith}
 use Rattle.kernel_core.specs.declared.signal.Sig.{Sig}
 use Rattle.kernel_model.proofs.Posting.{place_below}
 use Rattle.native_signal.proofs.PlaceNumbers.{number_of_place}

@@ -1,8 +1,8 @@
 -- Whether an unblocked signal pends is whether there is a next one.
-use Rattle.std.proofs.Common.{◌≡◌, ℕ, zero, suc, ◌+◌, ◌-◌, ◌*◌, ◌/◌, ◌%◌, ◌^◌, ◌<◌, ◌≤◌, Bool, true, false, ◌&&◌, List, [], ◌∷◌, length, take, drop, map, get_or, length-take, refl, sym, ap, ◌∙◌, subst, arith, lit<, lit≤, Option, Some, None, zero-add, inl, inr}
+use Rattle.std.proofs.Common.{◌≡◌, ℕ, zero, suc, ◌+◌, ◌-◌, ◌*◌, ◌/◌, ◌%◌, ◌^◌, ◌<◌, ◌≤◌, Bool, true, false, ◌&&◌, List, [], ◌∷◌, length, take, drop, map, get_or, length-take, refl, sym, ap, ◌∙◌, arith, Option, Some, None, zero-add, inl, inr}
 use Rattle.std.specs.Prelude.{◌==◌, bit_and, not, find, is_none, is_some, min, nat_le, if◌then◌else◌}
 use Rattle.std.specs.Int.{bit_at, trailing_zeros, w32}
-use Rattle.std.specs.List.{Any, cons_option, list_any}
+use Rattle.std.specs.List.{Any, cons_option}
 use Rattle.std.proofs.lemmas.Bool.{cases_eq, eqb-true, leb-true, leb-false, le-leb}
 use Rattle.std.proofs.lemmas.List.{get_or_default, get_or-take, get_or-drop, get_or-map}
 use Rattle.std.proofs.lemmas.List.Folds.{Any-from_list_any, list_any_at}

@@ -1,5 +1,5 @@
 -- The first that pends of a signal is taken.
-use Rattle.std.proofs.Common.{◌≡◌, ◌∙◌, ℕ, List, [], ◌∷◌, drop, set, refl, sym, ap, Option, Some, None}
+use Rattle.std.proofs.Common.{◌≡◌, ◌∙◌, ℕ, List, [], ◌∷◌, drop, set, refl, sym, ap, Some, None}
 use Rattle.std.specs.Prelude.{slice_get}
 use Rattle.std.proofs.lemmas.List.{set-get_or}
 use Rattle.guest_space.specs.Memory.{Memory}

@@ -10,3 +10,6 @@ mod sets;
 
 pub use choosing::{choose, is_quiet};
 pub use delivering::deliver;
+
+#[cfg(test)]
+mod tests;

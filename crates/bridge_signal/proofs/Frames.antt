@@ -1,7 +1,6 @@
 -- Returning by a frame.
 use Rattle.std.proofs.Common.{◌≡◌, ℕ, List, Option, Some, None, Result, Ok, Err, refl, sym, ap, ◌∙◌}
 use Rattle.guest_space.specs.Access.{first_denied, unless_denied}
-use Rattle.guest_space.specs.Bytes.{bytes_at}
 use Rattle.guest_space.specs.Memory.{Memory}
 use Rattle.guest_space.specs.declared.access.Access.TheVariants.{Load}
 use Rattle.guest_space.specs.declared.access.Denied.{Denied}
@@ -60,6 +59,7 @@ frame_ended kernel became guest left memory processor set mask same is read sets
     by (first_denied Load guest.memory.pages (register guest.processor 29) frame.size) (read_there (Ok mask) frame.size mask_read guest.memory memory guest.processor processor same is read) where
       goes : returned guest.processor (frame_context (frame_at guest.memory guest.processor)) ≡ set
       goes = ap (λ (m : Memory). returned guest.processor (frame_context (frame_at m guest.processor))) same ∙ ap (λ (p : Processor). returned p (frame_context (frame_at memory p))) is ∙ sym sets
+
       by : (d : Option Denied) → Ok mask ≡ unless_denied d (mask_read guest.memory guest.processor)
           → o32.after_frame kernel guest (given d (frame_at guest.memory guest.processor)) left ≡ ended became set left (ending outcomes.Frame guest.memory)
       by (Some why) never = absurd cc
@@ -92,6 +92,7 @@ rt_frame_ended kernel became guest left memory processor set back sp same is rea
     by (first_denied Load guest.memory.pages (register guest.processor 29) rt_size) (read_there (Ok back) rt_size back_read guest.memory memory guest.processor processor same is read) where
       goes : returned guest.processor (rt_frame_context (rt_frame_at guest.memory guest.processor)) ≡ set
       goes = ap (λ (m : Memory). returned guest.processor (rt_frame_context (rt_frame_at m guest.processor))) same ∙ ap (λ (p : Processor). returned p (rt_frame_context (rt_frame_at memory p))) is ∙ sym sets
+
       by : (d : Option Denied) → Ok back ≡ unless_denied d (back_read guest.memory guest.processor)
           → o32.after_rt_frame kernel guest (given d (rt_frame_at guest.memory guest.processor)) left ≡ ended became set left (ending outcomes.Frame guest.memory)
       by (Some why) never = absurd cc

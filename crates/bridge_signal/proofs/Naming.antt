@@ -1,12 +1,12 @@
 -- What a program's number of a signal names natively.
-use Rattle.std.proofs.Common.{◌≡◌, ℕ, ◌%◌, ◌^◌, ◌<◌, ◌≤◌, Bool, true, false, ◌&&◌, Option, Some, None, refl, sym, ap, ◌∙◌, arith, if◌then◌else◌}
+use Rattle.std.proofs.Common.{◌≡◌, ℕ, ◌%◌, ◌^◌, ◌≤◌, Bool, true, false, ◌&&◌, Some, None, refl, sym, ap, ◌∙◌, arith, if◌then◌else◌}
 use Rattle.std.specs.Prelude.{◌==◌, nat_le}
 use Rattle.std.proofs.lemmas.Bool.{leb-true}
 use Rattle.std.proofs.lemmas.Bool.Decides.{nat_tests}
 use Rattle.kernel_core.specs.RealTime.{is_real_time}
 use Rattle.kernel_core.specs.declared.signal.Sig.{Sig}
 use Rattle.kernel_core.specs.declared.signal.Sig.TheVariants as sigs
-use Rattle.kernel_model.specs.SignalRows.{Named, Nothing}
+use Rattle.kernel_model.specs.SignalRows.{Nothing}
 use Rattle.native_calls.specs.Arguments.{low_word}
 use Rattle.native_calls.specs.SignalBytes.{named_by, named_if}
 use Rattle.number_tables.specs.Signals.{native_signal, real_time, signal_of_native, signal_of_o32}

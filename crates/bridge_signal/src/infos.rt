@@ -83,11 +83,7 @@ fn native_info(info: SentInfo) -> [u8; INFO_SIZE]
     a_record_reads_back();
     let values = native_values(info);
     let mut bytes = [0; INFO_SIZE];
-    put_record(
-        native_layout(NativeStructure::Siginfo),
-        &values,
-        &mut bytes,
-    );
+    put_record(native_layout(NativeStructure::Siginfo), &values, &mut bytes);
     bytes
 }
 

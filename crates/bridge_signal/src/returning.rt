@@ -44,7 +44,7 @@ pub(crate) fn sigreturn<I: Source, O: Sink, E: Sink>(
     ensures clock { k.new.clock ≡ k.old.clock }
 {
     match read_frame(cpu, space) {
-        Err(_) => Ok(Outcome::BadFrame),
+        Err(_) => Ok(Outcome::BadFrame), // the turn of the call makes a fault of it
         Ok(mask) => {
             set_mask(mask, k, mem, dev, log)?;
             Ok(Outcome::Frame)

@@ -110,7 +110,11 @@ fn action_bytes(action: Action) -> [u8; ACTION_SIZE]
 {
     let values = action_values(action);
     let mut bytes = [0; ACTION_SIZE];
-    put_record(native_layout(NativeStructure::Sigaction), &values, &mut bytes);
+    put_record(
+        native_layout(NativeStructure::Sigaction),
+        &values,
+        &mut bytes,
+    );
     bytes
 }
 

@@ -1,5 +1,5 @@
 -- The frame of a handler by the alternate stack alone, and what there is once it was asked for. (The forms are this project's own.)
-use Rattle.std.specs.Prelude.{◌≡◌, ℕ, ◌+◌, ◌-◌, ◌%◌, ◌^◌, ◌==◌, Bool, true, false, ◌&&◌, not, List, length, nat_lt, nat_le, Some, Result, Ok, Err, IsErr, if◌then◌else◌}
+use Rattle.std.specs.Prelude.{◌≡◌, ℕ, ◌+◌, ◌-◌, ◌%◌, ◌^◌, ◌==◌, Bool, true, false, ◌&&◌, not, length, nat_lt, nat_le, Some, Result, Ok, Err, IsErr, if◌then◌else◌}
 use Rattle.guest_space.specs.Bytes.{copied_out}
 use Rattle.guest_space.specs.Memory.{Memory}
 use Rattle.guest_space.specs.declared.access.StoreError.{StoreError}
@@ -10,7 +10,7 @@ use Rattle.kernel_model.specs.SignalRows.{is_on, shown_stack, ss_disable}
 use Rattle.kernel_model.specs.SignalSets.{SignalSet}
 use Rattle.kernel_model.specs.declared.signal.Action.{Action}
 use Rattle.kernel_model.specs.declared.signal.SigStack.{SigStack}
-use Rattle.layouts.specs.Frames.{AlternateStack, frame_bytes, rt_frame_bytes}
+use Rattle.layouts.specs.Frames.{frame_bytes, rt_frame_bytes}
 use Rattle.layouts.specs.O32.{frame, rt_frame_of, siginfo}
 use Rattle.mips_exec.specs.Processor.{Processor, register}
 use Rattle.number_tables.specs.Signals.{o32_signal}

@@ -7,7 +7,6 @@ use Rattle.kernel_core.specs.declared.event.Event.{Event}
 use Rattle.kernel_core.specs.declared.event.Event.TheVariants as events
 use Rattle.kernel_core.specs.declared.finish.Finish.TheVariants.{Killed}
 use Rattle.kernel_core.specs.declared.signal.Sig.{Sig}
-use Rattle.kernel_model.specs.Shared.{Info}
 use Rattle.kernel_model.specs.SignalRows.{ignores, is_stop}
 use Rattle.kernel_model.specs.SignalSets.{SignalSet, union}
 use Rattle.kernel_model.specs.State.{Kernel}

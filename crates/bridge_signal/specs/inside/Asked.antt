@@ -1,5 +1,5 @@
 -- What a call asks for, when its arguments are fine. (The form is this project's own.)
-use Rattle.std.specs.Prelude.{◌≡◌, ⊤, ℕ, Bool, false, not, ◌==◌, Option, Some, None, Ok, Err, if◌then◌else◌}
+use Rattle.std.specs.Prelude.{◌≡◌, ⊤, ℕ, false, not, ◌==◌, Option, Some, None, Ok, Err, if◌then◌else◌}
 use Rattle.kernel_core.specs.declared.error.Errno.TheVariants.{EINVAL}
 use Rattle.kernel_core.specs.declared.mask.MaskChange.{MaskChange}
 use Rattle.kernel_core.specs.declared.signal.Sig.{Sig}

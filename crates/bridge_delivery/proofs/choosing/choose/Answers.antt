@@ -1,5 +1,5 @@
 -- Number by number.
-use Rattle.std.proofs.Common.{◌≡◌, ◌∙◌, ◌&&◌, not, sym, ap, subst, ℕ, arith, rules}
+use Rattle.std.proofs.Common.{◌≡◌, ◌∙◌, ◌&&◌, not, sym, ap, ℕ, arith, rules}
 use Rattle.kernel_core.specs.declared.signal.Sig.{Sig}
 use Rattle.kernel_model.specs.SignalSets.{has}
 use Rattle.bridge_delivery.proofs.Lookup.{found_from, here, none_behind, not_here}

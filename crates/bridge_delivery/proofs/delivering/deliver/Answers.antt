@@ -1,5 +1,5 @@
 -- Round by round, until it is over or all rounds are done.
-use Rattle.std.proofs.Common.{◌≡◌, ◌∙◌, ◌+◌, ◌-◌, ap, sym, List, ℕ, Some, true, false, arith, rules}
+use Rattle.std.proofs.Common.{◌∙◌, ◌+◌, ◌-◌, ap, sym, List, ℕ, arith, rules}
 use Rattle.std.specs.Prelude.{is_some}
 use Rattle.mips_exec.specs.Processor.{Processor}
 use Rattle.o32_turns.specs.Built.{built_end}

@@ -1,5 +1,4 @@
-use Rattle.std.proofs.Common.{◌≡◌, ℕ, ◌-◌, List, None, Some}
-use Rattle.std.specs.Prelude.{is_some}
+use Rattle.std.proofs.Common.{◌≡◌, ℕ, ◌-◌, List, Some}
 use Rattle.o32_turns.specs.Built.{built_end}
 use Rattle.o32_turns.specs.Delivering.{most_rounds, rounds}
 use Rattle.o32_turns.specs.Going.{within_of}

@@ -1,5 +1,5 @@
 -- What pends and what is blocked say which signal is next.
-use Rattle.std.proofs.Common.{◌≡◌, ◌∙◌, ◌&&◌, not, ap, List, ℕ}
+use Rattle.std.proofs.Common.{◌≡◌, ◌∙◌, ◌&&◌, not, ap}
 use Rattle.std.specs.Prelude.{find}
 use Rattle.kernel_core.specs.declared.signal.Sig.{Sig}
 use Rattle.kernel_model.specs.SignalRows.{pending_set}

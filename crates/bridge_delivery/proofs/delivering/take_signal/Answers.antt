@@ -1,7 +1,5 @@
 -- The action is found, and the first that pends is taken and delivered.
-use Rattle.std.proofs.Common.{◌≡◌, ◌∙◌, ap, sym, List, ℕ, Option, Some, None}
-use Rattle.std.specs.Prelude.{slice_get}
-use Rattle.kernel_model.specs.Shared.{Info}
+use Rattle.std.proofs.Common.{◌≡◌, ◌∙◌, ap, sym, List, ℕ}
 use Rattle.kernel_model.specs.SignalRows.{action_at, pending_at}
 use Rattle.kernel_model.specs.State.{Kernel}
 use Rattle.kernel_model.specs.declared.signal.Action.{Action}

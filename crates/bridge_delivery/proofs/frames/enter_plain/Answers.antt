@@ -1,9 +1,8 @@
 -- A frame without what is known of the signal.
-use Rattle.std.proofs.Common.{◌≡◌, ℕ, Bool, List, ap, subst, refl}
+use Rattle.std.proofs.Common.{ℕ, subst}
 use Rattle.guest_space.specs.Bytes.{are_ready}
 use Rattle.layouts.specs.O32.{frame}
 use Rattle.number_tables.specs.Signals.{o32_signal}
-use Rattle.o32_turns.specs.Handling.{Framed}
 use Rattle.signal_frames.specs.Entering as frames
 use Rattle.signal_frames.specs.Entering.{context_of_processor, frame_address, plain_entry}
 use Rattle.layouts.specs.Frames.{frame_bytes}

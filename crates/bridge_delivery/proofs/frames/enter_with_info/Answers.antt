@@ -1,5 +1,5 @@
 -- A frame with what is known of the signal.
-use Rattle.std.proofs.Common.{◌≡◌, ◌∙◌, ℕ, Bool, List, ap, subst, sym, refl}
+use Rattle.std.proofs.Common.{◌≡◌, ◌∙◌, ℕ, List, ap, subst, sym}
 use Rattle.guest_space.specs.Bytes.{are_ready}
 use Rattle.layouts.specs.Frames.{rt_frame_bytes}
 use Rattle.layouts.specs.O32.{rt_frame_of, siginfo}
@@ -8,7 +8,7 @@ use Rattle.o32_turns.specs.Handling.{handler_address, stack_kept}
 use Rattle.signal_frames.specs.Entering as frames
 use Rattle.signal_frames.specs.Entering.{alternate_stack, context_of_processor, frame_address, information, rt_entry}
 use Rattle.signal_frames.specs.declared.AltStack.{AltStack}
-use Rattle.bridge_delivery.specs.inside.Frames.{with_info, words_of}
+use Rattle.bridge_delivery.specs.inside.Frames.{with_info}
 use Rattle.bridge_delivery.proofs.FrameSizes.{length-rt_frame_bytes, low_words}
 use Rattle.bridge_delivery.proofs.Framing.{wrote}
 use Rattle.bridge_delivery.proofs.frames.enter_with_info.Goals as goal

@@ -1,5 +1,5 @@
 -- The handler's frame was written or not.
-use Rattle.std.proofs.Common.{◌≡◌, ◌∙◌, ℕ, Bool, List, ap, sym, refl, rules}
+use Rattle.std.proofs.Common.{◌∙◌, ℕ, Bool, List, ap, sym, refl, rules}
 use Rattle.std.specs.Prelude.{if◌then◌else◌}
 use Rattle.o32_turns.specs.Handling.{handling}
 use Rattle.schedule.specs.declared.events.Due.{Due}

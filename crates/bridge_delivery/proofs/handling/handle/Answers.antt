@@ -1,5 +1,5 @@
 -- The wait ends, the handler is told of, and it begins.
-use Rattle.std.proofs.Common.{◌≡◌, ◌∙◌, ℕ, List, ap, refl}
+use Rattle.std.proofs.Common.{◌∙◌, ℕ, List, ap, refl}
 use Rattle.kernel_core.specs.declared.event.Delivery.TheVariants as deliveries
 use Rattle.kernel_core.specs.declared.event.Event.TheVariants as events
 use Rattle.o32_turns.specs.Built.{built_end}

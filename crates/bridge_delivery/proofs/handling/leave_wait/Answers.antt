@@ -1,6 +1,5 @@
 -- The mask is kept, and then the wait ends.
-use Rattle.std.proofs.Common.{◌≡◌, ℕ, List, ap, refl}
-use Rattle.kernel_core.specs.declared.core_error.Stop.{Stop}
+use Rattle.std.proofs.Common.{ℕ, List, ap, refl}
 use Rattle.o32_model.specs.declared.wait.Cause.TheVariants.{Handler}
 use Rattle.o32_turns.specs.Built.{built_end}
 use Rattle.o32_turns.specs.Going.{Standing, within_of}

@@ -1,5 +1,4 @@
-use Rattle.std.proofs.Common.{◌≡◌, ◌∙◌, Option, refl, sym, ap}
-use Rattle.kernel_model.specs.State.{Kernel}
+use Rattle.std.proofs.Common.{◌≡◌, ◌∙◌, Option, sym, ap}
 use Rattle.kernel_model.specs.declared.signal.Action.{Action}
 use Rattle.outside.specs.Streams.{contents}
 use Rattle.bridge_signal_state.proofs.Moving.{acted_as, moves_none}

@@ -1,7 +1,6 @@
-use Rattle.std.proofs.Common.{◌≡◌, ◌∙◌, Option, refl, sym, ap}
+use Rattle.std.proofs.Common.{◌≡◌, ◌∙◌, Option, sym, ap}
 use Rattle.kernel_model.specs.SignalRows.{with_mask}
 use Rattle.kernel_model.specs.SignalSets.{SignalSet}
-use Rattle.kernel_model.specs.State.{Kernel}
 use Rattle.outside.specs.Streams.{contents}
 use Rattle.bridge_signal_state.proofs.Moving.{acted_as, moves_none}
 use Rattle.bridge_signal.specs.declared.asked.MaskSetting.{MaskSetting}

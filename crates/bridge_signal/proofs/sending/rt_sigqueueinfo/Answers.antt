@@ -1,12 +1,11 @@
 -- The native call mirrors the row, over the structure that was taken.
-use Rattle.std.proofs.Common.{◌≡◌, ◌∙◌, ap, subst, sym}
+use Rattle.std.proofs.Common.{◌∙◌, ap, subst, sym}
 use Rattle.std.specs.Int.{w32, cast_signed}
 use Rattle.guest_space.specs.Memory.{Memory}
 use Rattle.layouts.specs.O32.{siginfo}
 use Rattle.o32_model.specs.Answered.{Answers}
 use Rattle.o32_model.specs.GuestBytes.{read_as, structure}
 use Rattle.o32_model.specs.Sending.{rt_sigqueueinfo_row, sent_in}
-use Rattle.o32_model.specs.Step.{Guest}
 use Rattle.outside.specs.Streams.{contents}
 use Rattle.bridge_signal.proofs.SendingMirrors.{queue_mirrors}
 use Rattle.bridge_signal.proofs.sending.rt_sigqueueinfo.Goals as goal

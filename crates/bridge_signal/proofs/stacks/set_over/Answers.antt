@@ -9,9 +9,10 @@ use Rattle.bridge_signal.specs.inside.Told.{did}
 use Rattle.bridge_signal.proofs.stacks.set_over.Goals as goal
 
 pub returns-in-None-clause-acts : goal.returns-in-None-clause-acts
-returns-in-None-clause-acts g c = λ left told.
-    (ap (λ (o : Option SigStack). set_from c.args.k.now c.args.before c.args.sp o) c.in-None.is ∙ ap (λ (s : SigStack). done c.args.k.now s) (sym c.shown_stack.ensures),
-    moves_none c.args.k.now (contents g.I.Source.left g.O.Sink.written g.E.Sink.written c.args.dev.now) left c.args.log.now)
+returns-in-None-clause-acts g c = λ left told. (
+  ap (λ (o : Option SigStack). set_from c.args.k.now c.args.before c.args.sp o) c.in-None.is ∙ ap (λ (s : SigStack). done c.args.k.now s) (sym c.shown_stack.ensures),
+  moves_none c.args.k.now (contents g.I.Source.left g.O.Sink.written g.E.Sink.written c.args.dev.now) left c.args.log.now,
+)
 
 pub returns-in-Some-clause-acts : goal.returns-in-Some-clause-acts
 returns-in-Some-clause-acts g c = λ left told.

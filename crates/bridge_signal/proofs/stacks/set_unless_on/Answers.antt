@@ -1,8 +1,7 @@
-use Rattle.std.proofs.Common.{◌≡◌, ◌∙◌, Bool, true, false, sym, ap, rules, if◌then◌else◌}
+use Rattle.std.proofs.Common.{◌≡◌, ◌∙◌, Bool, true, false, sym, ap, rules}
 use Rattle.kernel_core.specs.declared.error.Errno.TheVariants.{EPERM}
-use Rattle.kernel_model.specs.Came.{Did, refused, refused_if}
+use Rattle.kernel_model.specs.Came.{refused_if}
 use Rattle.kernel_model.specs.SignalRows.{is_on, shown_stack}
-use Rattle.kernel_model.specs.State.{Kernel}
 use Rattle.kernel_model.specs.declared.signal.SigStack.{SigStack}
 use Rattle.std.specs.Prelude.{Some}
 use Rattle.outside.specs.Streams.{contents}
@@ -13,9 +12,10 @@ use Rattle.bridge_signal.proofs.stacks.set_unless_on.Goals as goal
 
 pub returns-then-is_on-clause-acts : goal.returns-then-is_on-clause-acts
 returns-then-is_on-clause-acts g c = λ left told.
-    let on : is_on c.args.before (Some c.args.sp) ≡ true = search rules in
-    (ap (λ (b : Bool). refused_if b EPERM c.args.k.now (set_taken c.args.k.now (shown_stack c.args.before (Some c.args.sp)) c.args.new)) on,
-    moves_none c.args.k.now (contents g.I.Source.left g.O.Sink.written g.E.Sink.written c.args.dev.now) left c.args.log.now)
+    let on : is_on c.args.before (Some c.args.sp) ≡ true = search rules in (
+      ap (λ (b : Bool). refused_if b EPERM c.args.k.now (set_taken c.args.k.now (shown_stack c.args.before (Some c.args.sp)) c.args.new)) on,
+      moves_none c.args.k.now (contents g.I.Source.left g.O.Sink.written g.E.Sink.written c.args.dev.now) left c.args.log.now,
+    )
 
 pub returns-clause-acts : goal.returns-clause-acts
 returns-clause-acts g c = λ left told.

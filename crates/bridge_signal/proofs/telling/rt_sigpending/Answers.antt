@@ -1,5 +1,5 @@
 -- What was told is stored as the row says.
-use Rattle.std.proofs.Common.{◌∙◌, ap, sym}
+use Rattle.std.proofs.Common.{◌∙◌, ap}
 use Rattle.guest_space.specs.Memory.{Memory}
 use Rattle.o32_model.specs.Actions.{rt_sigpending_row}
 use Rattle.o32_model.specs.Masks.{set_bytes}

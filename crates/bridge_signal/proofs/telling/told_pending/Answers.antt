@@ -1,9 +1,5 @@
-use Rattle.std.proofs.Common.{◌≡◌, ◌∙◌, Bool, true, false, sym, ap, rules, if◌then◌else◌}
-use Rattle.std.specs.Prelude.{◌==◌, not, Ok, Err}
-use Rattle.kernel_core.specs.declared.error.Errno.TheVariants.{EINVAL}
-use Rattle.kernel_model.specs.Came.{done}
-use Rattle.kernel_model.specs.SignalRows.{pending_set}
-use Rattle.kernel_model.specs.State.{Kernel}
+use Rattle.std.proofs.Common.{◌≡◌, true, false, rules}
+use Rattle.std.specs.Prelude.{◌==◌}
 use Rattle.outside.specs.Streams.{contents}
 use Rattle.bridge_signal_state.proofs.Moving.{moves_look, moves_none}
 use Rattle.bridge_signal.proofs.Asking.{pending_refused, pending_told}

@@ -1,0 +1,5 @@
+pub mod Acting
+pub mod Calls
+pub mod HostSettings
+pub mod TimerLooks
+pub mod TimerRows

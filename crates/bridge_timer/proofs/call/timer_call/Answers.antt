@@ -1,0 +1,19 @@
+-- Each arm makes the row of its number.
+use Rattle.std.proofs.Common.{◌≡◌, refl, rules}
+use Rattle.outside.specs.Streams.{contents}
+use Rattle.bridge_timer.proofs.Calls.{by_number}
+use Rattle.bridge_timer.specs.Found.{found}
+use Rattle.bridge_timer.proofs.call.timer_call.Goals as goal
+
+pub returns-in-4104-clause-row : goal.returns-in-4104-clause-row
+returns-in-4104-clause-row g c = λ left told.
+    let guest = found c.args.args.now c.args.cpu.now c.args.space.now in
+    by_number 4104 c.args.seen.now c.args.k.now guest left c.setitimer.result c.setitimer.new.k c.setitimer.new.space c.args.cpu.now (contents g.I.Source.left g.O.Sink.written g.E.Sink.written c.args.dev.now) (contents g.I.Source.left g.O.Sink.written g.E.Sink.written c.setitimer.new.dev) c.in-4104.is
+    (c.setitimer.ensures.row guest refl refl left told)
+
+pub returns-in_default-clause-row : goal.returns-in_default-clause-row
+returns-in_default-clause-row g c = λ left told.
+    let guest = found c.args.args.now c.args.cpu.now c.args.space.now in
+    let is : c.args.args.now.nr ≡ 4105 = search rules in
+    by_number 4105 c.args.seen.now c.args.k.now guest left c.getitimer.result c.getitimer.new.k c.getitimer.new.space c.args.cpu.now (contents g.I.Source.left g.O.Sink.written g.E.Sink.written c.args.dev.now) (contents g.I.Source.left g.O.Sink.written g.E.Sink.written c.getitimer.new.dev) is
+    (c.getitimer.ensures.row guest refl left told)
