@@ -5,16 +5,18 @@ use Rattle.std.specs.Prelude.{⊤, ◌⊎◌, is_some, ◌==◌, ◌||◌, if◌
 use Rattle.bridge_entries.specs.Numbers.{is_entries_call}
 use Rattle.bridge_file.specs.Numbers.{is_call_there}
 use Rattle.bridge_open.specs.Numbers.{is_open_call}
+use Rattle.bridge_signal.specs.Numbers as signal
 use Rattle.bridge_status.specs.Numbers.{is_status_call}
+use Rattle.bridge_timer.specs.Numbers as timer
 use Rattle.bridge_wait.specs.Numbers as wait
 use Rattle.kernel_model.specs.State.{Kernel}
-use Rattle.o32_turns.specs.Built.{built_call, built_of, built_file_call_or, built_seeing_of, built_time_call_or, file_numbers, is_file_call_built, is_time_call_built}
+use Rattle.o32_turns.specs.Built.{built_call, built_of, built_file_call_or, built_signal_call_or, built_time_call_or, file_numbers, is_file_call_built, is_signal_call_built, is_time_call_built}
 use Rattle.o32_model.specs.Descriptors.{descriptor_calls}
 use Rattle.o32_model.specs.Mappings.{map_calls}
 use Rattle.o32_model.specs.Seeing.{SeeingCall}
 use Rattle.o32_model.specs.Small.{small_calls}
 use Rattle.o32_model.specs.Step.{Guest, O32Call}
-use Rattle.o32_model.specs.Table.{call_in, call_of, file_call_or, is_io_call, is_map_call, machine_call, o32_call, seeing_call_of, seeing_step_of, step_of, wait_call_or}
+use Rattle.o32_model.specs.Table.{call_in, call_of, file_call_or, is_io_call, is_map_call, machine_call, o32_call, seeing_call_of, seeing_step_of, signal_call_or, step_of, wait_call_or}
 use Rattle.o32_model.specs.Terminal.{terminal_calls}
 use Rattle.o32_model.specs.Transfers.{transfer_calls}
 use Rattle.o32_model.specs.declared.wait.Seen.{Seen}
@@ -76,7 +78,7 @@ none_of (Some call) none = absurd cc
 
 module _ (seen : Seen) (kernel : Kernel) (guest : Guest) (left : List ℕ) where
   abbrev IsSame : ℕ → Type 0
-  IsSame number = step_of (call_of number) kernel guest left ≡ seeing_step_of (built_of number) (built_seeing_of number) seen kernel guest left
+  IsSame number = step_of (call_of number) kernel guest left ≡ seeing_step_of (built_of number) (seeing_call_of number) seen kernel guest left
 
   transfers_same : EachIs IsSame transfer_calls
   transfers_same = (refl, (refl, (refl, (refl, (refl, (refl, tt))))))
@@ -105,7 +107,7 @@ module _ (seen : Seen) (kernel : Kernel) (guest : Guest) (left : List ℕ) where
   -- so have the calls on time
 
   abbrev IsSameTime : ℕ → Type 0
-  IsSameTime number = seeing_step_of (call_of number) (seeing_call_of number) seen kernel guest left ≡ seeing_step_of (built_of number) (built_seeing_of number) seen kernel guest left
+  IsSameTime number = seeing_step_of (call_of number) (seeing_call_of number) seen kernel guest left ≡ seeing_step_of (built_of number) (seeing_call_of number) seen kernel guest left
 
   at_number : (number one : ℕ) → IsSameTime one → (number == one) ≡ true → IsSameTime number
   at_number number one same there = subst IsSameTime (sym (eqb-true number one there)) same
@@ -126,6 +128,29 @@ module _ (seen : Seen) (kernel : Kernel) (guest : Guest) (left : List ℕ) where
       (or_last (number == 4013) number 4078
       (at_number number 4013 refl) refl) refl) refl) refl) refl there
 
+  timer_same : (number : ℕ) → timer.is_call_there number ≡ true → IsSameTime number
+  timer_same number there =
+      or_last (number == 4027 || number == 4104) number 4105
+      (or_last (number == 4027) number 4104
+      (at_number number 4027 refl) refl) refl there
+
+  -- and those on signals
+  signal_same : (number : ℕ) → signal.is_call_there number ≡ true → IsSameTime number
+  signal_same number there =
+      or_last (number == 4037 || number == 4236 || number == 4266 || number == 4198 || number == 4194 || number == 4195 || number == 4196 || number == 4206 || number == 4029 || number == 4199 || number == 4119 || number == 4193) number 4253
+      (or_last (number == 4037 || number == 4236 || number == 4266 || number == 4198 || number == 4194 || number == 4195 || number == 4196 || number == 4206 || number == 4029 || number == 4199 || number == 4119) number 4193
+      (or_last (number == 4037 || number == 4236 || number == 4266 || number == 4198 || number == 4194 || number == 4195 || number == 4196 || number == 4206 || number == 4029 || number == 4199) number 4119
+      (or_last (number == 4037 || number == 4236 || number == 4266 || number == 4198 || number == 4194 || number == 4195 || number == 4196 || number == 4206 || number == 4029) number 4199
+      (or_last (number == 4037 || number == 4236 || number == 4266 || number == 4198 || number == 4194 || number == 4195 || number == 4196 || number == 4206) number 4029
+      (or_last (number == 4037 || number == 4236 || number == 4266 || number == 4198 || number == 4194 || number == 4195 || number == 4196) number 4206
+      (or_last (number == 4037 || number == 4236 || number == 4266 || number == 4198 || number == 4194 || number == 4195) number 4196
+      (or_last (number == 4037 || number == 4236 || number == 4266 || number == 4198 || number == 4194) number 4195
+      (or_last (number == 4037 || number == 4236 || number == 4266 || number == 4198) number 4194
+      (or_last (number == 4037 || number == 4236 || number == 4266) number 4198
+      (or_last (number == 4037 || number == 4236) number 4266
+      (or_last (number == 4037) number 4236
+      (at_number number 4037 refl) refl) refl) refl) refl) refl) refl) refl) refl) refl) refl) refl) refl there
+
   pub io_call_same : is_io_call guest.words.nr ≡ true → o32_call kernel guest left ≡ built_call seen kernel guest left
   io_call_same there = io_same guest.words.nr there
 
@@ -138,26 +163,80 @@ module _ (seen : Seen) (kernel : Kernel) (guest : Guest) (left : List ℕ) where
   pub time_call_same : wait.is_call_there guest.words.nr ≡ true → machine_call seen kernel guest left ≡ built_call seen kernel guest left
   time_call_same there = time_same guest.words.nr there
 
--- a number that none of the calls on time has
+  pub timer_call_same : timer.is_call_there guest.words.nr ≡ true → machine_call seen kernel guest left ≡ built_call seen kernel guest left
+  timer_call_same there = timer_same guest.words.nr there
 
-no_time : (a b c d e f : Bool) → (a || b || c || d || e || f) ≡ false → ((a || (b || (c || (e || (f || false))))) ≡ false) × (d ≡ false)
-no_time true b c d e f none = absurd cc
-no_time false true c d e f none = absurd cc
-no_time false false true d e f none = absurd cc
-no_time false false false true e f none = absurd cc
-no_time false false false false true f none = absurd cc
-no_time false false false false false true none = absurd cc
-no_time false false false false false false none = (refl, refl)
+  pub signal_call_same : signal.is_call_there guest.words.nr ≡ true → machine_call seen kernel guest left ≡ built_call seen kernel guest left
+  signal_call_same there = signal_same guest.words.nr there
 
-not_time : (number : ℕ) → wait.is_call_there number ≡ false → (is_time_call_built number ≡ false) × ((number == 4263) ≡ false)
-not_time number none = no_time (number == 4013) (number == 4078) (number == 4166) (number == 4263) (number == 4264) (number == 4265) none
+-- a number that none of the calls on time and on signals has
+
+-- none of some tests is true
+
+neither : (one other : Bool) → (one || other) ≡ false → (one ≡ false) × (other ≡ false)
+neither true other none = absurd cc
+neither false other none = (refl, none)
+
+no_time : (a b c d e f g h i : Bool) → (a || b || c || d || e || f) ≡ false → (g || h || i) ≡ false
+    → ((a || (b || (c || (e || (f || (g || (h || (i || false)))))))) ≡ false) × (d ≡ false)
+no_time true b c d e f g h i none other = absurd cc
+no_time false true c d e f g h i none other = absurd cc
+no_time false false true d e f g h i none other = absurd cc
+no_time false false false true e f g h i none other = absurd cc
+no_time false false false false true f g h i none other = absurd cc
+no_time false false false false false true g h i none other = absurd cc
+no_time false false false false false false true h i none other = absurd cc
+no_time false false false false false false false true i none other = absurd cc
+no_time false false false false false false false false true none other = absurd cc
+no_time false false false false false false false false false none other = (refl, refl)
+
+not_time : (number : ℕ) → wait.is_call_there number ≡ false → timer.is_call_there number ≡ false → (is_time_call_built number ≡ false) × ((number == 4263) ≡ false)
+not_time number none other =
+    no_time (number == 4013) (number == 4078) (number == 4166) (number == 4263) (number == 4264) (number == 4265) (number == 4027) (number == 4104) (number == 4105) none other
+
+-- the same list of tests, one way and the other
+
+abbrev all_false : List Bool → Type 0
+all_false [] = ⊤
+all_false (test ∷ tests) = (test ≡ false) × all_false tests
+
+any_of : List Bool → Bool
+any_of [] = false
+any_of (test ∷ tests) = test || any_of tests
+
+none_of_all : (tests : List Bool) → all_false tests → any_of tests ≡ false
+unfolding any_of
+none_of_all [] none = refl
+none_of_all (test ∷ tests) none = rw none.0 (none_of_all tests none.1)
+
+not_signal : (number : ℕ) → signal.is_call_there number ≡ false → (is_signal_call_built number ≡ false) × ((number == 4253) ≡ false)
+unfolding any_of
+not_signal number none =
+    let a = neither (number == 4037 || number == 4236 || number == 4266 || number == 4198 || number == 4194 || number == 4195 || number == 4196 || number == 4206 || number == 4029 || number == 4199 || number == 4119 || number == 4193) (number == 4253) none in
+    let b = neither (number == 4037 || number == 4236 || number == 4266 || number == 4198 || number == 4194 || number == 4195 || number == 4196 || number == 4206 || number == 4029 || number == 4199 || number == 4119) (number == 4193) a.0 in
+    let c = neither (number == 4037 || number == 4236 || number == 4266 || number == 4198 || number == 4194 || number == 4195 || number == 4196 || number == 4206 || number == 4029 || number == 4199) (number == 4119) b.0 in
+    let d = neither (number == 4037 || number == 4236 || number == 4266 || number == 4198 || number == 4194 || number == 4195 || number == 4196 || number == 4206 || number == 4029) (number == 4199) c.0 in
+    let e = neither (number == 4037 || number == 4236 || number == 4266 || number == 4198 || number == 4194 || number == 4195 || number == 4196 || number == 4206) (number == 4029) d.0 in
+    let f = neither (number == 4037 || number == 4236 || number == 4266 || number == 4198 || number == 4194 || number == 4195 || number == 4196) (number == 4206) e.0 in
+    let g = neither (number == 4037 || number == 4236 || number == 4266 || number == 4198 || number == 4194 || number == 4195) (number == 4196) f.0 in
+    let h = neither (number == 4037 || number == 4236 || number == 4266 || number == 4198 || number == 4194) (number == 4195) g.0 in
+    let i = neither (number == 4037 || number == 4236 || number == 4266 || number == 4198) (number == 4194) h.0 in
+    let j = neither (number == 4037 || number == 4236 || number == 4266) (number == 4198) i.0 in
+    let k = neither (number == 4037 || number == 4236) (number == 4266) j.0 in
+    let l = neither (number == 4037) (number == 4236) k.0 in
+    (none_of_all
+    ((number == 4037) ∷ (number == 4236) ∷ (number == 4266) ∷ (number == 4198) ∷ (number == 4194) ∷ (number == 4195) ∷ (number == 4196) ∷ (number == 4206) ∷ (number == 4029) ∷ (number == 4199) ∷ (number == 4119) ∷ (number == 4193) ∷ [])
+    (l.0, (l.1, (k.1, (j.1, (i.1, (h.1, (g.1, (f.1, (e.1, (d.1, (c.1, (b.1, tt)))))))))))),
+    a.1)
 
 -- what is in none of these groups is looked for among the small calls alone
 
-small_of : (number : ℕ) → is_io_call number ≡ false → is_file_call_built number ≡ false → wait.is_call_there number ≡ false → is_map_call number ≡ false → built_of number ≡ call_in small_calls None number
-small_of number no_io no_file no_time no_map =
+small_of : (number : ℕ) → is_io_call number ≡ false → is_file_call_built number ≡ false → wait.is_call_there number ≡ false → timer.is_call_there number ≡ false → signal.is_call_there number ≡ false
+    → is_map_call number ≡ false → built_of number ≡ call_in small_calls None number
+small_of number no_io no_file no_time no_timer no_signal no_map =
     let last = call_in map_calls None number in
-    let times = built_time_call_or last number in
+    let signals = built_signal_call_or last number in
+    let times = built_time_call_or signals number in
     let others = call_in small_calls (built_file_call_or times number) number in
     let first = not_in transfer_calls (call_in descriptor_calls (call_in terminal_calls None number) number)
     (call_in descriptor_calls (call_in terminal_calls others number) number) number no_io in
@@ -165,22 +244,24 @@ small_of number no_io no_file no_time no_map =
     let third = not_in terminal_calls None others number second.1 in
     first.0 ∙ second.0 ∙ third.0
     ∙ ap (λ (b : Bool). call_in small_calls (if b then file_call_or times number else times) number) no_file
-    ∙ ap (λ (b : Bool). call_in small_calls (if b then wait_call_or last number else last) number) (not_time number no_time).0
+    ∙ ap (λ (b : Bool). call_in small_calls (if b then wait_call_or signals number else signals) number) (not_time number no_time no_timer).0
+    ∙ ap (λ (b : Bool). call_in small_calls (if b then signal_call_or last number else last) number) (not_signal number no_signal).0
     ∙ ap (λ (o : Option O32Call). call_in small_calls o number) (none_of last no_map)
 
-none_seeing : (number : ℕ) → wait.is_call_there number ≡ false → built_seeing_of number ≡ None
-none_seeing number no_time = rw (not_time number no_time).1 refl
+none_seeing : (number : ℕ) → wait.is_call_there number ≡ false → timer.is_call_there number ≡ false → signal.is_call_there number ≡ false → seeing_call_of number ≡ None
+none_seeing number no_time no_timer no_signal = rw ((not_time number no_time no_timer).1, (not_signal number no_signal).1) refl
 
 found_small : (seen : Seen) (kernel : Kernel) (guest : Guest) (left : List ℕ) (found : Option O32Call) → step_of found kernel guest left ≡ seeing_step_of found None seen kernel guest left
 found_small seen kernel guest left None = refl
 found_small seen kernel guest left (Some call) = refl
 
-pub small_call_same : (seen : Seen) (kernel : Kernel) (guest : Guest) (left : List ℕ) → is_io_call guest.words.nr ≡ false → is_file_call_built guest.words.nr ≡ false → wait.is_call_there guest.words.nr ≡ false → is_map_call guest.words.nr ≡ false
+pub small_call_same : (seen : Seen) (kernel : Kernel) (guest : Guest) (left : List ℕ) → is_io_call guest.words.nr ≡ false → is_file_call_built guest.words.nr ≡ false → wait.is_call_there guest.words.nr ≡ false
+    → timer.is_call_there guest.words.nr ≡ false → signal.is_call_there guest.words.nr ≡ false → is_map_call guest.words.nr ≡ false
     → step_of (call_in small_calls None guest.words.nr) kernel guest left ≡ built_call seen kernel guest left
-small_call_same seen kernel guest left no_io no_file no_time no_map =
+small_call_same seen kernel guest left no_io no_file no_time no_timer no_signal no_map =
     found_small seen kernel guest left (call_in small_calls None guest.words.nr)
-    ∙ ap (λ (o : Option O32Call). seeing_step_of o None seen kernel guest left) (sym (small_of guest.words.nr no_io no_file no_time no_map))
-    ∙ ap (λ (o : Option SeeingCall). seeing_step_of (built_of guest.words.nr) o seen kernel guest left) (sym (none_seeing guest.words.nr no_time))
+    ∙ ap (λ (o : Option O32Call). seeing_step_of o None seen kernel guest left) (sym (small_of guest.words.nr no_io no_file no_time no_timer no_signal no_map))
+    ∙ ap (λ (o : Option SeeingCall). seeing_step_of (built_of guest.words.nr) o seen kernel guest left) (sym (none_seeing guest.words.nr no_time no_timer no_signal))
 
 -- a call on files is made by one of four crates
 

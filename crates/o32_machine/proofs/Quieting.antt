@@ -1,140 +1,231 @@
 -- Quiet turns, as turns of the machine that is defined.
-use Rattle.std.proofs.Common.{◌≡◌, ℕ, zero, suc, ◌+◌, ◌*◌, ◌^◌, ◌<◌, ◌≤◌, inl, inr, Bool, true, false, List, [], ◌++◌, Option, Some, None, Result, Ok, Err, IsErr, arith, refl, sym, ap, subst, ◌∙◌}
+use Rattle.std.proofs.Common.{◌≡◌, ℕ, zero, suc, ◌+◌, ◌*◌, ◌<◌, ◌≤◌, inl, inr, Bool, true, false, List, [], ◌∷◌, ◌++◌, Option, Some, None, Result, Ok, Err, IsErr, arith, refl, sym, ap, subst, ◌∙◌}
 use Rattle.std.proofs.lemmas.Bool.{cases_eq}
-use Rattle.std.specs.Prelude.{◌⊎◌}
+use Rattle.std.proofs.lemmas.Bool.Decides.{nat_tests}
+use Rattle.std.specs.Prelude.{◌&&◌, ◌||◌, if◌then◌else◌, is_none, is_some, min, nat_le, not}
 use Rattle.guest_space.specs.Memory.{Memory}
 use Rattle.kernel_core.specs.declared.core_error.NoMemory.{NoMemory}
 use Rattle.kernel_core.specs.declared.core_error.Stop.{Stop}
 use Rattle.kernel_core.specs.declared.event.Event.{Event}
-use Rattle.kernel_core.specs.declared.info.Info.{Info}
-use Rattle.kernel_model.proofs.Advances.{advance_twice, clock_at}
-use Rattle.kernel_model.specs.Clock.{gone_off}
+use Rattle.kernel_model.specs.Clock.{comes, gone_off, if_comes, next_due as timer_after, next_time}
 use Rattle.kernel_model.specs.Pipes.{nothing}
-use Rattle.kernel_model.specs.SignalRows.{advance}
-use Rattle.kernel_model.specs.State.{Kernel}
+use Rattle.kernel_model.specs.SignalRows.{advance, after_expiry}
+use Rattle.kernel_model.specs.State.{Timer}
 use Rattle.mips_exec.specs.Processor.{Processor}
 use Rattle.mips_exec.specs.Step.{Step, step_of}
 use Rattle.mips_exec.specs.declared.execution.Stepped.{Stepped}
 use Rattle.mips_exec.specs.declared.execution.Stepped.TheVariants.{Next}
-use Rattle.o32_machine.proofs.Turning.{behind_events, behind_events_stopped, fails_before, goes_faults, goes_waits, stops}
+use Rattle.o32_machine.proofs.Turning.{at_time_answers, at_time_stopped, fails_before, stops}
 use Rattle.o32_machine.specs.Answered.{IsTurn, Stopped, Turned, turns_done, turns_of}
 use Rattle.o32_machine.specs.Emulator.{Emulated, ProcessState, at_clock, machine_at, machine_of}
 use Rattle.o32_machine.specs.Quiet.{IsQuiet, IsTurnAfter}
 use Rattle.o32_machine.specs.declared.turn.Turn as code
-use Rattle.o32_machine.specs.inside.Finishing.{goes}
+use Rattle.o32_machine.specs.inside.Quieting.{IsBefore, OnlyExecutes, goes, next_due}
 use Rattle.o32_machine.specs.inside.Stepping.{Goes, GoesThen, Steps}
-use Rattle.o32_turns.specs.Built.{built}
-use Rattle.o32_turns.specs.Instruction.{after_step, at_time, stepped}
-use Rattle.o32_turns.specs.Machine.{Machine, Turn}
-use Rattle.o32_turns.specs.Posting.{expiry_events}
-use Rattle.o32_turns.specs.Runs.{IsRunningAt, Reached, after_attempt, is_blocked, reached, unless_over}
-use Rattle.o32_turns.specs.Turn.{after_events, turn_of}
+use Rattle.o32_machine.specs.inside.Steps.{begun}
 use Rattle.o32_model.specs.declared.wait.Wait.{Wait}
+use Rattle.kernel_core.specs.declared.info.Info.{Info}
+use Rattle.kernel_core.specs.declared.signal.Sig.{Sig}
+use Rattle.o32_turns.proofs.Still.{delivery_stays}
+use Rattle.o32_turns.specs.Built.{built, built_end}
+use Rattle.o32_turns.specs.Delivering.{next_signal}
+use Rattle.o32_turns.specs.Instruction.{after_step, at_time, executed, stepped}
+use Rattle.o32_turns.specs.Machine.{Machine, Turn, Within, begin, with_machine}
+use Rattle.o32_turns.specs.Posting.{event_info, events_posted, expiry_events, sent_to, timer_posted}
+use Rattle.o32_turns.specs.Runs.{IsRunningAt, Reached, after_attempt, is_blocked, reached, unless_over}
+use Rattle.o32_turns.specs.Turn.{after_events, fifth_or_sixth, first_step, fourth_step, next_event, second_step, sooner, third_step, turn_of, unless_killed}
 use Rattle.outside.specs.Streams.{Contents}
+use Rattle.schedule.specs.declared.events.Due.{Due}
 
--- The kernel over quiet turns: in each the timer that is due goes off, and then the clock gains a quantum.
+-- What is due at no time before another
 
-module _ (quantum : ℕ) (kernel : Kernel) where
-  pub passed : ℕ → Kernel
-  passed zero = kernel
-  passed (suc k) = record (advance (passed k) (passed k).clock false) { clock = (passed k).clock + quantum }
+pub earlier : (time later : ℕ) (due : Option ℕ) → time ≤ later → IsBefore later due → IsBefore time due
+earlier time later None less before = tt
+earlier time later (Some at) less before = omega arith
 
-  pub passed_clock : (k : ℕ) → (passed k).clock ≡ kernel.clock + k * quantum
-  unfolding passed
-  passed_clock zero = omega arith
-  passed_clock (suc k) = omega (arith, passed_clock k)
+pub before_first : (time : ℕ) (one other : Option ℕ) → IsBefore time (sooner one other) → IsBefore time one
+before_first time None other before = tt
+before_first time (Some one) None before = before
+before_first time (Some one) (Some other) before = omega arith
 
-  -- the clock need not be moved in between
-  pub passed_once : (k : ℕ) → kernel.clock + k * quantum ≤ 2 ^ 61 → advance (passed k) (passed k).clock false ≡ advance kernel (kernel.clock + k * quantum) false
-  unfolding passed advance
-  passed_once zero early = ap (λ (n : ℕ). advance kernel n false) (omega arith)
-  passed_once (suc k) early =
-      let here : kernel.clock + k * quantum ≤ 2 ^ 61 = omega arith in
-      let first = kernel.clock + k * quantum in
-      let second = kernel.clock + suc k * quantum in
-      let then : (passed k).clock + quantum ≡ second = omega (arith, passed_clock k) in
-      ap (λ (n : ℕ). advance (advance (passed k) (passed k).clock false) n false) then
-      ∙ ap (λ (m : Kernel). advance m second false) (passed_once k here)
-      ∙ advance_twice kernel first second false (omega arith) (inl early)
+pub before_second : (time : ℕ) (one other : Option ℕ) → IsBefore time (sooner one other) → IsBefore time other
+before_second time None other before = before
+before_second time (Some one) None before = tt
+before_second time (Some one) (Some other) before = omega arith
 
-  pub passed_sooner : (k : ℕ) → (k ≡ 0) ⊎ (kernel.clock + k * quantum ≤ 2 ^ 61) → advance (passed k) (passed k).clock false ≡ advance kernel (kernel.clock + k * quantum) false
-  unfolding passed advance
-  passed_sooner zero early = ap (λ (n : ℕ). advance kernel n false) (omega arith)
-  passed_sooner (suc k) (inl none) = absurd (omega arith)
-  passed_sooner (suc k) (inr early) = passed_once (suc k) early
+later_false : (time clock : ℕ) → clock < time → nat_le time clock ≡ false
+later_false time clock less = grind (arith, nat_tests)
 
--- The process over them
+-- the timer
 
-module _ (quantum : ℕ) (kernel : Kernel) (process : ProcessState) where
-  -- one that neither waits nor met a fault, after k quiet turns
-  abbrev pub here : ℕ → Processor → Memory → ProcessState
-  here k now kept = record process { processor = now; memory = kept; kernel = passed quantum kernel k; wait = None; fault = None }
+goes_off : (time : ℕ) (at period : ℕ) (comes_so : Bool) → comes at ≡ comes_so → IsBefore time (if comes_so then Some at else None)
+    → (if nat_le at time && comes_so then Some (timer_after time at period) else None) ≡ None
+goes_off time at period true is before =
+    ap (λ (b : Bool). if b && true then Some (timer_after time at period) else None) (later_false at time before)
+goes_off time at period false is before = by_false (nat_le at time)
+  where
+    by_false : (b : Bool) → (if b && false then Some (timer_after time at period) else None) ≡ None
+    by_false true = refl
+    by_false false = refl
 
-  abbrev pub behind_posting : ℕ → Processor → Memory → ProcessState
-  behind_posting k next stored = record (here k next stored) { kernel = advance (passed quantum kernel k) (passed quantum kernel k).clock false }
+gone_at : (time : ℕ) (due : Option ℕ) (period : ℕ) → IsBefore time (if_comes due) → gone_off time (record { due = due; period = period }) ≡ None
+gone_at time None period before = refl
+gone_at time (Some at) period before = goes_off time at period (comes at) refl before
 
-  abbrev pub events_at : ℕ → List Event
-  events_at k = ([] ++ expiry_events (gone_off (passed quantum kernel k).clock (passed quantum kernel k).timer)) ++ []
+pub timer_quiet : (time : ℕ) (timer : Timer) → IsBefore time (next_time timer) → gone_off time timer ≡ None
+timer_quiet time timer before = gone_at time timer.due timer.period before
 
-  -- its turn
-  pub turn_is : (k : ℕ) (left : List ℕ) (now : Processor) (kept : Memory) (next : Processor) (stored : Memory) (came : Stepped) → Steps now kept came next stored
-      → turn_of quantum (machine_of (here k now kept)) left
-      ≡ after_events (events_at k) (at_time ((passed quantum kernel k).clock + quantum) (after_step built (machine_of (behind_posting k next stored)) came left))
-  unfolding turn_of
-  turn_is k left now kept next stored came step =
-      let before = passed quantum kernel k in
-      let machine = machine_of (behind_posting k now kept) in
-      let stepped_by = step_of now kept in
-      ap (λ (n : ℕ). after_events (events_at k) (at_time (n + quantum) (after_step built (stepped machine stepped_by.processor stepped_by.memory) stepped_by.came left)))
-      (clock_at before before.clock false)
-      ∙ ap (λ (s : Step). after_events (events_at k) (at_time (before.clock + quantum) (after_step built (stepped machine s.processor s.memory) s.came left))) step
+-- One turn in which only an instruction is carried out
 
-  abbrev so_far : ℕ → List ℕ → Processor → Memory → Reached
-  so_far k left now kept = record { machine = machine_of (here k now kept); left = left; sent = nothing; over = None }
+module _ (machine : Machine) where
+  -- what is said of it, in its fields
+  abbrev plain : Machine
+  plain = record machine { wait = None; fault = None; stopped = false }
 
-  module _ (processor : Processor) (memory : Memory) where
-    abbrev begun : Machine
-    begun = machine_of (record process { processor = processor; memory = memory; kernel = kernel; wait = None; fault = None })
+  plain_is : machine.wait ≡ None → machine.fault ≡ None → machine.stopped ≡ false → machine ≡ plain
+  plain_is waits faults stops =
+      ap (λ (w : Option Wait). record machine { wait = w }) waits
+      ∙ ap (λ (f : Option Info). record machine { wait = None; fault = f }) faults
+      ∙ ap (λ (s : Bool). record machine { wait = None; fault = None; stopped = s }) stops
 
-    pub reach : (k : ℕ) (left : List ℕ) (now : Processor) (kept : Memory) → Goes k processor memory now kept → reached quantum begun left k ≡ so_far k left now kept
-    unfolding reached Goes passed
-    reach zero left now kept goes =
-        ap (λ (p : Processor). so_far 0 left p memory) goes.0
-        ∙ ap (λ (m : Memory). so_far 0 left now m) goes.1
-    reach (suc k) left now kept (middle, there, goes, step) =
-        ap (λ (r : Reached). unless_over quantum r r.over) (reach k left middle there goes)
-        ∙ ap (after_attempt (so_far k left middle there)) (turn_is k left middle there now kept Next step)
+  none_posted : (coming : List Due) → machine.coming ≡ coming → IsBefore machine.kernel.clock (next_event coming) → events_posted built coming (begin plain) ≡ begin plain
+  none_posted [] is before = ap (λ (list : List Due). begin (record plain { coming = list })) (sym is)
+  none_posted (due ∷ more) is before =
+      ap
+      (λ (b : Bool). if b then events_posted built more (sent_to built (begin plain) (event_info due))
+      else with_machine (begin plain) (record plain { coming = due ∷ more }))
+      (later_false due.time machine.kernel.clock before)
+      ∙ ap (λ (list : List Due). begin (record plain { coming = list })) (sym is)
 
-    pub running : (k : ℕ) (left : List ℕ) (now : Processor) (kept : Memory) → Goes k processor memory now kept → (j : ℕ) → j < k → IsRunningAt quantum begun left j
-    unfolding Goes
-    running zero left now kept goes j below = absurd (omega arith)
-    running (suc k) left now kept (middle, there, goes, step) j below =
-        elim (cases_eq j k) as (λ _. IsRunningAt quantum begun left j) [
-          | inl same ↦ subst (λ (n : ℕ). IsRunningAt quantum begun left n) (sym same) at_last
-          | inr other ↦ let less : j < k = omega arith in running k left middle there goes j less
-        ]
-      where
-        at_last : IsRunningAt quantum begun left k
-        at_last = record {
-          alive = ap (λ (r : Reached). r.over) (reach k left middle there goes);
-          awake =
-              ap (λ (r : Reached). is_blocked (turn_of quantum r.machine r.left)) (reach k left middle there goes)
-              ∙ ap is_blocked (turn_is k left middle there now kept Next step);
+  no_timer : gone_off machine.kernel.clock machine.kernel.timer ≡ None → timer_posted built (begin plain) ≡ begin plain
+  unfolding advance
+  no_timer none =
+      ap
+      (λ (gone : Option Timer). record (begin plain) {
+        machine = record plain { kernel = after_expiry (record machine.kernel { clock = machine.kernel.clock }) false gone };
+        events = [] ++ expiry_events gone;
+      })
+      none
+
+  posts_nothing : IsBefore machine.kernel.clock (next_event machine.coming) → gone_off machine.kernel.clock machine.kernel.timer ≡ None → first_step built plain ≡ begin plain
+  posts_nothing before none = ap (timer_posted built) (none_posted machine.coming refl before) ∙ no_timer none
+
+  second_nothing : (interrupted : Bool) → second_step built (begin (record plain { interrupted = interrupted })) ≡ begin (record plain { interrupted = interrupted })
+  second_nothing true = refl
+  second_nothing false = refl
+
+  fourth_nothing : (interrupted : Bool) → fourth_step built (begin (record plain { interrupted = interrupted })) ≡ begin (record plain { interrupted = interrupted })
+  fourth_nothing true = refl
+  fourth_nothing false = refl
+
+  third_nothing : next_signal machine.kernel.signals ≡ None → third_step built (begin plain) ≡ begin plain
+  third_nothing none = delivery_stays built_end (begin plain) (ap (λ (signal : Option Sig). is_none signal) none)
+
+  module _ (quantum : ℕ) (left : List ℕ) where
+    plain_turn : IsBefore machine.kernel.clock (next_event machine.coming) → gone_off machine.kernel.clock machine.kernel.timer ≡ None → next_signal machine.kernel.signals ≡ None
+        → turn_of quantum plain left ≡ executed built quantum plain left
+    unfolding turn_of
+    plain_turn before timer signals =
+        ap (λ (w : Within). unless_killed built quantum (third_step built (second_step built w)) left) (posts_nothing before timer)
+        ∙ ap (λ (w : Within). unless_killed built quantum (third_step built w) left) (second_nothing machine.interrupted)
+        ∙ ap (λ (w : Within). unless_killed built quantum w left) (third_nothing signals)
+        ∙ ap (λ (w : Within). fifth_or_sixth built quantum w left) (fourth_nothing machine.interrupted)
+
+    pub one_instruction : (most : ℕ) → OnlyExecutes quantum machine most → turn_of quantum machine left ≡ executed built quantum machine left
+    one_instruction most only =
+        let now = earlier machine.kernel.clock (machine.kernel.clock + most * quantum) (next_due machine) (omega arith) only.early in
+        let events = before_first machine.kernel.clock (next_event machine.coming) (next_time machine.kernel.timer) now in
+        let timer = before_second machine.kernel.clock (next_event machine.coming) (next_time machine.kernel.timer) now in
+        let same = plain_is only.waits only.faults only.stops in
+        ap (λ (m : Machine). turn_of quantum m left) same
+        ∙ plain_turn events (timer_quiet machine.kernel.clock machine.kernel.timer timer) only.delivers
+        ∙ ap (λ (m : Machine). executed built quantum m left) (sym same)
+
+-- Turns of that kind, one after the other
+
+module _ (quantum : ℕ) (machine : Machine) where
+  pub time_after : ℕ → ℕ
+  time_after zero = machine.kernel.clock
+  time_after (suc k) = time_after k + quantum
+
+  pub time_is : (k : ℕ) → time_after k ≡ machine.kernel.clock + k * quantum
+  unfolding time_after
+  time_is zero = omega arith
+  time_is (suc k) = omega (arith, time_is k)
+
+  -- the machine after k of them
+  abbrev pub here : ℕ → Processor → Memory → Machine
+  here k now kept = record machine { processor = now; memory = kept; kernel = at_clock (time_after k) machine.kernel }
+
+  more_turns : (k most : ℕ) → k ≤ most → k * quantum ≤ most * quantum
+  more_turns k most few = grind arith
+
+  module _ (most : ℕ) (only : OnlyExecutes quantum machine most) where
+    only_here : (k : ℕ) (now : Processor) (kept : Memory) → k ≤ most → OnlyExecutes quantum (here k now kept) 0
+    only_here k now kept few =
+        let less = more_turns k most few in
+        record {
+          waits = only.waits;
+          faults = only.faults;
+          stops = only.stops;
+          delivers = only.delivers;
+          early = earlier (time_after k + 0 * quantum) (machine.kernel.clock + most * quantum) (next_due machine) (omega (arith, time_is k, less)) only.early;
         }
 
-    pub quiet : (k : ℕ) (now : Processor) (kept : Memory) → Goes k processor memory now kept → IsQuiet quantum begun k (machine_of (here k now kept))
-    quiet k now kept goes = record {
-      running = λ left j below. running k left now kept goes j below;
-      reaches = λ left. reach k left now kept goes;
+    -- its turn
+    pub turn_is : (k : ℕ) (left : List ℕ) (now : Processor) (kept : Memory) (next : Processor) (stored : Memory) (came : Stepped) → k ≤ most → Steps now kept came next stored
+        → turn_of quantum (here k now kept) left ≡ at_time (time_after k + quantum) (after_step built (here k next stored) came left)
+    turn_is k left now kept next stored came few step =
+        one_instruction (here k now kept) quantum left 0 (only_here k now kept few)
+        ∙ ap (λ (s : Step). at_time (time_after k + quantum) (after_step built (stepped (here k now kept) s.processor s.memory) s.came left)) step
+
+    abbrev so_far : ℕ → List ℕ → Processor → Memory → Reached
+    so_far k left now kept = record { machine = here k now kept; left = left; sent = nothing; over = None }
+
+    pub reach : (k : ℕ) (left : List ℕ) (now : Processor) (kept : Memory) → k ≤ most → Goes k machine.processor machine.memory now kept → reached quantum machine left k ≡ so_far k left now kept
+    unfolding reached Goes time_after
+    reach zero left now kept few goes =
+        ap (λ (p : Processor). so_far 0 left p machine.memory) goes.0
+        ∙ ap (λ (m : Memory). so_far 0 left now m) goes.1
+    reach (suc k) left now kept few (middle, there, goes, step) =
+        let fewer : k ≤ most = omega arith in
+        ap (λ (r : Reached). unless_over quantum r r.over) (reach k left middle there fewer goes)
+        ∙ ap (after_attempt (so_far k left middle there)) (turn_is k left middle there now kept Next fewer step)
+
+    pub running : (k : ℕ) (left : List ℕ) (now : Processor) (kept : Memory) → k ≤ most → Goes k machine.processor machine.memory now kept → (j : ℕ) → j < k → IsRunningAt quantum machine left j
+    unfolding Goes
+    running zero left now kept few goes j below = absurd (omega arith)
+    running (suc k) left now kept few (middle, there, goes, step) j below =
+        elim (cases_eq j k) as (λ _. IsRunningAt quantum machine left j) [
+          | inl same ↦ subst (λ (n : ℕ). IsRunningAt quantum machine left n) (sym same) at_last
+          | inr other ↦ let less : j < k = omega arith in running k left middle there fewer goes j less
+        ]
+      where
+        fewer : k ≤ most
+        fewer = omega arith
+
+        at_last : IsRunningAt quantum machine left k
+        at_last = record {
+          alive = ap (λ (r : Reached). r.over) (reach k left middle there fewer goes);
+          awake =
+              ap (λ (r : Reached). is_blocked (turn_of quantum r.machine r.left)) (reach k left middle there fewer goes)
+              ∙ ap is_blocked (turn_is k left middle there now kept Next fewer step);
+        }
+
+    pub quiet : (k : ℕ) (now : Processor) (kept : Memory) → k ≤ most → Goes k machine.processor machine.memory now kept → IsQuiet quantum machine k (here k now kept)
+    quiet k now kept few goes = record {
+      running = λ left j below. running k left now kept few goes j below;
+      reaches = λ left. reach k left now kept few goes;
     }
 
 -- An emulator's turns
 
 -- none that is quiet before the one that is answered
-pub at_once : (quantum limit : ℕ) (machine : Machine) (turns : ℕ) (result : Result code.Turn Stop) (became : Machine) (turns_then : ℕ) (before after : Contents) → IsTurn (turn_of quantum machine) result became before after
-    → turns_then ≡ turns + turns_done result → 0 < limit → IsTurnAfter quantum limit machine turns result became turns_then before after
+pub at_once : (quantum limit : ℕ) (machine : Machine) (turns : ℕ) (result : Result code.Turn Stop) (became : Machine) (turns_then : ℕ) (events : List Event) (before after : Contents)
+    → IsTurn (turn_of quantum machine) result became events before after → turns_then ≡ turns + turns_done result → 0 < limit
+    → IsTurnAfter quantum limit machine turns result became turns_then events before after
 unfolding reached
-at_once quantum limit machine turns result became turns_then before after last counted some = record {
+at_once quantum limit machine turns result became turns_then events before after last counted some = record {
   quiet = 0;
   middle = machine;
   first = record { running = λ left j below. absurd (omega arith); reaches = λ left. refl };
@@ -147,131 +238,157 @@ none_done : (result : Result code.Turn Stop) → IsErr result → turns_done res
 none_done (Ok turn) failed = absurd cc
 none_done (Err stop) failed = refl
 
-module _ (limit : ℕ) (emulated : Emulated) (clock quantum turns : ℕ) (over : Bool) (process : ProcessState)
-    (is : record { machine = machine_at clock (machine_of process); quantum = quantum; turns = turns; over = over } ≡ emulated) (some : 0 < limit) where
-  abbrev After : Result code.Turn Stop → Machine → ℕ → Contents → Contents → Type 0
-  After result became turns_then before after = IsTurnAfter emulated.quantum limit emulated.machine emulated.turns result became turns_then before after
+module _ (quantum limit : ℕ) (machine : Machine) (turns most k : ℕ) (only : OnlyExecutes quantum machine most) (few : k ≤ most) (within : most < limit) (next : Processor) (stored : Memory) where
+  abbrev After : Result code.Turn Stop → Machine → ℕ → List Event → Contents → Contents → Type 0
+  After result became turns_then events before after = IsTurnAfter quantum limit machine turns result became turns_then events before after
 
-  of_emulated : (result : Result code.Turn Stop) (became : Machine) (turns_then : ℕ) (before after : Contents) → IsTurnAfter quantum limit (machine_at clock (machine_of process)) turns result became turns_then before after → After result became turns_then before after
-  of_emulated result became turns_then before after so = subst (λ (e : Emulated). IsTurnAfter e.quantum limit e.machine e.turns result became turns_then before after) is so
+  after_quiet : (now : Processor) (kept : Memory) → Goes k machine.processor machine.memory now kept → (result : Result code.Turn Stop) (became : Machine) (turns_then : ℕ) (events : List Event) (before after : Contents)
+      → IsTurn (turn_of quantum (here quantum machine k now kept)) result became events before after → turns_then ≡ turns + k + turns_done result → After result became turns_then events before after
+  after_quiet now kept goes result became turns_then events before after last counted = record {
+    quiet = k;
+    middle = here quantum machine k now kept;
+    first = quiet quantum machine most only k now kept few goes;
+    last = last;
+    counted = counted;
+    within = omega arith;
+  }
 
-  -- a turn that is taken in all its steps
-  pub whole_at_once : (result : Result code.Turn Stop) (became : Machine) (turns_then : ℕ) (before after : Contents) → IsTurn (turn_of emulated.quantum emulated.machine) result became before after
-      → turns_then ≡ emulated.turns + turns_done result → After result became turns_then before after
-  whole_at_once result became turns_then before after turned counted =
-      at_once emulated.quantum limit emulated.machine emulated.turns result became turns_then before after turned counted some
+  -- memory was wanting for the next instruction
+  pub lacks : (error : NoMemory) (given : Result Stepped NoMemory) (result : Result code.Turn Stop) (became : Machine) (turns_then : ℕ) (events : List Event) (at : Contents) → given ≡ Err error
+      → GoesThen k machine.processor machine.memory given next stored → IsErr result → turns_then ≡ turns + k → After result became turns_then events at at
+  lacks error given result became turns_then events at was last failed counted =
+      after_quiet next stored (subst (λ (r : Result Stepped NoMemory). GoesThen k machine.processor machine.memory r next stored) was last) result became turns_then events at at
+      (λ left told. fails_before (turn_of quantum (here quantum machine k next stored) left) result became events at failed)
+      (omega (arith, counted, none_done result failed))
 
-  module _ (up : goes process ≡ true) (ran : ProcessState) (k : ℕ) (few : k < limit)
-      (others : ran ≡ record process { processor = ran.processor; memory = ran.memory }) (early : (k ≡ 0) ⊎ (clock + k * quantum ≤ 2 ^ 61)) where
-    abbrev first_kernel : Kernel
-    first_kernel = at_clock clock process.kernel
+  module _ (came : Stepped) (given : Result Stepped NoMemory) (was : given ≡ Ok came) (last : GoesThen k machine.processor machine.memory given next stored) where
+    stepped_there : GoesThen k machine.processor machine.memory (Ok came) next stored
+    stepped_there = subst (λ (r : Result Stepped NoMemory). GoesThen k machine.processor machine.memory r next stored) was last
 
-    abbrev after_k : Processor → Memory → ProcessState
-    after_k now kept = here quantum first_kernel process k now kept
+    abbrev middle : Machine
+    middle = here quantum machine k stepped_there.0 stepped_there.1
 
-    machine_is : machine_at clock (machine_of process) ≡ begun quantum first_kernel process process.processor process.memory
-    machine_is =
-        ap (λ (w : Option Wait). machine_of (record process { kernel = first_kernel; wait = w })) (goes_waits process up)
-        ∙ ap (λ (f : Option Info). machine_of (record process { kernel = first_kernel; wait = None; fault = f })) (goes_faults process up)
-
-    quiet_here : (now : Processor) (kept : Memory) → Goes k process.processor process.memory now kept → IsQuiet quantum (machine_at clock (machine_of process)) k (machine_of (after_k now kept))
-    quiet_here now kept goes =
-        subst (λ (m : Machine). IsQuiet quantum m k (machine_of (after_k now kept))) (sym machine_is)
-        (quiet quantum first_kernel process process.processor process.memory k now kept goes)
-
-    after_quiet : (now : Processor) (kept : Memory) → Goes k process.processor process.memory now kept → (result : Result code.Turn Stop) (became : Machine) (turns_then : ℕ) (before after : Contents)
-        → IsTurn (turn_of quantum (machine_of (after_k now kept))) result became before after → turns_then ≡ turns + k + turns_done result → After result became turns_then before after
-    after_quiet now kept goes result became turns_then before after last counted =
-        of_emulated result became turns_then before after (record {
-          quiet = k;
-          middle = machine_of (after_k now kept);
-          first = quiet_here now kept goes;
-          last = last;
-          counted = counted;
-          within = few;
-        })
-
-    -- memory was wanting for the next instruction
-    pub lacks : (error : NoMemory) (given : Result Stepped NoMemory) (result : Result code.Turn Stop) (became : Machine) (turns_then : ℕ) (at : Contents) → given ≡ Err error → GoesThen k process.processor process.memory given ran.processor ran.memory → IsErr result
-        → turns_then ≡ turns + k → After result became turns_then at at
-    lacks error given result became turns_then at was last failed counted =
-        after_quiet ran.processor ran.memory (subst (λ (r : Result Stepped NoMemory). GoesThen k process.processor process.memory r ran.processor ran.memory) was last) result became turns_then at at
-        (λ left told. fails_before (turn_of quantum (machine_of (after_k ran.processor ran.memory)) left) result became at failed)
+    -- or for moving the clock
+    pub lacks_clock : (result : Result code.Turn Stop) (became : Machine) (turns_then : ℕ) (events : List Event) (at : Contents) → IsErr result → turns_then ≡ turns + k → After result became turns_then events at at
+    lacks_clock result became turns_then events at failed counted =
+        after_quiet stepped_there.0 stepped_there.1 stepped_there.2 result became turns_then events at at
+        (λ left told. fails_before (turn_of quantum middle left) result became events at failed)
         (omega (arith, counted, none_done result failed))
 
-    module _ (came : Stepped) (given : Result Stepped NoMemory) (was : given ≡ Ok came) (last : GoesThen k process.processor process.memory given ran.processor ran.memory) where
-      stepped_there : GoesThen k process.processor process.memory (Ok came) ran.processor ran.memory
-      stepped_there = subst (λ (r : Result Stepped NoMemory). GoesThen k process.processor process.memory r ran.processor ran.memory) was last
+    -- The process before the end of the last turn
+    module _ (time : ℕ) (time_so : time ≡ machine.kernel.clock + k * quantum) (moved : ProcessState) (moved_is : machine_of moved ≡ record machine { processor = next; memory = stored; kernel = at_clock time machine.kernel })
+        (none_yet : moved.going.events ≡ []) where
+      abbrev defined : List ℕ → Turn
+      defined left = after_events moved.going.events (after_step built (machine_of moved) came left)
 
-      abbrev middle : Machine
-      middle = machine_of (after_k stepped_there.0 stepped_there.1)
+      time_there : time ≡ time_after quantum machine k
+      time_there = time_so ∙ sym (time_is quantum machine k)
 
-      -- or for the timer's signal
-      pub lacks_timer : (result : Result code.Turn Stop) (became : Machine) (turns_then : ℕ) (at : Contents) → IsErr result → turns_then ≡ turns + k → After result became turns_then at at
-      lacks_timer result became turns_then at failed counted =
-          after_quiet stepped_there.0 stepped_there.1 stepped_there.2 result became turns_then at at (λ left told. fails_before (turn_of quantum middle left) result became at failed)
+      defined_here : (left : List ℕ) → at_time (time + quantum) (defined left) ≡ turn_of quantum middle left
+      defined_here left =
+          ap (λ (list : List Event). at_time (time + quantum) (after_events list (after_step built (machine_of moved) came left))) none_yet
+          ∙ ap (λ (m : Machine). at_time (time + quantum) (after_step built m came left)) moved_is
+          ∙ ap (λ (n : ℕ). at_time (n + quantum) (after_step built (record machine { processor = next; memory = stored; kernel = at_clock n machine.kernel }) came left)) time_there
+          ∙ sym (turn_is quantum machine most only k left stepped_there.0 stepped_there.1 next stored came few stepped_there.3)
+
+      pub went_after : (turn : code.Turn) (became : Machine) (turns_then : ℕ) (events : List Event) (before after : Contents)
+          → ((left : List ℕ) → before.left ≡ Some left → Turned (defined left) turn became events before after)
+          → turns_of turn ≡ 1 → turns_then ≡ turns + k + 1 → After (Ok turn) (machine_at (time + quantum) became) turns_then events before after
+      went_after turn became turns_then events before after answered one counted =
+          after_quiet stepped_there.0 stepped_there.1 stepped_there.2 (Ok turn) (machine_at (time + quantum) became) turns_then events before after
+          (λ left told.
+          subst (λ (t : Turn). Turned t turn (machine_at (time + quantum) became) events before after) (defined_here left)
+          (at_time_answers (time + quantum) (defined left) turn became events before after (answered left told)))
+          (counted ∙ sym (ap (λ (n : ℕ). turns + k + n) one))
+
+      pub stopped_after : (result : Result code.Turn Stop) (became : Machine) (turns_then : ℕ) (events : List Event) (before after : Contents)
+          → ((left : List ℕ) → before.left ≡ Some left → Stopped (defined left) before after)
+          → IsErr result → turns_then ≡ turns + k → After result became turns_then events before after
+      stopped_after result became turns_then events before after answered failed counted =
+          after_quiet stepped_there.0 stepped_there.1 stepped_there.2 result became turns_then events before after
+          (λ left told.
+          stops (turn_of quantum middle left) result became events before after failed
+          (subst (λ (t : Turn). Stopped t before after) (defined_here left)
+          (at_time_stopped (time + quantum) (defined left) before after (answered left told))))
           (omega (arith, counted, none_done result failed))
 
-      module _ (time : ℕ) (time_is : time ≡ clock + k * quantum) (advanced : ProcessState) (advanced_is : advanced ≡ record ran { kernel = advance ran.kernel time false }) where
-        abbrev posted_there : ProcessState
-        posted_there = behind_posting quantum first_kernel process k ran.processor ran.memory
+-- The same of an emulator, whose process begins a turn, runs and has its clock moved
 
-        kernel_is : advance ran.kernel time false ≡ posted_there.kernel
-        unfolding advance
-        kernel_is =
-            ap (λ (p : ProcessState). advance p.kernel time false) others
-            ∙ ap (λ (n : ℕ). advance process.kernel n false) time_is
-            ∙ sym (passed_sooner quantum first_kernel k early)
+module _ (emulated : Emulated) (clock quantum turns : ℕ) (over : Bool) (process : ProcessState)
+    (is : record { machine = machine_at clock (machine_of process); quantum = quantum; turns = turns; over = over; events = process.going.events } ≡ emulated)
+    (limit most k : ℕ) (only : OnlyExecutes emulated.quantum emulated.machine most) (few : k ≤ most) (within : most < limit) (begun_by ran : ProcessState)
+    (begun_is : begun_by ≡ record process { going = begun process.going }) (others : ran ≡ record begun_by { processor = ran.processor; memory = ran.memory }) where
+  abbrev inside : Machine
+  inside = machine_at clock (machine_of process)
 
-        posted_is : advanced ≡ posted_there
-        posted_is =
-            advanced_is
-            ∙ ap (λ (n : Kernel). record ran { kernel = n }) kernel_is
-            ∙ ap (λ (p : ProcessState). record p { kernel = posted_there.kernel }) others
-            ∙ ap (λ (w : Option Wait). record process { processor = ran.processor; memory = ran.memory; kernel = posted_there.kernel; wait = w }) (goes_waits process up)
-            ∙ ap (λ (f : Option Info). record process { processor = ran.processor; memory = ran.memory; kernel = posted_there.kernel; wait = None; fault = f }) (goes_faults process up)
+  only_inside : OnlyExecutes quantum inside most
+  only_inside = subst (λ (e : Emulated). OnlyExecutes e.quantum e.machine most) (sym is) only
 
-        clock_is : time ≡ (passed quantum first_kernel k).clock
-        clock_is = time_is ∙ sym (passed_clock quantum first_kernel k)
+  abbrev AfterQuick : Result code.Turn Stop → Machine → ℕ → List Event → Contents → Contents → Type 0
+  AfterQuick result became turns_then events before after = IsTurnAfter emulated.quantum limit emulated.machine emulated.turns result became turns_then events before after
 
-        abbrev happened : List Event
-        happened = events_at quantum first_kernel process k
+  of_emulated : (result : Result code.Turn Stop) (became : Machine) (turns_then : ℕ) (events : List Event) (before after : Contents) → IsTurnAfter quantum limit inside turns result became turns_then events before after
+      → AfterQuick result became turns_then events before after
+  of_emulated result became turns_then events before after so = subst (λ (e : Emulated). IsTurnAfter e.quantum limit e.machine e.turns result became turns_then events before after) is so
 
-        defined_here : (left : List ℕ) → after_events happened (at_time (time + quantum) (after_step built (machine_of advanced) came left)) ≡ turn_of quantum middle left
-        defined_here left =
-            ap (λ (n : ℕ). after_events happened (at_time (n + quantum) (after_step built (machine_of advanced) came left))) clock_is
-            ∙ ap (λ (p : ProcessState). after_events happened (at_time ((passed quantum first_kernel k).clock + quantum) (after_step built (machine_of p) came left))) posted_is
-            ∙ sym (turn_is quantum first_kernel process k left stepped_there.0 stepped_there.1 ran.processor ran.memory came stepped_there.3)
+  ran_is : ran ≡ record process { going = begun process.going; processor = ran.processor; memory = ran.memory }
+  ran_is = others ∙ ap (λ (p : ProcessState). record p { processor = ran.processor; memory = ran.memory }) begun_is
 
-        pub went_after : (turn : code.Turn) (became : Machine) (turns_then : ℕ) (before after : Contents)
-            → ((left : List ℕ) → before.left ≡ Some left → Turned (after_step built (machine_of advanced) came left) turn became before after)
-            → turns_of turn ≡ 1 → turns_then ≡ turns + k + 1 → After (Ok turn) (machine_at (time + quantum) became) turns_then before after
-        went_after turn became turns_then before after answered one counted =
-            after_quiet stepped_there.0 stepped_there.1 stepped_there.2 (Ok turn) (machine_at (time + quantum) became) turns_then before after
-            (λ left told.
-            subst (λ (t : Turn). Turned t turn (machine_at (time + quantum) became) before after) (defined_here left)
-            (behind_events happened (time + quantum) (after_step built (machine_of advanced) came left) turn became before after (answered left told)))
-            (counted ∙ sym (ap (λ (n : ℕ). turns + k + n) one))
+  from_begun : (given : Result Stepped NoMemory) → GoesThen k begun_by.processor begun_by.memory given ran.processor ran.memory → GoesThen k process.processor process.memory given ran.processor ran.memory
+  from_begun given last = subst (λ (p : ProcessState). GoesThen k p.processor p.memory given ran.processor ran.memory) begun_is last
 
-        pub stopped_after : (result : Result code.Turn Stop) (became : Machine) (turns_then : ℕ) (before after : Contents)
-            → ((left : List ℕ) → before.left ≡ Some left → Stopped (after_step built (machine_of advanced) came left) before after)
-            → IsErr result → turns_then ≡ turns + k → After result became turns_then before after
-        stopped_after result became turns_then before after answered failed counted =
-            after_quiet stepped_there.0 stepped_there.1 stepped_there.2 result became turns_then before after
-            (λ left told.
-            stops (turn_of quantum middle left) result became before after failed
-            (subst (λ (t : Turn). Stopped t before after) (defined_here left)
-            (behind_events_stopped happened (time + quantum) (after_step built (machine_of advanced) came left) before after (answered left told))))
-            (omega (arith, counted, none_done result failed))
+  pub quick_lacks : (error : NoMemory) (given : Result Stepped NoMemory) (result : Result code.Turn Stop) (became : Machine) (turns_then : ℕ) (events : List Event) (at : Contents) → given ≡ Err error
+      → GoesThen k begun_by.processor begun_by.memory given ran.processor ran.memory → IsErr result → turns_then ≡ turns + k → AfterQuick result became turns_then events at at
+  quick_lacks error given result became turns_then events at was last failed counted =
+      of_emulated result became turns_then events at at
+      (lacks quantum limit inside turns most k only_inside few within ran.processor ran.memory error given result became turns_then events at was (from_begun given last) failed counted)
 
--- the clock is far below the last time at which a timer goes off, or no turn is quiet
-pub still_early : (clock quantum most k time : ℕ) → (most ≡ 0) ⊎ (clock + 1_000_000 * most ≤ 2 ^ 61) → k ≤ most → time ≡ clock + k * quantum → time ≤ clock + 1_000_000 * k → (k ≡ 0) ⊎ (clock + k * quantum ≤ 2 ^ 61)
-still_early clock quantum most k time (inl none) few is bound = inl (omega (arith, none, few))
-still_early clock quantum most k time (inr early) few is bound = inr (omega arith)
+  module _ (time : ℕ) (time_so : time ≡ clock + k * quantum) where
+    -- the timer isn't due
+    pub quick_timer : gone_off time ran.kernel.timer ≡ None
+    quick_timer =
+        let less = more_turns quantum inside k most few in
+        let early = earlier time (clock + most * quantum) (next_due inside) (omega (arith, time_so, less)) only_inside.early in
+        ap (λ (p : ProcessState). gone_off time p.kernel.timer) ran_is
+        ∙ timer_quiet time process.kernel.timer (before_second time (next_event process.coming) (next_time process.kernel.timer) early)
+
+    -- and the clock is not moved back
+    pub quick_later : process.kernel.clock ≤ clock → ran.kernel.clock ≤ time
+    quick_later behind =
+        let same : ran.kernel.clock ≡ process.kernel.clock = ap (λ (p : ProcessState). p.kernel.clock) ran_is in
+        omega (arith, same, time_so)
+
+    module _ (came : Stepped) (given : Result Stepped NoMemory) (was : given ≡ Ok came) (last : GoesThen k begun_by.processor begun_by.memory given ran.processor ran.memory) where
+      pub quick_lacks_clock : (result : Result code.Turn Stop) (became : Machine) (turns_then : ℕ) (events : List Event) (at : Contents) → IsErr result → turns_then ≡ turns + k
+          → AfterQuick result became turns_then events at at
+      quick_lacks_clock result became turns_then events at failed counted =
+          of_emulated result became turns_then events at at
+          (lacks_clock quantum limit inside turns most k only_inside few within ran.processor ran.memory came given was (from_begun given last) result became turns_then events at failed counted)
+
+      module _ (moved : ProcessState) (moved_is : moved ≡ record ran { kernel = at_clock time ran.kernel }) where
+        all_is : moved ≡ record process { going = begun process.going; processor = ran.processor; memory = ran.memory; kernel = at_clock time process.kernel }
+        all_is = moved_is ∙ ap (λ (p : ProcessState). record p { kernel = at_clock time p.kernel }) ran_is
+
+        pub quick_went : (turn : code.Turn) (became : Machine) (turns_then : ℕ) (events : List Event) (before after : Contents)
+            → ((left : List ℕ) → before.left ≡ Some left → Turned (after_events moved.going.events (after_step built (machine_of moved) came left)) turn became events before after)
+            → turns_of turn ≡ 1 → turns_then ≡ turns + k + 1 → AfterQuick (Ok turn) (machine_at (time + quantum) became) turns_then events before after
+        quick_went turn became turns_then events before after answered one counted =
+            of_emulated (Ok turn) (machine_at (time + quantum) became) turns_then events before after
+            (went_after quantum limit inside turns most k only_inside few within ran.processor ran.memory came given was (from_begun given last) time time_so moved
+            (ap machine_of all_is) (ap (λ (p : ProcessState). p.going.events) all_is) turn became turns_then events before after answered one counted)
+
+        pub quick_stopped : (result : Result code.Turn Stop) (became : Machine) (turns_then : ℕ) (events : List Event) (before after : Contents)
+            → ((left : List ℕ) → before.left ≡ Some left → Stopped (after_events moved.going.events (after_step built (machine_of moved) came left)) before after)
+            → IsErr result → turns_then ≡ turns + k → AfterQuick result became turns_then events before after
+        quick_stopped result became turns_then events before after answered failed counted =
+            of_emulated result became turns_then events before after
+            (stopped_after quantum limit inside turns most k only_inside few within ran.processor ran.memory came given was (from_begun given last) time time_so moved
+            (ap machine_of all_is) (ap (λ (p : ProcessState). p.going.events) all_is) result became turns_then events before after answered failed counted)
 
 -- One turn
 
-module _ (quantum : ℕ) (machine : Machine) (turns : ℕ) (result : Result code.Turn Stop) (became : Machine) (turns_then : ℕ) (before after : Contents) (so : IsTurnAfter quantum 1 machine turns result became turns_then before after) where
+module _ (quantum : ℕ) (machine : Machine) (turns : ℕ) (result : Result code.Turn Stop) (became : Machine) (turns_then : ℕ) (events : List Event) (before after : Contents)
+    (so : IsTurnAfter quantum 1 machine turns result became turns_then events before after) where
   none_quiet : so.quiet ≡ 0
   none_quiet = let below : so.quiet < 1 = so.within in omega arith
 
@@ -281,8 +398,8 @@ module _ (quantum : ℕ) (machine : Machine) (turns : ℕ) (result : Result code
       let first = subst (λ (n : ℕ). IsQuiet quantum machine n so.middle) none_quiet so.first in
       sym (ap (λ (r : Reached). r.machine) (first.reaches []))
 
-  pub one_turn : IsTurn (turn_of quantum machine) result became before after
-  one_turn = subst (λ (m : Machine). IsTurn (turn_of quantum m) result became before after) middle_is so.last
+  pub one_turn : IsTurn (turn_of quantum machine) result became events before after
+  one_turn = subst (λ (m : Machine). IsTurn (turn_of quantum m) result became events before after) middle_is so.last
 
   pub one_counts : turns_then ≡ turns + turns_done result
   one_counts = omega (arith, so.counted, none_quiet)

@@ -1,68 +1,34 @@
--- A turn in all its steps, by what each step makes of the process.
-use Rattle.std.proofs.Common.{◌≡◌, ℕ, zero, suc, ◌+◌, ◌-◌, ◌≤◌, Bool, true, false, List, [], ◌++◌, Option, Some, None, Result, Ok, IsErr, refl, sym, ap, subst, ◌∙◌, arith}
-use Rattle.std.specs.Prelude.{◌==◌, ◌||◌, is_some, if◌then◌else◌}
+-- A turn in all its steps: the last ones, and the whole.
+use Rattle.std.proofs.Common.{◌≡◌, ℕ, zero, suc, ◌+◌, ◌*◌, ◌≤◌, Bool, true, false, List, [], ◌++◌, Option, Some, None, Result, Ok, Err, OnOk, IsErr, refl, sym, ap, subst, ◌∙◌, arith}
+use Rattle.std.specs.Prelude.{IfSome, ◌&&◌, ◌||◌, if◌then◌else◌, is_none, is_some, not}
 use Rattle.guest_space.specs.Memory.{Memory}
 use Rattle.kernel_core.specs.declared.core_error.NoMemory.{NoMemory}
 use Rattle.kernel_core.specs.declared.core_error.Stop.{Stop}
 use Rattle.kernel_core.specs.declared.event.Event.{Event}
-use Rattle.kernel_core.specs.declared.finish.Finish.TheVariants.{Killed}
+use Rattle.kernel_core.specs.declared.finish.Finish.{Finish}
 use Rattle.kernel_core.specs.declared.info.Info.{Info}
-use Rattle.kernel_model.proofs.Advances.{clock_at}
-use Rattle.kernel_model.specs.Clock.{gone_off}
+use Rattle.kernel_core.specs.declared.signal.Sig.{Sig}
 use Rattle.kernel_model.specs.Pipes.{nothing}
-use Rattle.kernel_model.specs.SignalRows.{advance}
-use Rattle.kernel_model.specs.State.{Kernel}
 use Rattle.mips_exec.specs.Processor.{Processor}
 use Rattle.mips_exec.specs.Step.{Step, step_of}
 use Rattle.mips_exec.specs.declared.execution.Stepped.{Stepped}
-use Rattle.number_tables.specs.Signals.{o32_signal}
-use Rattle.o32_machine.proofs.Turning.{behind_events, behind_events_stopped, quiet_turn, stops}
+use Rattle.o32_machine.proofs.Steps.{turn_settled}
+use Rattle.o32_machine.proofs.Turning.{at_time_answers, at_time_stopped, fails_before, quiet_turn, stopped_before, stops}
 use Rattle.o32_machine.specs.Answered.{Answers, Stopped, Turned, over_of}
-use Rattle.o32_machine.specs.Emulator.{ProcessState, machine_at, machine_of}
+use Rattle.o32_machine.specs.Emulator.{Emulated, ProcessState, machine_at, machine_of, within_now}
+use Rattle.o32_machine.specs.declared.process.Last.{Last}
 use Rattle.o32_machine.specs.declared.turn.Turn as code
 use Rattle.o32_machine.specs.declared.turn.Turn.TheVariants.{Ended}
-use Rattle.o32_machine.specs.inside.Stepping.{Goes, GoesThen, Steps, jumped_within}
-use Rattle.o32_turns.specs.Built.{built, built_end, fault_kills, is_sleep}
-use Rattle.o32_turns.specs.Closing.{closed, unwaited}
-use Rattle.o32_turns.specs.Instruction.{after_step, at_time, stepped}
-use Rattle.o32_turns.specs.Machine.{Machine, Turn, Within, with_change}
-use Rattle.o32_turns.specs.Posting.{expiry_events}
-use Rattle.o32_turns.specs.Turn.{after_events, ended_by, ended_if_over, first_step, fifth_or_sixth, fifth_step, is_over_at, jumped, next_for, second_step, sixth_step, third_step, turn_of, unless_killed}
-use Rattle.o32_model.specs.WaitEnds.{WaitEnd, wait_ended}
-use Rattle.o32_model.specs.declared.wait.Cause.TheVariants.{Due}
-use Rattle.o32_model.specs.declared.wait.Close.{Close}
-use Rattle.o32_model.specs.declared.wait.Close.TheVariants as closes
+use Rattle.o32_machine.specs.inside.Quieting.{IsBefore, OnlyExecutes, goes, next_due}
+use Rattle.o32_machine.specs.inside.Stepping.{Goes, GoesThen, Steps}
+use Rattle.o32_machine.specs.inside.Steps.{IsLast, LastAnswers, Settles, jumped_within, last_steps, settled}
 use Rattle.o32_model.specs.declared.wait.Wait.{Wait}
+use Rattle.o32_turns.specs.Built.{built}
+use Rattle.o32_turns.specs.Delivering.{next_signal}
+use Rattle.o32_turns.specs.Instruction.{after_step, at_time, stepped}
+use Rattle.o32_turns.specs.Machine.{Machine, Turn, Within, turn}
+use Rattle.o32_turns.specs.Turn.{after_events, fifth_or_sixth, fifth_step, jumped, next_for, sixth_step, turn_of}
 use Rattle.outside.specs.Streams.{Contents}
-
--- A wait whose deadline is over leaves the kernel as it is.
-
-closed_kernel : (wait : Wait) (close : Close) (machine : Machine) → (closed wait close machine).machine.kernel ≡ machine.kernel
-closed_kernel wait (closes.Value value) machine = refl
-closed_kernel wait (closes.Error error) machine = refl
-closed_kernel wait closes.Again machine = refl
-closed_kernel wait closes.Restart machine = refl
-
-sleep_kernel : (wait : Wait) (kernel : Kernel) (memory : Memory) (one other : Bool) → (wait.nr == 4166) ≡ one → (wait.nr == 4265) ≡ other → (one || other) ≡ true
-    → (wait_ended wait Due kernel.clock kernel memory).kernel ≡ kernel
-sleep_kernel wait kernel memory true other first second there = rw first refl
-sleep_kernel wait kernel memory false true first second there = rw (first, second) refl
-sleep_kernel wait kernel memory false false first second there = absurd cc
-
-end_kernel : (wait : Wait) (kernel : Kernel) (memory : Memory) (sleeps : Bool) → is_sleep wait.nr ≡ sleeps → (built_end false wait Due kernel memory).kernel ≡ kernel
-end_kernel wait kernel memory true is = rw is (sleep_kernel wait kernel memory (wait.nr == 4166) (wait.nr == 4265) refl refl is)
-end_kernel wait kernel memory false is = rw is refl
-
-over_kernel : (machine : Machine) (wait : Wait) (over : Bool)
-    → (if over then ended_by built Due wait machine else record { machine = machine; events = [] }).machine.kernel ≡ machine.kernel
-over_kernel machine wait true =
-    let end = built_end false wait Due machine.kernel machine.memory in
-    closed_kernel wait end.close (unwaited machine end) ∙ end_kernel wait machine.kernel machine.memory (is_sleep wait.nr) refl
-over_kernel machine wait false = refl
-
-ended_kernel : (machine : Machine) (wait : Option Wait) → (ended_if_over built machine wait).machine.kernel ≡ machine.kernel
-ended_kernel machine None = refl
-ended_kernel machine (Some wait) = over_kernel machine wait (is_over_at machine.kernel.clock wait.deadline)
 
 -- one instruction alone
 pub steps_once : (k : ℕ) (processor : Processor) (memory : Memory) (result : Result Stepped NoMemory) (came : Stepped) (next : Processor) (stored : Memory) → k ≤ 0 → result ≡ Ok came
@@ -74,116 +40,160 @@ steps_once k processor memory result came next stored few is goes =
     subst (λ (p : Processor). Steps p memory came next stored) (sym at_once.2.0)
     (subst (λ (m : Memory). Steps at_once.0 m came next stored) (sym at_once.2.1) at_once.3)
 
--- The native clock is moved to the machine's, and then the wait ends where its deadline is over.
-module _ (clock quantum : ℕ) (process moved woke : ProcessState) (moved_is : moved ≡ record process { kernel = advance process.kernel clock false })
-    (woke_is : machine_of woke ≡ (ended_if_over built (machine_of moved) moved.wait).machine) where
-  abbrev posted_events : List Event
-  posted_events = [] ++ expiry_events (gone_off clock process.kernel.timer)
+-- at the kernel's time a process is as it stands
+pub stands : (clock : ℕ) (process : ProcessState) → process.kernel.clock ≡ clock → machine_at clock (machine_of process) ≡ machine_of process
+stands clock process at = ap (λ (n : ℕ). machine_at n (machine_of process)) (sym at)
 
-  abbrev now_events : List Event
-  now_events = posted_events ++ (ended_if_over built (machine_of moved) moved.wait).events
+-- The last steps
 
-  abbrev within : List Event → Machine → Within
-  within events machine = record { machine = machine; events = events; saved = None; over = None }
+module _ (quantum clock : ℕ) (process : ProcessState) (at : process.kernel.clock ≡ clock) (left : List ℕ) where
+  abbrev defined : Turn
+  defined = last_steps quantum (within_now process) left
 
-  abbrev rest : Within → List ℕ → Turn
-  rest now left = unless_killed built quantum now left
+  over_is : (finish : Finish) → process.going.over ≡ Some finish → defined ≡ turn (within_now process) left nothing
+  over_is finish over =
+      ap (λ (o : Option Finish). if is_some o then turn (within_now process) left nothing else fifth_or_sixth built quantum (within_now process) left) over
 
-  posted_is : first_step built (machine_at clock (machine_of process)) ≡ within posted_events (machine_of moved)
-  unfolding advance
-  posted_is = ap (λ (p : ProcessState). within posted_events (machine_of p)) (sym moved_is)
+  -- a process that was killed has ended
+  pub over_last : (finish : Finish) (contents : Contents) → process.going.over ≡ Some finish → contents.left ≡ Some left
+      → Turned defined (Ended finish) (machine_at clock (machine_of process)) process.going.events contents contents
+  over_last finish contents over told =
+      let is = over_is finish over in
+      quiet_turn defined (Ended finish) (machine_at clock (machine_of process)) process.going.events contents left told
+      (sym (ap (λ (t : Turn). t.over) is ∙ over))
+      (stands clock process at ∙ sym (ap (λ (t : Turn). t.machine) is))
+      (sym (ap (λ (t : Turn). t.events) is))
+      (ap (λ (t : Turn). t.left) is)
+      (ap (λ (t : Turn). t.sent) is)
 
-  pub woke_clock : woke.kernel.clock ≡ clock
-  woke_clock =
-      ap (λ (m : Machine). m.kernel.clock) woke_is
-      ∙ ap (λ (k : Kernel). k.clock) (ended_kernel (machine_of moved) moved.wait)
-      ∙ ap (λ (p : ProcessState). p.kernel.clock) moved_is
-      ∙ clock_at process.kernel clock false
+  module _ (alive : process.going.over ≡ None) where
+    alive_is : defined ≡ fifth_or_sixth built quantum (within_now process) left
+    alive_is = ap (λ (o : Option Finish). if is_some o then turn (within_now process) left nothing else fifth_or_sixth built quantum (within_now process) left) alive
 
-  turn_is : (left : List ℕ) → turn_of quantum (machine_at clock (machine_of process)) left ≡ rest (fault_kills woke.fault (within now_events (machine_of woke))) left
-  unfolding turn_of
-  turn_is left =
-      ap (λ (w : Within). rest (third_step built (second_step built w)) left) posted_is
-      ∙ ap (λ (m : Machine). rest (third_step built (within now_events m)) left) (sym woke_is)
+    rests_is : (rests : Bool) → (process.going.stopped || is_some process.going.wait) ≡ rests
+        → defined ≡ (if rests then fifth_step (within_now process) left else sixth_step built quantum (within_now process) left)
+    rests_is rests so =
+        alive_is ∙ ap (λ (b : Bool). if b then fifth_step (within_now process) left else sixth_step built quantum (within_now process) left) so
 
-  -- at the machine's time the process is as it stands
-  pub stands : (other : ProcessState) → other.kernel.clock ≡ clock → machine_at clock (machine_of other) ≡ machine_of other
-  stands other at' = ap (λ (n : ℕ). machine_at n (machine_of other)) (sym at')
+    jump_events : (next : Option ℕ) → (jumped next (within_now process)).events ≡ process.going.events
+    jump_events None = refl
+    jump_events (Some time) = refl
 
-  module _ (taken : ProcessState) (taken_is : taken ≡ record woke { fault = None }) where
-    taken_clock : taken.kernel.clock ≡ clock
-    taken_clock = ap (λ (p : ProcessState). p.kernel.clock) taken_is ∙ woke_clock
-
-    -- a fault kills
-    pub kills : (info : Info) (number : ℕ) (at' : Contents) (left : List ℕ) → woke.fault ≡ Some info → number ≡ o32_signal info.sig → at'.left ≡ Some left
-        → Turned (turn_of quantum (machine_at clock (machine_of process)) left) (Ended (Killed number)) (machine_at clock (machine_of taken)) at' at'
-    kills info number at' left fault number_is told =
-        let is = turn_is left ∙ ap (λ (f : Option Info). rest (fault_kills f (within now_events (machine_of woke))) left) fault in
-        quiet_turn (turn_of quantum (machine_at clock (machine_of process)) left) (Ended (Killed number)) (machine_at clock (machine_of taken)) at' left told
-        (ap (λ (n : ℕ). Some (Killed n)) number_is ∙ sym (ap (λ (t : Turn). t.over) is))
-        (stands taken taken_clock ∙ ap machine_of taken_is ∙ sym (ap (λ (t : Turn). t.machine) is))
+    -- the clock jumps, or the process is blocked
+    pub jump_last : (last : Last) (new : ProcessState) (contents : Contents) → (process.going.stopped || is_some process.going.wait) ≡ true → contents.left ≡ Some left
+        → over_of last.turn ≡ (jumped_within (within_now process)).over → machine_at last.clock (machine_of new) ≡ (jumped_within (within_now process)).machine
+        → new.going.events ≡ process.going.events → Turned defined last.turn (machine_at last.clock (machine_of new)) new.going.events contents contents
+    jump_last last new contents rests told over became happened =
+        let is = rests_is true rests in
+        quiet_turn defined last.turn (machine_at last.clock (machine_of new)) new.going.events contents left told
+        (over ∙ sym (ap (λ (t : Turn). t.over) is))
+        (became ∙ sym (ap (λ (t : Turn). t.machine) is))
+        (happened ∙ sym (ap (λ (t : Turn). t.events) is ∙ jump_events (next_for (machine_of process))))
         (ap (λ (t : Turn). t.left) is)
         (ap (λ (t : Turn). t.sent) is)
 
-    module _ (whole : woke.fault ≡ None) where
-      same : taken ≡ woke
-      same = taken_is ∙ ap (λ (f : Option Info). record woke { fault = f }) (sym whole)
+    -- an instruction is carried out
+    pub execute_last : (result : Result Last Stop) (new : ProcessState) (before after : Contents) → (process.going.stopped || is_some process.going.wait) ≡ false
+        → LastAnswers (sixth_step built quantum (within_now process) left) result new before after → LastAnswers defined result new before after
+    execute_last result new before after rests answers = subst (λ (t : Turn). LastAnswers t result new before after) (sym (rests_is false rests)) answers
 
-      alive_is : (left : List ℕ) → turn_of quantum (machine_at clock (machine_of process)) left ≡ fifth_or_sixth built quantum (within now_events (machine_of taken)) left
-      alive_is left =
-          turn_is left
-          ∙ ap (λ (f : Option Info). rest (fault_kills f (within now_events (machine_of woke))) left) whole
-          ∙ ap (λ (p : ProcessState). fifth_or_sixth built quantum (within now_events (machine_of p)) left) (sym same)
+-- One instruction
 
-      -- the clock jumps, or the process is blocked
+module _ (quantum clock : ℕ) (process ran : ProcessState) (came : Stepped) (at : process.kernel.clock ≡ clock) (others : ran ≡ record process { processor = ran.processor; memory = ran.memory })
+    (step : Steps process.processor process.memory came ran.processor ran.memory) (left : List ℕ) where
+  pub ran_clock : ran.kernel.clock ≡ clock
+  ran_clock = ap (λ (p : ProcessState). p.kernel.clock) others ∙ at
 
-      jump_machine : (next : Option ℕ) (events : List Event) (machine : Machine) → (jumped next (within events machine)).machine ≡ (jumped next (within [] machine)).machine
-      jump_machine None events machine = refl
-      jump_machine (Some time) events machine = refl
+  abbrev ended : ProcessState → Turn
+  ended state = after_events state.going.events (after_step built (machine_of state) came left)
 
-      jump_over : (next : Option ℕ) (events : List Event) (machine : Machine) → (jumped next (within events machine)).over ≡ (jumped next (within [] machine)).over
-      jump_over None events machine = refl
-      jump_over (Some time) events machine = refl
+  executes : sixth_step built quantum (within_now process) left ≡ at_time (clock + quantum) (ended ran)
+  executes =
+      ap (λ (s : Step). at_time (process.kernel.clock + quantum) (after_events process.going.events (after_step built (stepped (machine_of process) s.processor s.memory) s.came left))) step
+      ∙ ap (λ (n : ℕ). at_time (n + quantum) (ended (record process { processor = ran.processor; memory = ran.memory }))) at
+      ∙ ap (λ (p : ProcessState). at_time (clock + quantum) (ended p)) (sym others)
 
-      pub jumps : (turn : code.Turn) (became : Machine) (at' : Contents) (left : List ℕ) → is_some taken.wait ≡ true → at'.left ≡ Some left
-          → over_of turn ≡ (jumped_within (machine_at clock (machine_of taken))).over → became ≡ (jumped_within (machine_at clock (machine_of taken))).machine
-          → Turned (turn_of quantum (machine_at clock (machine_of process)) left) turn became at' at'
-      jumps turn became at' left waits told over became_is =
-          let machine = machine_of taken in
-          let is = alive_is left
-          ∙ ap (λ (b : Bool). if b then fifth_step (within now_events machine) left else sixth_step built quantum (within now_events machine) left) waits in
-          quiet_turn (turn_of quantum (machine_at clock (machine_of process)) left) turn became at' left told
-          (over ∙ ap (λ (m : Machine). (jumped_within m).over) (stands taken taken_clock) ∙ sym (jump_over (next_for machine) now_events machine) ∙ sym (ap (λ (t : Turn). t.over) is))
-          (became_is ∙ ap (λ (m : Machine). (jumped_within m).machine) (stands taken taken_clock) ∙ sym (jump_machine (next_for machine) now_events machine) ∙ sym (ap (λ (t : Turn). t.machine) is))
-          (ap (λ (t : Turn). t.left) is)
-          (ap (λ (t : Turn). t.sent) is)
+  pub executed_last : (last : Last) (new : ProcessState) (before after : Contents) → last.clock ≡ clock + quantum
+      → Turned (ended ran) last.turn (machine_of new) new.going.events before after
+      → Turned (sixth_step built quantum (within_now process) left) last.turn (machine_at last.clock (machine_of new)) new.going.events before after
+  executed_last last new before after time turned =
+      subst (λ (n : ℕ). Turned (sixth_step built quantum (within_now process) left) last.turn (machine_at n (machine_of new)) new.going.events before after) (sym time)
+      (subst (λ (t : Turn). Turned t last.turn (machine_at (clock + quantum) (machine_of new)) new.going.events before after) (sym executes)
+      (at_time_answers (clock + quantum) (ended ran) last.turn (machine_of new) new.going.events before after turned))
 
-      -- one instruction
-      module _ (ran : ProcessState) (came : Stepped) (up : is_some taken.wait ≡ false) (others : ran ≡ record taken { processor = ran.processor; memory = ran.memory })
-          (step : Steps taken.processor taken.memory came ran.processor ran.memory) where
-        pub ran_clock : ran.kernel.clock ≡ clock
-        ran_clock = ap (λ (p : ProcessState). p.kernel.clock) others ∙ taken_clock
+  pub executed_stops : (result : Result Last Stop) (new : ProcessState) (before after : Contents) → IsErr result → Stopped (ended ran) before after
+      → LastAnswers (sixth_step built quantum (within_now process) left) result new before after
+  executed_stops (Ok last) new before after failed stopped = absurd cc
+  executed_stops (Err stop) new before after failed stopped =
+      subst (λ (t : Turn). Stopped t before after) (sym executes)
+      (at_time_stopped (clock + quantum) (ended ran) before after stopped)
 
-        executes : (left : List ℕ) → turn_of quantum (machine_at clock (machine_of process)) left
-            ≡ after_events now_events (at_time (clock + quantum) (after_step built (machine_of ran) came left))
-        executes left =
-            let now = within now_events (machine_of taken) in
-            let stepped_by = step_of taken.processor taken.memory in
-            alive_is left
-            ∙ ap (λ (b : Bool). if b then fifth_step now left else sixth_step built quantum now left) up
-            ∙ ap (λ (n : ℕ). after_events now_events (at_time (n + quantum) (after_step built (stepped (machine_of taken) stepped_by.processor stepped_by.memory) stepped_by.came left))) taken_clock
-            ∙ ap (λ (s : Step). after_events now_events (at_time (clock + quantum) (after_step built (stepped (machine_of taken) s.processor s.memory) s.came left))) step
-            ∙ ap (λ (p : ProcessState). after_events now_events (at_time (clock + quantum) (after_step built (machine_of p) came left))) (sym others)
+pub lacks_first : (defined : Turn) (result : Result Last Stop) (new : ProcessState) (at : Contents) → IsErr result → LastAnswers defined result new at at
+lacks_first defined (Ok last) new at failed = absurd cc
+lacks_first defined (Err stop) new at failed = stopped_before defined at
 
-        pub goes_on : (turn : code.Turn) (became : Machine) (before after : Contents) (left : List ℕ) → Turned (after_step built (machine_of ran) came left) turn became before after
-            → Turned (turn_of quantum (machine_at clock (machine_of process)) left) turn (machine_at (clock + quantum) became) before after
-        goes_on turn became before after left turned =
-            subst (λ (t : Turn). Turned t turn (machine_at (clock + quantum) became) before after) (sym (executes left))
-            (behind_events now_events (clock + quantum) (after_step built (machine_of ran) came left) turn became before after turned)
+-- The whole
 
-        pub stops_on : (result : Result code.Turn Stop) (became : Machine) (before after : Contents) (left : List ℕ) → IsErr result → Stopped (after_step built (machine_of ran) came left) before after
-            → Answers (turn_of quantum (machine_at clock (machine_of process)) left) result became before after
-        stops_on result became before after left failed stopped =
-            stops (turn_of quantum (machine_at clock (machine_of process)) left) result became before after failed
-            (subst (λ (t : Turn). Stopped t before after) (sym (executes left))
-            (behind_events_stopped now_events (clock + quantum) (after_step built (machine_of ran) came left) before after stopped))
+module _ (emulated : Emulated) (clock quantum turns : ℕ) (over : Bool) (process : ProcessState)
+    (is : record { machine = machine_at clock (machine_of process); quantum = quantum; turns = turns; over = over; events = process.going.events } ≡ emulated) where
+  abbrev whole : List ℕ → Turn
+  whole left = turn_of emulated.quantum emulated.machine left
+
+  -- the first steps stopped early
+  pub settle_fails : (result : Result code.Turn Stop) (became : Machine) (events : List Event) (before after : Contents) (left : List ℕ) → after ≡ before → IsErr result
+      → Answers (whole left) result became events before after
+  settle_fails result became events before after left same failed =
+      subst (λ (contents : Contents). Answers (whole left) result became events before contents) (sym same)
+      (fails_before (whole left) result became events before failed)
+
+  module _ (middle : ProcessState) (before between : Contents)
+      (settles : (left : List ℕ) → before.left ≡ Some left → (between ≡ before) × (within_now middle ≡ settled (machine_at clock (machine_of process)))) (left : List ℕ)
+      (told : before.left ≡ Some left) where
+    pub told_between : between.left ≡ Some left
+    told_between = ap (λ (contents : Contents). contents.left) (settles left told).0 ∙ told
+
+    last_is : last_steps quantum (within_now middle) left ≡ whole left
+    last_is =
+        ap (λ (within : Within). last_steps quantum within left) (settles left told).1
+        ∙ sym (turn_settled quantum left (machine_at clock (machine_of process)))
+        ∙ ap (λ (e : Emulated). turn_of e.quantum e.machine left) is
+
+    pub last_fails : (result : Result code.Turn Stop) (became : Machine) (events : List Event) (after : Contents) → IsErr result
+        → Stopped (last_steps quantum (within_now middle) left) between after → Answers (whole left) result became events before after
+    last_fails result became events after failed stopped =
+        stops (whole left) result became events before after failed
+        (subst (λ (contents : Contents). Stopped (whole left) contents after) (settles left told).0
+        (subst (λ (t : Turn). Stopped t between after) last_is stopped))
+
+    pub last_turns : (turn : code.Turn) (machine : Machine) (events : List Event) (after : Contents) → Turned (last_steps quantum (within_now middle) left) turn machine events between after
+        → Turned (whole left) turn machine events before after
+    last_turns turn machine events after turned =
+        subst (λ (contents : Contents). Turned (whole left) turn machine events contents after) (settles left told).0
+        (subst (λ (t : Turn). Turned t turn machine events between after) last_is turned)
+
+-- Where nothing is to be done but instructions
+
+goes_so : (wait : Option Wait) (fault : Option Info) (stopped : Bool) (signal : Option Sig) → (is_none wait && is_none fault && not stopped && is_none signal) ≡ true
+    → (wait ≡ None) × (fault ≡ None) × (stopped ≡ false) × (signal ≡ None)
+goes_so None None false None up = (refl, refl, refl, refl)
+goes_so None None false (Some signal) up = absurd cc
+goes_so None None true signal up = absurd cc
+goes_so None (Some fault) stopped signal up = absurd cc
+goes_so (Some wait) fault stopped signal up = absurd cc
+
+pub only_so : (quantum : ℕ) (machine : Machine) (most : ℕ) → goes machine ≡ true → IsBefore (machine.kernel.clock + most * quantum) (next_due machine) → OnlyExecutes quantum machine most
+only_so quantum machine most up early =
+    let so = goes_so machine.wait machine.fault machine.stopped (next_signal machine.kernel.signals) up in
+    record { waits = so.0; faults = so.1; stops = so.2; delivers = so.3; early = early }
+
+module _ (emulated : Emulated) (clock quantum turns : ℕ) (over : Bool) (process : ProcessState)
+    (is : record { machine = machine_at clock (machine_of process); quantum = quantum; turns = turns; over = over; events = process.going.events } ≡ emulated)
+    (due : Option ℕ) (due_is : due ≡ next_due (machine_of process)) (up : goes (machine_of process) ≡ true) where
+  only_here : (most : ℕ) → IsBefore (clock + most * quantum) due → OnlyExecutes emulated.quantum emulated.machine most
+  only_here most early =
+      subst (λ (e : Emulated). OnlyExecutes e.quantum e.machine most) is
+      (only_so quantum (machine_at clock (machine_of process)) most up (subst (IsBefore (clock + most * quantum)) due_is early))
+
+  pub only_if : (found : Option ℕ) → IfSome found (λ (most : ℕ). IsBefore (clock + most * quantum) due) → IfSome found (λ (most : ℕ). OnlyExecutes emulated.quantum emulated.machine most)
+  only_if None early = early
+  only_if (Some most) early = only_here most early

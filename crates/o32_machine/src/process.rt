@@ -1,5 +1,5 @@
 //! The process of an o32 program: its processor and memory, the kernel that it calls, and the steps of its turns.
-ghost use Rattle.std.specs.Prelude.{◌≡◌, ◌+◌, ◌*◌, ◌<◌, ◌^◌, ◌≤◌, ◌↔◌, ◌++◌, [], ◌∷◌, max, ℕ, Contains, false, if◌then◌else◌, IfErr, IfOk, IfSome, None, OnOk, is_some};
+ghost use Rattle.std.specs.Prelude.{◌≡◌, ◌+◌, ◌*◌, ◌<◌, ◌^◌, ◌≤◌, ◌↔◌, ◌++◌, ◌||◌, [], ◌∷◌, max, ℕ, Contains, false, if◌then◌else◌, IfErr, IfOk, IfSome, None, OnOk, is_some};
 ghost use Rattle.bridge_ends.specs.Ended.{ended_wait};
 ghost use Rattle.kernel_core.specs.LoadedTree.{saved};
 ghost use Rattle.kernel_core.specs.ValidTree.{IsReached, IsValidTree, numbers};
@@ -15,7 +15,7 @@ ghost use Rattle.o32_machine.specs.inside.Stepping.{GoesThen};
 ghost use Rattle.o32_machine.specs.inside.Steps.{IsLast, Settles, Takes, begun, goes_on, jumped_within, last_steps, resumes, wakes};
 ghost use Rattle.o32_turns.specs.Built.{built};
 ghost use Rattle.o32_turns.specs.Handling.{faults, frame_fault};
-ghost use Rattle.o32_turns.specs.Instruction.{after_step, called, fault_info, restart_after};
+ghost use Rattle.o32_turns.specs.Instruction.{after_step, called, fault_info, restart_after, seen_of};
 ghost use Rattle.o32_turns.specs.Machine.{Machine, begin};
 ghost use Rattle.o32_turns.specs.Posting.{posted};
 ghost use Rattle.o32_turns.specs.Turn.{after_events, next_event, next_for, second_step, sixth_step, third_step};
@@ -410,16 +410,30 @@ impl Process {
         ensures cause { StopsOnlyIfRose I.faults O.faults E.faults result dev.old dev.new }
         ensures counts { NoCountFell I.faults O.faults E.faults dev.old dev.new }
     {
-        if let Some(finish) = self.going.over {
+        if let Some(finish) = self.over() {
             return Ok(Last {
                 turn: Turn::Ended(finish),
                 clock,
             });
         }
-        if self.going.stopped || self.going.wait.is_some() {
+        if self.rests() {
             return Ok(self.jump(clock));
         }
         self.execute(clock, quantum, dev)
+    }
+
+    /// How the process has ended.
+    fn over(&self) -> Option<Finish>
+        ensures { result ≡ self.now.going.over }
+    {
+        self.going.over
+    }
+
+    /// Whether no instruction is executed: the process is stopped, or a call waits.
+    fn rests(&self) -> bool
+        ensures { result ≡ (self.now.going.stopped || is_some self.now.going.wait) }
+    {
+        self.going.stopped || self.going.wait.is_some()
     }
 
     /// The time of the next thing that can come while no instruction is executed, in nanoseconds of the clock: an event,
@@ -555,11 +569,8 @@ impl Process {
         ensures counts { NoCountFell I.faults O.faults E.faults dev.old dev.new }
     {
         let words = args(&self.space, &self.cpu);
+        let seen = self.seen(clock);
         let mut log = no_log();
-        let seen = Seen {
-            quanta: clock.saturating_sub(self.idle),
-            restart: self.going.restart,
-        };
         let outcome = make_call(
             self.alloc,
             &words,
@@ -573,6 +584,17 @@ impl Process {
         )?;
         let turn = self.finish(&words, outcome)?;
         Ok(turn)
+    }
+
+    /// What a call sees of the machine beside registers and memory, at the kernel's time `clock`, in nanoseconds.
+    fn seen(&self, clock: u64) -> Seen
+        requires { self.now.kernel.clock ≡ clock }
+        ensures { result ≡ seen_of (machine_of self.now) }
+    {
+        Seen {
+            quanta: clock.saturating_sub(self.idle),
+            restart: self.going.restart,
+        }
     }
 
     /// Puts the outcome of a call of these words into the registers, or keeps its wait, or makes a fault of it, or ends

@@ -1,5 +1,5 @@
 //! Times of the clock, in nanoseconds, and how many turns fit before one.
-ghost use Rattle.std.specs.Prelude.{◌≡◌, ◌+◌, ◌*◌, ◌<◌, ◌≤◌, ◌^◌, ◌×◌, IfSome};
+ghost use Rattle.std.specs.Prelude.{◌≡◌, ◌+◌, ◌*◌, ◌<◌, ◌≤◌, ◌^◌, IfSome};
 ghost use Rattle.kernel_model.specs.Clock.{if_comes};
 ghost use Rattle.o32_machine.specs.inside.Quieting.{IsBefore};
 ghost use Rattle.o32_machine.specs.inside.Steps.{deadline_in};

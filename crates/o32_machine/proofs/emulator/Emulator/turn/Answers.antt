@@ -5,8 +5,10 @@ use Rattle.o32_machine.proofs.emulator.Emulator.turn.Goals as goal
 
 pub returns-clause-turn : goal.returns-clause-turn
 returns-clause-turn g c =
-    one_turn c.args.self.now.quantum c.args.self.now.machine c.args.self.now.turns c.next_turns.result c.next_turns.new.self.machine c.next_turns.new.self.turns (contents g.I.Source.left g.O.Sink.written g.E.Sink.written c.args.dev.now) (contents g.I.Source.left g.O.Sink.written g.E.Sink.written c.next_turns.new.dev) c.next_turns.ensures.turns
+    one_turn c.args.self.now.quantum c.args.self.now.machine c.args.self.now.turns c.next_turns.result c.next_turns.new.self.machine c.next_turns.new.self.turns c.next_turns.new.self.events
+    (contents g.I.Source.left g.O.Sink.written g.E.Sink.written c.args.dev.now) (contents g.I.Source.left g.O.Sink.written g.E.Sink.written c.next_turns.new.dev) c.next_turns.ensures.turns
 
 pub returns-clause-turns : goal.returns-clause-turns
 returns-clause-turns g c =
-    one_counts c.args.self.now.quantum c.args.self.now.machine c.args.self.now.turns c.next_turns.result c.next_turns.new.self.machine c.next_turns.new.self.turns (contents g.I.Source.left g.O.Sink.written g.E.Sink.written c.args.dev.now) (contents g.I.Source.left g.O.Sink.written g.E.Sink.written c.next_turns.new.dev) c.next_turns.ensures.turns
+    one_counts c.args.self.now.quantum c.args.self.now.machine c.args.self.now.turns c.next_turns.result c.next_turns.new.self.machine c.next_turns.new.self.turns c.next_turns.new.self.events
+    (contents g.I.Source.left g.O.Sink.written g.E.Sink.written c.args.dev.now) (contents g.I.Source.left g.O.Sink.written g.E.Sink.written c.next_turns.new.dev) c.next_turns.ensures.turns

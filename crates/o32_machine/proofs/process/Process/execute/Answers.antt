@@ -1,0 +1,23 @@
+-- One instruction, with its call.
+use Rattle.std.proofs.Common.{◌≡◌, ◌∙◌, ℕ, ◌+◌, ap, arith, sym}
+use Rattle.outside.specs.Streams.{contents}
+use Rattle.o32_machine.proofs.WholeTurns.{executed_last, executed_stops, lacks_first, ran_clock, steps_once}
+use Rattle.o32_machine.specs.Emulator.{within_now}
+use Rattle.o32_turns.specs.Built.{built}
+use Rattle.o32_turns.specs.Turn.{sixth_step}
+use Rattle.o32_machine.proofs.process.Process.execute.Goals as goal
+
+pub returns-in_err-came-clause-last : goal.returns-in_err-came-clause-last
+returns-in_err-came-clause-last g c = λ left told.
+    lacks_first (sixth_step built c.args.quantum (within_now c.args.self.now) left) c.from_residual.result _ _ c.from_residual.ensures.0
+
+pub returns-in_err-turn-clause-last : goal.returns-in_err-turn-clause-last
+returns-in_err-turn-clause-last g c = λ left told.
+    let step = steps_once c.run.result.quiet c.args.self.now.processor c.args.self.now.memory c.run.result.came c.in_ok-came.came c.run.new.self.processor c.run.new.self.memory c.run.ensures.few c.in_ok-came.was c.run.ensures.last in
+    executed_stops c.args.quantum c.args.clock c.args.self.now c.run.new.self c.in_ok-came.came c.requires.clock c.run.ensures.others step left c.from_residual-in_err-turn.result _ _ _ c.from_residual-in_err-turn.ensures.0 (c.in_err-turn.ensures.turn left told)
+
+pub returns-clause-last : goal.returns-clause-last
+returns-clause-last g c = λ left told.
+    let step = steps_once c.run.result.quiet c.args.self.now.processor c.args.self.now.memory c.run.result.came c.in_ok-came.came c.run.new.self.processor c.run.new.self.memory c.run.ensures.few c.in_ok-came.was c.run.ensures.last in
+    let time : c.later.result ≡ c.args.clock + c.args.quantum = c.later.ensures.time ∙ omega arith in
+    executed_last c.args.quantum c.args.clock c.args.self.now c.run.new.self c.in_ok-came.came c.requires.clock c.run.ensures.others step left (record { turn = c.in_ok-turn.turn; clock = c.later.result }) c.end_turn.new.self _ _ time (c.in_ok-turn.ensures.turn left told)
