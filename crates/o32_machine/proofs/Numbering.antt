@@ -130,26 +130,25 @@ module _ (seen : Seen) (kernel : Kernel) (guest : Guest) (left : List ℕ) where
 
   timer_same : (number : ℕ) → timer.is_call_there number ≡ true → IsSameTime number
   timer_same number there =
-      or_last (number == 4027 || number == 4104) number 4105
-      (or_last (number == 4027) number 4104
-      (at_number number 4027 refl) refl) refl there
+      or_last (number == 4104) number 4105
+      (at_number number 4104 refl) refl there
 
   -- and those on signals
   signal_same : (number : ℕ) → signal.is_call_there number ≡ true → IsSameTime number
   signal_same number there =
-      or_last (number == 4037 || number == 4236 || number == 4266 || number == 4198 || number == 4194 || number == 4195 || number == 4196 || number == 4206 || number == 4029 || number == 4199 || number == 4119 || number == 4193) number 4253
-      (or_last (number == 4037 || number == 4236 || number == 4266 || number == 4198 || number == 4194 || number == 4195 || number == 4196 || number == 4206 || number == 4029 || number == 4199 || number == 4119) number 4193
-      (or_last (number == 4037 || number == 4236 || number == 4266 || number == 4198 || number == 4194 || number == 4195 || number == 4196 || number == 4206 || number == 4029 || number == 4199) number 4119
-      (or_last (number == 4037 || number == 4236 || number == 4266 || number == 4198 || number == 4194 || number == 4195 || number == 4196 || number == 4206 || number == 4029) number 4199
-      (or_last (number == 4037 || number == 4236 || number == 4266 || number == 4198 || number == 4194 || number == 4195 || number == 4196 || number == 4206) number 4029
-      (or_last (number == 4037 || number == 4236 || number == 4266 || number == 4198 || number == 4194 || number == 4195 || number == 4196) number 4206
-      (or_last (number == 4037 || number == 4236 || number == 4266 || number == 4198 || number == 4194 || number == 4195) number 4196
-      (or_last (number == 4037 || number == 4236 || number == 4266 || number == 4198 || number == 4194) number 4195
-      (or_last (number == 4037 || number == 4236 || number == 4266 || number == 4198) number 4194
-      (or_last (number == 4037 || number == 4236 || number == 4266) number 4198
-      (or_last (number == 4037 || number == 4236) number 4266
-      (or_last (number == 4037) number 4236
-      (at_number number 4037 refl) refl) refl) refl) refl) refl) refl) refl) refl) refl) refl) refl) refl there
+      or_last (number == 4029 || number == 4037 || number == 4119 || number == 4193 || number == 4194 || number == 4195 || number == 4196 || number == 4198 || number == 4199 || number == 4206 || number == 4236 || number == 4253) number 4266
+      (or_last (number == 4029 || number == 4037 || number == 4119 || number == 4193 || number == 4194 || number == 4195 || number == 4196 || number == 4198 || number == 4199 || number == 4206 || number == 4236) number 4253
+      (or_last (number == 4029 || number == 4037 || number == 4119 || number == 4193 || number == 4194 || number == 4195 || number == 4196 || number == 4198 || number == 4199 || number == 4206) number 4236
+      (or_last (number == 4029 || number == 4037 || number == 4119 || number == 4193 || number == 4194 || number == 4195 || number == 4196 || number == 4198 || number == 4199) number 4206
+      (or_last (number == 4029 || number == 4037 || number == 4119 || number == 4193 || number == 4194 || number == 4195 || number == 4196 || number == 4198) number 4199
+      (or_last (number == 4029 || number == 4037 || number == 4119 || number == 4193 || number == 4194 || number == 4195 || number == 4196) number 4198
+      (or_last (number == 4029 || number == 4037 || number == 4119 || number == 4193 || number == 4194 || number == 4195) number 4196
+      (or_last (number == 4029 || number == 4037 || number == 4119 || number == 4193 || number == 4194) number 4195
+      (or_last (number == 4029 || number == 4037 || number == 4119 || number == 4193) number 4194
+      (or_last (number == 4029 || number == 4037 || number == 4119) number 4193
+      (or_last (number == 4029 || number == 4037) number 4119
+      (or_last (number == 4029) number 4037
+      (at_number number 4029 refl) refl) refl) refl) refl) refl) refl) refl) refl) refl) refl) refl) refl there
 
   pub io_call_same : is_io_call guest.words.nr ≡ true → o32_call kernel guest left ≡ built_call seen kernel guest left
   io_call_same there = io_same guest.words.nr there
@@ -177,22 +176,21 @@ neither : (one other : Bool) → (one || other) ≡ false → (one ≡ false) ×
 neither true other none = absurd cc
 neither false other none = (refl, none)
 
-no_time : (a b c d e f g h i : Bool) → (a || b || c || d || e || f) ≡ false → (g || h || i) ≡ false
-    → ((a || (b || (c || (e || (f || (g || (h || (i || false)))))))) ≡ false) × (d ≡ false)
-no_time true b c d e f g h i none other = absurd cc
-no_time false true c d e f g h i none other = absurd cc
-no_time false false true d e f g h i none other = absurd cc
-no_time false false false true e f g h i none other = absurd cc
-no_time false false false false true f g h i none other = absurd cc
-no_time false false false false false true g h i none other = absurd cc
-no_time false false false false false false true h i none other = absurd cc
-no_time false false false false false false false true i none other = absurd cc
-no_time false false false false false false false false true none other = absurd cc
-no_time false false false false false false false false false none other = (refl, refl)
+no_time : (a b c d e f g h : Bool) → (a || b || c || d || e || f) ≡ false → (g || h) ≡ false
+    → ((a || (b || (c || (e || (f || (g || (h || false))))))) ≡ false) × (d ≡ false)
+no_time true b c d e f g h none other = absurd cc
+no_time false true c d e f g h none other = absurd cc
+no_time false false true d e f g h none other = absurd cc
+no_time false false false true e f g h none other = absurd cc
+no_time false false false false true f g h none other = absurd cc
+no_time false false false false false true g h none other = absurd cc
+no_time false false false false false false true h none other = absurd cc
+no_time false false false false false false false true none other = absurd cc
+no_time false false false false false false false false none other = (refl, refl)
 
 not_time : (number : ℕ) → wait.is_call_there number ≡ false → timer.is_call_there number ≡ false → (is_time_call_built number ≡ false) × ((number == 4263) ≡ false)
 not_time number none other =
-    no_time (number == 4013) (number == 4078) (number == 4166) (number == 4263) (number == 4264) (number == 4265) (number == 4027) (number == 4104) (number == 4105) none other
+    no_time (number == 4013) (number == 4078) (number == 4166) (number == 4263) (number == 4264) (number == 4265) (number == 4104) (number == 4105) none other
 
 -- the same list of tests, one way and the other
 
@@ -212,22 +210,22 @@ none_of_all (test ∷ tests) none = rw none.0 (none_of_all tests none.1)
 not_signal : (number : ℕ) → signal.is_call_there number ≡ false → (is_signal_call_built number ≡ false) × ((number == 4253) ≡ false)
 unfolding any_of
 not_signal number none =
-    let a = neither (number == 4037 || number == 4236 || number == 4266 || number == 4198 || number == 4194 || number == 4195 || number == 4196 || number == 4206 || number == 4029 || number == 4199 || number == 4119 || number == 4193) (number == 4253) none in
-    let b = neither (number == 4037 || number == 4236 || number == 4266 || number == 4198 || number == 4194 || number == 4195 || number == 4196 || number == 4206 || number == 4029 || number == 4199 || number == 4119) (number == 4193) a.0 in
-    let c = neither (number == 4037 || number == 4236 || number == 4266 || number == 4198 || number == 4194 || number == 4195 || number == 4196 || number == 4206 || number == 4029 || number == 4199) (number == 4119) b.0 in
-    let d = neither (number == 4037 || number == 4236 || number == 4266 || number == 4198 || number == 4194 || number == 4195 || number == 4196 || number == 4206 || number == 4029) (number == 4199) c.0 in
-    let e = neither (number == 4037 || number == 4236 || number == 4266 || number == 4198 || number == 4194 || number == 4195 || number == 4196 || number == 4206) (number == 4029) d.0 in
-    let f = neither (number == 4037 || number == 4236 || number == 4266 || number == 4198 || number == 4194 || number == 4195 || number == 4196) (number == 4206) e.0 in
-    let g = neither (number == 4037 || number == 4236 || number == 4266 || number == 4198 || number == 4194 || number == 4195) (number == 4196) f.0 in
-    let h = neither (number == 4037 || number == 4236 || number == 4266 || number == 4198 || number == 4194) (number == 4195) g.0 in
-    let i = neither (number == 4037 || number == 4236 || number == 4266 || number == 4198) (number == 4194) h.0 in
-    let j = neither (number == 4037 || number == 4236 || number == 4266) (number == 4198) i.0 in
-    let k = neither (number == 4037 || number == 4236) (number == 4266) j.0 in
-    let l = neither (number == 4037) (number == 4236) k.0 in
+    let test_4266 = neither (number == 4029 || number == 4037 || number == 4119 || number == 4193 || number == 4194 || number == 4195 || number == 4196 || number == 4198 || number == 4199 || number == 4206 || number == 4236 || number == 4253) (number == 4266) none in
+    let test_4253 = neither (number == 4029 || number == 4037 || number == 4119 || number == 4193 || number == 4194 || number == 4195 || number == 4196 || number == 4198 || number == 4199 || number == 4206 || number == 4236) (number == 4253) test_4266.0 in
+    let test_4236 = neither (number == 4029 || number == 4037 || number == 4119 || number == 4193 || number == 4194 || number == 4195 || number == 4196 || number == 4198 || number == 4199 || number == 4206) (number == 4236) test_4253.0 in
+    let test_4206 = neither (number == 4029 || number == 4037 || number == 4119 || number == 4193 || number == 4194 || number == 4195 || number == 4196 || number == 4198 || number == 4199) (number == 4206) test_4236.0 in
+    let test_4199 = neither (number == 4029 || number == 4037 || number == 4119 || number == 4193 || number == 4194 || number == 4195 || number == 4196 || number == 4198) (number == 4199) test_4206.0 in
+    let test_4198 = neither (number == 4029 || number == 4037 || number == 4119 || number == 4193 || number == 4194 || number == 4195 || number == 4196) (number == 4198) test_4199.0 in
+    let test_4196 = neither (number == 4029 || number == 4037 || number == 4119 || number == 4193 || number == 4194 || number == 4195) (number == 4196) test_4198.0 in
+    let test_4195 = neither (number == 4029 || number == 4037 || number == 4119 || number == 4193 || number == 4194) (number == 4195) test_4196.0 in
+    let test_4194 = neither (number == 4029 || number == 4037 || number == 4119 || number == 4193) (number == 4194) test_4195.0 in
+    let test_4193 = neither (number == 4029 || number == 4037 || number == 4119) (number == 4193) test_4194.0 in
+    let test_4119 = neither (number == 4029 || number == 4037) (number == 4119) test_4193.0 in
+    let test_4037 = neither (number == 4029) (number == 4037) test_4119.0 in
     (none_of_all
     ((number == 4037) ∷ (number == 4236) ∷ (number == 4266) ∷ (number == 4198) ∷ (number == 4194) ∷ (number == 4195) ∷ (number == 4196) ∷ (number == 4206) ∷ (number == 4029) ∷ (number == 4199) ∷ (number == 4119) ∷ (number == 4193) ∷ [])
-    (l.0, (l.1, (k.1, (j.1, (i.1, (h.1, (g.1, (f.1, (e.1, (d.1, (c.1, (b.1, tt)))))))))))),
-    a.1)
+    (test_4037.1, (test_4236.1, (test_4266.1, (test_4198.1, (test_4194.1, (test_4195.1, (test_4196.1, (test_4206.1, (test_4037.0, (test_4199.1, (test_4119.1, (test_4193.1, tt)))))))))))),
+    test_4253.1)
 
 -- what is in none of these groups is looked for among the small calls alone
 

@@ -103,14 +103,14 @@ pub(crate) fn is_time_call(nr: u32) -> bool
     }
 }
 
-/// Whether a number is that of a call on the timer.
+/// Whether a number is that of a call on the timer, of those that there are.
 pub(crate) fn is_timer_call(nr: u32) -> bool
     ensures { result ≡ timer.is_call_there nr }
 {
-    nr == 4027 || nr == 4104 || nr == 4105
+    nr == 4104 || nr == 4105
 }
 
-/// Whether a number is that of a call on signals, of those that there are.
+/// Whether a number is that of a call on signals that there is.
 pub(crate) fn is_signal_call(nr: u32) -> bool
     ensures { result ≡ signal.is_call_there nr }
 {
