@@ -12,5 +12,3 @@ mod storing;
 
 pub use call::timer_call;
 
-#[cfg(test)]
-mod tests;

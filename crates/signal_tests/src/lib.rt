@@ -8,4 +8,6 @@ mod frames;
 #[cfg(test)]
 mod refusals;
 #[cfg(test)]
+mod timers;
+#[cfg(test)]
 mod waits;
