@@ -221,11 +221,12 @@ not_signal number none =
     let test_4194 = neither (number == 4029 || number == 4037 || number == 4119 || number == 4193) (number == 4194) test_4195.0 in
     let test_4193 = neither (number == 4029 || number == 4037 || number == 4119) (number == 4193) test_4194.0 in
     let test_4119 = neither (number == 4029 || number == 4037) (number == 4119) test_4193.0 in
-    let test_4037 = neither (number == 4029) (number == 4037) test_4119.0 in
-    (none_of_all
-    ((number == 4037) ∷ (number == 4236) ∷ (number == 4266) ∷ (number == 4198) ∷ (number == 4194) ∷ (number == 4195) ∷ (number == 4196) ∷ (number == 4206) ∷ (number == 4029) ∷ (number == 4199) ∷ (number == 4119) ∷ (number == 4193) ∷ [])
-    (test_4037.1, (test_4236.1, (test_4266.1, (test_4198.1, (test_4194.1, (test_4195.1, (test_4196.1, (test_4206.1, (test_4037.0, (test_4199.1, (test_4119.1, (test_4193.1, tt)))))))))))),
-    test_4253.1)
+    let test_4037 = neither (number == 4029) (number == 4037) test_4119.0 in (
+      none_of_all
+          ((number == 4037) ∷ (number == 4236) ∷ (number == 4266) ∷ (number == 4198) ∷ (number == 4194) ∷ (number == 4195) ∷ (number == 4196) ∷ (number == 4206) ∷ (number == 4029) ∷ (number == 4199) ∷ (number == 4119) ∷ (number == 4193) ∷ [])
+          (test_4037.1, (test_4236.1, (test_4266.1, (test_4198.1, (test_4194.1, (test_4195.1, (test_4196.1, (test_4206.1, (test_4037.0, (test_4199.1, (test_4119.1, (test_4193.1, tt)))))))))))),
+      test_4253.1,
+    )
 
 -- what is in none of these groups is looked for among the small calls alone
 

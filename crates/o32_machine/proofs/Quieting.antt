@@ -2,7 +2,7 @@
 use Rattle.std.proofs.Common.{◌≡◌, ℕ, zero, suc, ◌+◌, ◌*◌, ◌<◌, ◌≤◌, inl, inr, Bool, true, false, List, [], ◌∷◌, ◌++◌, Option, Some, None, Result, Ok, Err, IsErr, arith, refl, sym, ap, subst, ◌∙◌}
 use Rattle.std.proofs.lemmas.Bool.{cases_eq}
 use Rattle.std.proofs.lemmas.Bool.Decides.{nat_tests}
-use Rattle.std.specs.Prelude.{◌&&◌, ◌||◌, if◌then◌else◌, is_none, is_some, min, nat_le, not}
+use Rattle.std.specs.Prelude.{◌&&◌, if◌then◌else◌, is_none, nat_le}
 use Rattle.guest_space.specs.Memory.{Memory}
 use Rattle.kernel_core.specs.declared.core_error.NoMemory.{NoMemory}
 use Rattle.kernel_core.specs.declared.core_error.Stop.{Stop}
@@ -12,7 +12,7 @@ use Rattle.kernel_model.specs.Pipes.{nothing}
 use Rattle.kernel_model.specs.SignalRows.{advance, after_expiry}
 use Rattle.kernel_model.specs.State.{Timer}
 use Rattle.mips_exec.specs.Processor.{Processor}
-use Rattle.mips_exec.specs.Step.{Step, step_of}
+use Rattle.mips_exec.specs.Step.{Step}
 use Rattle.mips_exec.specs.declared.execution.Stepped.{Stepped}
 use Rattle.mips_exec.specs.declared.execution.Stepped.TheVariants.{Next}
 use Rattle.o32_machine.proofs.Turning.{at_time_answers, at_time_stopped, fails_before, stops}

@@ -1,8 +1,7 @@
 -- Turns: what a call and an instruction leave, as the turn that is defined.
-use Rattle.std.proofs.Common.{◌≡◌, ℕ, inl, inr, Bool, true, false, List, [], ◌∷◌, ◌++◌, Option, Some, None, Result, Ok, Err, IsErr, refl, sym, ap, subst, ◌∙◌}
+use Rattle.std.proofs.Common.{◌≡◌, ℕ, inl, inr, Bool, false, List, ◌++◌, Option, Some, None, Result, Ok, Err, IsErr, refl, sym, ap, subst, ◌∙◌}
 use Rattle.kernel_core.specs.declared.core_error.Stop.{Stop}
 use Rattle.kernel_core.specs.declared.event.Event.{Event}
-use Rattle.kernel_core.specs.declared.info.Info.{Info}
 use Rattle.kernel_model.specs.Clock.{gone_off}
 use Rattle.kernel_model.specs.Pipes.{Sent, nothing}
 use Rattle.kernel_model.specs.SignalRows.{advance, after_expiry}
@@ -24,7 +23,7 @@ use Rattle.o32_turns.specs.Instruction.{after_call, after_outcome, at_time, behi
 use Rattle.o32_turns.specs.Machine.{Machine, Turn, Within}
 use Rattle.o32_turns.specs.Turn.{after_events}
 use Rattle.outside.proofs.OutputLemmas.{GainsBetween-exact, GainsBetween-lower, GainsBetween-nothing, GainsText-nothing, IsPrefix-empty}
-use Rattle.outside.specs.Output.{GainsBetween, GainsText}
+use Rattle.outside.specs.Output.{GainsText}
 use Rattle.outside.specs.Streams.{Contents}
 
 -- nothing is taken and nothing is sent

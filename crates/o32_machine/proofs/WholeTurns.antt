@@ -1,5 +1,5 @@
 -- A turn in all its steps: the last ones, and the whole.
-use Rattle.std.proofs.Common.{◌≡◌, ℕ, zero, suc, ◌+◌, ◌*◌, ◌≤◌, Bool, true, false, List, [], ◌++◌, Option, Some, None, Result, Ok, Err, OnOk, IsErr, refl, sym, ap, subst, ◌∙◌, arith}
+use Rattle.std.proofs.Common.{◌≡◌, ℕ, ◌+◌, ◌*◌, ◌≤◌, Bool, true, false, List, Option, Some, None, Result, Ok, Err, IsErr, refl, sym, ap, subst, ◌∙◌, arith}
 use Rattle.std.specs.Prelude.{IfSome, ◌&&◌, ◌||◌, if◌then◌else◌, is_none, is_some, not}
 use Rattle.guest_space.specs.Memory.{Memory}
 use Rattle.kernel_core.specs.declared.core_error.NoMemory.{NoMemory}
@@ -10,7 +10,7 @@ use Rattle.kernel_core.specs.declared.info.Info.{Info}
 use Rattle.kernel_core.specs.declared.signal.Sig.{Sig}
 use Rattle.kernel_model.specs.Pipes.{nothing}
 use Rattle.mips_exec.specs.Processor.{Processor}
-use Rattle.mips_exec.specs.Step.{Step, step_of}
+use Rattle.mips_exec.specs.Step.{Step}
 use Rattle.mips_exec.specs.declared.execution.Stepped.{Stepped}
 use Rattle.o32_machine.proofs.Steps.{turn_settled}
 use Rattle.o32_machine.proofs.Turning.{at_time_answers, at_time_stopped, fails_before, quiet_turn, stopped_before, stops}
@@ -21,7 +21,7 @@ use Rattle.o32_machine.specs.declared.turn.Turn as code
 use Rattle.o32_machine.specs.declared.turn.Turn.TheVariants.{Ended}
 use Rattle.o32_machine.specs.inside.Quieting.{IsBefore, OnlyExecutes, goes, next_due}
 use Rattle.o32_machine.specs.inside.Stepping.{Goes, GoesThen, Steps}
-use Rattle.o32_machine.specs.inside.Steps.{IsLast, LastAnswers, Settles, jumped_within, last_steps, settled}
+use Rattle.o32_machine.specs.inside.Steps.{LastAnswers, jumped_within, last_steps, settled}
 use Rattle.o32_model.specs.declared.wait.Wait.{Wait}
 use Rattle.o32_turns.specs.Built.{built}
 use Rattle.o32_turns.specs.Delivering.{next_signal}

@@ -1,5 +1,5 @@
 -- What an emulator is seen as, and the one that a program begins in. (Turns, quanta and the forms are this project's own.)
-use Rattle.std.specs.Prelude.{ℕ, Bool, false, ◌&&◌, not, List, [], drop, None, is_some}
+use Rattle.std.specs.Prelude.{ℕ, Bool, false, ◌&&◌, ◌||◌, not, List, [], drop, None, is_some}
 use Rattle.guest_space.specs.Memory.{Memory}
 use Rattle.kernel_core.specs.declared.event.Event.{Event}
 use Rattle.kernel_model.specs.State.{Kernel}
@@ -75,6 +75,6 @@ first_machine processor memory kernel coming = machine_of (first_process process
 abbrev pub first_emulated : ℕ → Machine → Emulated
 first_emulated quantum machine = record { machine = machine; quantum = quantum; turns = 0; over = false; events = [] }
 
--- the process runs: it is not over, and no call waits
+-- the process runs: it is not over, no call waits, and no signal has stopped it
 abbrev pub runs : Emulated → Bool
-runs emulated = not emulated.over && not (is_some emulated.machine.wait)
+runs emulated = not emulated.over && not (emulated.machine.stopped || is_some emulated.machine.wait)

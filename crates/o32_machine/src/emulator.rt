@@ -275,11 +275,11 @@ impl Emulator {
         self.process.events()
     }
 
-    /// Whether the process runs: it is not over, and no call waits.
+    /// Whether the process runs: it is not over, no call waits, and no signal has stopped it.
     pub fn is_running(&self) -> bool
         ensures { result ≡ runs self.now }
     {
-        !self.over && !self.process.waits()
+        !self.over && !self.process.rests()
     }
 
     /// The nodes as a file tree: those that names lead to from the root, by rising number, each with the time of

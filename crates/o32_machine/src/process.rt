@@ -128,13 +128,6 @@ impl Process {
         }
     }
 
-    /// Whether a call waits.
-    pub(crate) fn waits(&self) -> bool
-        ensures { result ≡ is_some self.now.going.wait }
-    {
-        self.going.wait.is_some()
-    }
-
     /// What happened in the last turn, in order.
     pub(crate) fn events(&self) -> &[Event]
         ensures { result.now ≡ self.now.going.events }
@@ -430,7 +423,7 @@ impl Process {
     }
 
     /// Whether no instruction is executed: the process is stopped, or a call waits.
-    fn rests(&self) -> bool
+    pub(crate) fn rests(&self) -> bool
         ensures { result ≡ (self.now.going.stopped || is_some self.now.going.wait) }
     {
         self.going.stopped || self.going.wait.is_some()
@@ -734,8 +727,7 @@ fn first_going(alloc: Global) -> Going
 }
 
 /// A log in which nothing is kept.
-fn no_log() -> Log
-{
+fn no_log() -> Log {
     Log {
         native: None,
         effects: None,

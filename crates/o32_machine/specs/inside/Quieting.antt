@@ -1,7 +1,6 @@
 -- Turns in which nothing is done but an instruction. (The form is this project's own.)
 use Rattle.std.specs.Prelude.{◌≡◌, ℕ, ◌+◌, ◌*◌, ◌<◌, ⊤, Bool, false, ◌&&◌, not, Option, Some, None, is_none}
 use Rattle.kernel_model.specs.Clock.{next_time}
-use Rattle.o32_machine.specs.Emulator.{machine_at}
 use Rattle.o32_turns.specs.Delivering.{next_signal}
 use Rattle.o32_turns.specs.Machine.{Machine}
 use Rattle.o32_turns.specs.Turn.{next_event, sooner}

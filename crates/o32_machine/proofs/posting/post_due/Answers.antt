@@ -1,5 +1,5 @@
 -- One event after the other is posted.
-use Rattle.std.proofs.Common.{◌≡◌, ◌+◌, Option, Some, None, sym, ap, ◌∙◌}
+use Rattle.std.proofs.Common.{◌≡◌, ◌+◌, Option, None, sym, ap, ◌∙◌}
 use Rattle.std.specs.Prelude.{slice_get}
 use Rattle.o32_machine.proofs.Coming.{due_there}
 use Rattle.o32_machine.proofs.EventPosts.{all_posted, one_posted}
@@ -7,7 +7,7 @@ use Rattle.o32_machine.specs.Emulator.{at_clock, coming_of}
 use Rattle.o32_turns.specs.Built.{built}
 use Rattle.o32_turns.specs.Going.{within_of}
 use Rattle.o32_turns.specs.Posting.{events_posted}
-use Rattle.schedule.specs.Cursor.{due_at, place_after}
+use Rattle.schedule.specs.Cursor.{place_after}
 use Rattle.schedule.specs.declared.Schedule.{Schedule}
 use Rattle.schedule.specs.declared.events.Due.{Due}
 use Rattle.o32_machine.proofs.posting.post_due.Goals as goal

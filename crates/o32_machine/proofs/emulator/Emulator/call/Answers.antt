@@ -3,7 +3,7 @@ use Rattle.std.proofs.Common.{◌≡◌, ◌∙◌, ap}
 use Rattle.outside.specs.Streams.{contents}
 use Rattle.o32_machine.proofs.Turning.{call_stopped_here, call_went, fails_before}
 use Rattle.kernel_model.specs.Clock.{gone_off}
-use Rattle.o32_machine.specs.Emulator.{Emulated, ProcessState, at_clock, machine_at, machine_of}
+use Rattle.o32_machine.specs.Emulator.{Emulated, ProcessState, at_clock, machine_of}
 use Rattle.o32_machine.specs.inside.Steps.{begun}
 use Rattle.o32_turns.specs.Built.{built}
 use Rattle.o32_turns.specs.Instruction.{at_time, called}

@@ -1,5 +1,5 @@
 -- Quiet turns, and the last one at the machine's time.
-use Rattle.std.proofs.Common.{◌≡◌, ◌+◌, ◌*◌, arith, sym, ◌∙◌}
+use Rattle.std.proofs.Common.{◌+◌, arith}
 use Rattle.outside.specs.Streams.{contents}
 use Rattle.o32_machine.proofs.Quieting.{quick_lacks, quick_lacks_clock, quick_later, quick_stopped, quick_timer, quick_went}
 use Rattle.o32_machine.specs.Emulator.{machine_of}

@@ -1,7 +1,6 @@
 -- One instruction, with its call.
-use Rattle.std.proofs.Common.{◌≡◌, ◌∙◌, ℕ, ◌+◌, ap, arith, sym}
-use Rattle.outside.specs.Streams.{contents}
-use Rattle.o32_machine.proofs.WholeTurns.{executed_last, executed_stops, lacks_first, ran_clock, steps_once}
+use Rattle.std.proofs.Common.{◌≡◌, ◌∙◌, ◌+◌, arith}
+use Rattle.o32_machine.proofs.WholeTurns.{executed_last, executed_stops, lacks_first, steps_once}
 use Rattle.o32_machine.specs.Emulator.{within_now}
 use Rattle.o32_turns.specs.Built.{built}
 use Rattle.o32_turns.specs.Turn.{sixth_step}
