@@ -11,4 +11,3 @@ mod shown;
 mod storing;
 
 pub use call::timer_call;
-

@@ -32,13 +32,13 @@ impl Model for Going {
     ghost Value = { Standing };
 
     ghost view = { λ g. record {
-        wait = g.wait;
-        interrupted = g.interrupted;
-        restart = g.restart;
-        stopped = g.stopped;
-        fault = g.fault;
-        saved = g.saved;
-        over = g.over;
-        events = g.events.items;
+      wait = g.wait;
+      interrupted = g.interrupted;
+      restart = g.restart;
+      stopped = g.stopped;
+      fault = g.fault;
+      saved = g.saved;
+      over = g.over;
+      events = g.events.items;
     } };
 }

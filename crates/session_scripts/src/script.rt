@@ -88,11 +88,7 @@ fn common(alloc: Global, text: &str) -> Result<Setting, Fail> {
 }
 
 /// The first session of a script that comes out otherwise, counted from 0. Some lines are common to all of them.
-pub fn first_wrong(
-    alloc: Global,
-    common_lines: &str,
-    script: &str,
-) -> Result<Option<usize>, Fail> {
+pub fn first_wrong(alloc: Global, common_lines: &str, script: &str) -> Result<Option<usize>, Fail> {
     let mut place: usize = 0;
     let mut setting = common(alloc, common_lines)?;
     let mut is_ended = false;
