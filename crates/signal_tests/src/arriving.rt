@@ -27,6 +27,20 @@ const ORDER: &str = r"
     o32run run --schedule t --budget 3000 p = budget 124 3000
 ";
 
+/// The handler waits a while before it writes its number, and the second signal comes meanwhile: its handler interrupts the first.
+const INTERRUPTED: &str = r"
+    beq $zero $zero 13; nop
+    addiu $t1 $zero 20; addiu $t1 $t1 0xFFFF; bne $t1 $zero 0xFFFE; nop
+    sw $a0 0xFFFC $sp; addiu $a1 $sp 0xFFFC; addiu $a0 $zero 1; addiu $a2 $zero 4; addiu $v0 $zero write; syscall; jr $ra; nop
+    lui $t0 0x40; ori $t0 $t0 8; sw $t0 0xFFC4 $sp
+    addiu $a0 $zero 14; addiu $a1 $sp 0xFFC0; addiu $a2 $zero 0; addiu $a3 $zero 16; addiu $v0 $zero rt_sigaction; syscall
+    addiu $a0 $zero 16; addiu $a1 $sp 0xFFC0; addiu $a2 $zero 0; addiu $a3 $zero 16; addiu $v0 $zero rt_sigaction; syscall
+    beq $zero $zero 0xFFFF; nop
+    file t quantum 1\nat 1000 kill 16\nat 1030 kill 14\n
+    out \0\0\0\x0E\0\0\0\x10
+    o32run run --schedule t --budget 3000 p = budget 124 3000
+";
+
 /// A loop of three instructions counts in $s0, and the handler writes the count. Eleven turns stand before the loop, and at 1,000,000
 /// the next instruction stands in the branch's slot, so that the signal is delivered in the turn behind that.
 const ITS_TURN: &str = r"
@@ -119,6 +133,12 @@ fn values(rt: HostRuntime) -> Result<(), Fail> {
 #[test]
 fn order(rt: HostRuntime) -> Result<(), Fail> {
     assert_eq!(rt; first_wrong(rt.alloc(), "", ORDER)?, None);
+    Ok(())
+}
+
+#[test]
+fn interrupted(rt: HostRuntime) -> Result<(), Fail> {
+    assert_eq!(rt; first_wrong(rt.alloc(), "", INTERRUPTED)?, None);
     Ok(())
 }
 
