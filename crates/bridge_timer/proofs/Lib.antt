@@ -1,4 +1,5 @@
 pub mod Acting
+pub mod AlarmRows
 pub mod Calls
 pub mod HostSettings
 pub mod TimerLooks

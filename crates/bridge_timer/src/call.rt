@@ -8,6 +8,7 @@ ghost use Rattle.o32_model.specs.Answered.{IsCall};
 ghost use Rattle.o32_model.specs.Table.{machine_call};
 ghost use Rattle.outside.specs.Streams.{NoCountFell, contents};
 
+use crate::alarms::alarm;
 use crate::intervals::{getitimer, setitimer};
 use guest_space::Space;
 use host_mem::HostMem;
@@ -17,7 +18,7 @@ use native_kernel::NativeKernel;
 use o32_model::{CallWords, Log, Outcome, Seen};
 use outside::{Devices, Sink, Source};
 
-/// Makes a call of the program on the interval timer, by its words: setitimer(2), getitimer(2). It stops
+/// Makes a call of the program on the interval timer, by its words: alarm(2), setitimer(2), getitimer(2). It stops
 /// early for want of memory, or by a device.
 pub fn timer_call<I: Source, O: Sink, E: Sink>(
     args: &CallWords,
@@ -40,6 +41,7 @@ pub fn timer_call<I: Source, O: Sink, E: Sink>(
 {
     let [a0, a1, a2, _] = args.reg;
     match args.nr {
+        4027 => alarm(a0, k, mem, dev, log),
         4104 => setitimer(args, a0, a1, a2, space, k, mem, dev, log),
         _ => getitimer(a0, a1, space, k, mem, dev, log),
     }

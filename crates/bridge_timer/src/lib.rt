@@ -1,6 +1,7 @@
 //! The calls of an o32 program on the interval timer, made by native calls.
 #![tactic(auto)]
 
+mod alarms;
 mod call;
 mod intervals;
 mod looking;

@@ -1,6 +1,6 @@
 //! Settings of the timer that the native kernel is given: a period and then a value, each seconds and microseconds
 //! of 64 bits (struct itimerval of setitimer(2)).
-ghost use Rattle.std.specs.Prelude.{◌≡◌, ◌+◌, ◌≤◌, [], Ok, Some, IfOk, true, drop, length};
+ghost use Rattle.std.specs.Prelude.{◌≡◌, ◌+◌, ◌≤◌, [], Ok, Some, IfOk, pos, true, drop, length};
 ghost use Rattle.layouts.specs.Number.{unsigned, value_of};
 ghost use Rattle.native_calls.specs.Clocks as native;
 ghost use Rattle.native_calls.specs.HostBytes.{unless_null};
@@ -34,6 +34,17 @@ pub(crate) fn take_setting(space: &Space, address: u32, mem: &mut HostMem) -> Re
         return Ok(NOWHERE);
     }
     push_read(&bytes, mem)
+}
+
+/// Makes host memory of the setting to go off once after so many seconds, and gives its place there.
+pub(crate) fn once_after(seconds: u32, mem: &mut HostMem) -> Result<u64, NoMemory>
+    ensures { IfOk result (λ place. unless_null place (native.setting_at mem.new place) ≡ Some (Ok (record {
+      value = record { seconds = pos seconds; microseconds = pos 0 };
+      period = record { seconds = pos 0; microseconds = pos 0 };
+    }))) }
+{
+    mem.clear();
+    push_setting(0, 0, i64::from(seconds), 0, mem)
 }
 
 fn push_read(bytes: &[u8], mem: &mut HostMem) -> Result<u64, NoMemory>

@@ -1,7 +1,7 @@
 //! What comes from outside between two calls: the clock moves, and signals are posted.
 ghost use Rattle.std.specs.Prelude.{◌≡◌, ◌≤◌, None, ◌-◌, ◌==◌, IfOk, OnErr, OnOk, bit_and, not};
 ghost use Rattle.std.specs.List.{list_any};
-ghost use Rattle.kernel_model.specs.Clock.{gone_off, next_time};
+ghost use Rattle.kernel_model.specs.Clock.{gone_off, left_until, next_time};
 ghost use Rattle.kernel_model.specs.Pending.{CanPend};
 ghost use Rattle.kernel_model.specs.SignalRows as rows;
 ghost use Rattle.kernel_model.specs.SignalRows.{advance, is_deliverable, posted, timer_info, with_signals};
@@ -64,6 +64,15 @@ impl NativeKernel {
         ensures { result ≡ next_time self.now.timer }
     {
         self.timers.next()
+    }
+
+    /// How long it is, in nanoseconds, until the interval timer goes off; 0 where that time is not past the clock,
+    /// and where the timer is not armed (alarm(2)). getitimer(2) tells the same rounded down to microseconds, and
+    /// so not whether anything is left at all. It takes no memory.
+    pub fn timer_left(&self) -> u64
+        ensures { result ≡ left_until self.now.clock self.now.timer.due }
+    {
+        self.timers.left(self.clock)
     }
 }
 

@@ -130,8 +130,9 @@ module _ (seen : Seen) (kernel : Kernel) (guest : Guest) (left : List ℕ) where
 
   timer_same : (number : ℕ) → timer.is_call_there number ≡ true → IsSameTime number
   timer_same number there =
-      or_last (number == 4104) number 4105
-      (at_number number 4104 refl) refl there
+      or_last (number == 4027 || number == 4104) number 4105
+      (or_last (number == 4027) number 4104
+      (at_number number 4027 refl) refl) refl there
 
   -- and those on signals
   signal_same : (number : ℕ) → signal.is_call_there number ≡ true → IsSameTime number
@@ -176,21 +177,22 @@ neither : (one other : Bool) → (one || other) ≡ false → (one ≡ false) ×
 neither true other none = absurd cc
 neither false other none = (refl, none)
 
-no_time : (a b c d e f g h : Bool) → (a || b || c || d || e || f) ≡ false → (g || h) ≡ false
-    → ((a || (b || (c || (e || (f || (g || (h || false))))))) ≡ false) × (d ≡ false)
-no_time true b c d e f g h none other = absurd cc
-no_time false true c d e f g h none other = absurd cc
-no_time false false true d e f g h none other = absurd cc
-no_time false false false true e f g h none other = absurd cc
-no_time false false false false true f g h none other = absurd cc
-no_time false false false false false true g h none other = absurd cc
-no_time false false false false false false true h none other = absurd cc
-no_time false false false false false false false true none other = absurd cc
-no_time false false false false false false false false none other = (refl, refl)
+no_time : (a b c d e f g h i : Bool) → (a || b || c || d || e || f) ≡ false → (g || h || i) ≡ false
+    → ((a || (b || (c || (e || (f || (g || (h || (i || false)))))))) ≡ false) × (d ≡ false)
+no_time true b c d e f g h i none other = absurd cc
+no_time false true c d e f g h i none other = absurd cc
+no_time false false true d e f g h i none other = absurd cc
+no_time false false false true e f g h i none other = absurd cc
+no_time false false false false true f g h i none other = absurd cc
+no_time false false false false false true g h i none other = absurd cc
+no_time false false false false false false true h i none other = absurd cc
+no_time false false false false false false false true i none other = absurd cc
+no_time false false false false false false false false true none other = absurd cc
+no_time false false false false false false false false false none other = (refl, refl)
 
 not_time : (number : ℕ) → wait.is_call_there number ≡ false → timer.is_call_there number ≡ false → (is_time_call_built number ≡ false) × ((number == 4263) ≡ false)
 not_time number none other =
-    no_time (number == 4013) (number == 4078) (number == 4166) (number == 4263) (number == 4264) (number == 4265) (number == 4104) (number == 4105) none other
+    no_time (number == 4013) (number == 4078) (number == 4166) (number == 4263) (number == 4264) (number == 4265) (number == 4027) (number == 4104) (number == 4105) none other
 
 -- the same list of tests, one way and the other
 

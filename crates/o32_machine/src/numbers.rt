@@ -107,7 +107,7 @@ pub(crate) fn is_time_call(nr: u32) -> bool
 pub(crate) fn is_timer_call(nr: u32) -> bool
     ensures { result ≡ timer.is_call_there nr }
 {
-    nr == 4104 || nr == 4105
+    nr == 4027 || nr == 4104 || nr == 4105
 }
 
 /// Whether a number is that of a call on signals that there is.

@@ -38,10 +38,10 @@ is_file_call_built number = list_any (λ (built : ℕ). number == built) file_nu
 abbrev pub built_file_call_or : Option O32Call → ℕ → Option O32Call
 built_file_call_or otherwise number = if is_file_call_built number then file_call_or otherwise number else otherwise
 
--- Of the calls on time and readiness: time, gettimeofday, nanosleep, clock_getres, clock_nanosleep; setitimer, getitimer.
+-- Of the calls on time and readiness: time, gettimeofday, nanosleep, clock_getres, clock_nanosleep; alarm, setitimer, getitimer.
 
 abbrev pub time_numbers : List ℕ
-time_numbers = 4013 ∷ 4078 ∷ 4166 ∷ 4264 ∷ 4265 ∷ 4104 ∷ 4105 ∷ []
+time_numbers = 4013 ∷ 4078 ∷ 4166 ∷ 4264 ∷ 4265 ∷ 4027 ∷ 4104 ∷ 4105 ∷ []
 
 abbrev pub is_time_call_built : ℕ → Bool
 is_time_call_built number = list_any (λ (built : ℕ). number == built) time_numbers

@@ -97,7 +97,10 @@ module _ (seen : Seen) (kernel : Kernel) (processor : Processor) (memory : Memor
   tells_time : built 4263 ≡ in_full 4263
   tells_time = refl
 
-  -- setitimer, kill and restart_syscall
+  -- alarm, setitimer, kill and restart_syscall
+  sets_an_alarm : built 4027 ≡ in_full 4027
+  sets_an_alarm = refl
+
   sets_a_timer : built 4104 ≡ in_full 4104
   sets_a_timer = refl
 
@@ -107,10 +110,7 @@ module _ (seen : Seen) (kernel : Kernel) (processor : Processor) (memory : Memor
   goes_on : built 4253 ≡ in_full 4253
   goes_on = refl
 
-  -- alarm, poll and rt_sigtimedwait
-  sets_no_alarm : built 4027 ≡ not_built
-  sets_no_alarm = refl
-
+  -- poll and rt_sigtimedwait
   looks_at_nothing : built 4188 ≡ not_built
   looks_at_nothing = refl
 

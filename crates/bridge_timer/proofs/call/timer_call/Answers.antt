@@ -5,6 +5,12 @@ use Rattle.bridge_timer.proofs.Calls.{by_number}
 use Rattle.bridge_timer.specs.Found.{found}
 use Rattle.bridge_timer.proofs.call.timer_call.Goals as goal
 
+pub returns-in-4027-clause-row : goal.returns-in-4027-clause-row
+returns-in-4027-clause-row g c = λ left told.
+    let guest = found c.args.args.now c.args.cpu.now c.args.space.now in
+    by_number 4027 c.args.seen.now c.args.k.now guest left c.alarm.result c.alarm.new.k c.args.space.now c.args.cpu.now (contents g.I.Source.left g.O.Sink.written g.E.Sink.written c.args.dev.now) (contents g.I.Source.left g.O.Sink.written g.E.Sink.written c.alarm.new.dev) c.in-4027.is
+    (c.alarm.ensures.row guest left told)
+
 pub returns-in-4104-clause-row : goal.returns-in-4104-clause-row
 returns-in-4104-clause-row g c = λ left told.
     let guest = found c.args.args.now c.args.cpu.now c.args.space.now in
