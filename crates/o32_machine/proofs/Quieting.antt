@@ -32,7 +32,7 @@ use Rattle.o32_turns.specs.Delivering.{next_signal}
 use Rattle.o32_turns.specs.Instruction.{after_step, at_time, executed, stepped}
 use Rattle.o32_turns.specs.Machine.{Machine, Turn, Within, begin, with_machine}
 use Rattle.o32_turns.specs.Posting.{event_info, events_posted, expiry_events, sent_to, timer_posted}
-use Rattle.o32_turns.specs.Runs.{IsRunningAt, Reached, after_attempt, is_blocked, reached, unless_over}
+use Rattle.o32_turns.specs.Runs.{IsRunningAt, Reached, after_attempt, attempt, is_blocked, reached, unless_over}
 use Rattle.o32_turns.specs.Turn.{after_events, fifth_or_sixth, first_step, fourth_step, next_event, second_step, sooner, third_step, turn_of, unless_killed}
 use Rattle.outside.specs.Streams.{Contents}
 use Rattle.schedule.specs.declared.events.Due.{Due}
@@ -212,10 +212,28 @@ module _ (quantum : ℕ) (machine : Machine) where
               ∙ ap is_blocked (turn_is k left middle there now kept Next fewer step);
         }
 
+    pub silent : (k : ℕ) (left : List ℕ) (now : Processor) (kept : Memory) → k ≤ most → Goes k machine.processor machine.memory now kept → (j : ℕ) → j < k → (attempt quantum machine left j).events ≡ []
+    unfolding Goes
+    silent zero left now kept few goes j below = absurd (omega arith)
+    silent (suc k) left now kept few (middle, there, goes, step) j below =
+        elim (cases_eq j k) as (λ _. (attempt quantum machine left j).events ≡ []) [
+          | inl same ↦ subst (λ (n : ℕ). (attempt quantum machine left n).events ≡ []) (sym same) at_last
+          | inr other ↦ let less : j < k = omega arith in silent k left middle there fewer goes j less
+        ]
+      where
+        fewer : k ≤ most
+        fewer = omega arith
+
+        at_last : (attempt quantum machine left k).events ≡ []
+        at_last =
+            ap (λ (r : Reached). (turn_of quantum r.machine r.left).events) (reach k left middle there fewer goes)
+            ∙ ap (λ (t : Turn). t.events) (turn_is k left middle there now kept Next fewer step)
+
     pub quiet : (k : ℕ) (now : Processor) (kept : Memory) → k ≤ most → Goes k machine.processor machine.memory now kept → IsQuiet quantum machine k (here k now kept)
     quiet k now kept few goes = record {
       running = λ left j below. running k left now kept few goes j below;
       reaches = λ left. reach k left now kept few goes;
+      silent = λ left j below. silent k left now kept few goes j below;
     }
 
 -- An emulator's turns
@@ -228,7 +246,7 @@ unfolding reached
 at_once quantum limit machine turns result became turns_then events before after last counted some = record {
   quiet = 0;
   middle = machine;
-  first = record { running = λ left j below. absurd (omega arith); reaches = λ left. refl };
+  first = record { running = λ left j below. absurd (omega arith); reaches = λ left. refl; silent = λ left j below. absurd (omega arith) };
   last = last;
   counted = omega (arith, counted);
   within = some;
