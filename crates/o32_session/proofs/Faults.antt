@@ -6,10 +6,10 @@ use Rattle.kernel_core.specs.declared.core_error.Stop.{Stop}
 use Rattle.kernel_core.specs.declared.core_error.Stop.TheVariants as stops
 use Rattle.kernel_core.specs.declared.finish.Finish.{Finish}
 use Rattle.kernel_core.specs.declared.finish.Finish.TheVariants as finishes
-use Rattle.kernel_model.specs.Stops.{StopsOnlyIfRose}
+use Rattle.o32_runner.specs.Traced.{StopsOnlyIfAnyRose}
 use Rattle.o32_machine.specs.Emulator.{Emulated}
 use Rattle.o32_session.specs.Faults.{NoneRose, TellsFaults}
-use Rattle.o32_session.specs.Saved.{Stored}
+use Rattle.o32_runner.specs.Stored.{Stored}
 use Rattle.o32_session.specs.Session.{Seen, seen_of}
 use Rattle.o32_session.specs.inside.Ends.{end_of, end_of_stop}
 use Rattle.o32_session.specs.inside.Prepared.{EndsRefused, EndsWithoutRun, LineFailsOnlyIfRose, ReasonOnlyIfRose}
@@ -81,17 +81,13 @@ unrun_faults reasons.NoMemory end old new text then so cause loads reads outs wr
 
 -- There is a run
 
-pub cut_faults : {I O E : Type 0} (left : I → Option (List ℕ)) (to_out : O → Option (List ℕ)) (to_err : E → Option (List ℕ)) (input : I → ℕ) (out : O → ℕ) (err : E → ℕ) (was now : Devices I O E) (loads : ℕ) (store : Stored)
-    (stop : Stop) → StopsOnlyIfRose {T = Finish} input out err (Err stop) was now
-    → TellsFaults (end_of_stop stop) (seen_of left to_out to_err input out err was loads store) (seen_of left to_out to_err input out err now loads store)
-cut_faults left to_out to_err input out err was now loads store stops.ReadFault cause = inr cause
-cut_faults left to_out to_err input out err was now loads store stops.WriteFault cause =
-    elim cause as (λ _. TellsFaults WriteFault (seen_of left to_out to_err input out err was loads store) (seen_of left to_out to_err input out err now loads store)) [
-      | inl rose ↦ inl rose
-      | inr rose ↦ inr (inl rose)
-    ]
-cut_faults left to_out to_err input out err was now loads store stops.NoMemory cause =
-    record { reads = cause.input_stays; outs = cause.out_stays; errs = cause.err_stays; loads = refl; writes = refl }
+pub cut_faults : {I O E : Type 0} (left : I → Option (List ℕ)) (to_out : O → Option (List ℕ)) (to_err : E → Option (List ℕ)) (input : I → ℕ) (out : O → ℕ) (err : E → ℕ) (was now : Devices I O E) (loads loads_then : ℕ) (store store_then : Stored)
+    (stop : Stop) → loads_then ≡ loads → StopsOnlyIfAnyRose {T = Finish} input out err (Err stop) store.write_faults store_then.write_faults was now
+    → TellsFaults (end_of_stop stop) (seen_of left to_out to_err input out err was loads store) (seen_of left to_out to_err input out err now loads_then store_then)
+cut_faults left to_out to_err input out err was now loads loads_then store store_then stops.ReadFault same cause = inr cause.0
+cut_faults left to_out to_err input out err was now loads loads_then store store_then stops.WriteFault same cause = cause
+cut_faults left to_out to_err input out err was now loads loads_then store store_then stops.NoMemory same cause =
+    record { reads = cause.0.input_stays; outs = cause.0.out_stays; errs = cause.0.err_stays; loads = same; writes = cause.1 }
 
 finish_faults : (finish : Finish) (old new : Seen) → NoneRose old new → TellsFaults (end_of finish) old new
 finish_faults (finishes.Exited status) old new none = none

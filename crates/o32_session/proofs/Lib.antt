@@ -1,6 +1,5 @@
 pub mod Guest
 pub mod Numbers
-pub mod RunLemmas
 pub mod Preparing
 pub mod Loading
 pub mod Faults
@@ -11,5 +10,3 @@ pub mod Reading
 pub mod Budgets
 pub mod Saves
 pub mod Chance
-pub mod QuietTurns
-pub mod TurnEnds

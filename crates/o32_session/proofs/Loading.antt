@@ -12,7 +12,8 @@ use Rattle.schedule.specs.declared.Schedule.{Schedule}
 use Rattle.schedule.specs.declared.refusal.ScheduleRefusal.{ScheduleRefusal}
 use Rattle.schedule.specs.Grammar.{meaning_of}
 use Rattle.o32_session.specs.Asked.{Asked, Names, names_of, Found, Absent, Long, Bytes, IsOpenedBy, image_file, schedule_file, image_limit, schedule_limit, schedule_of_found, taken_schedule}
-use Rattle.o32_session.specs.Saved.{Stored, after_loads, load_of, loaded_by, loaded_names, named, turned_by}
+use Rattle.o32_session.specs.Saved.{after_loads, load_of, loaded_by, loaded_names, named, turned_by}
+use Rattle.o32_runner.specs.Stored.{Stored}
 use Rattle.o32_session.specs.Words.{Reading, Asks, WrongAt}
 use Rattle.o32_session.specs.inside.Prepared.{IsPlanned, IsRefusedFor, is_absent, is_long, is_broken, IsScheduledAs, IsStartReason, IsTree, LoadsFile, LoadsFiles, LoadsReading, turned_at}
 use Rattle.o32_session.specs.declared.answer.Refusal.{Refusal}

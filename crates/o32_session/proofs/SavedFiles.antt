@@ -1,14 +1,17 @@
 -- What an answer says of the files alone.
-use Rattle.std.proofs.Common.{◌≡◌, ℕ, List, Option, Some, None, inl, inr, refl, sym, ap, subst}
-use Rattle.outside.specs.Files.{Files, ChangesFile}
+use Rattle.std.proofs.Common.{◌≡◌, ℕ, List, [], Option, Some, None, inl, inr, refl, sym, ap, subst}
+use Rattle.outside.specs.Files.{Files, ChangesFile, IsUnchangedOrEmptied}
+use Rattle.kernel_core.specs.declared.finish.Finish.{Finish}
+use Rattle.kernel_core.specs.declared.finish.Finish.TheVariants as finishes
 use Rattle.kernel_core.specs.declared.tree.Tree.{Tree}
 use Rattle.fs_image.specs.Text.{text_of}
 use Rattle.o32_machine.specs.Emulator.{Emulated}
 use Rattle.o32_turns.specs.Machine.{Machine}
 use Rattle.o32_session.specs.Asked.{Asked, Refuse, Run, Names, names_of}
-use Rattle.o32_session.specs.Saved.{SavesPart, SavesTree, SavesTreeInPart, StandsOrBegins, Stored}
-use Rattle.o32_session.specs.SavedFile.{HasTreeText, IsFileAfter, SavesReading, SavesTo, StandsOrHasPart}
-use Rattle.o32_session.specs.Session.{Answers, AnswersReading, Seen, StopsAfter, final_tree, no_names, once_loaded}
+use Rattle.o32_session.specs.Saved.{SavesPart, SavesTree, SavesTreeInPart, StandsOrBegins}
+use Rattle.o32_runner.specs.Stored.{HasText, Stored}
+use Rattle.o32_session.specs.SavedFile.{HasTreeText, IsFileAfter, IsTraceAfter, SavesReading, SavesTo, StandsOrHasPart, StandsOrIsThere, TracesTo}
+use Rattle.o32_session.specs.Session.{Answers, AnswersReading, Finishes, Seen, StopsAfter, StopsAtSave, StopsInRun, WritesTrace, WritesTraceInPart, final_tree, no_names, once_loaded}
 use Rattle.o32_session.specs.Words.{Reading, Asks, WrongAt}
 use Rattle.o32_session.specs.declared.answer.Refusal.{Refusal}
 use Rattle.o32_session.specs.declared.answer.Refusal.TheVariants.{Usage}
@@ -42,13 +45,13 @@ stands_part name text store = record {
 
 -- The end
 
--- the file stands after an end that isn't a finish
+-- both files stand after an end that isn't a finish
 abbrev IsNoFinish : End → Type 0
-IsNoFinish end = (file : Option (List ℕ)) → IsFileAfter end file file
+IsNoFinish end = (file : Option (List ℕ)) → IsFileAfter end file file × IsTraceAfter end file file
 
 early_stands : (count : ℕ) (names : Names) (end : End) → StopsAfter count names end → IsNoFinish end
-early_stands count names ReadFault early = λ file. refl
-early_stands count names NoMemory early = λ file. inl refl
+early_stands count names ReadFault early = λ file. (refl, inl refl)
+early_stands count names NoMemory early = λ file. (inl refl, inl refl)
 early_stands count names (Exited status) early = absurd early
 early_stands count names (Killed signal) early = absurd early
 early_stands count names Budget early = absurd early
@@ -56,16 +59,26 @@ early_stands count names Blocked early = absurd early
 early_stands count names (Refused given) early = absurd early
 early_stands count names WriteFault early = absurd early
 
-stands_so : (end : End) (old new : Option Files) → IsNoFinish end → new ≡ old → (save : Option (List ℕ)) → SavesTo save end old new
-stands_so end old new stands same None = same
-stands_so end old new stands same (Some name) = unchanged_file old new name (IsFileAfter end) same stands
+abbrev Writes : Option (List ℕ) → Option (List ℕ) → End → Option Files → Option Files → Type 0
+Writes trace save end old new = (middle : Option Files) × TracesTo trace end old middle × SavesTo save end middle new
+
+save_stands : (end : End) (old new : Option Files) → IsNoFinish end → new ≡ old → (save : Option (List ℕ)) → SavesTo save end old new
+save_stands end old new stands same None = same
+save_stands end old new stands same (Some name) = unchanged_file old new name (IsFileAfter end) same (λ file. (stands file).0)
+
+trace_stands : (end : End) (files : Option Files) → IsNoFinish end → (trace : Option (List ℕ)) → TracesTo trace end files files
+trace_stands end files stands None = refl
+trace_stands end files stands (Some name) = unchanged_file files files name (IsTraceAfter end) refl (λ file. (stands file).1)
+
+stands_so : (end : End) (old new : Option Files) → IsNoFinish end → new ≡ old → (trace save : Option (List ℕ)) → Writes trace save end old new
+stands_so end old new stands same trace save = (old, trace_stands end old stands trace, save_stands end old new stands same save)
 
 -- what an answer to a refusal says of the end and of the store
 refused_stands : (refusal : Refusal) (names : Names) (old new : Seen) (turns : ℕ) (end : End) (host : Option Emulated) →
     Answers (Refuse refusal) names old new turns end host → IsNoFinish end × (new.store.files ≡ old.store.files)
-refused_stands refusal names old new turns (Refused given) host answer = ((λ file. refl), ap (λ (s : Stored). s.files) answer.stands)
-refused_stands refusal names old new turns WriteFault host answer = ((λ file. inl refl), ap (λ (s : Stored). s.files) answer.0.stands)
-refused_stands refusal names old new turns NoMemory host answer = ((λ file. inl refl), ap (λ (s : Stored). s.files) answer.stands)
+refused_stands refusal names old new turns (Refused given) host answer = ((λ file. (refl, refl)), ap (λ (s : Stored). s.files) answer.stands)
+refused_stands refusal names old new turns WriteFault host answer = ((λ file. (inl refl, inl refl)), ap (λ (s : Stored). s.files) answer.0.stands)
+refused_stands refusal names old new turns NoMemory host answer = ((λ file. (inl refl, inl refl)), ap (λ (s : Stored). s.files) answer.stands)
 refused_stands refusal names old new turns ReadFault host answer = absurd answer
 refused_stands refusal names old new turns (Exited status) host answer = absurd answer
 refused_stands refusal names old new turns (Killed signal) host answer = absurd answer
@@ -94,32 +107,86 @@ part_saves : (save : Option (List ℕ)) (tree : Tree) (old new : Stored) (end : 
 part_saves None tree old new end says saved = absurd saved
 part_saves (Some name) tree old new end says saved = changed_file old.files new.files name (StandsOrBegins (text_of tree)) (IsFileAfter end) says saved.files
 
-run_saves : (quantum : ℕ) (machine : Machine) (budget : ℕ) (names : Names) (old new : Seen) (turns : ℕ) (end : End) (host : Option Emulated) → Answers (Run quantum machine budget) names old new turns end host
-    → SavesTo names.save end old.store.files new.store.files
-run_saves quantum machine budget names old new turns (Exited status) host answer = finish_saves names.save (final_tree answer.emulated.machine) old.store new.store (Exited status) (λ before after is. is) answer.saves
-run_saves quantum machine budget names old new turns (Killed signal) host answer = finish_saves names.save (final_tree answer.emulated.machine) old.store new.store (Killed signal) (λ before after is. is) answer.saves
-run_saves quantum machine budget names old new turns Budget host answer = finish_saves names.save (final_tree answer.emulated.machine) old.store new.store Budget (λ before after is. is) answer.saves
-run_saves quantum machine budget names old new turns Blocked host answer = finish_saves names.save (final_tree answer.emulated.machine) old.store new.store Blocked (λ before after is. is) answer.saves
-run_saves quantum machine budget names old new turns (Refused given) host answer = absurd answer
-run_saves quantum machine budget names old new turns ReadFault host answer =
-    stands_so ReadFault old.store.files new.store.files (λ file. refl) (ap (λ (s : Stored). s.files) answer.0.stands) names.save
-run_saves quantum machine budget names old new turns WriteFault host answer =
-    elim answer as (λ _. SavesTo names.save WriteFault old.store.files new.store.files) [
-      | inl in_run ↦ stands_so WriteFault old.store.files new.store.files (λ file. inl refl) (ap (λ (s : Stored). s.files) in_run.0.stands) names.save
-      | inr at_save ↦ part_saves names.save (final_tree at_save.0.final) old.store new.store WriteFault (part_says (final_tree at_save.0.final)) at_save.0.saves
+-- the trace was written whole, or in part
+
+traces_whole : (name : Option (List ℕ)) (quantum : ℕ) (machine : Machine) (turns : ℕ) (finish : Finish) (told : Option (List ℕ)) (old new : Stored) (end : End)
+    → ((before after : Option (List ℕ)) → (text : List ℕ) × (after ≡ Some text) → IsTraceAfter end before after) → WritesTrace name quantum machine turns finish told old new → TracesTo name end old.files new.files
+traces_whole None quantum machine turns finish told old new end says wrote = ap (λ (s : Stored). s.files) wrote
+traces_whole (Some name) quantum machine turns finish told old new end says wrote =
+    changed_file old.files new.files name (HasText wrote.0) (IsTraceAfter end) (λ before after is. says before after (wrote.0, is)) wrote.2.files
+
+emptied_says : (before after : Option (List ℕ)) → IsUnchangedOrEmptied before after → StandsOrIsThere before after
+emptied_says before after is =
+    elim is as (λ _. StandsOrIsThere before after) [
+      | inl same ↦ inl same
+      | inr empty ↦ inr ([], empty)
     ]
-run_saves quantum machine budget names old new turns NoMemory host answer =
-    elim answer as (λ _. SavesTo names.save NoMemory old.store.files new.store.files) [
-      | inl in_run ↦ stands_so NoMemory old.store.files new.store.files (λ file. inl refl) (ap (λ (s : Stored). s.files) in_run.stands) names.save
-      | inr at_save ↦ part_saves names.save (final_tree at_save.final) old.store new.store NoMemory (part_says (final_tree at_save.final)) at_save.saves
+
+traces_part : (name : Option (List ℕ)) (quantum : ℕ) (machine : Machine) (budget turns : ℕ) (told : Option (List ℕ)) (old new : Stored) (end : End)
+    → ((before after : Option (List ℕ)) → StandsOrIsThere before after → IsTraceAfter end before after) → WritesTraceInPart name quantum machine budget turns told old new → TracesTo name end old.files new.files
+traces_part None quantum machine budget turns told old new end says wrote = ap (λ (s : Stored). s.files) wrote.1
+traces_part (Some name) quantum machine budget turns told old new end says wrote =
+    elim wrote.1 as (λ _. TracesTo (Some name) end old.files new.files) [
+      | inl part ↦ changed_file old.files new.files name (HasText part.0) (IsTraceAfter end) (λ before after is. says before after (inr (part.0, is))) part.2.files
+      | inr unmade ↦ changed_file old.files new.files name IsUnchangedOrEmptied (IsTraceAfter end) (λ before after is. says before after (emptied_says before after is)) unmade.1.files
     ]
+
+-- a run that stopped saves nothing
+stopped_saves : (save : Option (List ℕ)) (end : End) (files : Option Files) → ((file : Option (List ℕ)) → IsFileAfter end file file) → SavesTo save end files files
+stopped_saves None end files stands = refl
+stopped_saves (Some name) end files stands = unchanged_file files files name (IsFileAfter end) refl stands
+
+module _ (quantum : ℕ) (machine : Machine) (budget : ℕ) (names : Names) (old new : Seen) (turns : ℕ) where
+  finished : (finish : Finish) (end : End) (host : Option Emulated) → ((before after : Option (List ℕ)) → HasTreeText after → IsFileAfter end before after)
+      → ((before after : Option (List ℕ)) → (text : List ℕ) × (after ≡ Some text) → IsTraceAfter end before after)
+      → Finishes quantum machine budget names old new turns finish host → Writes names.trace names.save end old.store.files new.store.files
+  finished finish end host saves traces answer = (
+    answer.middle.files,
+    traces_whole names.trace quantum machine turns finish old.left old.store answer.middle end traces answer.traces,
+    finish_saves names.save (final_tree answer.emulated.machine) answer.middle new.store end saves answer.saves,
+  )
+
+  in_run : (end : End) → ((file : Option (List ℕ)) → IsFileAfter end file file) → ((before after : Option (List ℕ)) → StandsOrIsThere before after → IsTraceAfter end before after)
+      → StopsInRun quantum machine budget names old new turns → Writes names.trace names.save end old.store.files new.store.files
+  in_run end stands says answer = (
+    new.store.files,
+    traces_part names.trace quantum machine budget turns old.left old.store new.store end says answer.traces,
+    stopped_saves names.save end new.store.files stands,
+  )
+
+  at_save : (end : End) → ((tree : Tree) (before after : Option (List ℕ)) → StandsOrBegins (text_of tree) before after → IsFileAfter end before after)
+      → ((before after : Option (List ℕ)) → (text : List ℕ) × (after ≡ Some text) → IsTraceAfter end before after)
+      → StopsAtSave quantum machine budget names old new turns → Writes names.trace names.save end old.store.files new.store.files
+  at_save end saves says answer = (
+    answer.middle.files,
+    traces_whole names.trace quantum machine turns answer.finish old.left old.store answer.middle end says answer.traces,
+    part_saves names.save (final_tree answer.final) answer.middle new.store end (saves (final_tree answer.final)) answer.saves,
+  )
+
+  run_saves : (end : End) (host : Option Emulated) → Answers (Run quantum machine budget) names old new turns end host → Writes names.trace names.save end old.store.files new.store.files
+  run_saves (Exited status) host answer = finished (finishes.Exited status) (Exited status) host (λ before after is. is) (λ before after is. is) answer
+  run_saves (Killed signal) host answer = finished (finishes.Killed signal) (Killed signal) host (λ before after is. is) (λ before after is. is) answer
+  run_saves Budget host answer = finished finishes.Budget Budget host (λ before after is. is) (λ before after is. is) answer
+  run_saves Blocked host answer = finished finishes.Blocked Blocked host (λ before after is. is) (λ before after is. is) answer
+  run_saves (Refused given) host answer = absurd answer
+  run_saves ReadFault host answer = in_run ReadFault (λ file. refl) (λ before after is. is) answer.0
+  run_saves WriteFault host answer =
+      elim answer as (λ _. Writes names.trace names.save WriteFault old.store.files new.store.files) [
+        | inl stopped ↦ in_run WriteFault (λ file. inl refl) (λ before after is. is) stopped.0
+        | inr failed ↦ at_save WriteFault part_says (λ before after is. inr is) failed.0
+      ]
+  run_saves NoMemory host answer =
+      elim answer as (λ _. Writes names.trace names.save NoMemory old.store.files new.store.files) [
+        | inl stopped ↦ in_run NoMemory (λ file. inl refl) (λ before after is. is) stopped
+        | inr failed ↦ at_save NoMemory part_says (λ before after is. inr is) failed
+      ]
 
 -- What is asked for
 
 asked_saves : (names : Names) (old new : Seen) (turns : ℕ) (end : End) (host : Option Emulated) (asked : Asked) → Answers asked names (once_loaded asked names old) new turns end host
-    → SavesTo names.save end old.store.files new.store.files
+    → Writes names.trace names.save end old.store.files new.store.files
 asked_saves names old new turns end host (Refuse refusal) answer =
-    let stands = refused_stands refusal names (once_loaded (Refuse refusal) names old) new turns end host answer in stands_so end old.store.files new.store.files stands.0 stands.1 names.save
+    let stands = refused_stands refusal names (once_loaded (Refuse refusal) names old) new turns end host answer in stands_so end old.store.files new.store.files stands.0 stands.1 names.trace names.save
 asked_saves names old new turns end host (Run quantum machine budget) answer =
     run_saves quantum machine budget names (once_loaded (Run quantum machine budget) names old) new turns end host answer
 
@@ -132,9 +199,9 @@ saves words (WrongAt word) old new turns end host answer =
       | inr refused ↦ (refused_stands (Usage word) no_names old new turns end host refused).1
     ]
 saves words (Asks line) old new turns end host answer =
-    elim answer as (λ _. SavesTo (names_of words line).save end old.store.files new.store.files) [
+    elim answer as (λ _. Writes (names_of words line).trace (names_of words line).save end old.store.files new.store.files) [
       | inl early ↦
           stands_so end old.store.files new.store.files (early_stands early.count (names_of words line) end early.early)
-          (ap (λ (s : Stored). s.files) early.nothing.stands) (names_of words line).save
+          (ap (λ (s : Stored). s.files) early.nothing.stands) (names_of words line).trace (names_of words line).save
       | inr asked ↦ asked_saves (names_of words line) old new turns end host asked.0 asked.2
     ]

@@ -12,7 +12,7 @@ use Rattle.kernel_core.specs.declared.core_error.Stop.TheVariants as stops
 use Rattle.kernel_core.specs.declared.finish.Finish.{Finish}
 use Rattle.kernel_core.specs.declared.finish.Finish.TheVariants as finishes
 use Rattle.kernel_core.specs.declared.tree.Tree.{Tree}
-use Rattle.kernel_model.specs.Stops.{StopsOnlyIfRose}
+use Rattle.o32_runner.specs.Traced.{StopsOnlyIfAnyRose}
 use Rattle.fs_image.specs.Meaning as images
 use Rattle.fs_image.specs.declared.refusal.ImageRefusal.{ImageRefusal}
 use Rattle.elf_image.specs.Loading.{plan_of}
@@ -23,12 +23,14 @@ use Rattle.o32_machine.specs.Emulator.{Emulated}
 use Rattle.o32_turns.specs.Machine.{Machine}
 use Rattle.o32_session.specs.Answers.{IsRefusal}
 use Rattle.o32_session.specs.Asked.{Asked, Refuse, Run, Names, names_of, Found, Bytes, found_at, IsOpened, IsOpenedBy, AsksOf, AsksOfPlan, AsksUnless, AsksFor, IsScheduled, arguments_of, asked_of_schedule, asked_of_tree, first_machine, empty_tree, image_limit, schedule_of_found}
-use Rattle.o32_session.specs.Saved.{SavesTree, SavesTreeInPart, Stored}
+use Rattle.o32_session.specs.Saved.{SavesTree, SavesTreeInPart}
+use Rattle.o32_runner.specs.Stored.{Stored}
 use Rattle.o32_session.specs.Session.{Seen, DoesNothing, Answers, final_tree, StopsAfter, StopsEarly, first_loaded, once_loaded, Finishes, IsRun, IsPartOfRun, StopsAtSave, no_names, AnswersReading, AsksForRun, EndsAsRun, HasImage, HasSchedule, IsRunEnd}
 use Rattle.o32_session.specs.Words.{Line, Reading, Asks, WrongAt, read_words, word_at}
 use Rattle.o32_session.specs.inside.Ends.{end_of, end_of_stop}
 use Rattle.o32_session.specs.inside.Prepared.{EndsRefused, EndsWithoutRun, IsPrepared, LineFailsOnlyIfRose, LoadsReading, ReasonOnlyIfRose}
-use Rattle.o32_session.specs.inside.Runs.{AnswersRun, RunsAs}
+use Rattle.o32_runner.specs.Runs.{RunsAs}
+use Rattle.o32_session.specs.inside.Runs.{AnswersRun, TracesRun}
 use Rattle.o32_session.specs.declared.answer.Answer.{Answer}
 use Rattle.o32_session.specs.declared.answer.End.{End}
 use Rattle.o32_session.specs.declared.answer.End.TheVariants.{Exited, Killed, Budget, Blocked, Refused, ReadFault, WriteFault, NoMemory}
@@ -116,21 +118,21 @@ run_told quantum machine budget turns finish old new final runs left told =
     record { over = so.over; wrote = record { to_out = so.to_out; to_err = so.to_err }; rest = so.rest; leaves = so.leaves }
 
 cut_told : (quantum : ℕ) (machine : Machine) (budget turns : ℕ) (stop : Stop) (old new : Seen) (final : Machine) → RunsAs quantum machine budget turns (Err stop) (contents_of old) (contents_of new) final
-    → (left : List ℕ) → old.left ≡ Some left → IsPartOfRun quantum machine left old new turns
+    → (left : List ℕ) → old.left ≡ Some left → IsPartOfRun quantum machine left budget old new turns
 cut_told quantum machine budget turns stop old new final runs left told =
     let so = runs left told in record { alive = so.alive; first = so.first; to_out = so.to_out; to_err = so.to_err; rest = so.rest }
 
 -- the run stopped early
-pub cut_answer : (quantum : ℕ) (machine : Machine) (budget turns : ℕ) (names : Names) (stop : Stop) (old new : Seen) (final : Machine) (host : Option Emulated) → turns < budget → new.store ≡ old.store
+pub cut_answer : (quantum : ℕ) (machine : Machine) (budget turns : ℕ) (names : Names) (stop : Stop) (old new : Seen) (final : Machine) (host : Option Emulated) → TracesRun names.trace quantum machine budget turns (Err stop) old.left old.store new.store
     → RunsAs quantum machine budget turns (Err stop) (contents_of old) (contents_of new) final
-    → (stop ≡ stops.ReadFault → Rose old.read_faults new.read_faults) → (stop ≡ stops.WriteFault → Rose old.out_faults new.out_faults ⊎ Rose old.err_faults new.err_faults)
+    → (stop ≡ stops.ReadFault → Rose old.read_faults new.read_faults) → (stop ≡ stops.WriteFault → Rose old.out_faults new.out_faults ⊎ (Rose old.err_faults new.err_faults ⊎ Rose old.store.write_faults new.store.write_faults))
     → Answers (Run quantum machine budget) names old new turns (end_of_stop stop) host
-cut_answer quantum machine budget turns names stops.ReadFault old new final host within stands runs read write =
-    (record { within = within; stands = stands; told = cut_told quantum machine budget turns stops.ReadFault old new final runs }, read refl)
-cut_answer quantum machine budget turns names stops.WriteFault old new final host within stands runs read write =
-    inl (record { within = within; stands = stands; told = cut_told quantum machine budget turns stops.WriteFault old new final runs }, write refl)
-cut_answer quantum machine budget turns names stops.NoMemory old new final host within stands runs read write =
-    inl (record { within = within; stands = stands; told = cut_told quantum machine budget turns stops.NoMemory old new final runs })
+cut_answer quantum machine budget turns names stops.ReadFault old new final host traces runs read write =
+    (record { traces = traces; told = cut_told quantum machine budget turns stops.ReadFault old new final runs }, read refl)
+cut_answer quantum machine budget turns names stops.WriteFault old new final host traces runs read write =
+    inl (record { traces = traces; told = cut_told quantum machine budget turns stops.WriteFault old new final runs }, write refl)
+cut_answer quantum machine budget turns names stops.NoMemory old new final host traces runs read write =
+    inl (record { traces = traces; told = cut_told quantum machine budget turns stops.NoMemory old new final runs })
 
 finish_answers : (quantum : ℕ) (machine : Machine) (budget turns : ℕ) (names : Names) (finish : Finish) (old new : Seen) (host : Option Emulated) → Finishes quantum machine budget names old new turns finish host
     → Answers (Run quantum machine budget) names old new turns (end_of finish) host
@@ -140,49 +142,53 @@ finish_answers quantum machine budget turns names finishes.Budget old new host s
 finish_answers quantum machine budget turns names finishes.Blocked old new host so = so
 
 -- the run is over, and what follows it says the answer
-pub run_answer : (quantum : ℕ) (machine : Machine) (budget turns : ℕ) (names : Names) (name : Option (List ℕ)) (finish : Finish) (emulated : Emulated) (answer : Answer) (old new : Seen) → names.save ≡ name → turns ≤ budget → emulated.turns ≡ turns
-    → RunsAs quantum machine budget turns (Ok finish) (contents_of old) (contents_of new) emulated.machine → AnswersRun name emulated finish answer old.store new.store
+pub run_answer : (quantum : ℕ) (machine : Machine) (budget turns : ℕ) (names : Names) (name : Option (List ℕ)) (finish : Finish) (emulated : Emulated) (answer : Answer) (old new : Seen) (middle : Stored) → names.save ≡ name → middle.write_faults ≡ old.store.write_faults → TracesRun names.trace quantum machine budget turns (Ok finish) old.left old.store middle → emulated.turns ≡ turns
+    → RunsAs quantum machine budget turns (Ok finish) (contents_of old) (contents_of new) emulated.machine → AnswersRun name emulated finish answer middle new.store
     → Answers (Run quantum machine budget) names old new answer.turns answer.end answer.host
-run_answer quantum machine budget turns names name finish emulated answer old new named within counted runs (inl done) =
+run_answer quantum machine budget turns names name finish emulated answer old new middle named unfaulty traces counted runs (inl done) =
     let same : answer.turns ≡ turns = done.turns ∙ counted in
     let so : Finishes quantum machine budget names old new turns finish answer.host = record {
-      within = within;
+      within = traces.0;
       emulated = emulated;
       hosted = done.host;
       turned = counted;
-      saves = subst (λ (n : Option (List ℕ)). SavesTree n (final_tree emulated.machine) old.store new.store) (sym named) done.saves;
+      middle = middle;
+      traces = traces.1;
+      saves = subst (λ (n : Option (List ℕ)). SavesTree n (final_tree emulated.machine) middle new.store) (sym named) done.saves;
       told = run_told quantum machine budget turns finish old new emulated.machine runs;
     } in
     subst (λ (n : ℕ). Answers (Run quantum machine budget) names old new n answer.end answer.host) (sym same)
     (subst (λ (e : End). Answers (Run quantum machine budget) names old new turns e answer.host) (sym done.end) (finish_answers quantum machine budget turns names finish old new answer.host so))
-run_answer quantum machine budget turns names name finish emulated answer old new named within counted runs (inr failed) =
+run_answer quantum machine budget turns names name finish emulated answer old new middle named unfaulty traces counted runs (inr failed) =
     let same : answer.turns ≡ turns = failed.turns ∙ counted in
     let so : StopsAtSave quantum machine budget names old new turns = record {
-      within = within;
+      within = traces.0;
       finish = finish;
       final = emulated.machine;
-      saves = subst (λ (n : Option (List ℕ)). SavesTreeInPart n (final_tree emulated.machine) old.store new.store) (sym named) failed.saves;
+      middle = middle;
+      traces = traces.1;
+      saves = subst (λ (n : Option (List ℕ)). SavesTreeInPart n (final_tree emulated.machine) middle new.store) (sym named) failed.saves;
       told = run_told quantum machine budget turns finish old new emulated.machine runs;
     } in
     subst (λ (n : ℕ). Answers (Run quantum machine budget) names old new n answer.end answer.host) (sym same)
     (elim failed.end as (λ _. Answers (Run quantum machine budget) names old new turns answer.end answer.host) [
-      | inl fault ↦ subst (λ (e : End). Answers (Run quantum machine budget) names old new turns e answer.host) (sym fault.0) (inr (so, fault.1))
+      | inl fault ↦ subst (λ (e : End). Answers (Run quantum machine budget) names old new turns e answer.host) (sym fault.0) (inr (so, subst (λ (n : ℕ). Rose n new.store.write_faults) unfaulty fault.1))
       | inr memory ↦ subst (λ (e : End). Answers (Run quantum machine budget) names old new turns e answer.host) (sym memory.0) (inr so)
     ])
 
 -- a device that stopped the run
 
-pub read_cause : {I O E : Type 0} (input : I → ℕ) (out : O → ℕ) (err : E → ℕ) (stop : Stop) (old new : Devices I O E) → StopsOnlyIfRose {T = Finish} input out err (Err stop) old new → stop ≡ stops.ReadFault
+pub read_cause : {I O E : Type 0} (input : I → ℕ) (out : O → ℕ) (err : E → ℕ) (stop : Stop) (writes writes_then : ℕ) (old new : Devices I O E) → StopsOnlyIfAnyRose {T = Finish} input out err (Err stop) writes writes_then old new → stop ≡ stops.ReadFault
     → Rose (input old.input) (input new.input)
-read_cause input out err stop old new cause is = subst (λ (s : Stop). StopsOnlyIfRose {T = Finish} input out err (Err s) old new) is cause
+read_cause input out err stop writes writes_then old new cause is = (subst (λ (s : Stop). StopsOnlyIfAnyRose {T = Finish} input out err (Err s) writes writes_then old new) is cause).0
 
-pub write_cause : {I O E : Type 0} (input : I → ℕ) (out : O → ℕ) (err : E → ℕ) (stop : Stop) (old new : Devices I O E) → StopsOnlyIfRose {T = Finish} input out err (Err stop) old new → stop ≡ stops.WriteFault
-    → Rose (out old.out) (out new.out) ⊎ Rose (err old.err) (err new.err)
-write_cause input out err stop old new cause is = subst (λ (s : Stop). StopsOnlyIfRose {T = Finish} input out err (Err s) old new) is cause
+pub write_cause : {I O E : Type 0} (input : I → ℕ) (out : O → ℕ) (err : E → ℕ) (stop : Stop) (writes writes_then : ℕ) (old new : Devices I O E) → StopsOnlyIfAnyRose {T = Finish} input out err (Err stop) writes writes_then old new → stop ≡ stops.WriteFault
+    → Rose (out old.out) (out new.out) ⊎ (Rose (err old.err) (err new.err) ⊎ Rose writes writes_then)
+write_cause input out err stop writes writes_then old new cause is = subst (λ (s : Stop). StopsOnlyIfAnyRose {T = Finish} input out err (Err s) writes writes_then old new) is cause
 
 -- There is a run, and the answer is what it came to.
 pub run_answers : (words : List (List ℕ)) (reading : Reading) (ready : Ready) (old new : Seen) (turns : ℕ) (end : End) (host : Option Emulated) (faults : ℕ) (middle : Stored) → IsPrepared words reading old.store.files (Ok ready)
-    → ((names : Names) → names.save ≡ option_map (word_at words) ready.save → Answers (Run ready.emulator.quantum ready.emulator.machine ready.budget) names (record old { load_faults = faults; store = middle }) new turns end host)
+    → ((names : Names) → names.save ≡ option_map (word_at words) ready.save → names.trace ≡ option_map (word_at words) ready.trace → Answers (Run ready.emulator.quantum ready.emulator.machine ready.budget) names (record old { load_faults = faults; store = middle }) new turns end host)
     → LoadsReading {T = Ready} words reading (Ok ready) old.store middle → faults ≡ old.load_faults → AnswersReading words reading old new turns end host
 run_answers words (WrongAt word) ready old new turns end host faults middle is runs loads same = absurd is
 run_answers words (Asks line) ready old new turns end host faults middle is runs loads same = inr (
@@ -190,7 +196,7 @@ run_answers words (Asks line) ready old new turns end host faults middle is runs
   is.0,
   subst (λ (s : Stored). Answers (Run ready.emulator.quantum ready.emulator.machine ready.budget) (names_of words line) (record old { store = s }) new turns end host) loads
       (subst (λ (n : ℕ). Answers (Run ready.emulator.quantum ready.emulator.machine ready.budget) (names_of words line) (record old { load_faults = n; store = middle }) new turns end host) same
-      (runs (names_of words line) (ap (λ (n : Option ℕ). option_map (word_at words) n) (sym is.1)))),
+      (runs (names_of words line) (ap (λ (n : Option ℕ). option_map (word_at words) n) (sym is.1.0)) (ap (λ (n : Option ℕ). option_map (word_at words) n) (sym is.1.1)))),
 )
 
 -- a run is not refused
@@ -234,7 +240,7 @@ run_end_of quantum machine budget names old new turns (Refused given) host left 
 run_end_of quantum machine budget names old new turns ReadFault host left told answer read file out err = absurd (read refl)
 run_end_of quantum machine budget names old new turns WriteFault host left told answer read file out err =
     elim answer as (λ _. (WriteFault ≡ NoMemory) ⊎ IsRunEnd quantum machine left budget turns WriteFault) [
-      | inl in_run ↦ absurd (elim in_run.1 [ inl rose ↦ out rose | inr rose ↦ err rose ])
+      | inl in_run ↦ absurd (elim in_run.1 [ inl rose ↦ out rose | inr more ↦ elim more [ inl rose ↦ err rose | inr rose ↦ file rose ] ])
       | inr at_save ↦ absurd (file at_save.1)
     ]
 run_end_of quantum machine budget names old new turns NoMemory host left told answer read file out err = inl refl

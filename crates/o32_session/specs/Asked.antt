@@ -51,11 +51,13 @@ image_limit = 671088640
 abbrev pub schedule_limit : ℕ
 schedule_limit = 16777216
 
--- the names of the files of a line: of the program, of the image, of the schedule, and of the file that the final tree is saved to
+-- the names of the files of a line: of the program, of the image, of the schedule, of the file of the trace, and of the one that the final tree is
+-- saved to
 pub record Names : Type 0 where
   pub program : List ℕ
   pub image : Option (List ℕ)
   pub schedule : Option (List ℕ)
+  pub trace : Option (List ℕ)
   pub save : Option (List ℕ)
 
 abbrev pub names_of : List (List ℕ) → Line → Names
@@ -63,6 +65,7 @@ names_of words line = record {
   program = word_at words line.program;
   image = option_map (word_at words) line.image;
   schedule = option_map (word_at words) line.schedule;
+  trace = option_map (word_at words) line.trace;
   save = option_map (word_at words) line.save;
 }
 

@@ -1,4 +1,4 @@
--- The store of a session: the loads that it answered and those of them that it turned away, and the file that the final tree is saved to. This project's own.
+-- What becomes of the store of a session: the loads that it answers and those of them that it turns away, and the file that the final tree is saved to. This project's own.
 use Rattle.std.specs.Prelude.{ℕ, ◌≡◌, ◌⊎◌, List, [], ◌∷◌, ◌++◌, unwrap_or, Option, Some, None, ◌==◌, if◌then◌else◌}
 use Rattle.outside.specs.Files.{Files, ChangesFile}
 use Rattle.outside.specs.Output.{IsPrefix}
@@ -8,27 +8,10 @@ use Rattle.outside.specs.declared.errors.LoadError.TheVariants as answers
 use Rattle.kernel_core.specs.ValidTree.{IsValidTree}
 use Rattle.kernel_core.specs.declared.tree.Tree.{Tree}
 use Rattle.fs_image.specs.Text.{text_of}
+use Rattle.o32_runner.specs.Stored.{Stored, SavesText}
 use Rattle.o32_session.specs.Asked.{Names, program_file, image_file, schedule_file, program_limit, image_limit, schedule_limit}
 use Rattle.o32_session.specs.declared.answer.Refusal.{Refusal}
 use Rattle.o32_session.specs.declared.answer.Refusal.TheVariants.{Usage, Missing, TooLong, Elf, Image, Schedule, Start}
-
--- what is seen of a store: its files, the names of those that it made, the names of the loads that it answered, the loads that it turned away,
--- and its count of faulty writes
-pub record Stored : Type 0 where
-  pub files : Option Files
-  pub created : List (List ℕ)
-  pub loads : List (List ℕ)
-  pub turned : List TurnedLoad
-  pub write_faults : ℕ
-
-abbrev pub stored_of : {F : Type 0} → (F → Option Files) → (F → List (List ℕ)) → (F → List (List ℕ)) → (F → List TurnedLoad) → (F → ℕ) → F → Stored
-stored_of files created loads turned write_faults store = record {
-  files = files store;
-  created = created store;
-  loads = loads store;
-  turned = turned store;
-  write_faults = write_faults store;
-}
 
 -- the store answered loads of these names, turned these away, and else stands as it was
 abbrev pub after_loads : Stored → List (List ℕ) → List TurnedLoad → Stored
@@ -80,20 +63,9 @@ turned_by names (Image broken) = []
 turned_by names (Schedule broken) = []
 turned_by names Start = []
 
--- the file has this text
-abbrev pub HasText : List ℕ → Option (List ℕ) → Option (List ℕ) → Type 0
-HasText text before after = after ≡ Some text
-
 -- the file stands as it was, or has a first part of this text
 abbrev pub StandsOrBegins : List ℕ → Option (List ℕ) → Option (List ℕ) → Type 0
 StandsOrBegins text before after = (after ≡ before) ⊎ ((part : List ℕ) × IsPrefix part text × (after ≡ Some part))
-
--- the file of this name was made and has this text, and every other stands as it was
-pub record SavesText (name text : List ℕ) (old new : Stored) : Type 0 where
-  pub files : ChangesFile old.files new.files name (HasText text)
-  pub created : new.created ≡ old.created ++ name ∷ []
-  pub loads : new.loads ≡ old.loads
-  pub turned : new.turned ≡ old.turned
 
 -- the file of this name stands as it was or has a first part of this text, and every other stands as it was
 pub record SavesPart (name text : List ℕ) (old new : Stored) : Type 0 where

@@ -29,7 +29,26 @@ IsFileAfter ReadFault before after = after ≡ before
 IsFileAfter WriteFault before after = StandsOrHasPart before after
 IsFileAfter NoMemory before after = StandsOrHasPart before after
 
--- no file changes but that of `--save`
+-- the file stands as it was, or is there
+abbrev pub StandsOrIsThere : Option (List ℕ) → Option (List ℕ) → Type 0
+StandsOrIsThere before after = (after ≡ before) ⊎ ((text : List ℕ) × (after ≡ Some text))
+
+-- what an end says of the file of `--trace`, before and after
+abbrev pub IsTraceAfter : End → Option (List ℕ) → Option (List ℕ) → Type 0
+IsTraceAfter (Exited status) before after = (text : List ℕ) × (after ≡ Some text)
+IsTraceAfter (Killed signal) before after = (text : List ℕ) × (after ≡ Some text)
+IsTraceAfter Budget before after = (text : List ℕ) × (after ≡ Some text)
+IsTraceAfter Blocked before after = (text : List ℕ) × (after ≡ Some text)
+IsTraceAfter (Refused given) before after = after ≡ before
+IsTraceAfter ReadFault before after = StandsOrIsThere before after
+IsTraceAfter WriteFault before after = StandsOrIsThere before after
+IsTraceAfter NoMemory before after = StandsOrIsThere before after
+
+abbrev pub TracesTo : Option (List ℕ) → End → Option Files → Option Files → Type 0
+TracesTo None end old new = new ≡ old
+TracesTo (Some name) end old new = ChangesFile old new name (IsTraceAfter end)
+
+-- and but for these no file changes
 abbrev pub SavesTo : Option (List ℕ) → End → Option Files → Option Files → Type 0
 SavesTo None end old new = new ≡ old
 SavesTo (Some name) end old new = ChangesFile old new name (IsFileAfter end)
@@ -37,7 +56,7 @@ SavesTo (Some name) end old new = ChangesFile old new name (IsFileAfter end)
 abbrev pub SavesReading : List (List ℕ) → Reading → End → Option Files → Option Files → Type 0
 SavesReading words (WrongAt word) end old new = new ≡ old
 SavesReading words (Asks line) end old new =
-    SavesTo (names_of words line).save end old new
+    (middle : Option Files) × TracesTo (names_of words line).trace end old middle × SavesTo (names_of words line).save end middle new
 
 abbrev pub SavesWords : List (List ℕ) → End → Option Files → Option Files → Type 0
 SavesWords words end old new = SavesReading words (read_words words) end old new

@@ -1,5 +1,5 @@
 -- What an answer says where a refusal or a run is asked for. This project's own.
-use Rattle.std.specs.Prelude.{ℕ, ◌≡◌, ◌+◌, ◌<◌, ◌≤◌, ⊤, ◌⊎◌, List, [], length, take, Option, Some, None, Ok}
+use Rattle.std.specs.Prelude.{ℕ, ◌≡◌, ◌<◌, ◌≤◌, ⊤, ◌⊎◌, List, [], length, take, Option, Some, None, Ok}
 use Rattle.outside.specs.Files.{Files}
 use Rattle.outside.specs.Count.{Rose}
 use Rattle.outside.specs.Output.{GainsText, GainsBetween}
@@ -14,9 +14,12 @@ use Rattle.start_stack.specs.Stack.{start_size, start_limit}
 use Rattle.schedule.specs.declared.Schedule.{Schedule}
 use Rattle.o32_session.specs.Words.{Line, Reading, Asks, WrongAt, read_words}
 use Rattle.o32_session.specs.Asked.{Asked, Refuse, Run, Names, names_of, Bytes, found_at, program_limit, image_limit, AsksFor, IsOpened, arguments_of, first_machine, schedule_limit, schedule_of_text, empty_schedule}
-use Rattle.o32_session.specs.Saved.{Stored, after_loads, loaded_by, loaded_names, turned_by, SavesTree, SavesTreeInPart}
+use Rattle.o32_session.specs.Saved.{after_loads, loaded_by, loaded_names, turned_by, SavesTree, SavesTreeInPart}
+use Rattle.o32_runner.specs.Runs.{turns_begun}
+use Rattle.o32_runner.specs.Stored.{Stored}
 use Rattle.o32_turns.specs.Runs.{IsOverAt, IsRunningAt, last_machine, reached}
 use Rattle.o32_turns.specs.Machine.{Machine}
+use Rattle.o32_runner.specs.Traced.{TracesPart, TracesWhole}
 use Rattle.o32_session.specs.Lines.{line_of}
 use Rattle.o32_session.specs.declared.answer.Refusal.{Refusal}
 use Rattle.o32_session.specs.declared.answer.Refusal.TheVariants.{Usage}
@@ -90,14 +93,26 @@ pub record IsRun (quantum : ℕ) (machine : Machine) (left : List ℕ) (budget :
 abbrev pub final_tree : Machine → Tree
 final_tree machine = saved machine.kernel.files.nodes
 
--- The run is not over after these turns, and the attempt at the next stopped. What was written lies between what it has sent then and what it
--- has sent one turn later, and of the input there is left what is left then or what is left one turn later.
-pub record IsPartOfRun (quantum : ℕ) (machine : Machine) (left : List ℕ) (old new : Seen) (turns : ℕ) : Type 0 where
+-- The process has not ended after these turns, and the attempt at the next stopped, or the last lines of the trace could not be added. What was
+-- written lies between what it has sent then and what it has sent one turn later, and of the input there is left what is left then or what is left
+-- one turn later; where the budget's turns are done no turn more was begun.
+pub record IsPartOfRun (quantum : ℕ) (machine : Machine) (left : List ℕ) (budget : ℕ) (old new : Seen) (turns : ℕ) : Type 0 where
   pub alive : (reached quantum machine left turns).over ≡ None
   pub first : (j : ℕ) → j < turns → IsRunningAt quantum machine left j
-  pub to_out : GainsBetween old.out new.out (reached quantum machine left turns).sent.out (reached quantum machine left (turns + 1)).sent.out
-  pub to_err : GainsBetween old.err new.err (reached quantum machine left turns).sent.err (reached quantum machine left (turns + 1)).sent.err
-  pub rest : (new.left ≡ Some (reached quantum machine left turns).left) ⊎ (new.left ≡ Some (reached quantum machine left (turns + 1)).left)
+  pub to_out : GainsBetween old.out new.out (reached quantum machine left turns).sent.out (reached quantum machine left (turns_begun budget turns)).sent.out
+  pub to_err : GainsBetween old.err new.err (reached quantum machine left turns).sent.err (reached quantum machine left (turns_begun budget turns)).sent.err
+  pub rest : (new.left ≡ Some (reached quantum machine left turns).left) ⊎ (new.left ≡ Some (reached quantum machine left (turns_begun budget turns)).left)
+
+-- The trace of the run was written, whole or in part, to the file that is named for it; and where none is, the store stands. Where it is written, a run
+-- may also stop once the budget's turns are done.
+
+abbrev pub WritesTrace : Option (List ℕ) → ℕ → Machine → ℕ → Finish → Option (List ℕ) → Stored → Stored → Type 0
+WritesTrace None quantum machine turns finish told old new = new ≡ old
+WritesTrace (Some name) quantum machine turns finish told old new = TracesWhole name quantum machine turns finish told old new
+
+abbrev pub WritesTraceInPart : Option (List ℕ) → ℕ → Machine → ℕ → ℕ → Option (List ℕ) → Stored → Stored → Type 0
+WritesTraceInPart None quantum machine budget turns told old new = (turns < budget) × (new ≡ old)
+WritesTraceInPart (Some name) quantum machine budget turns told old new = (turns ≤ budget) × TracesPart name quantum machine budget turns told old new
 
 -- A run ended so, within the budget. The emulator is handed out, and its final tree was saved. Where the input tells what is left of it, the
 -- run is the machine's.
@@ -107,21 +122,24 @@ pub record Finishes (quantum : ℕ) (machine : Machine) (budget : ℕ) (names : 
   pub emulated : Emulated
   pub hosted : host ≡ Some emulated
   pub turned : emulated.turns ≡ turns
-  pub saves : SavesTree names.save (final_tree emulated.machine) old.store new.store
+  pub middle : Stored
+  pub traces : WritesTrace names.trace quantum machine turns finish old.left old.store middle
+  pub saves : SavesTree names.save (final_tree emulated.machine) middle new.store
   pub told : (left : List ℕ) → old.left ≡ Some left → IsRun quantum machine left budget old new turns finish emulated.machine
 
--- a run stopped early after these turns, which are fewer than the budget's; the store stands
-pub record StopsInRun (quantum : ℕ) (machine : Machine) (budget : ℕ) (old new : Seen) (turns : ℕ) : Type 0 where
-  pub within : turns < budget
-  pub stands : new.store ≡ old.store
-  pub told : (left : List ℕ) → old.left ≡ Some left → IsPartOfRun quantum machine left old new turns
+-- a run stopped early after these turns, which are fewer than the budget's where no trace is written
+pub record StopsInRun (quantum : ℕ) (machine : Machine) (budget : ℕ) (names : Names) (old new : Seen) (turns : ℕ) : Type 0 where
+  pub traces : WritesTraceInPart names.trace quantum machine budget turns old.left old.store new.store
+  pub told : (left : List ℕ) → old.left ≡ Some left → IsPartOfRun quantum machine left budget old new turns
 
 -- a run ended, and at most a part of its final tree was saved
 pub record StopsAtSave (quantum : ℕ) (machine : Machine) (budget : ℕ) (names : Names) (old new : Seen) (turns : ℕ) : Type 0 where
   pub within : turns ≤ budget
   pub finish : Finish
   pub final : Machine
-  pub saves : SavesTreeInPart names.save (final_tree final) old.store new.store
+  pub middle : Stored
+  pub traces : WritesTrace names.trace quantum machine turns finish old.left old.store middle
+  pub saves : SavesTreeInPart names.save (final_tree final) middle new.store
   pub told : (left : List ℕ) → old.left ≡ Some left → IsRun quantum machine left budget old new turns finish final
 
 -- What an end with its turns says where this was asked for, with these names of files, once they are loaded: each refusal writes its line and
@@ -144,12 +162,13 @@ Answers (Run quantum machine budget) names old new turns Budget host = Finishes 
 Answers (Run quantum machine budget) names old new turns Blocked host = Finishes quantum machine budget names old new turns finishes.Blocked host
 Answers (Run quantum machine budget) names old new turns (Refused given) host = ⊥
 Answers (Run quantum machine budget) names old new turns ReadFault host =
-    StopsInRun quantum machine budget old new turns × Rose old.read_faults new.read_faults
+    StopsInRun quantum machine budget names old new turns × Rose old.read_faults new.read_faults
 Answers (Run quantum machine budget) names old new turns WriteFault host =
-    (StopsInRun quantum machine budget old new turns × (Rose old.out_faults new.out_faults ⊎ Rose old.err_faults new.err_faults))
+    (StopsInRun quantum machine budget names old new turns
+    × (Rose old.out_faults new.out_faults ⊎ (Rose old.err_faults new.err_faults ⊎ Rose old.store.write_faults new.store.write_faults)))
     ⊎ (StopsAtSave quantum machine budget names old new turns × Rose old.store.write_faults new.store.write_faults)
 Answers (Run quantum machine budget) names old new turns NoMemory host =
-    StopsInRun quantum machine budget old new turns ⊎ StopsAtSave quantum machine budget names old new turns
+    StopsInRun quantum machine budget names old new turns ⊎ StopsAtSave quantum machine budget names old new turns
 
 -- The loads that come before what is asked for: each is answered once, in the order of the names, up to the first that a refusal comes of.
 abbrev pub once_loaded : Asked → Names → Seen → Seen
@@ -180,7 +199,7 @@ pub record StopsEarly (names : Names) (old new : Seen) (turns : ℕ) (end : End)
 
 -- a line that names no file
 abbrev pub no_names : Names
-no_names = record { program = []; image = None; schedule = None; save = None }
+no_names = record { program = []; image = None; schedule = None; trace = None; save = None }
 
 -- The same by the reading of the words. Wrong words are refused before any load, so that want of memory alone may come
 -- first. Else a fault of a load or want of memory may come before all is loaded; or the answer is that of what the line

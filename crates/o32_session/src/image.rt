@@ -2,7 +2,7 @@
 ghost use Rattle.std.specs.Prelude.{◌≡◌, ◌≤◌, IfOk, Some, option_map};
 ghost use Rattle.o32_session.specs.Asked.{empty_tree};
 ghost use Rattle.o32_session.specs.inside.Prepared.{IsRead, IsTree, LoadsFile, ReasonOnlyIfRose};
-ghost use Rattle.o32_session.specs.Saved.{stored_of};
+ghost use Rattle.o32_runner.specs.Stored.{stored_of};
 ghost use Rattle.o32_session.specs.Words.{texts, word_at};
 ghost use Rattle.o32_session.specs.declared.load.SessionFile.TheVariants as which;
 

@@ -1,7 +1,7 @@
 //! The files that a session loads whole.
 ghost use Rattle.std.specs.Prelude.{◌≡◌, ◌≤◌, Some};
 ghost use Rattle.o32_session.specs.inside.Prepared.{number_of, limit_of, IsLoaded, LoadsFile, ReasonOnlyIfRose};
-ghost use Rattle.o32_session.specs.Saved.{stored_of};
+ghost use Rattle.o32_runner.specs.Stored.{stored_of};
 
 use crate::not_run::NotRun;
 use outside::Store;

@@ -8,9 +8,9 @@ ghost use Rattle.o32_session.specs.Words.{texts, read_words};
 ghost use Rattle.o32_session.specs.inside.Reader.{line_seen};
 ghost use Rattle.schedule.specs.Ranges.{IsGivenSchedule};
 ghost use Rattle.o32_session.specs.Asked.{asked_of_schedule, names_of, Run};
-ghost use Rattle.o32_session.specs.inside.Runs.{IsFresh};
+ghost use Rattle.o32_runner.specs.Runs.{IsFresh};
 ghost use Rattle.o32_session.specs.inside.Prepared.{IsElfReason, IsPlanned, IsStartReason, IsPrepared, IsPreparedLine, LoadsFile, LoadsFiles, LoadsReading, ReasonOnlyIfRose};
-ghost use Rattle.o32_session.specs.Saved.{stored_of};
+ghost use Rattle.o32_runner.specs.Stored.{stored_of};
 ghost use Rattle.o32_session.specs.declared.load.SessionFile.TheVariants as which;
 
 use crate::image::first_tree;
@@ -33,6 +33,8 @@ pub(crate) struct Ready {
     pub emulator: Emulator,
     /// The most turns that it may take.
     pub budget: u64,
+    /// The index of the name of the file of the trace, where one is written.
+    pub trace: Option<usize>,
     /// The index of the name of the file that the final tree is saved to, where it is saved.
     pub save: Option<usize>,
 }
@@ -75,6 +77,7 @@ fn machine_of_plan(
     ensures ready { IfOk result (λ ready. asked_of_schedule (texts args.now) (line_seen line) plan.now tree schedule ≡ Run ready.emulator.quantum ready.emulator.machine ready.budget) }
     ensures fresh { IfOk result (λ ready. IsFresh ready.emulator) }
     ensures bounded { IfOk result (λ ready. ready.budget ≤ 1_000_000_000_000) }
+    ensures trace { IfOk result (λ ready. ready.trace ≡ line.trace) }
     ensures save { IfOk result (λ ready. ready.save ≡ line.save) }
     ensures reason { IfErr result (IsStartReason (asked_of_schedule (texts args.now) (line_seen line) plan.now tree schedule)) }
 {
@@ -84,6 +87,7 @@ fn machine_of_plan(
     Ok(Ready {
         emulator: Emulator::new(alloc, start, tree, schedule)?,
         budget: line.budget,
+        trace: line.trace,
         save: line.save,
     })
 }

@@ -5,7 +5,8 @@ ghost use Rattle.fs_image.specs.Text.{text_of};
 ghost use Rattle.outside.specs.Causes.{FailsOnlyIfRose};
 ghost use Rattle.o32_session.specs.inside.Ends.{of_device};
 ghost use Rattle.o32_session.specs.inside.Runs.{SaveFailsOnlyIfRose, SavesOrStops, StandsWithoutImage};
-ghost use Rattle.o32_session.specs.Saved.{stored_of, SavesText, SavesPart};
+ghost use Rattle.o32_session.specs.Saved.{SavesPart};
+ghost use Rattle.o32_runner.specs.Stored.{stored_of, SavesText};
 ghost use Rattle.o32_session.specs.Session.{final_tree};
 ghost use Rattle.o32_session.specs.Words.{texts, word_at};
 

@@ -4,7 +4,7 @@ ghost use Rattle.kernel_model.specs.System.{round};
 ghost use Rattle.schedule.specs.Ranges.{IsGivenSchedule};
 ghost use Rattle.o32_session.specs.Asked.{empty_schedule};
 ghost use Rattle.o32_session.specs.inside.Prepared.{IsTaken, IsScheduledAs, LoadsFile, ReasonOnlyIfRose};
-ghost use Rattle.o32_session.specs.Saved.{stored_of};
+ghost use Rattle.o32_runner.specs.Stored.{stored_of};
 ghost use Rattle.o32_session.specs.Words.{texts, word_at};
 ghost use Rattle.o32_session.specs.declared.load.SessionFile.TheVariants as which;
 

@@ -1,11 +1,11 @@
-//! The words after the emulator's own name: `run [--image F] [--schedule F] [--budget N] [--save F]
+//! The words after the emulator's own name: `run [--image F] [--schedule F] [--budget N] [--trace F] [--save F]
 //! [--env K=V].. PROGRAM [WORD..]`.
 
 ghost use Rattle.std.specs.Prelude.{◌≡◌, ◌+◌, ◌<◌, ◌^◌, ◌==◌, length, drop, if◌then◌else◌, IfOk, IfErr, IfSome, Some, None, option_and_then};
 ghost use Rattle.std.specs.List.{list_any, list_all, position};
 ghost use Rattle.std.specs.String.{string_bytes};
 ghost use Rattle.std.specs.Char.{is_ascii_digit};
-ghost use Rattle.o32_session.specs.Words.{texts, read_words, read_line, read_guest, budget_of, is_setting, is_program, is_file_name, is_plain_number, has_nul, no_options, Line, line_of, Asks, word_at, later_of_equal, equal_to_saved, equal_name, first_of};
+ghost use Rattle.o32_session.specs.Words.{texts, read_words, read_line, read_guest, budget_of, is_setting, is_program, is_file_name, is_plain_number, has_nul, no_options, Line, line_of, Asks, word_at, later_of_equal, equal_to_saved, equal_to_written, equal_name, first_of};
 ghost use Rattle.o32_session.specs.inside.Steps.{read_from, step_of, step_at_option, step_at_setting, Option_or_program};
 ghost use Rattle.o32_session.specs.declared.words.Expected.TheVariants.{OptionOrProgram};
 ghost use Rattle.o32_session.specs.declared.words.Step.TheVariants.{GoesOn, IsWrong};
@@ -26,6 +26,8 @@ pub(crate) struct RunLine {
     pub image: Option<usize>,
     /// The index of the schedule's name, where there is a schedule.
     pub schedule: Option<usize>,
+    /// The index of the name of the file of the trace, where there is one.
+    pub trace: Option<usize>,
     /// The index of the name of the file that the final tree is saved to, where it is saved.
     pub save: Option<usize>,
 }
@@ -70,6 +72,7 @@ enum Role {
     Image,
     Schedule,
     Budget,
+    Trace,
     Save,
     Environment,
     Program,
@@ -83,6 +86,7 @@ enum Expected {
     ImageValue,
     ScheduleValue,
     BudgetValue,
+    TraceValue,
     SaveValue,
     EnvironmentValue,
 }
@@ -155,6 +159,8 @@ fn role_of(word: &str) -> Role
         Role::Schedule
     } else if word == "--budget" {
         Role::Budget
+    } else if word == "--trace" {
+        Role::Trace
     } else if word == "--save" {
         Role::Save
     } else if word == "--env" {
@@ -179,6 +185,7 @@ struct Options {
     image: Option<usize>,
     schedule: Option<usize>,
     budget: Option<u64>,
+    trace: Option<usize>,
     save: Option<usize>,
     environment: Vec<String>,
 }
@@ -212,6 +219,7 @@ impl Options {
             image: None,
             schedule: None,
             budget: None,
+            trace: None,
             save: None,
             environment: Vec::new(alloc),
         }
@@ -232,6 +240,7 @@ impl Options {
             Expected::ImageValue => Ok(keep(&mut self.image, file_name(at, word))),
             Expected::ScheduleValue => Ok(keep(&mut self.schedule, file_name(at, word))),
             Expected::BudgetValue => Ok(keep(&mut self.budget, budget(word))),
+            Expected::TraceValue => Ok(keep(&mut self.trace, file_name(at, word))),
             Expected::SaveValue => Ok(keep(&mut self.save, file_name(at, word))),
             Expected::EnvironmentValue => self.step_at_setting(alloc, word),
         }
@@ -247,6 +256,8 @@ impl Options {
             Role::Schedule => Step::GoesOn(Expected::ScheduleValue),
             Role::Budget if self.budget.is_some() => Step::IsWrong,
             Role::Budget => Step::GoesOn(Expected::BudgetValue),
+            Role::Trace if self.trace.is_some() => Step::IsWrong,
+            Role::Trace => Step::GoesOn(Expected::TraceValue),
             Role::Save if self.save.is_some() => Step::IsWrong,
             Role::Save => Step::GoesOn(Expected::SaveValue),
             Role::Environment => Step::GoesOn(Expected::EnvironmentValue),
@@ -314,28 +325,57 @@ fn first_of(one: Option<usize>, other: Option<usize>) -> Option<usize>
     }
 }
 
-/// The later of the name of `--save`, which is at index `saved`, and that of another option, where they are equal.
-fn later_of_named(words: &[String], saved: usize, named: Option<usize>) -> Option<usize>
-    ensures { result ≡ option_and_then (later_of_equal (texts words.now) saved) named }
+/// The later of the name of a file that is written, which is at index `written`, and that of another option, where they are
+/// equal.
+fn later_of_named(words: &[String], written: usize, named: Option<usize>) -> Option<usize>
+    ensures { result ≡ option_and_then (later_of_equal (texts words.now) written) named }
 {
-    later_of_equal(words, saved, named?)
+    later_of_equal(words, written, named?)
 }
 
-/// The first name that equals an earlier one, where one of the two is that of `--save`, which is at index `saved`.
+/// The first name that equals an earlier one, where one of the two is that of a file that is written, at index `written`, and
+/// the other that of one that is read.
+fn equal_to_written(words: &[String], line: &RunLine, written: usize) -> Option<usize>
+    ensures { result ≡ equal_to_written (texts words.now) (line_seen line.now) written }
+{
+    let image = later_of_named(words, written, line.image);
+    let schedule = later_of_named(words, written, line.schedule);
+    let program = later_of_equal(words, written, line.program);
+    first_of(image, first_of(schedule, program))
+}
+
+/// The same where the written one is that of `--save`, at index `saved`, and the other any.
 fn equal_to_saved(words: &[String], line: &RunLine, saved: usize) -> Option<usize>
     ensures { result ≡ equal_to_saved (texts words.now) (line_seen line.now) saved }
 {
-    let image = later_of_named(words, saved, line.image);
-    let schedule = later_of_named(words, saved, line.schedule);
-    let program = later_of_equal(words, saved, line.program);
-    first_of(image, first_of(schedule, program))
+    first_of(
+        equal_to_written(words, line, saved),
+        later_of_named(words, saved, line.trace),
+    )
+}
+
+/// The same where the written one is that of `--trace`.
+fn equal_to_traced(words: &[String], line: &RunLine) -> Option<usize>
+    ensures { result ≡ option_and_then (equal_to_written (texts words.now) (line_seen line.now)) line.now.trace }
+{
+    equal_to_written(words, line, line.trace?)
+}
+
+/// The same where the written one is that of `--save`, where there is one.
+fn equal_to_any_saved(words: &[String], line: &RunLine) -> Option<usize>
+    ensures { result ≡ option_and_then (equal_to_saved (texts words.now) (line_seen line.now)) line.now.save }
+{
+    equal_to_saved(words, line, line.save?)
 }
 
 /// The first name of a file that equals an earlier one, where at least one of the two is written.
 fn equal_name(words: &[String], line: &RunLine) -> Option<usize>
     ensures { result ≡ equal_name (texts words.now) (line_seen line.now) }
 {
-    equal_to_saved(words, line, line.save?)
+    first_of(
+        equal_to_traced(words, line),
+        equal_to_any_saved(words, line),
+    )
 }
 
 /// Reads the words of a run, the emulator's own name left out.
@@ -407,6 +447,7 @@ fn finish(options: Options, program: usize, guest: &[String]) -> Result<RunLine,
         program,
         image: options.image,
         schedule: options.schedule,
+        trace: options.trace,
         save: options.save,
     })
 }

@@ -24,7 +24,8 @@ use Rattle.start_stack.specs.declared.error.StartError.TheVariants as start
 use Rattle.o32_session.specs.Lines.{line_of}
 use Rattle.o32_session.specs.Words.{Line, Reading, Asks, WrongAt}
 use Rattle.o32_session.specs.Asked.{Asked, Names, Refuse, Run, Absent, Long, Bytes, IsFound, IsReadAs, IsOpened, IsScheduled, AsksFor, names_of, schedule_of_text, program_file, image_file, schedule_file, program_limit, image_limit, schedule_limit}
-use Rattle.o32_session.specs.Saved.{Stored, after_loads, loaded_by, loaded_names, named, turned_by}
+use Rattle.o32_session.specs.Saved.{after_loads, loaded_by, loaded_names, named, turned_by}
+use Rattle.o32_runner.specs.Stored.{Stored}
 use Rattle.o32_session.specs.declared.answer.Refusal.{Refusal}
 use Rattle.o32_session.specs.declared.answer.Refusal.TheVariants as refusals
 use Rattle.o32_session.specs.declared.answer.End.{End}
@@ -200,10 +201,10 @@ IsStartReason asked (Refused _) = ⊥
 IsStartReason asked ReadFault = ⊥
 IsStartReason asked NoMemory = ⊤
 
--- what is asked for by a line is ready, with the index of the file that its tree is saved to
+-- what is asked for by a line is ready, with the indices of the files that its tree is saved to and that its trace is written to
 abbrev pub IsPreparedLine : List (List ℕ) → Line → Option Files → Result Ready NotRun → Type 0
 IsPreparedLine words line told (Ok ready) =
-    AsksFor words line told (Run ready.emulator.quantum ready.emulator.machine ready.budget) × (ready.save ≡ line.save)
+    AsksFor words line told (Run ready.emulator.quantum ready.emulator.machine ready.budget) × ((ready.save ≡ line.save) × (ready.trace ≡ line.trace))
 IsPreparedLine words line told (Err (Refused refusal)) = AsksFor words line told (Refuse refusal)
 IsPreparedLine words line told (Err ReadFault) = ⊤
 IsPreparedLine words line told (Err NoMemory) = ⊤

@@ -1,13 +1,13 @@
 -- How the values of the reader of words stand for the definitions of `Words`.
 use Rattle.std.specs.Prelude.{ℕ, ◌≡◌, ⊤, List, Option, Some, None}
-use Rattle.o32_session.specs.Words.{role_of, ImageOption, ScheduleOption, BudgetOption, SaveOption, EnvOption, ProgramName, NoOption, Line, Reading, Asks, WrongAt, texts}
-use Rattle.o32_session.specs.inside.Steps.{Option_or_program, Image_value, Schedule_value, Budget_value, Save_value, Env_value, Goes_on, Is_program, Is_wrong}
+use Rattle.o32_session.specs.Words.{role_of, ImageOption, ScheduleOption, BudgetOption, TraceOption, SaveOption, EnvOption, ProgramName, NoOption, Line, Reading, Asks, WrongAt, texts}
+use Rattle.o32_session.specs.inside.Steps.{Option_or_program, Image_value, Schedule_value, Budget_value, Trace_value, Save_value, Env_value, Goes_on, Is_program, Is_wrong}
 use Rattle.o32_session.specs.Words as Words
 use Rattle.o32_session.specs.inside.Steps as Steps
 use Rattle.o32_session.specs.declared.words.Role.{Role}
-use Rattle.o32_session.specs.declared.words.Role.TheVariants.{Image, Schedule, Budget, Save, Environment, Program, Unknown}
+use Rattle.o32_session.specs.declared.words.Role.TheVariants.{Image, Schedule, Budget, Trace, Save, Environment, Program, Unknown}
 use Rattle.o32_session.specs.declared.words.Expected.{Expected}
-use Rattle.o32_session.specs.declared.words.Expected.TheVariants.{OptionOrProgram, ImageValue, ScheduleValue, BudgetValue, SaveValue, EnvironmentValue}
+use Rattle.o32_session.specs.declared.words.Expected.TheVariants.{OptionOrProgram, ImageValue, ScheduleValue, BudgetValue, TraceValue, SaveValue, EnvironmentValue}
 use Rattle.o32_session.specs.declared.words.Step.{Step}
 use Rattle.o32_session.specs.declared.words.Step.TheVariants.{GoesOn, IsProgram, IsWrong}
 use Rattle.o32_session.specs.declared.words.Options.{Options}
@@ -19,6 +19,7 @@ abbrev pub role_seen : Role → Words.Role
 role_seen Image = ImageOption
 role_seen Schedule = ScheduleOption
 role_seen Budget = BudgetOption
+role_seen Trace = TraceOption
 role_seen Save = SaveOption
 role_seen Environment = EnvOption
 role_seen Program = ProgramName
@@ -32,6 +33,7 @@ expected_seen OptionOrProgram = Option_or_program
 expected_seen ImageValue = Image_value
 expected_seen ScheduleValue = Schedule_value
 expected_seen BudgetValue = Budget_value
+expected_seen TraceValue = Trace_value
 expected_seen SaveValue = Save_value
 expected_seen EnvironmentValue = Env_value
 
@@ -40,6 +42,7 @@ options_seen options = record {
   image = options.image;
   schedule = options.schedule;
   budget = options.budget;
+  trace = options.trace;
   save = options.save;
   environment = texts options.environment.items;
 }
@@ -63,6 +66,7 @@ line_seen line = record {
   program = line.program;
   image = line.image;
   schedule = line.schedule;
+  trace = line.trace;
   save = line.save;
 }
 

@@ -5,7 +5,8 @@ use Rattle.o32_session.specs.inside.Reader.{line_seen}
 use Rattle.o32_session.specs.Asked.{asked_of_schedule, names_of}
 use Rattle.o32_session.specs.inside.Prepared.{IsPlanned, IsTree, IsScheduledAs, LoadsFile}
 use Rattle.o32_session.specs.declared.load.SessionFile.TheVariants as which
-use Rattle.o32_session.specs.Saved.{Stored, after_loads, stored_of}
+use Rattle.o32_session.specs.Saved.{after_loads}
+use Rattle.o32_runner.specs.Stored.{Stored, stored_of}
 use Rattle.elf_image.specs.declared.load_plan.Plan.{Plan}
 use Rattle.o32_session.proofs.Loading.{image_loads, loads, program_loads, schedule_loads}
 use Rattle.o32_session.proofs.Preparing.{prepared, unplanned_line}
@@ -31,7 +32,7 @@ returns-clause-prepared g c =
     c.in_ok-tree.ensures.tree)
     (subst (λ f. IsScheduledAs f (names_of (texts c.args.words.now) (line_seen c.args.line)).schedule (Ok c.in_ok-schedule.schedule)) (same_too ∙ same)
     c.in_ok-schedule.ensures.scheduled)
-    c.machine_of_plan.result c.machine_of_plan.ensures.ready c.machine_of_plan.ensures.save c.machine_of_plan.ensures.reason
+    c.machine_of_plan.result c.machine_of_plan.ensures.ready c.machine_of_plan.ensures.save c.machine_of_plan.ensures.trace c.machine_of_plan.ensures.reason
 
 pub returns-in_err-plan-clause-loads : goal.returns-in_err-plan-clause-loads
 returns-in_err-plan-clause-loads g c =

@@ -2,7 +2,7 @@ use Rattle.std.proofs.Common.{ℕ, [], None, Ok, Err, option_map, refl, subst, s
 use Rattle.o32_session.specs.Asked.{Names}
 use Rattle.o32_session.specs.Words.{texts, read_words, word_at}
 use Rattle.o32_session.specs.Faults.{NoneRose, TellsFaults}
-use Rattle.o32_session.specs.Saved.{stored_of}
+use Rattle.o32_runner.specs.Stored.{stored_of}
 use Rattle.o32_session.specs.Session.{AnswersWords, seen_of}
 use Rattle.o32_session.specs.declared.answer.End.{End}
 use Rattle.o32_session.proofs.Faults.{tells_since, unrun_faults}
@@ -52,8 +52,8 @@ returns-in-Err-clause-faults g c =
 
 pub returns-in-Ok-clause-input : goal.returns-in-Ok-clause-input
 returns-in-Ok-clause-input g c refused =
-    let names : Names = record { program = []; image = None; schedule = None; save = option_map (word_at (texts c.args.words.now)) c.in-Ok.ready.save } in
+    let names : Names = record { program = []; image = None; schedule = None; trace = option_map (word_at (texts c.args.words.now)) c.in-Ok.ready.trace; save = option_map (word_at (texts c.args.words.now)) c.in-Ok.ready.save } in
     absurd (ran_on c.in-Ok.ready.emulator.quantum c.in-Ok.ready.emulator.machine c.in-Ok.ready.budget names
     (seen_of g.I.Source.left g.O.Sink.written g.E.Sink.written g.I.Source.faults g.O.Sink.faults g.E.Sink.faults c.args.dev.now (g.F.Store.load_faults c.prepare.new.files) (stored_of g.F.Store.files g.F.Store.created g.F.Store.loads g.F.Store.turned_away g.F.Store.write_faults c.prepare.new.files))
     (seen_of g.I.Source.left g.O.Sink.written g.E.Sink.written g.I.Source.faults g.O.Sink.faults g.E.Sink.faults c.run_ready.new.dev (g.F.Store.load_faults c.run_ready.new.files) (stored_of g.F.Store.files g.F.Store.created g.F.Store.loads g.F.Store.turned_away g.F.Store.write_faults c.run_ready.new.files))
-    c.run_ready.result.turns c.run_ready.result.end c.run_ready.result.host (c.run_ready.ensures.run names refl) refused)
+    c.run_ready.result.turns c.run_ready.result.end c.run_ready.result.host (c.run_ready.ensures.run names refl refl) refused)

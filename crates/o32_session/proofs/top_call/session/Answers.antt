@@ -1,7 +1,7 @@
 use Rattle.std.proofs.Common.{inl, inr, subst}
 use Rattle.o32_session.specs.Words.{texts, read_words}
 use Rattle.o32_session.specs.Faults.{TellsFaults}
-use Rattle.o32_session.specs.Saved.{stored_of}
+use Rattle.o32_runner.specs.Stored.{stored_of}
 use Rattle.o32_session.specs.Session.{seen_of}
 use Rattle.o32_session.specs.declared.answer.End.{End}
 use Rattle.o32_session.proofs.Sessions.{complete}

@@ -14,11 +14,11 @@ use Rattle.o32_machine.specs.declared.turn.Turn.TheVariants.{Went, Ended}
 use Rattle.o32_turns.specs.Machine.{Machine, Turn}
 use Rattle.o32_turns.specs.Runs.{IsOverAt, IsRunningAt, Reached, after_attempt, after_turn, is_block, is_blocked, last_machine, reached, unless_blocked, unless_over}
 use Rattle.o32_turns.specs.Turn.{turn_of}
-use Rattle.o32_session.proofs.TurnEnds.{turn_ends}
-use Rattle.o32_session.specs.inside.Runs.{IsCut, IsOver, IsSoFar}
+use Rattle.o32_runner.proofs.TurnEnds.{turn_ends}
+use Rattle.o32_runner.specs.Runs.{IsCut, IsOver, IsSoFar}
 
 -- an attempt that finds the process blocked ends so
-blocked_by : (over : Option Finish) → is_block over ≡ true → over ≡ Some Blocked
+pub blocked_by : (over : Option Finish) → is_block over ≡ true → over ≡ Some Blocked
 blocked_by None is = absurd cc
 blocked_by (Some (Exited status)) is = absurd cc
 blocked_by (Some (Killed signal)) is = absurd cc
@@ -137,7 +137,7 @@ module _ (quantum : ℕ) (machine : Machine) (left : List ℕ) (k : ℕ) (before
 
   -- the next turn stopped early
 
-  cut_awake : (after : Contents) → is_blocked tried ≡ false → Stopped tried middle after → IsCut quantum machine left k before after
+  cut_awake : (after : Contents) → is_blocked tried ≡ false → Stopped tried middle after → IsCut quantum machine left k (k + 1) before after
   cut_awake after awake stopped = record {
     alive = so.alive;
     first = so.first;
@@ -150,7 +150,7 @@ module _ (quantum : ℕ) (machine : Machine) (left : List ℕ) (k : ℕ) (before
   }
 
   -- the attempt would have found the process blocked
-  cut_blocked : (after : Contents) → is_blocked tried ≡ true → Stopped tried middle after → IsCut quantum machine left k before after
+  cut_blocked : (after : Contents) → is_blocked tried ≡ true → Stopped tried middle after → IsCut quantum machine left k (k + 1) before after
   cut_blocked after waits stopped =
       let ends = turn_ends quantum now at_k.left Blocked (blocked_by tried.over waits) in
       let next : reached quantum machine left (k + 1) ≡ at_k = next_by true waits in
@@ -169,11 +169,11 @@ module _ (quantum : ℕ) (machine : Machine) (left : List ℕ) (k : ℕ) (before
         to_err = subst (λ (t : List ℕ). GainsBetween before.err after.err at_k.sent.err t) err (GainsBetween-part so.to_err stopped.to_err);
       }
 
-  cut_by : (blocked : Bool) (after : Contents) → is_blocked tried ≡ blocked → Stopped tried middle after → IsCut quantum machine left k before after
+  cut_by : (blocked : Bool) (after : Contents) → is_blocked tried ≡ blocked → Stopped tried middle after → IsCut quantum machine left k (k + 1) before after
   cut_by false after awake stopped = cut_awake after awake stopped
   cut_by true after waits stopped = cut_blocked after waits stopped
 
-  pub is_cut : (after : Contents) → Stopped tried middle after → IsCut quantum machine left k before after
+  pub is_cut : (after : Contents) → Stopped tried middle after → IsCut quantum machine left k (k + 1) before after
   is_cut after stopped = cut_by (is_blocked tried) after refl stopped
 
 -- The same of an emulator whose quantum is known
@@ -202,7 +202,7 @@ is_over_by quantum machine left k q budget turns before middle after now then tu
     counted_is Blocked = sym (add-zero k)
 
 pub is_cut_by : (quantum : ℕ) (machine : Machine) (left : List ℕ) (k q : ℕ) (before middle after : Contents) (now : Machine) → q ≡ quantum → IsSoFar quantum machine left k before middle now
-    → ((left : List ℕ) → middle.left ≡ Some left → Stopped (turn_of q now left) middle after) → IsCut quantum machine left k before after
+    → ((left : List ℕ) → middle.left ≡ Some left → Stopped (turn_of q now left) middle after) → IsCut quantum machine left k (k + 1) before after
 is_cut_by quantum machine left k q before middle after now same so stopped =
     let here = (reached quantum machine left k).left in
     is_cut quantum machine left k before middle now so after

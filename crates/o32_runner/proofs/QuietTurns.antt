@@ -15,8 +15,8 @@ use Rattle.o32_machine.specs.declared.turn.Turn.TheVariants.{Went, Ended}
 use Rattle.o32_turns.specs.Machine.{Machine, Turn}
 use Rattle.o32_turns.specs.Runs.{IsRunningAt, Reached, after_turn, is_blocked, more_sent, reached, unless_blocked, unless_over}
 use Rattle.o32_turns.specs.Turn.{turn_of}
-use Rattle.o32_session.specs.inside.Runs.{IsCut, IsOver, IsSoFar}
-use Rattle.o32_session.proofs.RunLemmas.{is_cut_by, is_over_by, went_on_by}
+use Rattle.o32_runner.specs.Runs.{IsCut, IsOver, IsSoFar}
+use Rattle.o32_runner.proofs.RunLemmas.{is_cut_by, is_over_by, went_on_by}
 
 -- What stands after more turns
 
@@ -26,7 +26,7 @@ sent_behind first second third =
     ∙ ap (λ (e : List ℕ). let s : Sent = record { out = first.out ++ (second.out ++ third.out); err = e } in s) (append_assoc first.err second.err third.err)
 
 -- the same with what was sent before
-abbrev behind : Sent → Reached → Reached
+abbrev pub behind : Sent → Reached → Reached
 behind sent more = record more { sent = more_sent sent more.sent }
 
 turn_behind : (sent : Sent) (more : Reached) (turn : Turn) → after_turn (more_sent sent more.sent) turn ≡ behind sent (after_turn more.sent turn)
@@ -48,7 +48,7 @@ none_behind sent =
     ∙ ap (λ (e : List ℕ). let s : Sent = record { out = sent.out; err = e } in s) (append-nil sent.err)
 
 -- the run of j turns and then k is that of k turns from where it stands
-composed : (quantum : ℕ) (machine : Machine) (left : List ℕ) (j k : ℕ) → (reached quantum machine left j).over ≡ None →
+pub composed : (quantum : ℕ) (machine : Machine) (left : List ℕ) (j k : ℕ) → (reached quantum machine left j).over ≡ None →
     reached quantum machine left (j + k)
     ≡ behind (reached quantum machine left j).sent (reached quantum (reached quantum machine left j).machine (reached quantum machine left j).left k)
 unfolding reached
@@ -113,7 +113,7 @@ module _ (quantum : ℕ) (machine : Machine) (left : List ℕ) (j k : ℕ) (befo
 -- The turns that one call takes: quiet ones, and one more
 
 module _ (quantum : ℕ) (machine : Machine) (left : List ℕ) (j q limit : ℕ) (before at after : Contents) (now then : Machine) (turns : ℕ) (events : List Event) (same : q ≡ quantum) (so : IsSoFar quantum machine left j before at now) where
-  quiet_then : (result : Result code.Turn Stop) (turned : IsTurnAfter q limit now j result then turns events at after) → IsSoFar quantum machine left (j + turned.quiet) before at turned.middle
+  pub quiet_then : (result : Result code.Turn Stop) (turned : IsTurnAfter q limit now j result then turns events at after) → IsSoFar quantum machine left (j + turned.quiet) before at turned.middle
   quiet_then result turned =
       quiet_on quantum machine left j turned.quiet before at now turned.middle so (subst (λ (n : ℕ). IsQuiet n now turned.quiet turned.middle) same turned.first)
 
@@ -130,10 +130,10 @@ module _ (quantum : ℕ) (machine : Machine) (left : List ℕ) (j q limit : ℕ)
       let counts : turns ≡ j + turned.quiet + turns_of (Ended finish) = turned.counted ∙ ap (λ (t : code.Turn). j + turned.quiet + turns_of t) is in
       is_over_by quantum machine left (j + turned.quiet) q budget turns before at after turned.middle then turn events finish same is within counts (quiet_then (Ok turn) turned) turned.last
 
-  pub is_cut_after : (stop : Stop) → IsTurnAfter q limit now j (Err stop) then turns events at after → IsCut quantum machine left turns before after
+  pub is_cut_after : (stop : Stop) → IsTurnAfter q limit now j (Err stop) then turns events at after → IsCut quantum machine left turns (turns + 1) before after
   is_cut_after stop turned =
       let counts : turns ≡ j + turned.quiet = turned.counted ∙ add-zero (j + turned.quiet) in
-      subst (λ (n : ℕ). IsCut quantum machine left n before after) (sym counts)
+      subst (λ (n : ℕ). IsCut quantum machine left n (n + 1) before after) (sym counts)
       (is_cut_by quantum machine left (j + turned.quiet) q before at after turned.middle same (quiet_then (Err stop) turned) turned.last)
 
 -- the budget's turns are done

@@ -1,7 +1,7 @@
 use Rattle.std.proofs.Common.{◌≡◌, ◌≤◌, ◌-◌, false}
 use Rattle.outside.specs.Streams.{NoCountFell, NoCountRose, contents}
-use Rattle.o32_session.specs.inside.Runs.{GoesSo}
-use Rattle.o32_session.proofs.run.run.Given as goal
+use Rattle.o32_runner.specs.Runs.{GoesSo}
+use Rattle.o32_runner.proofs.untraced.run.Given as goal
 
 abbrev pub invariant-loop-emulator : goal.invariant-loop-emulator
 invariant-loop-emulator g l = record {

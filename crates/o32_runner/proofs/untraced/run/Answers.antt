@@ -3,10 +3,11 @@ use Rattle.outside.specs.Streams.{contents}
 use Rattle.outside.proofs.StreamLemmas.{NoCountRose-refl, NoCountRose-trans}
 use Rattle.o32_machine.specs.Answered.{is_end, turns_of}
 use Rattle.o32_machine.specs.declared.turn.Turn as code
-use Rattle.o32_session.specs.inside.Runs.{IsCut, IsOver, IsSoFar}
-use Rattle.o32_session.proofs.QuietTurns.{is_cut_after, is_done, is_over_after, went_after}
-use Rattle.o32_session.proofs.RunLemmas.{at_start}
-use Rattle.o32_session.proofs.run.run.Goals as goal
+use Rattle.o32_runner.specs.Runs.{IsCut, IsOver, IsSoFar, turns_begun}
+use Rattle.o32_runner.proofs.QuietTurns.{is_cut_after, is_done, is_over_after, went_after}
+use Rattle.o32_runner.proofs.RunLemmas.{at_start}
+use Rattle.o32_runner.proofs.Telling.{cut_within}
+use Rattle.o32_runner.proofs.untraced.run.Goals as goal
 
 pub loop-emulator-init : goal.loop-emulator-init
 loop-emulator-init g c = record {
@@ -60,9 +61,14 @@ returns-in-Ok-Ended-clause-run g c = λ left told.
 pub returns-in-Err-clause-run : goal.returns-in-Err-clause-run
 returns-in-Err-clause-run g c = λ left told.
     let i = c.loop-emulator.invariant in
-    subst (λ (n : ℕ). IsCut c.args.emulator.now.quantum c.args.emulator.now.machine left n (contents g.I.Source.left g.O.Sink.written g.E.Sink.written c.args.dev.now) (contents g.I.Source.left g.O.Sink.written g.E.Sink.written c.next_turns.new.dev)) (sym c.turns-in-Err.ensures)
+    let turned = c.in-Err.ensures.turns in
+    let below : c.loop-emulator.emulator.turns < c.args.budget = omega arith in
+    let room : c.args.budget - c.turns-in-loop-emulator.result ≡ c.args.budget - c.loop-emulator.emulator.turns = ap (λ (n : ℕ). c.args.budget - n) c.turns-in-loop-emulator.ensures in
+    let within : c.next_turns.new.self.turns < c.args.budget = omega (arith, below, room, turned.within, turned.counted) in
+    subst (λ (n : ℕ). IsCut c.args.emulator.now.quantum c.args.emulator.now.machine left n (turns_begun c.args.budget n) (contents g.I.Source.left g.O.Sink.written g.E.Sink.written c.args.dev.now) (contents g.I.Source.left g.O.Sink.written g.E.Sink.written c.next_turns.new.dev)) (sym c.turns-in-Err.ensures)
+    (cut_within c.args.emulator.now.quantum c.args.emulator.now.machine left c.next_turns.new.self.turns c.args.budget (contents g.I.Source.left g.O.Sink.written g.E.Sink.written c.args.dev.now) (contents g.I.Source.left g.O.Sink.written g.E.Sink.written c.next_turns.new.dev) within
     (is_cut_after c.args.emulator.now.quantum c.args.emulator.now.machine left c.loop-emulator.emulator.turns c.loop-emulator.emulator.quantum (c.args.budget - c.turns-in-loop-emulator.result) (contents g.I.Source.left g.O.Sink.written g.E.Sink.written c.args.dev.now) (contents g.I.Source.left g.O.Sink.written g.E.Sink.written c.loop-emulator.dev) (contents g.I.Source.left g.O.Sink.written g.E.Sink.written c.next_turns.new.dev) c.loop-emulator.emulator.machine c.next_turns.new.self.machine c.next_turns.new.self.turns c.next_turns.new.self.events i.long (i.so left told)
-    c.in-Err.stop c.in-Err.ensures.turns)
+    c.in-Err.stop c.in-Err.ensures.turns))
 
 pub returns-clause-run : goal.returns-clause-run
 returns-clause-run g c = λ left told.

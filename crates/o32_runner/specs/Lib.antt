@@ -1,0 +1,5 @@
+pub mod Runs
+pub mod Trace
+pub mod Stored
+pub mod Traced
+pub mod inside

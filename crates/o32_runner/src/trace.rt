@@ -1,0 +1,41 @@
+//! The lines that turns add to a trace.
+ghost use Rattle.std.specs.Prelude.{◌≡◌, ◌+◌, ◌<◌, ◌^◌, ◌++◌, IfOk, OnOk};
+ghost use Rattle.o32_runner.specs.Trace.{turn_lines};
+ghost use Rattle.o32_runner.specs.inside.Told.{told_lines};
+
+use kernel_core::{Event, Finish, NoMemory};
+use o32_machine::Turn;
+use std::alloc::Global;
+use trace_text::trace_line;
+
+/// Adds the lines of the events of a turn to a text.
+fn add_lines(turn: u64, events: &[Event], text: &mut Vec<u8>) -> Result<(), NoMemory>
+    ensures { OnOk result (text.new.items ≡ text.old.items ++ turn_lines turn events.now) }
+{
+    for event in events {
+        trace_line(turn, event, text)?;
+    }
+    Ok(())
+}
+
+/// The lines of a turn that came to this, where `turns` are done then. An attempt that found the process blocked is none of
+/// them: its lines have the number that it would have had.
+pub(crate) fn told_lines(
+    alloc: Global,
+    turns: u64,
+    turn: Turn,
+    events: &[Event],
+) -> Result<Vec<u8>, NoMemory>
+    requires { turns + 1 < 2 ^ 64 }
+    ensures { IfOk result (λ text. text.items ≡ told_lines turns turn events.now) }
+{
+    let mut text = Vec::new(alloc);
+    match turn {
+        Turn::Ended(Finish::Blocked) => {
+            add_lines(turns + 1, events, &mut text)?;
+            trace_line(turns, &Event::Blocked, &mut text)?;
+        }
+        Turn::Went | Turn::Ended(_) => add_lines(turns, events, &mut text)?,
+    }
+    Ok(text)
+}
