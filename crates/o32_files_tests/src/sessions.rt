@@ -7,12 +7,13 @@ use outside::{Devices, MemSink, MemSource, MemStore, NamedFile};
 use std::alloc::Global;
 use std::test::Fail;
 
-/// The end of a session, its turns, what it wrote to standard output, and what it saved.
+/// The end of a session, its turns, what it wrote to standard output, its trace, and what it saved.
 #[derive(Drop)]
 pub(crate) struct Came {
     pub(crate) end: End,
     pub(crate) turns: u64,
     pub(crate) out: Vec<u8>,
+    pub(crate) trace: Vec<u8>,
     pub(crate) saved: Vec<u8>,
 }
 
@@ -45,10 +46,10 @@ fn files(
     Ok(files)
 }
 
-/// The words that run the program over the image under the schedule, and save the tree in `s`.
+/// The words that run the program over the image under the schedule, write the trace to `t`, and save the tree in `s`.
 fn words(alloc: Global) -> Result<Vec<String>, Fail> {
     let mut words = Vec::new(alloc);
-    for word in "run --image i --schedule c --save s p".split_whitespace() {
+    for word in "run --image i --schedule c --trace t --save s p".split_whitespace() {
         words
             .push(String::from_str(alloc, word)?)
             .ok()
@@ -68,9 +69,9 @@ fn streams(alloc: Global) -> Result<Devices<MemSource, MemSink, MemSink>, Fail> 
     })
 }
 
-/// What stands in the file `s`.
-fn saved(alloc: Global, store: &MemStore) -> Result<Vec<u8>, Fail> {
-    match store.file("s") {
+/// What stands in a file, or nothing.
+fn bytes_of(alloc: Global, store: &MemStore, name: &str) -> Result<Vec<u8>, Fail> {
+    match store.file(name) {
         Some(bytes) => Ok(bytes.to_vec(alloc)?),
         None => Ok(Vec::new(alloc)),
     }
@@ -107,7 +108,8 @@ pub(crate) fn run(
         end,
         turns,
         out: dev.out.bytes().to_vec(alloc)?,
-        saved: saved(alloc, &store)?,
+        trace: bytes_of(alloc, &store, "t")?,
+        saved: bytes_of(alloc, &store, "s")?,
     })
 }
 

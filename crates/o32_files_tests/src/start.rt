@@ -54,6 +54,22 @@ const ANSWERS: &str = "
     writev 1 0x410100 2 = 8
 ";
 
+/// The trace of these calls, which are ten turns each behind the first four.
+const TRACE: &str = "\
+14 call 4283 00418000 00000000 00000000 00000000 = 00000000 0
+24 call 4252 00410800 00000000 00000000 00000000 = 00000064 0
+34 call 4054 00000001 40087468 00410810 00000000 = 00000019 1
+44 call 4045 00000000 00000000 00000000 00000000 = 00411000 0
+54 call 4045 00413000 00000000 00000000 00000000 = 00413000 0
+64 call 4210 00000000 00002000 00000003 00000802 = 6fffe000 0
+74 call 4288 ffffff9c 00410000 00012000 00000000 = 00000003 0
+84 call 4215 00000003 00410820 00000000 00000000 = 00000000 0
+94 call 4219 00000003 6fffe000 00002000 00000000 = 00000078 0
+104 call 4219 00000003 6fffe000 00002000 00000000 = 00000000 0
+114 call 4146 00000001 00410100 00000002 00000000 = 00000008 0
+124 exit 0
+";
+
 /// A page with a path, and a vector of two pieces of text behind it.
 fn data(alloc: Global) -> Result<Vec<u8>, AllocError> {
     let mut data = Vec::from_slice(alloc, b"/d")?;
@@ -67,11 +83,12 @@ fn data(alloc: Global) -> Result<Vec<u8>, AllocError> {
     Ok(data)
 }
 
-/// Whether a session came out as it has to: three files, after 124 turns, and the tree as it was.
+/// Whether a session came out as it has to: three files, after 124 turns, with its trace, and the tree as it was.
 fn is_right(came: &Came, tree: &[u8]) -> bool {
     came.end == End::Exited(0)
         && came.turns == 124
         && came.out.as_slice() == b"3 files\n".as_slice()
+        && came.trace.as_slice() == TRACE.as_bytes()
         && came.saved.as_slice() == tree
 }
 

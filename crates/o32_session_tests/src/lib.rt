@@ -10,4 +10,6 @@ mod saves;
 #[cfg(test)]
 mod schedules;
 #[cfg(test)]
+mod traces;
+#[cfg(test)]
 mod words;

@@ -18,7 +18,7 @@ const REFUSED_WORDS: &str = r#"
     o32run run --budget ! usage 2 : o32run: usage at word 2
     o32run run --budget 1 --budget 1 p ! usage 3 : o32run: usage at word 3
     o32run run --env =b p ! usage 2 : o32run: usage at word 2
-    o32run run --trace t p ! usage 1 : o32run: usage at word 1
+    o32run run --traces t p ! usage 1 : o32run: usage at word 1
     o32run run "" ! usage 1 : o32run: usage at word 1
     o32run run p a\0 ! usage 2 : o32run: usage at word 2
 "#;
@@ -28,19 +28,27 @@ const REFUSED_NAMES: &str = r#"
     o32run run --image ! usage 2 : o32run: usage at word 2
     o32run run --schedule ! usage 2 : o32run: usage at word 2
     o32run run --schedule "" p ! usage 2 : o32run: usage at word 2
+    o32run run --trace ! usage 2 : o32run: usage at word 2
     o32run run --save ! usage 2 : o32run: usage at word 2
     o32run run --image "" p ! usage 2 : o32run: usage at word 2
+    o32run run --trace "" p ! usage 2 : o32run: usage at word 2
     o32run run --save "" p ! usage 2 : o32run: usage at word 2
     o32run run --image a\0 p ! usage 2 : o32run: usage at word 2
     o32run run --save a\0 p ! usage 2 : o32run: usage at word 2
     o32run run --image i --image j p ! usage 3 : o32run: usage at word 3
     o32run run --schedule i --schedule j p ! usage 3 : o32run: usage at word 3
+    o32run run --trace t --trace u p ! usage 3 : o32run: usage at word 3
     o32run run --save s --save t p ! usage 3 : o32run: usage at word 3
     o32run run --image x --save x p ! usage 4 : o32run: usage at word 4
     o32run run --save x --budget 1 --image x p ! usage 6 : o32run: usage at word 6
     o32run run --schedule x --save x p ! usage 4 : o32run: usage at word 4
     o32run run --save x --schedule x --image x p ! usage 4 : o32run: usage at word 4
     o32run run --image x --schedule x --save x p ! usage 6 : o32run: usage at word 6
+    o32run run --trace t --save t p ! usage 4 : o32run: usage at word 4
+    o32run run --save t --trace t p ! usage 4 : o32run: usage at word 4
+    o32run run --image t --trace t p ! usage 4 : o32run: usage at word 4
+    o32run run --trace t --schedule t p ! usage 4 : o32run: usage at word 4
+    o32run run --trace p p ! usage 3 : o32run: usage at word 3
     o32run run --save p p ! usage 3 : o32run: usage at word 3
     o32run run --save p --image i p ! usage 5 : o32run: usage at word 5
     o32run run --image p --save p p ! usage 4 : o32run: usage at word 4

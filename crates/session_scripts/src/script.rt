@@ -16,6 +16,8 @@
 //!     out Hi\n                         what it writes to standard output, where it writes anything
 //!     err H                            what it writes to standard error
 //!     saved old                        what is then in the file `s`, where there is one
+//!     trace 9 exit 7                   a line that is then in the file `trace`, where there is one
+//!     traced 9 ex                      the same without the end of the line
 //!
 //! Among the words of a session `""` is the empty one, and `a*9` has nine letters.
 use crate::ends::{outcome_of, refused};

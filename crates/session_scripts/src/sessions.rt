@@ -50,6 +50,8 @@ pub(crate) struct Left {
     pub(crate) err: Vec<u8>,
     /// What it left in the file `s`, where there is one.
     pub(crate) saved: Option<Vec<u8>>,
+    /// What it left in the file `trace`, where there is one.
+    pub(crate) traced: Option<Vec<u8>>,
 }
 
 /// What a session did.
@@ -91,9 +93,9 @@ fn is_hosted(answer: &Answer) -> bool {
     }
 }
 
-/// Whether this is left in the file `s` of a store.
-fn is_saved(store: &MemStore, saved: &Option<Vec<u8>>) -> bool {
-    match (store.file("s"), saved) {
+/// Whether this is left in a file of a store.
+fn is_left(store: &MemStore, name: &str, left: &Option<Vec<u8>>) -> bool {
+    match (store.file(name), left) {
         (Some(bytes), Some(wanted)) => bytes == wanted.as_slice(),
         (None, None) => true,
         _ => false,
@@ -108,7 +110,8 @@ fn is_right(done: &Done, outcome: &Outcome, left: &Left) -> bool {
         && is_hosted(&done.answer)
         && done.out.as_slice() == left.out.as_slice()
         && done.err.as_slice() == left.err.as_slice()
-        && is_saved(&done.store, &left.saved)
+        && is_left(&done.store, "s", &left.saved)
+        && is_left(&done.store, "trace", &left.traced)
 }
 
 /// Whether a session comes out so.

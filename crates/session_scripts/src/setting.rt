@@ -83,6 +83,7 @@ impl Setting {
                 out: Vec::new(alloc),
                 err: Vec::new(alloc),
                 saved: None,
+                traced: None,
             },
         }
     }
@@ -145,6 +146,23 @@ impl Setting {
         Ok(())
     }
 
+    /// What is then in the file `trace`, behind what has been said of it.
+    fn traced(&mut self, alloc: Global, text: &str) -> Result<(), Fail> {
+        let mut traced = match self.left.traced.take() {
+            Some(traced) => traced,
+            None => Vec::new(alloc),
+        };
+        push_text(alloc, &mut traced, text)?;
+        self.left.traced = Some(traced);
+        Ok(())
+    }
+
+    /// A line that is then in the file `trace`.
+    fn trace(&mut self, alloc: Global, line: &str) -> Result<(), Fail> {
+        self.traced(alloc, line)?;
+        self.traced(alloc, r"\n")
+    }
+
     /// A line that it writes to standard error.
     pub(crate) fn tells(&mut self, alloc: Global, line: &str) -> Result<(), Fail> {
         push_text(alloc, &mut self.left.err, line)?;
@@ -165,6 +183,8 @@ impl Setting {
             "out" => push_text(alloc, &mut self.left.out, text),
             "err" => push_text(alloc, &mut self.left.err, text),
             "saved" => self.saved(alloc, text),
+            "trace" => self.trace(alloc, text),
+            "traced" => self.traced(alloc, text),
             _ => push_code(alloc, &mut self.code, line),
         }
     }
