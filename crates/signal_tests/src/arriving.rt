@@ -14,7 +14,8 @@ const VALUES: &str = r"
     o32run run --schedule t --budget 3000 p = budget 124 3000
 ";
 
-/// 14 is delivered before 16, though 16 was sent first, so that the handler of 16 runs first.
+/// 14 is delivered before 16, though 16 was sent first, so that the handler of 16 runs first. In turn 1001 the next instruction stands in
+/// the branch's slot. Plain frames lie 664 bytes apart.
 const ORDER: &str = r"
     beq $zero $zero 9; nop
     sw $a0 0xFFFC $sp; addiu $a1 $sp 0xFFFC; addiu $a0 $zero 1; addiu $a2 $zero 4; addiu $v0 $zero write; syscall; jr $ra; nop
@@ -24,7 +25,18 @@ const ORDER: &str = r"
     beq $zero $zero 0xFFFF; nop
     file t quantum 1\nat 1000 kill 16\nat 1000 kill 14\n
     out \0\0\0\x10\0\0\0\x0E
-    o32run run --schedule t --budget 3000 p = budget 124 3000
+    trace 11 call 4194 0000000e 7ffeff00 00000000 00000010 = 00000000 0
+    trace 17 call 4194 00000010 7ffeff00 00000000 00000010 = 00000000 0
+    trace 1001 post 16
+    trace 1001 post 14
+    trace 1002 signal 14 handler
+    trace 1002 signal 16 handler
+    trace 1007 call 4004 00000001 7ffefa0c 00000004 00000000 = 00000004 0
+    trace 1011 return
+    trace 1017 call 4004 00000001 7ffefca4 00000004 00000000 = 00000004 0
+    trace 1021 return
+    trace 3000 budget
+    o32run run --schedule t --trace trace --budget 3000 p = budget 124 3000
 ";
 
 /// The handler waits a while before it writes its number, and the second signal comes meanwhile: its handler interrupts the first.

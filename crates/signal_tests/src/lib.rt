@@ -4,6 +4,8 @@
 #[cfg(test)]
 mod arriving;
 #[cfg(test)]
+mod cells;
+#[cfg(test)]
 mod frames;
 #[cfg(test)]
 mod refusals;

@@ -16,7 +16,17 @@ const A_READ: &str = r"
     addiu $a0 $zero 3; addiu $a1 $sp 0xFFF0; addiu $a2 $zero 4; addiu $v0 $zero read; syscall
     file t at 1000000 kill 16\n
     out \0\x40\0\x94\0\0\x0F\xA3\0\0\0\0
-    o32run run --schedule t p = exited 0 0 39
+    trace 13 call 4194 00000010 7ffeff00 00000000 00000010 = 00000000 0
+    trace 15 call 4042 00000010 7ffeff00 00000000 00000000 = 00000003 0
+    trace 20 wait 4003 00000003 7ffeff30 00000004 00000000
+    trace 22 post 16
+    trace 22 restart 4003
+    trace 22 signal 16 handler
+    trace 26 call 4004 00000001 7ffefccc 00000004 00000000 = 00000004 0
+    trace 31 call 4004 00000001 7ffefce4 00000004 00000000 = 00000004 0
+    trace 36 call 4004 00000001 7ffefd0c 00000004 00000000 = 00000004 0
+    trace 39 exit 0
+    o32run run --schedule t --trace trace p = exited 0 0 39
 
     beq $zero $zero 19; nop
     addiu $a0 $zero 1; addiu $a1 $sp 36; addiu $a2 $zero 4; addiu $v0 $zero write; syscall
@@ -44,7 +54,18 @@ const A_SLEEP: &str = r"
     addiu $a0 $t0 0; addiu $v0 $zero exit; syscall
     file t at 300000000 kill 23\nat 800000000 kill 25\n
     out \0\0\0\x01\0\0\x23\x28
-    o32run run --schedule t p = exited 0 0 23
+    trace 6 wait 4166 7ffeff30 00000000 00000000 00000000
+    trace 8 post 23
+    trace 8 signal 23 stop
+    trace 9 post 25
+    trace 9 cont
+    trace 9 restart 4253
+    trace 9 wait 4253 7ffeff30 00000000 00000000 00000000
+    trace 11 done 00000000 0
+    trace 15 call 4263 00000001 7ffeff20 00000000 00000000 = 00000000 0
+    trace 20 call 4004 00000001 7ffeff20 00000008 00000000 = 00000008 0
+    trace 23 exit 0
+    o32run run --schedule t --trace trace p = exited 0 0 23
 
     beq $zero $zero 3; nop
     jr $ra; nop
@@ -56,7 +77,15 @@ const A_SLEEP: &str = r"
     addiu $a0 $t0 0; addiu $v0 $zero exit; syscall
     file t at 500000000 kill 16\n
     out \0\0\0\0\x1D\xCD\xA3\x80
-    o32run run --schedule t p = exited 4 4 31
+    trace 11 call 4194 00000010 7ffeff00 00000000 00000010 = 00000000 0
+    trace 17 wait 4166 7ffeff30 7ffeff28 00000000 00000000
+    trace 19 post 16
+    trace 19 done 00000004 1
+    trace 19 signal 16 handler
+    trace 22 return
+    trace 28 call 4004 00000001 7ffeff28 00000008 00000001 = 00000008 0
+    trace 31 exit 4
+    o32run run --schedule t --trace trace p = exited 4 4 31
 
     beq $zero $zero 3; nop
     jr $ra; nop
