@@ -192,11 +192,16 @@ class Program:
     def instructions(self, rounds):
         return self.fixed() + rounds * self.per_round()
 
+    def loop_address(self):
+        return TEXT + 4 * (len(self.setup) + 2)
+
+    def function_address(self):
+        return self.loop_address() + 4 * (len(self.loop(0, 0)) + ENDING)
+
     def words(self, rounds):
         before = self.setup + load_constant(COUNTER, rounds)
-        start = TEXT + 4 * len(before)
-        function = start + 4 * (len(self.loop(0, 0)) + ENDING)
-        return before + self.loop(start, function) + ending(self.result) + self.function
+        loop = self.loop(self.loop_address(), self.function_address())
+        return before + loop + ending(self.result) + self.function
 
     def executable(self, rounds):
         text = b"".join(struct.pack(">I", word) for word in self.words(rounds))
