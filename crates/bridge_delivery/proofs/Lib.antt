@@ -1,9 +1,8 @@
 pub mod Carrying
 pub mod FrameSizes
 pub mod Framing
-pub mod Lookup
 pub mod Numbers
-pub mod Quiet
+pub mod Nothing
 pub mod Rounds
 pub mod Takings
 pub mod Unions

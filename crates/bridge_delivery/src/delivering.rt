@@ -8,10 +8,9 @@ ghost use Rattle.o32_turns.specs.Delivering.{fault_delivered, next_signal, next_
 ghost use Rattle.o32_turns.specs.Going.{Carries, within_of};
 ghost use Rattle.outside.specs.Streams.{NoCountFell, contents};
 
-use crate::choosing::{choose, is_quiet};
 use crate::dispositions::{dispose, has_handler, kill};
 use crate::handling::handle;
-use crate::sets::has;
+use crate::quiet::is_quiet;
 use bridge_signal_state::{action, mask, pending, take};
 use guest_space::Space;
 use host_mem::HostMem;
@@ -22,6 +21,7 @@ use native_kernel::NativeKernel;
 use o32_model::Log;
 use o32_turns::Going;
 use outside::{Devices, Sink, Source};
+use signal_choice::{choose, has};
 
 /// At most how many rounds a delivery has: each uses up a fault or a signal that pends, of which there are 1,024
 /// real-time ones and one of each of 31 others at most, and a signal makes at most one fault.

@@ -10,7 +10,7 @@ ghost use Rattle.outside.specs.Streams.{NoCountFell, contents};
 
 use crate::dispositions::{after_frame, keep_mask, tell};
 use crate::frames::enter;
-use crate::sets::{handling_mask, is_unblockable};
+use crate::sets::handling_mask;
 use bridge_ends::end_wait;
 use bridge_signal_state::{mask, set_default, set_mask, stack};
 use guest_space::Space;
@@ -22,6 +22,7 @@ use native_kernel::NativeKernel;
 use o32_model::{Cause, Log};
 use o32_turns::Going;
 use outside::{Devices, Sink, Source};
+use signal_choice::is_unblockable;
 
 /// A signal's handler begins, whose action this is: the call that waits ends, the handler's frame is written, and the
 /// signals that it blocks are blocked. A frame that can't be written whole is not written, and then neither the mask nor

@@ -1,7 +1,7 @@
 -- What the end of a sleep has kept: what it stored.
 use Rattle.std.proofs.Common.{◌≡◌, ◌∙◌, ◌⊎◌, inl, inr, ℕ, Bool, true, false, List, refl, sym, subst}
 use Rattle.std.specs.Prelude.{◌==◌, ◌||◌, ◌&&◌, not, length, Option, if◌then◌else◌}
-use Rattle.bridge_ends.specs.Ended.{Keeps}
+use Rattle.bridge_acceptance.specs.Ends.{Keeps}
 use Rattle.bridge_log.proofs.Histories.{logged_none}
 use Rattle.bridge_log.specs.Keeping.{Logged, reached}
 use Rattle.guest_space.specs.Memory.{Memory, Pages}

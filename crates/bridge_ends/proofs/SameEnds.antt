@@ -1,11 +1,12 @@
 -- An end that is the same as another, and the machine behind it.
-use Rattle.std.proofs.Common.{◌≡◌, ◌∙◌, Bool, false, subst, sym, ap, refl}
-use Rattle.std.specs.Prelude.{Result, if◌then◌else◌}
-use Rattle.bridge_ends.specs.inside.Endings.{Closes, old_mask, suspension_end}
+use Rattle.std.proofs.Common.{◌≡◌, ◌∙◌, Bool, true, false, subst, sym, ap, refl}
+use Rattle.std.specs.Prelude.{◌==◌, Result, if◌then◌else◌}
+use Rattle.bridge_acceptance.specs.Ends.{Closes}
+use Rattle.bridge_ends.specs.inside.Endings.{old_mask, suspension_end}
 use Rattle.guest_space.specs.Memory.{Memory}
 use Rattle.kernel_core.specs.declared.core_error.Stop.{Stop}
 use Rattle.kernel_model.specs.State.{Kernel}
-use Rattle.o32_model.specs.SignalWaitEnds.{suspension_ended, transfer_ended}
+use Rattle.o32_model.specs.SignalWaitEnds.{acceptance_ended, signal_wait_ended, suspension_ended, transfer_ended}
 use Rattle.o32_model.specs.WaitEnds.{WaitEnd, ends_with, wait_ended, with_old_mask}
 use Rattle.o32_model.specs.declared.wait.Cause.{Cause}
 use Rattle.o32_model.specs.declared.wait.Cause.TheVariants.{Due, Accepted, Handler, Stopped}
@@ -28,10 +29,22 @@ suspended wait Handler kernel memory = refl
 suspended wait Stopped kernel memory = refl
 
 -- neither a sleep nor a transfer
-pub by_suspension : (restarts : Bool) (wait : Wait) (cause : Cause) (kernel : Kernel) (memory : Memory) → is_sleep wait.nr ≡ false
-    → is_one_of transfer_waits wait ≡ false → built_end restarts wait cause kernel memory ≡ suspension_ended wait cause kernel memory
-by_suspension restarts wait cause kernel memory no_sleep no_transfer =
-    let suspended = suspension_ended wait cause kernel memory in
+pub by_signals : (restarts : Bool) (wait : Wait) (cause : Cause) (kernel : Kernel) (memory : Memory) → is_sleep wait.nr ≡ false
+    → is_one_of transfer_waits wait ≡ false → built_end restarts wait cause kernel memory ≡ signal_wait_ended wait cause kernel memory
+by_signals restarts wait cause kernel memory no_sleep no_transfer =
+    let signals = signal_wait_ended wait cause kernel memory in
     let moved = ends_with (transfer_ended restarts wait cause) kernel memory in
-    ap (λ (b : Bool). if b then wait_ended wait cause kernel.clock kernel memory else (if is_one_of transfer_waits wait then moved else suspended)) no_sleep
-    ∙ ap (λ (b : Bool). if b then moved else suspended) no_transfer
+    ap (λ (b : Bool). if b then wait_ended wait cause kernel.clock kernel memory else (if is_one_of transfer_waits wait then moved else signals)) no_sleep
+    ∙ ap (λ (b : Bool). if b then moved else signals) no_transfer
+
+-- one of rt_sigtimedwait(2), and another
+
+pub by_acceptance : (wait : Wait) (cause : Cause) (kernel : Kernel) (memory : Memory) → (wait.nr == 4197) ≡ true
+    → signal_wait_ended wait cause kernel memory ≡ acceptance_ended wait cause kernel memory
+by_acceptance wait cause kernel memory is =
+    ap (λ (b : Bool). if b then acceptance_ended wait cause kernel memory else suspension_ended wait cause kernel memory) is
+
+pub by_suspension : (wait : Wait) (cause : Cause) (kernel : Kernel) (memory : Memory) → (wait.nr == 4197) ≡ false
+    → signal_wait_ended wait cause kernel memory ≡ suspension_ended wait cause kernel memory
+by_suspension wait cause kernel memory is =
+    ap (λ (b : Bool). if b then acceptance_ended wait cause kernel memory else suspension_ended wait cause kernel memory) is

@@ -1,10 +1,11 @@
 //! How a wait ends.
 ghost use Rattle.std.specs.Prelude.{◌≡◌};
-ghost use Rattle.bridge_ends.specs.Ended.{KeepsEnd, ended_wait};
-ghost use Rattle.bridge_ends.specs.inside.Endings.{Closes, old_mask, suspension_end};
+ghost use Rattle.bridge_acceptance.specs.Ends.{Closes, KeepsEnd};
+ghost use Rattle.bridge_ends.specs.Ended.{ended_wait};
+ghost use Rattle.bridge_ends.specs.inside.Endings.{old_mask, suspension_end};
 ghost use Rattle.guest_space.specs.Memory.{Memory, Pages};
 ghost use Rattle.kernel_model.specs.Stops.{StopsOnlyIfRose};
-ghost use Rattle.o32_model.specs.SignalWaitEnds.{suspension_ended, transfer_ended};
+ghost use Rattle.o32_model.specs.SignalWaitEnds.{signal_wait_ended, suspension_ended, transfer_ended};
 ghost use Rattle.o32_model.specs.WaitEnds.{ends_with, with_old_mask};
 ghost use Rattle.o32_turns.specs.Built.{built_end, is_sleep};
 ghost use Rattle.o32_turns.specs.Closing.{is_one_of, transfer_waits};
@@ -12,6 +13,7 @@ ghost use Rattle.o32_turns.specs.Going.{Carries, within_of};
 ghost use Rattle.outside.specs.Streams.{NoCountFell, contents};
 
 use crate::closing::close;
+use bridge_acceptance::{acceptance_end, is_acceptance_call};
 use bridge_signal_state::set_mask;
 use bridge_wait::wait_end;
 use guest_space::Space;
@@ -83,7 +85,7 @@ fn wait_close<I: Source, O: Sink, E: Sink>(
     if is_transfer(wait) {
         return Ok(transfer_close(restarts, wait, cause));
     }
-    suspension_close(wait, cause, k, mem, dev, log)
+    signal_wait_close(wait, cause, space, k, mem, dev, log)
 }
 
 /// Whether a call's wait is that of a sleep: nanosleep(2), clock_nanosleep(2).
@@ -112,6 +114,29 @@ fn transfer_close(restarts: bool, wait: &Wait, cause: Cause) -> Close
         Cause::Handler if !restarts => Close::Error(Errno::EINTR),
         _ => Close::Again,
     }
+}
+
+/// The end of a wait for signals: of sigtimedwait(2), pause(2) and sigsuspend(2).
+fn signal_wait_close<I: Source, O: Sink, E: Sink>(
+    wait: &Wait,
+    cause: Cause,
+    space: &mut Space,
+    k: &mut NativeKernel,
+    mem: &mut HostMem,
+    dev: &mut Devices<I, O, E>,
+    log: &mut Log,
+) -> Result<Close, Stop>
+    ensures ends { Closes (signal_wait_ended wait.now cause k.old space.old) result k.new space.new
+        (contents I.left O.written E.written dev.old) (contents I.left O.written E.written dev.new) }
+    ensures kept { KeepsEnd result (I.left dev.old.input) k.old k.new space.old.pages space.new.pages log.old log.new }
+    ensures cause { StopsOnlyIfRose I.faults O.faults E.faults result dev.old dev.new }
+    ensures counts { NoCountFell I.faults O.faults E.faults dev.old dev.new }
+    ensures clock { k.new.clock ≡ k.old.clock }
+{
+    if is_acceptance_call(wait.nr) {
+        return acceptance_end(wait, cause, space, k, mem, dev, log);
+    }
+    suspension_close(wait, cause, k, mem, dev, log)
 }
 
 /// The end of pause(2) and of sigsuspend(2).

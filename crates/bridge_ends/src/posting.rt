@@ -1,9 +1,11 @@
 //! Signals that come from outside, and the timer's.
-ghost use Rattle.std.specs.Prelude.{◌≡◌, ◌≤◌, ℕ, List, OnOk};
-ghost use Rattle.bridge_ends.specs.inside.Endings.{happened, has_come, timer_told};
+ghost use Rattle.std.specs.Prelude.{◌≡◌, ◌≤◌, ◌==◌, ℕ, List, OnOk};
+ghost use Rattle.std.specs.List.{list_any};
+ghost use Rattle.bridge_ends.specs.inside.Endings.{happened, has_come, names, timer_told};
 ghost use Rattle.guest_space.specs.Memory.{Memory};
 ghost use Rattle.kernel_model.specs.Pending.{CanPend};
 ghost use Rattle.kernel_model.specs.SignalRows.{info_of, parent_id};
+ghost use Rattle.kernel_model.specs.SignalSets.{place};
 ghost use Rattle.kernel_model.specs.State.{Kernel};
 ghost use Rattle.mips_exec.specs.Processor.{Processor};
 ghost use Rattle.o32_turns.specs.Built.{built};
@@ -11,6 +13,8 @@ ghost use Rattle.o32_turns.specs.Going.{within_of};
 ghost use Rattle.o32_turns.specs.Posting.{event_info, let_go, post_event, sent_to, timer_posted};
 ghost use Rattle.schedule.specs.declared.events.Due.{Due};
 
+use bridge_acceptance::awaits;
+use guest_space::Space;
 use kernel_core::{Event, Info, NoMemory, Sig};
 use kernel_model::Post;
 use native_kernel::NativeKernel;
@@ -22,35 +26,58 @@ use schedule::Due;
 const PARENT_ID: u32 = 1;
 
 /// Posts the signal of an event of the schedule, whatever its time, and tells what became of it; a stopped process goes
-/// on by SIGCONT and by SIGKILL (signal(7)). The signal's number is an o32 one, 1 to 128, and any other is SIGHUP's. No
-/// call waits for a signal that it names. After NoMemory process and kernel are not used again.
-pub fn post_event(due: Due, going: &mut Going, k: &mut NativeKernel) -> Result<(), NoMemory>
-    ensures posts { OnOk result ((processor : Processor) (memory : Memory) (coming : List Due) (idle : ℕ)
-        → within_of going.new processor memory k.new coming idle
-        ≡ sent_to built (within_of going.old processor memory k.old coming idle) (event_info due)) }
+/// on by SIGCONT and by SIGKILL (signal(7)). The signal's number is an o32 one, 1 to 128, and any other is SIGHUP's. One
+/// that is ignored is kept where a call waits for it by name (sigtimedwait(2)), by the set in `space`. After NoMemory
+/// process and kernel are not used again.
+pub fn post_event(
+    due: Due,
+    going: &mut Going,
+    space: &Space,
+    k: &mut NativeKernel,
+) -> Result<(), NoMemory>
+    ensures posts { OnOk result ((processor : Processor) (coming : List Due) (idle : ℕ)
+        → within_of going.new processor space.now k.new coming idle
+        ≡ sent_to built (within_of going.old processor space.now k.old coming idle) (event_info due)) }
     ensures clock { k.new.clock ≡ k.old.clock }
 {
     let info = event_info(due);
-    let post = k.post(info, false)?;
+    let awaited = waits_for(info.sig, going, space);
+    let post = k.post(info, awaited)?;
     tell_post(info.sig, post, going)?;
     let_go(info.sig, going)?;
     Ok(())
 }
 
 /// Moves the kernel's clock to a time, in nanoseconds, which is not before its own, and tells of the timer's signal,
-/// where the timer was due by then (setitimer(2)). No call waits for it by name. After NoMemory process and kernel are
-/// not used again.
-pub fn post_timer(clock: u64, going: &mut Going, k: &mut NativeKernel) -> Result<(), NoMemory>
+/// where the timer was due by then (setitimer(2)). Where it is ignored it is kept as in [`post_event`]. After NoMemory
+/// process and kernel are not used again.
+pub fn post_timer(
+    clock: u64,
+    going: &mut Going,
+    space: &Space,
+    k: &mut NativeKernel,
+) -> Result<(), NoMemory>
     requires later { k.old.clock ≤ clock }
-    ensures posts { OnOk result ((processor : Processor) (memory : Memory) (coming : List Due) (idle : ℕ)
-        → within_of going.new processor memory k.new coming idle
-        ≡ timer_posted built (within_of going.old processor memory (record k.old { clock = clock }) coming idle)) }
+    ensures posts { OnOk result ((processor : Processor) (coming : List Due) (idle : ℕ)
+        → within_of going.new processor space.now k.new coming idle
+        ≡ timer_posted built (within_of going.old processor space.now (record k.old { clock = clock }) coming idle)) }
     ensures clock { k.new.clock ≡ clock }
 {
     let next = k.next_time();
-    k.advance(clock, false)?;
+    let awaited = waits_for(Sig::Alrm, going, space);
+    k.advance(clock, awaited)?;
     tell_timer(next, clock, going)?;
     Ok(())
+}
+
+/// Whether the call that waits waits for a signal by name. One that a stop interrupted waits for none.
+fn waits_for(sig: Sig, going: &Going, space: &Space) -> bool
+    ensures { result ≡ list_any (λ other. place other == place sig) (names going.now.interrupted space.now going.now.wait) }
+{
+    match going.wait {
+        Some(wait) if !going.interrupted => awaits(&wait, space, sig),
+        _ => false,
+    }
 }
 
 /// What is known of the signal of an event: sent by kill(2), or queued with a value by sigqueue(3). An event has the

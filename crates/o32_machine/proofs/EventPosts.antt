@@ -70,21 +70,21 @@ module _ (clock : ℕ) (processor : Processor) (memory : Memory) (coming : List 
 
 -- The events and then the timer
 
-abbrev Leads : Standing → Kernel → (Within → Within) → Standing → Kernel → Type 0
-Leads old before part new after =
-    (processor : Processor) (memory : Memory) (coming : List Due) (idle : ℕ)
+abbrev Leads : Memory → Standing → Kernel → (Within → Within) → Standing → Kernel → Type 0
+Leads memory old before part new after =
+    (processor : Processor) (coming : List Due) (idle : ℕ)
     → within_of new processor memory after coming idle ≡ part (within_of old processor memory before coming idle)
 
 module _ (clock : ℕ) (process : ProcessState) (between new : Standing) (middle after : Kernel) (rest : List Due)
-    (events : (processor : Processor) (memory : Memory) (coming : List Due) (idle : ℕ)
-    → events_posted built process.coming (within_of process.going processor memory (at_clock clock process.kernel) coming idle) ≡ within_of between processor memory (at_clock clock middle) rest idle) where
+    (events : (processor : Processor) (coming : List Due) (idle : ℕ)
+    → events_posted built process.coming (within_of process.going processor process.memory (at_clock clock process.kernel) coming idle) ≡ within_of between processor process.memory (at_clock clock middle) rest idle) where
   abbrev left_so : ProcessState
   left_so = record process { kernel = after; going = new; coming = rest }
 
-  pub all_due_posted : {E : Type 0} (result : Result (Unit {0}) E) (old : ProcessState) → process ≡ old → OnOk result (Leads between (at_clock clock middle) (timer_posted built) new after)
-      → OnOk result (within_now left_so ≡ posted built (within_at clock old))
+  pub all_due_posted : {E : Type 0} (result : Result (Unit {0}) E) (old : ProcessState) → process ≡ old
+      → OnOk result (Leads process.memory between (at_clock clock middle) (timer_posted built) new after) → OnOk result (within_now left_so ≡ posted built (within_at clock old))
   all_due_posted (Ok done) old is timer =
-      timer process.processor process.memory rest process.idle
-      ∙ ap (timer_posted built) (sym (events process.processor process.memory process.coming process.idle))
+      timer process.processor rest process.idle
+      ∙ ap (timer_posted built) (sym (events process.processor process.coming process.idle))
       ∙ ap (λ (p : ProcessState). posted built (within_at clock p)) is
   all_due_posted (Err error) old is timer = timer

@@ -10,4 +10,5 @@ pub mod Stepping
 pub mod Steps
 pub mod TellMirrors
 pub mod Turning
+pub mod Waking
 pub mod WholeTurns

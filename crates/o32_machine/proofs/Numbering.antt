@@ -166,6 +166,9 @@ module _ (seen : Seen) (kernel : Kernel) (guest : Guest) (left : List ℕ) where
   pub timer_call_same : timer.is_call_there guest.words.nr ≡ true → machine_call seen kernel guest left ≡ built_call seen kernel guest left
   timer_call_same there = timer_same guest.words.nr there
 
+  pub acceptance_call_same : (guest.words.nr == 4197) ≡ true → machine_call seen kernel guest left ≡ built_call seen kernel guest left
+  acceptance_call_same there = at_number guest.words.nr 4197 refl there
+
   pub signal_call_same : signal.is_call_there guest.words.nr ≡ true → machine_call seen kernel guest left ≡ built_call seen kernel guest left
   signal_call_same there = signal_same guest.words.nr there
 
@@ -209,9 +212,9 @@ unfolding any_of
 none_of_all [] none = refl
 none_of_all (test ∷ tests) none = rw none.0 (none_of_all tests none.1)
 
-not_signal : (number : ℕ) → signal.is_call_there number ≡ false → (is_signal_call_built number ≡ false) × ((number == 4253) ≡ false)
+not_signal : (number : ℕ) → signal.is_call_there number ≡ false → (number == 4197) ≡ false → (is_signal_call_built number ≡ false) × ((number == 4253) ≡ false)
 unfolding any_of
-not_signal number none =
+not_signal number none not_accepted =
     let test_4266 = neither (number == 4029 || number == 4037 || number == 4119 || number == 4193 || number == 4194 || number == 4195 || number == 4196 || number == 4198 || number == 4199 || number == 4206 || number == 4236 || number == 4253) (number == 4266) none in
     let test_4253 = neither (number == 4029 || number == 4037 || number == 4119 || number == 4193 || number == 4194 || number == 4195 || number == 4196 || number == 4198 || number == 4199 || number == 4206 || number == 4236) (number == 4253) test_4266.0 in
     let test_4236 = neither (number == 4029 || number == 4037 || number == 4119 || number == 4193 || number == 4194 || number == 4195 || number == 4196 || number == 4198 || number == 4199 || number == 4206) (number == 4236) test_4253.0 in
@@ -225,16 +228,16 @@ not_signal number none =
     let test_4119 = neither (number == 4029 || number == 4037) (number == 4119) test_4193.0 in
     let test_4037 = neither (number == 4029) (number == 4037) test_4119.0 in (
       none_of_all
-          ((number == 4037) ∷ (number == 4236) ∷ (number == 4266) ∷ (number == 4198) ∷ (number == 4194) ∷ (number == 4195) ∷ (number == 4196) ∷ (number == 4206) ∷ (number == 4029) ∷ (number == 4199) ∷ (number == 4119) ∷ (number == 4193) ∷ [])
-          (test_4037.1, (test_4236.1, (test_4266.1, (test_4198.1, (test_4194.1, (test_4195.1, (test_4196.1, (test_4206.1, (test_4037.0, (test_4199.1, (test_4119.1, (test_4193.1, tt)))))))))))),
+          ((number == 4037) ∷ (number == 4236) ∷ (number == 4266) ∷ (number == 4198) ∷ (number == 4194) ∷ (number == 4195) ∷ (number == 4196) ∷ (number == 4206) ∷ (number == 4029) ∷ (number == 4197) ∷ (number == 4199) ∷ (number == 4119) ∷ (number == 4193) ∷ [])
+          (test_4037.1, (test_4236.1, (test_4266.1, (test_4198.1, (test_4194.1, (test_4195.1, (test_4196.1, (test_4206.1, (test_4037.0, (not_accepted, (test_4199.1, (test_4119.1, (test_4193.1, tt))))))))))))),
       test_4253.1,
     )
 
 -- what is in none of these groups is looked for among the small calls alone
 
-small_of : (number : ℕ) → is_io_call number ≡ false → is_file_call_built number ≡ false → wait.is_call_there number ≡ false → timer.is_call_there number ≡ false → signal.is_call_there number ≡ false
+small_of : (number : ℕ) → is_io_call number ≡ false → is_file_call_built number ≡ false → wait.is_call_there number ≡ false → timer.is_call_there number ≡ false → signal.is_call_there number ≡ false → (number == 4197) ≡ false
     → is_map_call number ≡ false → built_of number ≡ call_in small_calls None number
-small_of number no_io no_file no_time no_timer no_signal no_map =
+small_of number no_io no_file no_time no_timer no_signal not_accepted no_map =
     let last = call_in map_calls None number in
     let signals = built_signal_call_or last number in
     let times = built_time_call_or signals number in
@@ -246,23 +249,23 @@ small_of number no_io no_file no_time no_timer no_signal no_map =
     first.0 ∙ second.0 ∙ third.0
     ∙ ap (λ (b : Bool). call_in small_calls (if b then file_call_or times number else times) number) no_file
     ∙ ap (λ (b : Bool). call_in small_calls (if b then wait_call_or signals number else signals) number) (not_time number no_time no_timer).0
-    ∙ ap (λ (b : Bool). call_in small_calls (if b then signal_call_or last number else last) number) (not_signal number no_signal).0
+    ∙ ap (λ (b : Bool). call_in small_calls (if b then signal_call_or last number else last) number) (not_signal number no_signal not_accepted).0
     ∙ ap (λ (o : Option O32Call). call_in small_calls o number) (none_of last no_map)
 
-none_seeing : (number : ℕ) → wait.is_call_there number ≡ false → timer.is_call_there number ≡ false → signal.is_call_there number ≡ false → seeing_call_of number ≡ None
-none_seeing number no_time no_timer no_signal = rw ((not_time number no_time no_timer).1, (not_signal number no_signal).1) refl
+none_seeing : (number : ℕ) → wait.is_call_there number ≡ false → timer.is_call_there number ≡ false → signal.is_call_there number ≡ false → (number == 4197) ≡ false → seeing_call_of number ≡ None
+none_seeing number no_time no_timer no_signal not_accepted = rw ((not_time number no_time no_timer).1, (not_signal number no_signal not_accepted).1) refl
 
 found_small : (seen : Seen) (kernel : Kernel) (guest : Guest) (left : List ℕ) (found : Option O32Call) → step_of found kernel guest left ≡ seeing_step_of found None seen kernel guest left
 found_small seen kernel guest left None = refl
 found_small seen kernel guest left (Some call) = refl
 
 pub small_call_same : (seen : Seen) (kernel : Kernel) (guest : Guest) (left : List ℕ) → is_io_call guest.words.nr ≡ false → is_file_call_built guest.words.nr ≡ false → wait.is_call_there guest.words.nr ≡ false
-    → timer.is_call_there guest.words.nr ≡ false → signal.is_call_there guest.words.nr ≡ false → is_map_call guest.words.nr ≡ false
+    → timer.is_call_there guest.words.nr ≡ false → signal.is_call_there guest.words.nr ≡ false → (guest.words.nr == 4197) ≡ false → is_map_call guest.words.nr ≡ false
     → step_of (call_in small_calls None guest.words.nr) kernel guest left ≡ built_call seen kernel guest left
-small_call_same seen kernel guest left no_io no_file no_time no_timer no_signal no_map =
+small_call_same seen kernel guest left no_io no_file no_time no_timer no_signal not_accepted no_map =
     found_small seen kernel guest left (call_in small_calls None guest.words.nr)
-    ∙ ap (λ (o : Option O32Call). seeing_step_of o None seen kernel guest left) (sym (small_of guest.words.nr no_io no_file no_time no_timer no_signal no_map))
-    ∙ ap (λ (o : Option SeeingCall). seeing_step_of (built_of guest.words.nr) o seen kernel guest left) (sym (none_seeing guest.words.nr no_time no_timer no_signal))
+    ∙ ap (λ (o : Option O32Call). seeing_step_of o None seen kernel guest left) (sym (small_of guest.words.nr no_io no_file no_time no_timer no_signal not_accepted no_map))
+    ∙ ap (λ (o : Option SeeingCall). seeing_step_of (built_of guest.words.nr) o seen kernel guest left) (sym (none_seeing guest.words.nr no_time no_timer no_signal not_accepted))
 
 -- a call on files is made by one of four crates
 

@@ -14,7 +14,7 @@ use Rattle.outside.specs.Streams.{Contents}
 
 -- The first four steps
 
-on_ok : {A : Type 0} (result : Result A Stop) (P Q : Type 0) → (P → Q) → OnOk result P → OnOk result Q
+pub on_ok : {A : Type 0} (result : Result A Stop) (P Q : Type 0) → (P → Q) → OnOk result P → OnOk result Q
 on_ok (Ok value) P Q so p = so p
 on_ok (Err stop) P Q so p = p
 

@@ -12,6 +12,7 @@ use crate::numbers::{
     is_file_call, is_io_call, is_map_call, is_signal_call, is_time_call, is_timer_call,
 };
 use crate::small::small_call;
+use bridge_acceptance::{acceptance_call, is_acceptance_call};
 use bridge_io::io_call;
 use bridge_map::map_call;
 use bridge_signal::signal_call;
@@ -61,6 +62,9 @@ pub(crate) fn make_call<I: Source, O: Sink, E: Sink>(
     }
     if is_timer_call(args.nr) {
         return timer_call(args, cpu, space, k, mem, dev, log, seen);
+    }
+    if is_acceptance_call(args.nr) {
+        return acceptance_call(args, cpu, space, k, mem, dev, log, seen);
     }
     if is_signal_call(args.nr) {
         return signal_call(args, cpu, space, k, mem, dev, log, seen);

@@ -1,6 +1,5 @@
 //! What is due at the beginning of a turn: the events of the schedule.
 ghost use Rattle.std.specs.Prelude.{◌≡◌, ◌≤◌, ℕ, List, OnOk};
-ghost use Rattle.guest_space.specs.Memory.{Memory};
 ghost use Rattle.mips_exec.specs.Processor.{Processor};
 ghost use Rattle.o32_machine.specs.Emulator.{at_clock, coming_of};
 ghost use Rattle.o32_turns.specs.Built.{built};
@@ -10,28 +9,30 @@ ghost use Rattle.schedule.specs.Ranges.{IsGivenSchedule};
 ghost use Rattle.schedule.specs.declared.events.Due.{Due as Coming};
 
 use bridge_ends::post_event;
+use guest_space::Space;
 use kernel_core::NoMemory;
 use native_kernel::NativeKernel;
 use o32_turns::Going;
 use schedule::Schedule;
 
 /// Posts the events of a schedule that are due by a time of the clock, in nanoseconds, in their order. The kernel's
-/// own clock stands.
+/// own clock stands. `space` has the set of signals that a call waits for by name.
 pub(crate) fn post_due(
     clock: u64,
     schedule: &mut Schedule,
     going: &mut Going,
+    space: &Space,
     k: &mut NativeKernel,
 ) -> Result<(), NoMemory>
     requires given { IsGivenSchedule schedule.old }
-    ensures posted { OnOk result ((processor : Processor) (memory : Memory) (coming : List Coming) (idle : ℕ)
-        → events_posted built (coming_of schedule.old) (within_of going.old processor memory (at_clock clock k.old) coming idle)
-        ≡ within_of going.new processor memory (at_clock clock k.new) (coming_of schedule.new) idle) }
+    ensures posted { OnOk result ((processor : Processor) (coming : List Coming) (idle : ℕ)
+        → events_posted built (coming_of schedule.old) (within_of going.old processor space.now (at_clock clock k.old) coming idle)
+        ≡ within_of going.new processor space.now (at_clock clock k.new) (coming_of schedule.new) idle) }
     ensures given { IsGivenSchedule schedule.new }
     ensures clock { k.new.clock ≡ k.old.clock }
 {
     while let Some(due) = schedule.due(clock) {
-        post_event(due, going, k)?;
+        post_event(due, going, space, k)?;
     }
     Ok(())
 }

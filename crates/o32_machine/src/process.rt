@@ -12,7 +12,7 @@ ghost use Rattle.o32_machine.specs.Emulator.{at_clock, coming_of, first_process,
 ghost use Rattle.o32_machine.specs.inside.Finishing.{finished};
 ghost use Rattle.o32_machine.specs.inside.Quieting.{goes, next_due};
 ghost use Rattle.o32_machine.specs.inside.Stepping.{GoesThen};
-ghost use Rattle.o32_machine.specs.inside.Steps.{IsLast, Settles, Takes, begun, goes_on, jumped_within, last_steps, resumes, wakes};
+ghost use Rattle.o32_machine.specs.inside.Steps.{Finds, IsLast, Settles, Takes, begun, goes_on, jumped_within, last_steps, resumes, wakes, wakes_for};
 ghost use Rattle.o32_turns.specs.Built.{built};
 ghost use Rattle.o32_turns.specs.Handling.{faults, frame_fault};
 ghost use Rattle.o32_turns.specs.Instruction.{after_step, called, fault_info, restart_after, seen_of};
@@ -29,6 +29,7 @@ use crate::posting::post_due;
 use crate::running::{Ran, run};
 use crate::times::{deadline_in, if_comes, is_over_at, later, sooner};
 use crate::turn::Turn;
+use bridge_acceptance::accepts;
 use bridge_delivery::{deliver, is_quiet};
 use bridge_ends::{end_wait, post_timer};
 use bridge_mem::args;
@@ -192,8 +193,14 @@ impl Process {
         ensures behind { self.new.kernel.clock ≤ clock }
         ensures idle { self.new.idle ≡ self.old.idle }
     {
-        post_due(clock, &mut self.schedule, &mut self.going, &mut self.kernel)?;
-        post_timer(clock, &mut self.going, &mut self.kernel)
+        post_due(
+            clock,
+            &mut self.schedule,
+            &mut self.going,
+            &self.space,
+            &mut self.kernel,
+        )?;
+        post_timer(clock, &mut self.going, &self.space, &mut self.kernel)
     }
 
     /// Ends the call that waits for a cause, at the kernel's time `clock`, in nanoseconds. It is not a handler that
@@ -227,7 +234,7 @@ impl Process {
         )
     }
 
-    /// Whether the second step ends the call that waits: its deadline is over, and no stop has interrupted it.
+    /// Whether the second step ends the call that waits because its deadline is over, where no stop has interrupted it.
     fn wakes(&self, clock: u64) -> bool
         ensures { result ≡ wakes clock (machine_of self.now) }
     {
@@ -235,8 +242,38 @@ impl Process {
             && is_over_at(clock, deadline_in(self.going.wait))
     }
 
-    /// The second step of a turn: ends the call that waits where its deadline is over, at the kernel's time `clock`, in
-    /// nanoseconds.
+    /// Whether a signal pends for which the call that waits waits by name, where no stop has interrupted it. It is asked
+    /// of the kernel where a call waits so, and of no other.
+    fn accepts<I: Source, O: Sink, E: Sink>(
+        &mut self,
+        dev: &mut Devices<I, O, E>,
+    ) -> Result<bool, Stop>
+        ensures found { Finds (λ found. found ≡ wakes_for (machine_of self.old)) result self.old self.new
+            (contents I.left O.written E.written dev.old) (contents I.left O.written E.written dev.new) }
+        ensures clock { self.new.kernel.clock ≡ self.old.kernel.clock }
+        ensures idle { self.new.idle ≡ self.old.idle }
+        ensures cause { StopsOnlyIfRose I.faults O.faults E.faults result dev.old dev.new }
+        ensures counts { NoCountFell I.faults O.faults E.faults dev.old dev.new }
+    {
+        let Some(wait) = self.going.wait else {
+            return Ok(false);
+        };
+        if self.going.stopped || self.going.interrupted {
+            return Ok(false);
+        }
+        let mut log = no_log();
+        accepts(
+            &wait,
+            &self.space,
+            &mut self.kernel,
+            &mut self.mem,
+            dev,
+            &mut log,
+        )
+    }
+
+    /// The second step of a turn: ends the call that waits, at the kernel's time `clock`, in nanoseconds, where a signal
+    /// pends for which it waits by name, and where its deadline is over.
     fn wake<I: Source, O: Sink, E: Sink>(
         &mut self,
         clock: u64,
@@ -250,6 +287,10 @@ impl Process {
         ensures cause { StopsOnlyIfRose I.faults O.faults E.faults result dev.old dev.new }
         ensures counts { NoCountFell I.faults O.faults E.faults dev.old dev.new }
     {
+        let accepted = self.accepts(dev)?;
+        if accepted {
+            return self.end_wait(Cause::Accepted, clock, dev);
+        }
         if self.wakes(clock) {
             return self.end_wait(Cause::Due, clock, dev);
         }

@@ -3,10 +3,9 @@
 -- groups come in steps is this project's own.)
 use Rattle.std.specs.Prelude.{ℕ, Bool, ◌||◌, List, [], ◌∷◌, Option, None, ◌==◌, if◌then◌else◌}
 use Rattle.std.specs.List.{list_any}
-use Rattle.kernel_core.specs.declared.signal.Sig.{Sig}
 use Rattle.kernel_model.specs.State.{Kernel}
 use Rattle.o32_model.specs.Mappings.{map_calls}
-use Rattle.o32_model.specs.SignalWaitEnds.{suspension_ended, transfer_ended}
+use Rattle.o32_model.specs.SignalWaitEnds.{signal_wait_ended, transfer_ended}
 use Rattle.o32_model.specs.Small.{small_calls}
 use Rattle.o32_model.specs.Step.{Guest, O32Step, O32Call}
 use Rattle.o32_model.specs.Table.{call_in, file_call_or, io_call_or, seeing_call_of, seeing_step_of, signal_call_or, wait_call_or}
@@ -14,7 +13,8 @@ use Rattle.o32_model.specs.WaitEnds.{ends_with, wait_ended}
 use Rattle.o32_model.specs.declared.wait.Seen.{Seen}
 use Rattle.o32_turns.specs.Closing.{is_one_of, transfer_waits}
 use Rattle.o32_turns.specs.Delivering.{deliver}
-use Rattle.o32_turns.specs.Machine.{Ends, Machine, Rules}
+use Rattle.o32_turns.specs.Machine.{Ends, Rules}
+use Rattle.o32_turns.specs.Posting.{awaited}
 
 -- the calls on files: link, unlink, rename, mkdir, rmdir, symlink, mkdirat, unlinkat, renameat, linkat, symlinkat; chdir, chmod, access,
 -- umask, fchmod, fsync, fchdir, fdatasync, fchmodat, faccessat, utimensat; readlink, getcwd, readlinkat; truncate, ftruncate, truncate64,
@@ -50,14 +50,14 @@ is_time_call_built number = list_any (λ (built : ℕ). number == built) time_nu
 abbrev pub built_time_call_or : Option O32Call → ℕ → Option O32Call
 built_time_call_or otherwise number = if is_time_call_built number then wait_call_or otherwise number else otherwise
 
--- Of the calls on signals: kill, tkill, tgkill, rt_sigqueueinfo, rt_sigaction, rt_sigprocmask, rt_sigpending, sigaltstack, pause, rt_sigsuspend,
--- sigreturn, rt_sigreturn.
+-- Of the calls on signals: kill, tkill, tgkill, rt_sigqueueinfo, rt_sigaction, rt_sigprocmask, rt_sigpending, sigaltstack, pause,
+-- rt_sigtimedwait, rt_sigsuspend, sigreturn, rt_sigreturn.
 
 abbrev pub signal_numbers : List ℕ
 signal_numbers =
     4037 ∷ 4236 ∷ 4266 ∷ 4198
     ∷ 4194 ∷ 4195 ∷ 4196 ∷ 4206
-    ∷ 4029 ∷ 4199
+    ∷ 4029 ∷ 4197 ∷ 4199
     ∷ 4119 ∷ 4193
     ∷ []
 
@@ -84,12 +84,8 @@ abbrev pub built_call : Seen → Kernel → Guest → List ℕ → O32Step
 built_call seen kernel guest left =
     seeing_step_of (built_of guest.words.nr) (seeing_call_of guest.words.nr) seen kernel guest left
 
--- No call waits for a signal that it names.
-abbrev pub none_awaited : Machine → List Sig
-none_awaited machine = []
-
--- Of the calls that wait nanosleep(2) and clock_nanosleep(2) have a deadline; reads and writes of a pipe have none, and the others, pause(2) and
--- rt_sigsuspend(2), neither.
+-- Of the calls that wait nanosleep(2), clock_nanosleep(2) and rt_sigtimedwait(2) have a deadline; reads and writes of a pipe, pause(2) and
+-- rt_sigsuspend(2) have none.
 
 abbrev pub is_sleep : ℕ → Bool
 is_sleep number = (number == 4166) || (number == 4265)
@@ -98,8 +94,8 @@ abbrev pub built_end : Ends
 built_end restarts wait cause kernel memory =
     if is_sleep wait.nr then wait_ended wait cause kernel.clock kernel memory
     else (if is_one_of transfer_waits wait then ends_with (transfer_ended restarts wait cause) kernel memory
-    else suspension_ended wait cause kernel memory)
+    else signal_wait_ended wait cause kernel memory)
 
 -- what a turn is made of so far
 abbrev pub built : Rules
-built = record { call = built_call; awaited = none_awaited; ended = built_end; deliver = deliver built_end }
+built = record { call = built_call; awaited = awaited; ended = built_end; deliver = deliver built_end }

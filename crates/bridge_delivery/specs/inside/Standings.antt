@@ -80,8 +80,3 @@ Finds IsThere result kernel became before after =
 abbrev pub is_over : Standing → Kernel → Bool
 is_over standing kernel =
     is_some standing.over || standing.stopped || (is_none standing.fault && is_none (next_signal kernel.signals))
-
--- a signal, if there is one that passes a test
-abbrev pub passing : (Sig → Bool) → Option Sig → Option Sig
-passing test None = None
-passing test (Some signal) = if test signal then Some signal else None

@@ -1,15 +1,15 @@
 -- Parts of the end of a wait. (The forms are this project's own.)
-use Rattle.std.specs.Prelude.{◌≡◌, ℕ, nat_le, Bool, false, List, [], ◌∷◌, ◌++◌, Option, Some, None, Result, IfOk, if◌then◌else◌}
+use Rattle.std.specs.Prelude.{ℕ, nat_le, Bool, false, List, [], ◌∷◌, ◌++◌, Option, Some, None, if◌then◌else◌}
 use Rattle.guest_space.specs.Memory.{Memory}
-use Rattle.kernel_core.specs.declared.core_error.Stop.{Stop}
 use Rattle.kernel_core.specs.declared.error.Errno.TheVariants.{EINTR}
 use Rattle.kernel_core.specs.declared.event.Event.{Event}
 use Rattle.kernel_core.specs.declared.event.Event.TheVariants as events
+use Rattle.kernel_core.specs.declared.signal.Sig.{Sig}
 use Rattle.kernel_core.specs.declared.signal.Sig.TheVariants as sigs
 use Rattle.kernel_model.specs.SignalSets.{SignalSet}
-use Rattle.kernel_model.specs.State.{Kernel}
 use Rattle.mips_exec.specs.Processor.{Processor, register}
-use Rattle.o32_model.specs.WaitEnds.{WaitEnd, ends_with}
+use Rattle.o32_model.specs.SignalWaitEnds.{named_signals}
+use Rattle.o32_model.specs.WaitEnds.{WaitEnd}
 use Rattle.o32_model.specs.Words.{a3, v0, with_result}
 use Rattle.o32_model.specs.declared.wait.Cause.{Cause}
 use Rattle.o32_model.specs.declared.wait.Cause.TheVariants.{Due, Accepted, Handler, Stopped}
@@ -19,13 +19,6 @@ use Rattle.o32_model.specs.declared.wait.Wait.{Wait}
 use Rattle.o32_turns.specs.Closing.{wait_over}
 use Rattle.o32_turns.specs.Going.{Standing}
 use Rattle.o32_turns.specs.Machine.{Within, with_change}
-use Rattle.outside.specs.Streams.{Contents}
-
--- An end was found: where the input tells what is left of it, it comes to this and has left the kernel and memory so, unless it stopped early;
--- and input and outputs are as they were.
-abbrev pub Closes : WaitEnd → Result Close Stop → Kernel → Memory → Contents → Contents → Type 0
-Closes end result kernel memory before after =
-    (left : List ℕ) → before.left ≡ Some left → (after ≡ before) × IfOk result (λ close. end ≡ ends_with close kernel memory)
 
 -- the wait is over so
 abbrev pub put_over : Wait → WaitEnd → Within → Within
@@ -68,3 +61,8 @@ has_come clock (Some time) = nat_le time clock
 -- the timer's signal, where the time at which it was due has come
 abbrev pub timer_told : Standing → ℕ → Option ℕ → Standing
 timer_told standing clock next = if has_come clock next then happened standing (events.Post sigs.Alrm) else standing
+
+-- the signals that the call which waits waits for by name; one that a stop interrupted waits for none
+abbrev pub names : Bool → Memory → Option Wait → List Sig
+names interrupted memory None = []
+names interrupted memory (Some wait) = if interrupted then [] else named_signals memory wait

@@ -1,10 +1,14 @@
 -- The steps of a turn, by what stands between them: those before an instruction, and the last ones. (The form is this project's own.)
-use Rattle.std.specs.Prelude.{◌≡◌, ℕ, Bool, ◌&&◌, ◌||◌, not, List, [], Option, Some, None, is_none, is_some, Result, Ok, Err, OnOk, if◌then◌else◌}
+use Rattle.std.specs.Prelude.{◌≡◌, ℕ, Bool, false, ◌&&◌, ◌||◌, not, List, [], Option, Some, None, is_none, is_some, Result, Ok, Err, IfOk, OnOk, if◌then◌else◌}
+use Rattle.std.specs.List.{list_any}
 use Rattle.kernel_core.specs.declared.core_error.Stop.{Stop}
+use Rattle.kernel_core.specs.declared.signal.Sig.{Sig}
 use Rattle.kernel_model.specs.Pipes.{nothing}
+use Rattle.kernel_model.specs.SignalRows.{pends}
 use Rattle.o32_machine.specs.Answered.{Stopped, Turned}
 use Rattle.o32_machine.specs.Emulator.{ProcessState, machine_at, machine_of, within_now}
 use Rattle.o32_machine.specs.declared.process.Last.{Last}
+use Rattle.o32_model.specs.SignalWaitEnds.{named_signals}
 use Rattle.o32_model.specs.declared.wait.Wait.{Wait}
 use Rattle.o32_turns.specs.Built.{built}
 use Rattle.o32_turns.specs.Going.{Standing}
@@ -24,6 +28,15 @@ deadline_in (Some wait) = wait.deadline
 
 abbrev pub wakes : ℕ → Machine → Bool
 wakes clock machine = not (machine.stopped || machine.interrupted) && is_over_at clock (deadline_in machine.wait)
+
+-- and whether it does so for a signal that the call waits for by name
+
+abbrev pub accepts_by : Machine → Option Wait → Bool
+accepts_by machine None = false
+accepts_by machine (Some wait) = list_any (λ (signal : Sig). pends machine.kernel.signals signal) (named_signals machine.memory wait)
+
+abbrev pub wakes_for : Machine → Bool
+wakes_for machine = not (machine.stopped || machine.interrupted) && accepts_by machine machine.wait
 
 -- the fourth step, which a process that was killed doesn't take
 abbrev pub goes_on : Within → Within
@@ -50,6 +63,12 @@ jumped_within within = jumped (next_for within.machine) within
 abbrev pub Takes : {A : Type 0} → (Within → Within) → Result A Stop → ProcessState → ProcessState → Contents → Contents → Type 0
 Takes part result old new before after =
     (left : List ℕ) → before.left ≡ Some left → (after ≡ before) × OnOk result (within_now new ≡ part (within_now old))
+
+-- Something was found, where the input tells what is left of it: devices are as they were, and so is what stands within the turn, unless it stopped
+-- early.
+abbrev pub Finds : {A : Type 0} → (A → Type 0) → Result A Stop → ProcessState → ProcessState → Contents → Contents → Type 0
+Finds IsThere result old new before after =
+    (left : List ℕ) → before.left ≡ Some left → (after ≡ before) × OnOk result (within_now new ≡ within_now old) × IfOk result IsThere
 
 -- so the first four steps, from the machine at this time
 abbrev pub Settles : {A : Type 0} → ℕ → Result A Stop → ProcessState → ProcessState → Contents → Contents → Type 0

@@ -97,7 +97,7 @@ module _ (seen : Seen) (kernel : Kernel) (processor : Processor) (memory : Memor
   tells_time : built 4263 ≡ in_full 4263
   tells_time = refl
 
-  -- alarm, setitimer, kill and restart_syscall
+  -- alarm, setitimer, kill, rt_sigtimedwait and restart_syscall
   sets_an_alarm : built 4027 ≡ in_full 4027
   sets_an_alarm = refl
 
@@ -107,15 +107,15 @@ module _ (seen : Seen) (kernel : Kernel) (processor : Processor) (memory : Memor
   kills : built 4037 ≡ in_full 4037
   kills = refl
 
+  accepts : built 4197 ≡ in_full 4197
+  accepts = refl
+
   goes_on : built 4253 ≡ in_full 4253
   goes_on = refl
 
-  -- poll and rt_sigtimedwait
+  -- poll
   looks_at_nothing : built 4188 ≡ not_built
   looks_at_nothing = refl
-
-  accepts_nothing : built 4197 ≡ not_built
-  accepts_nothing = refl
 
   -- a number that no call has
   no_such_call : built 4999 ≡ not_built

@@ -7,7 +7,7 @@ use Rattle.kernel_model.specs.SignalSets.{SignalSet, has}
 use Rattle.kernel_model.specs.State.{Kernel}
 use Rattle.o32_model.specs.Suspending.{all_signals}
 use Rattle.outside.specs.Streams.{Contents}
-use Rattle.bridge_delivery.proofs.Quiet.{chosen}
+use Rattle.bridge_delivery.proofs.Nothing.{chosen}
 use Rattle.bridge_delivery.proofs.delivering.next.Goals as goal
 
 pub returns-clause-looks : goal.returns-clause-looks

@@ -1,10 +1,10 @@
 -- The end of a wait that is neither a sleep nor a transfer.
 use Rattle.std.proofs.Common.{◌≡◌, ◌∙◌, ap, sym}
 use Rattle.std.specs.Prelude.{Result, Ok, Err, IfOk, OnOk}
-use Rattle.bridge_ends.proofs.SameEnds.{by_suspension, closes_as}
-use Rattle.o32_model.specs.SignalWaitEnds.{suspension_ended}
+use Rattle.bridge_ends.proofs.SameEnds.{by_signals, closes_as}
+use Rattle.o32_model.specs.SignalWaitEnds.{signal_wait_ended}
 use Rattle.bridge_ends.proofs.KeptEnds.{sleep_keeps}
-use Rattle.bridge_ends.specs.Ended.{Keeps}
+use Rattle.bridge_acceptance.specs.Ends.{Keeps}
 use Rattle.bridge_log.specs.Keeping.{reached}
 use Rattle.kernel_core.specs.declared.core_error.Stop.{Stop}
 use Rattle.kernel_model.specs.Pipes.{Sent}
@@ -18,10 +18,10 @@ use Rattle.bridge_ends.proofs.ends.wait_close.Goals as goal
 
 pub returns-clause-ends : goal.returns-clause-ends
 returns-clause-ends g c =
-    closes_as (suspension_ended c.args.wait.now c.args.cause c.args.k.now c.args.space.now) (built_end c.args.restarts c.args.wait.now c.args.cause c.args.k.now c.args.space.now)
-    c.suspension_close.result c.suspension_close.new.k c.args.space.now (contents g.I.Source.left g.O.Sink.written g.E.Sink.written c.args.dev.now) (contents g.I.Source.left g.O.Sink.written g.E.Sink.written c.suspension_close.new.dev)
-    (by_suspension c.args.restarts c.args.wait.now c.args.cause c.args.k.now c.args.space.now (sym c.is_sleep.ensures ∙ c.if-is_sleep.false) (sym c.is_transfer.ensures ∙ c.if-is_transfer.false))
-    (c.suspension_close.ensures.ends c.args.space.now)
+    closes_as (signal_wait_ended c.args.wait.now c.args.cause c.args.k.now c.args.space.now) (built_end c.args.restarts c.args.wait.now c.args.cause c.args.k.now c.args.space.now)
+    c.signal_wait_close.result c.signal_wait_close.new.k c.signal_wait_close.new.space (contents g.I.Source.left g.O.Sink.written g.E.Sink.written c.args.dev.now) (contents g.I.Source.left g.O.Sink.written g.E.Sink.written c.signal_wait_close.new.dev)
+    (by_signals c.args.restarts c.args.wait.now c.args.cause c.args.k.now c.args.space.now (sym c.is_sleep.ensures ∙ c.if-is_sleep.false) (sym c.is_transfer.ensures ∙ c.if-is_transfer.false))
+    c.signal_wait_close.ensures.ends
 
 pub returns-then-is_sleep-clause-kept : goal.returns-then-is_sleep-clause-kept
 returns-then-is_sleep-clause-kept g c left told =

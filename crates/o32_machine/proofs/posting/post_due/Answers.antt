@@ -20,18 +20,18 @@ loop-due-preserved c =
     record {
       given = c.due.ensures.given c.loop-due.invariant.given;
       stands = c.post_event.ensures.clock ∙ c.loop-due.invariant.stands;
-      so_far = λ processor memory coming idle.
-          c.loop-due.invariant.so_far processor memory coming idle
-          ∙ one_posted c.args.clock processor memory coming idle old.events old.at c.in-Some.due c.loop-due.going c.post_event.new.going c.loop-due.k c.post_event.new.k there.0 there.1
-          (c.in_ok-post_event.ensures.posts processor memory coming idle)
-          ∙ ap (λ (s : Schedule). events_posted built (coming_of s) (within_of c.post_event.new.going processor memory (at_clock c.args.clock c.post_event.new.k) coming idle)) (sym cursor);
+      so_far = λ processor coming idle.
+          c.loop-due.invariant.so_far processor coming idle
+          ∙ one_posted c.args.clock processor c.args.space.now coming idle old.events old.at c.in-Some.due c.loop-due.going c.post_event.new.going c.loop-due.k c.post_event.new.k there.0 there.1
+          (c.in_ok-post_event.ensures.posts processor coming idle)
+          ∙ ap (λ (s : Schedule). events_posted built (coming_of s) (within_of c.post_event.new.going processor c.args.space.now (at_clock c.args.clock c.post_event.new.k) coming idle)) (sym cursor);
     }
 
 pub returns-clause-posted : goal.returns-clause-posted
-returns-clause-posted c = λ processor memory coming idle.
+returns-clause-posted c = λ processor coming idle.
     let old = c.loop-due.schedule in
     let none : c.due.result ≡ None = c.in_default.is in
     let cursor : c.due.new.self ≡ old = c.due.ensures.cursor ∙ ap (λ (r : Option Due). record old { at = place_after r old.at }) none in
-    c.loop-due.invariant.so_far processor memory coming idle
-    ∙ all_posted c.args.clock processor memory coming idle old.events old.at c.loop-due.going c.loop-due.k (sym c.due.ensures.event ∙ none)
-    ∙ ap (λ (s : Schedule). within_of c.loop-due.going processor memory (at_clock c.args.clock c.loop-due.k) (coming_of s) idle) (sym cursor)
+    c.loop-due.invariant.so_far processor coming idle
+    ∙ all_posted c.args.clock processor c.args.space.now coming idle old.events old.at c.loop-due.going c.loop-due.k (sym c.due.ensures.event ∙ none)
+    ∙ ap (λ (s : Schedule). within_of c.loop-due.going processor c.args.space.now (at_clock c.args.clock c.loop-due.k) (coming_of s) idle) (sym cursor)

@@ -1,5 +1,4 @@
 use Rattle.std.proofs.Common.{◌≡◌, ◌-◌, ℕ, List, length}
-use Rattle.guest_space.specs.Memory.{Memory}
 use Rattle.mips_exec.specs.Processor.{Processor}
 use Rattle.o32_machine.specs.Emulator.{at_clock, coming_of}
 use Rattle.o32_turns.specs.Built.{built}
@@ -13,9 +12,9 @@ abbrev pub invariant-loop-due : goal.invariant-loop-due
 invariant-loop-due l = record {
   given : IsGivenSchedule l.schedule;
   stands : l.k.clock ≡ l.fn.k.clock;
-  so_far : (processor : Processor) (memory : Memory) (coming : List Due) (idle : ℕ)
-      → events_posted built (coming_of l.fn.schedule) (within_of l.fn.going processor memory (at_clock l.clock l.fn.k) coming idle)
-      ≡ events_posted built (coming_of l.schedule) (within_of l.going processor memory (at_clock l.clock l.k) coming idle);
+  so_far : (processor : Processor) (coming : List Due) (idle : ℕ)
+      → events_posted built (coming_of l.fn.schedule) (within_of l.fn.going processor l.space (at_clock l.clock l.fn.k) coming idle)
+      ≡ events_posted built (coming_of l.schedule) (within_of l.going processor l.space (at_clock l.clock l.k) coming idle);
 }
 
 abbrev pub decreases-loop-due : goal.decreases-loop-due

@@ -1,6 +1,6 @@
 //! Which signal is next, by the numbers of Linux `arch/mips/include/uapi/asm/signal.h`.
 
-use super::choose;
+use super::{accepted, choose};
 use kernel_core::{RealTime, Sig};
 use std::test::Fail;
 
@@ -23,5 +23,15 @@ fn the_lowest_that_is_not_blocked(rt: HostRuntime) -> Result<(), Fail> {
     assert!(rt; choose(LAST, STOP) == RealTime::new(128).map(Sig::RealTime));
     assert!(rt; choose(NONE, NONE).is_none());
     assert!(rt; choose(ALL, ALL).is_none());
+    Ok(())
+}
+
+#[test]
+fn the_lowest_that_is_named(rt: HostRuntime) -> Result<(), Fail> {
+    assert!(rt; accepted(STOP_AND_CONT, ALL) == Some(Sig::Cont));
+    assert!(rt; accepted(ALL, STOP).is_none());
+    assert!(rt; accepted(ALL, LAST) == RealTime::new(128).map(Sig::RealTime));
+    assert!(rt; accepted(ALL, ALL) == Some(Sig::Hup));
+    assert!(rt; accepted(NONE, ALL).is_none());
     Ok(())
 }

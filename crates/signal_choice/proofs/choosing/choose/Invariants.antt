@@ -2,8 +2,8 @@ use Rattle.std.proofs.Common.{◌≡◌, ◌&&◌, not, find}
 use Rattle.kernel_core.specs.declared.signal.Sig.{Sig}
 use Rattle.kernel_model.specs.SignalSets.{has}
 use Rattle.o32_model.specs.Suspending.{all_signals}
-use Rattle.bridge_delivery.proofs.Lookup.{found_from}
-use Rattle.bridge_delivery.proofs.choosing.choose.Given as goal
+use Rattle.signal_choice.proofs.Lookup.{found_from}
+use Rattle.signal_choice.proofs.choosing.choose.Given as goal
 
 -- of the numbers so far none has such a signal
 abbrev pub invariant-loop-number : goal.invariant-loop-number

@@ -5,7 +5,7 @@ use Rattle.std.specs.List.{cons_option}
 use Rattle.std.specs.Option.{option_or}
 use Rattle.kernel_core.specs.declared.signal.Sig.{Sig}
 use Rattle.number_tables.specs.Signals.{signal_of_o32}
-use Rattle.bridge_delivery.specs.inside.Standings.{passing}
+use Rattle.signal_choice.specs.inside.Passing.{passing}
 use Rattle.o32_model.specs.Suspending.{all_signals, signals_from}
 
 -- what is found from a number on

@@ -2,8 +2,8 @@
 use Rattle.std.proofs.Common.{◌≡◌, ◌∙◌, ◌&&◌, not, sym, ap, ℕ, arith, rules}
 use Rattle.kernel_core.specs.declared.signal.Sig.{Sig}
 use Rattle.kernel_model.specs.SignalSets.{has}
-use Rattle.bridge_delivery.proofs.Lookup.{found_from, here, none_behind, not_here}
-use Rattle.bridge_delivery.proofs.choosing.choose.Goals as goal
+use Rattle.signal_choice.proofs.Lookup.{found_from, here, none_behind, not_here}
+use Rattle.signal_choice.proofs.choosing.choose.Goals as goal
 
 pub returns-then-is_some : goal.returns-then-is_some
 returns-then-is_some c =

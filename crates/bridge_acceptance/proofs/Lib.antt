@@ -1,0 +1,4 @@
+pub mod Closed
+pub mod HostRooms
+pub mod Naming
+pub mod Rows

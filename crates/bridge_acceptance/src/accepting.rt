@@ -1,0 +1,137 @@
+//! Accepting a signal: sigtimedwait(2).
+ghost use Rattle.std.specs.Prelude.{◌≡◌, true, Some};
+ghost use Rattle.bridge_acceptance.specs.inside.Accepting as spec;
+ghost use Rattle.bridge_acceptance.specs.inside.Accepting.{acceptance, did, met};
+ghost use Rattle.bridge_signal_state.specs.Acts.{Acts};
+ghost use Rattle.kernel_model.specs.Came.{Did};
+ghost use Rattle.kernel_model.specs.Shared as shared;
+ghost use Rattle.kernel_model.specs.SignalRows.{accept, accept_signal, pends};
+ghost use Rattle.kernel_model.specs.SignalSets.{blockable};
+ghost use Rattle.kernel_model.specs.State.{Kernel};
+ghost use Rattle.kernel_model.specs.Stops.{StopsOnlyIfRose};
+ghost use Rattle.o32_model.specs.GuestBytes.{unless_null};
+ghost use Rattle.o32_model.specs.Masks.{set_at};
+ghost use Rattle.o32_model.specs.Suspending.{all_signals};
+ghost use Rattle.o32_model.specs.Times.{spec_at};
+ghost use Rattle.outside.specs.Streams.{NoCountFell, contents};
+
+use crate::asked::{Wanted, asked, is_timed};
+use crate::waiting::wait;
+use bridge_signal_state::{pending, take};
+use guest_space::Space;
+use host_mem::HostMem;
+use kernel_core::{Errno, Info, Sig, Stop};
+use kernel_model::TimeSpec;
+use native_kernel::NativeKernel;
+use o32_model::Log;
+use outside::{Devices, Sink, Source};
+use signal_choice::accepted;
+
+/// What accepting comes to.
+#[derive(Clone, Copy)]
+pub(crate) enum Accepted {
+    /// This is known of the signal, which pends no more.
+    Signal(Info),
+    /// The error.
+    Refused(Errno),
+    /// It waits until this time of the clock, or without end.
+    Waits(Option<u64>),
+}
+
+/// Accepts a signal of the set at an address, by the call's words: EINVAL for another size of a set than 16; EFAULT;
+/// EINVAL for a time that is no length of time. Of the set's signals that pend, but for KILL and STOP, it takes the one
+/// of the lowest number. Where none pends it waits, or comes to EAGAIN where the time is over.
+pub(crate) fn accept<I: Source, O: Sink, E: Sink>(
+    set: u32,
+    time: u32,
+    size: u32,
+    space: &Space,
+    k: &mut NativeKernel,
+    mem: &mut HostMem,
+    dev: &mut Devices<I, O, E>,
+    log: &mut Log,
+) -> Result<Accepted, Stop>
+    ensures acts { Acts (λ came became. accept k.old all_signals blockable (set_at space.now set)
+        (unless_null time (spec_at space.now time)) size ≡ did became came) result k.old k.new
+        (contents I.left O.written E.written dev.old) (contents I.left O.written E.written dev.new) log.old log.new }
+    ensures cause { StopsOnlyIfRose I.faults O.faults E.faults result dev.old dev.new }
+    ensures counts { NoCountFell I.faults O.faults E.faults dev.old dev.new }
+    ensures clock { k.new.clock ≡ k.old.clock }
+{
+    match asked(set, time, size, space) {
+        Err(error) => Ok(Accepted::Refused(error)),
+        Ok(asked) => accept_asked(asked, k, mem, dev, log),
+    }
+}
+
+/// The same by what is asked for.
+fn accept_asked<I: Source, O: Sink, E: Sink>(
+    asked: Wanted,
+    k: &mut NativeKernel,
+    mem: &mut HostMem,
+    dev: &mut Devices<I, O, E>,
+    log: &mut Log,
+) -> Result<Accepted, Stop>
+    ensures acts { Acts (λ came became. acceptance k.old asked ≡ did became came) result k.old k.new
+        (contents I.left O.written E.written dev.old) (contents I.left O.written E.written dev.new) log.old log.new }
+    ensures cause { StopsOnlyIfRose I.faults O.faults E.faults result dev.old dev.new }
+    ensures counts { NoCountFell I.faults O.faults E.faults dev.old dev.new }
+    ensures clock { k.new.clock ≡ k.old.clock }
+{
+    let pending = pending(k, mem, dev, log)?;
+    match accepted(pending, asked.set) {
+        None => wait(asked, k, mem, dev, log),
+        Some(sig) => accept_signal(sig, asked.time, k, mem, dev, log),
+    }
+}
+
+/// Accepts a signal that pends, where the time is a length of time.
+fn accept_signal<I: Source, O: Sink, E: Sink>(
+    sig: Sig,
+    time: Option<TimeSpec>,
+    k: &mut NativeKernel,
+    mem: &mut HostMem,
+    dev: &mut Devices<I, O, E>,
+    log: &mut Log,
+) -> Result<Accepted, Stop>
+    ensures acts { pends k.old.signals sig ≡ true
+        → Acts (λ came became. met k.old time (Some sig) ≡ did became came) result k.old k.new
+        (contents I.left O.written E.written dev.old) (contents I.left O.written E.written dev.new) log.old log.new }
+    ensures cause { StopsOnlyIfRose I.faults O.faults E.faults result dev.old dev.new }
+    ensures counts { NoCountFell I.faults O.faults E.faults dev.old dev.new }
+    ensures clock { k.new.clock ≡ k.old.clock }
+{
+    if !is_timed(time) {
+        return Ok(Accepted::Refused(Errno::EINVAL));
+    }
+    take_signal(sig, k, mem, dev, log)
+}
+
+/// Takes a signal that pends.
+fn take_signal<I: Source, O: Sink, E: Sink>(
+    sig: Sig,
+    k: &mut NativeKernel,
+    mem: &mut HostMem,
+    dev: &mut Devices<I, O, E>,
+    log: &mut Log,
+) -> Result<Accepted, Stop>
+    ensures acts { (none : Did Kernel shared.Info) → pends k.old.signals sig ≡ true
+        → Acts (λ came became. accept_signal k.old (Some sig) none ≡ did became came) result k.old k.new
+        (contents I.left O.written E.written dev.old) (contents I.left O.written E.written dev.new) log.old log.new }
+    ensures cause { StopsOnlyIfRose I.faults O.faults E.faults result dev.old dev.new }
+    ensures counts { NoCountFell I.faults O.faults E.faults dev.old dev.new }
+    ensures clock { k.new.clock ≡ k.old.clock }
+{
+    let info = take(sig, k, mem, dev, log)?;
+    Ok(taken(info))
+}
+
+/// What it comes to that this was taken; one that pends is never none.
+fn taken(info: Option<Info>) -> Accepted
+    ensures { result ≡ spec.taken info }
+{
+    match info {
+        None => Accepted::Refused(Errno::EAGAIN),
+        Some(info) => Accepted::Signal(info),
+    }
+}

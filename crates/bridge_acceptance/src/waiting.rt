@@ -1,0 +1,61 @@
+//! The call where none of the signals pends that it waits for: it waits, or its time is over.
+ghost use Rattle.std.specs.Prelude.{◌≡◌, None};
+ghost use Rattle.bridge_acceptance.specs.inside.Accepting.{acceptance, came_of, did};
+ghost use Rattle.bridge_log.specs.Looks.{LooksFor};
+ghost use Rattle.bridge_log.specs.Outcomes as outcomes;
+ghost use Rattle.kernel_model.specs.SignalRows.{first_pending};
+ghost use Rattle.kernel_model.specs.SignalSets.{blockable};
+ghost use Rattle.kernel_model.specs.Stops.{StopsOnlyIfRose};
+ghost use Rattle.o32_model.specs.Suspending.{all_signals};
+ghost use Rattle.outside.specs.Streams.{NoCountFell, contents};
+
+use crate::accepting::Accepted;
+use crate::asked::Wanted;
+use crate::numbers::{RT_SIGTIMEDWAIT, SIGSETSIZE};
+use crate::rooms::put_asked;
+use bridge_log::look;
+use host_mem::{FIRST_ADDRESS, HostMem};
+use kernel_core::{Errno, Reply, Stop};
+use native_kernel::NativeKernel;
+use number_tables::NativeNumber;
+use o32_model::Log;
+use outside::{Devices, Sink, Source};
+
+/// Makes the native call, which changes nothing where none of the signals pends: EINVAL for a time that is no length of
+/// time, and EAGAIN where the time is over.
+pub(crate) fn wait<I: Source, O: Sink, E: Sink>(
+    asked: Wanted,
+    k: &mut NativeKernel,
+    mem: &mut HostMem,
+    dev: &mut Devices<I, O, E>,
+    log: &mut Log,
+) -> Result<Accepted, Stop>
+    ensures looks { first_pending k.old.signals all_signals (blockable asked.set) ≡ None
+        → LooksFor (λ came. acceptance k.old asked ≡ did k.old came) result k.old k.new
+        (contents I.left O.written E.written dev.old) (contents I.left O.written E.written dev.new) log.old log.new }
+    ensures cause { StopsOnlyIfRose I.faults O.faults E.faults result dev.old dev.new }
+    ensures counts { NoCountFell I.faults O.faults E.faults dev.old dev.new }
+    ensures clock { k.new.clock ≡ k.old.clock }
+{
+    let time = put_asked(asked, mem)?;
+    let args = [FIRST_ADDRESS, 0, time, SIGSETSIZE, 0, 0];
+    let reply = look(k, RT_SIGTIMEDWAIT, args, mem, dev, log)?;
+    Ok(came_of(reply))
+}
+
+/// What a reply comes to that tells of no signal.
+fn came_of(reply: Reply) -> Accepted
+    ensures { result ≡ came_of reply }
+{
+    match reply {
+        Reply::Done(number) => Accepted::Refused(error_of(number.unsigned_abs())),
+        Reply::Sleep(wake) => Accepted::Waits(wake.until),
+    }
+}
+
+/// The error of a native number; no call replies with a number that is none.
+fn error_of(number: u64) -> Errno
+    ensures { result ≡ outcomes.error_of number }
+{
+    Errno::of_native(number).unwrap_or(Errno::ENOSYS)
+}

@@ -1,0 +1,5 @@
+pub mod Blockable
+pub mod Found
+pub mod Left
+pub mod Lookup
+pub mod Pends
