@@ -1,0 +1,10 @@
+pub mod EntryLaws
+pub mod ErrorNumbers
+pub mod Events
+pub mod Founds
+pub mod Lists
+pub mod Read
+pub mod Rows
+pub mod SelectLaws
+pub mod SetLaws
+pub mod WordBytes

@@ -1,0 +1,4 @@
+pub mod Entries
+pub mod FdSets
+pub mod Masks
+pub mod Waiting
