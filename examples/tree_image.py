@@ -1,5 +1,5 @@
 #!/usr/bin/env python3
-"""Packs a folder of the host, or a tar file, into a file image of o32run, unpacks one, and shows what is in one.
+"""Packs a folder of the host, or a tar file, into a file image of o32run, unpacks one, shows what is in one, and compares two.
 
 This is a tool beside the product: plain Python, run by hand and by the tests of the examples, and not proved.
 
@@ -7,6 +7,7 @@ This is a tool beside the product: plain Python, run by hand and by the tests of
     tree_image.py unpack IMAGE FOLDER|TAR
     tree_image.py list IMAGE
     tree_image.py cat IMAGE PATH
+    tree_image.py diff A B
 
 Regular files, directories, symbolic links and second names of one file are kept, with their
 permission bits and their times of modification in whole seconds. Blocks of zeros are left out, so a
@@ -26,6 +27,12 @@ refused. Devices, FIFOs and sockets are refused by their names, or left out with
 `list` prints a line for each name: mode, links, size, date (UTC), name, as `ls -l` does. A file with two names has two
 lines. In names a backslash and what isn't printable is written as in C. `cat` writes the content of a file, and follows
 links within the image.
+
+`diff` prints a line for each name that came, went or changed from the image A to the image B, as `diff -r` names it, also
+for what is below a directory that came or went. What changed is told behind it: the content of a file, the target of a
+link, mode, time, and whether other names are of the same file; of what is of another kind that alone. Numbers of nodes,
+the order of names and blocks of zeros are no difference, and owners are in no image. The status is 0 where nothing
+differs, 1 where something does, and 2 where an image is refused.
 
 The format and its rules are described in docs/RULES.md, "The file image".
 """
@@ -65,6 +72,9 @@ TAR_ENDINGS = {".tar": "w", ".tgz": "w:gz", ".tar.gz": "w:gz", ".tar.bz2": "w:bz
 # A file of a tar file is written with its holes where they have more blocks, so that every tar reads the others.
 HOLES = 256
 TYPES = {FILE: stat.S_IFREG, DIRECTORY: stat.S_IFDIR, LINK: stat.S_IFLNK}
+# What diff(1) calls them.
+KINDS = {FILE: "regular file", DIRECTORY: "directory", LINK: "symbolic link"}
+SEVERAL = {FILE: "Files", DIRECTORY: "Directories", LINK: "Symbolic links"}
 
 
 class Refused(Exception):
@@ -681,11 +691,72 @@ def shown(name):
     return "".join(special.get(letter) or (letter if letter.isprintable() else octal(letter)) for letter in text)
 
 
-def date(seconds):
+def date(seconds, precision="minutes"):
     try:
-        return (datetime.datetime(1970, 1, 1) + datetime.timedelta(seconds=seconds)).isoformat(" ", "minutes")
+        return (datetime.datetime(1970, 1, 1) + datetime.timedelta(seconds=seconds)).isoformat(" ", precision)
     except OverflowError:
         return f"@{seconds}"
+
+
+# Comparing two images
+
+
+def named_nodes(nodes):
+    """For each name of an image its node, and all names of that."""
+    names = collections.defaultdict(list)
+    for path, number in names_of(nodes):
+        names[number].append(path)
+    return {path: (nodes[number], names[number]) for path, number in names_of(nodes)}
+
+
+def content_of(node):
+    """What a file has, a link names; of a directory nothing, as its names are compared by themselves."""
+    if node.kind == FILE:
+        size, blocks = node.body
+        return size, [(index, block) for index, block in blocks if block.strip(b"\0")]
+    return node.body if node.kind == LINK else None
+
+
+def changes(before, after):
+    """What differs between two nodes of one kind and the names of each, a text each."""
+    (node, names), (other, other_names) = before, after
+    if content_of(node) != content_of(other):
+        yield "content" if node.kind == FILE else f"target {shown(node.body)} and {shown(other.body)}"
+    if node.mode != other.mode:
+        yield f"mode {node.mode:04o} and {other.mode:04o}"
+    if node.time != other.time:
+        yield f"time {date(node.time, 'seconds')} and {date(other.time, 'seconds')}"
+    if names != other_names:
+        yield "names"
+
+
+def difference(path, places, before, after):
+    """How a name differs between two images at these places, in a line; None where it doesn't."""
+    directory, _, name = path.rpartition(b"/")
+    if not before or not after:
+        return f"Only in {within(places[0 if before else 1], directory)}: {shown(name)}"
+    one, other = (within(place, b"" if path == b"." else path) for place in places)
+    if before[0].kind != after[0].kind:
+        return f"File {one} is a {kind_of(before[0])} while file {other} is a {kind_of(after[0])}"
+    changed = ", ".join(changes(before, after))
+    return f"{SEVERAL[before[0].kind]} {one} and {other} differ: {changed}" if changed else None
+
+
+def kind_of(node):
+    return "regular empty file" if node.kind == FILE and not node.body[0] else KINDS[node.kind]
+
+
+def within(place, path):
+    return shown(os.fsencode(place) + b"/" * bool(path) + path)
+
+
+def show_differences(image, other):
+    before, after = (named_nodes(read_image(place)) for place in (image, other))
+    paths = sorted(before.keys() | after.keys(), key=lambda path: [] if path == b"." else path.split(b"/"))
+    lines = [difference(path, (image, other), before.get(path), after.get(path)) for path in paths]
+    text = "".join(f"{line}\n" for line in lines if line)
+    write_out([text.encode("utf-8")])
+    return 1 if text else 0
 
 
 # Writing a tar file
@@ -807,12 +878,13 @@ def write_out(pieces):
         os.dup2(os.open(os.devnull, os.O_WRONLY), sys.stdout.fileno())
 
 
-# Each command with its words.
+# Each command with its words. One gives a status, or nothing for 0.
 COMMANDS = {
     "pack": (pack, "FOLDER|TAR IMAGE"),
     "unpack": (unpack, "IMAGE FOLDER|TAR"),
     "list": (show_list, "IMAGE"),
     "cat": (show_content, "IMAGE PATH"),
+    "diff": (show_differences, "A B"),
 }
 
 
@@ -823,14 +895,12 @@ def main(words):
     if not command or len(given) != len(names.split()):
         uses = [f"{name} {names}" for name, (_, names) in COMMANDS.items()]
         raise Refused(f"use: tree_image.py {', or '.join(uses)}")
-    if skip:
-        command(*given, skip=True)
-    else:
-        command(*given)
+    return command(*given, skip=True) if skip else command(*given)
 
 
 if __name__ == "__main__":
     try:
-        main(sys.argv[1:])
+        sys.exit(main(sys.argv[1:]))
     except (Refused, OSError) as error:
-        sys.exit(f"tree_image: {error}")
+        print(f"tree_image: {error}", file=sys.stderr)
+        sys.exit(2 if sys.argv[1:2] == ["diff"] else 1)
