@@ -8,6 +8,7 @@ pub mod OtherNumbers
 pub mod Pairs
 pub mod Parts
 pub mod PathTexts
+pub mod PollCall
 pub mod Quietly
 pub mod Read
 pub mod Rounds

@@ -1,4 +1,4 @@
--- The calls of the table that there are so far. (That they come in steps is this project's own.)
+-- The calls of the table in the groups in which they are looked for. (The groups are this project's own.)
 use Rattle.std.specs.Prelude.{ℕ, List, [], ◌∷◌, Option, None}
 use Rattle.kernel_model.specs.State.{Kernel}
 use Rattle.native_calls.specs.Clocks.{clock_calls}
@@ -6,6 +6,7 @@ use Rattle.native_calls.specs.Descriptors.{descriptor_calls}
 use Rattle.native_calls.specs.Ids.{id_calls}
 use Rattle.native_calls.specs.Names.{name_calls}
 use Rattle.native_calls.specs.Nodes.{node_calls}
+use Rattle.native_calls.specs.Polls.{poll_calls}
 use Rattle.native_calls.specs.Signals.{signal_calls}
 use Rattle.native_calls.specs.Status.{status_calls}
 use Rattle.native_calls.specs.Step.{NativeStep, NativeCall}
@@ -21,8 +22,11 @@ call_among (calls ∷ groups) number = call_in calls (call_among groups number) 
 
 -- The groups that there are. Each list begins with groups of its own, and goes on with the list before it.
 
+abbrev pub poll_groups : List (List NativeCall)
+poll_groups = poll_calls ∷ []
+
 abbrev pub signal_groups : List (List NativeCall)
-signal_groups = signal_calls ∷ []
+signal_groups = signal_calls ∷ poll_groups
 
 abbrev pub system_groups : List (List NativeCall)
 system_groups = system_calls ∷ clock_calls ∷ signal_groups
@@ -46,6 +50,6 @@ built_groups = transfer_calls ∷ descriptor_groups
 abbrev pub call_of_groups : List (List NativeCall) → ℕ → List ℕ → Kernel → List ℕ → List ℕ → NativeStep
 call_of_groups groups number args kernel memory left = step_of (call_among groups number) args kernel memory left
 
--- What a call does. Where there is one of its number it is that of the whole table, and any other number is ENOSYS for now.
+-- What a call does: it is that of the whole table, and any other number is ENOSYS.
 abbrev pub built_call : ℕ → List ℕ → Kernel → List ℕ → List ℕ → NativeStep
 built_call number args kernel memory left = call_of_groups built_groups number args kernel memory left

@@ -2,7 +2,7 @@
 ghost use Rattle.std.specs.Prelude.{◌≡◌, ◌<◌, ◌⊎◌, IfOk};
 ghost use Rattle.kernel_model.specs.Stops.{StopsOnlyIfRose};
 ghost use Rattle.native_calls.specs.Answered.{IsCall};
-ghost use Rattle.native_kernel.specs.Built.{built_call, call_of_groups, descriptor_groups, name_groups, node_groups, signal_groups, status_groups, system_groups};
+ghost use Rattle.native_kernel.specs.Built.{built_call, call_of_groups, descriptor_groups, name_groups, node_groups, poll_groups, signal_groups, status_groups, system_groups};
 ghost use Rattle.native_kernel.specs.inside.Quiet.{IsQuiet};
 ghost use Rattle.outside.specs.Streams.{NoCountFell, contents};
 
@@ -14,15 +14,16 @@ use crate::numbers::{
     CHDIR, CLOCK_GETRES, CLOCK_GETTIME, CLOCK_NANOSLEEP, CLOSE, DUP, DUP3, FACCESSAT, FCHDIR,
     FCHMOD, FCHMODAT, FCNTL, FDATASYNC, FSTAT, FSYNC, FTRUNCATE, GETCWD, GETDENTS64, GETITIMER,
     GETPID, GETPPID, GETRANDOM, IOCTL, KILL, LINKAT, LSEEK, MKDIRAT, NANOSLEEP, NEWFSTATAT, OPENAT,
-    PIPE2, PREAD64, PRLIMIT64, PWRITE64, READ, READLINKAT, READV, RENAMEAT, RT_SIGACTION,
-    RT_SIGPENDING, RT_SIGPROCMASK, RT_SIGQUEUEINFO, RT_SIGSUSPEND, RT_SIGTIMEDWAIT, SETITIMER,
-    SIGALTSTACK, SYMLINKAT, TGKILL, TKILL, TRUNCATE, UMASK, UNAME, UNLINKAT, UTIMENSAT, WRITE,
-    WRITEV,
+    PIPE2, PPOLL, PREAD64, PRLIMIT64, PSELECT6, PWRITE64, READ, READLINKAT, READV, RENAMEAT,
+    RT_SIGACTION, RT_SIGPENDING, RT_SIGPROCMASK, RT_SIGQUEUEINFO, RT_SIGSUSPEND, RT_SIGTIMEDWAIT,
+    SETITIMER, SIGALTSTACK, SYMLINKAT, TGKILL, TKILL, TRUNCATE, UMASK, UNAME, UNLINKAT, UTIMENSAT,
+    WRITE, WRITEV,
 };
 use crate::replies::failure;
 use crate::sleeping::{CLOCK_MONOTONIC, TIMER_ABSTIME};
 use host_mem::HostMem;
 use kernel_core::{Errno, NoMemory, Reply, Stop};
+use native_polls::{SetPlaces, ppoll, pselect};
 use outside::{Devices, Sink, Source};
 
 impl NativeKernel {
@@ -31,8 +32,7 @@ impl NativeKernel {
     ///
     /// `Done` has the result, or below 0 the native number of an error with its sign turned; a number
     /// that no call has is ENOSYS. `Sleep` comes where the call waits. A call that waits holds no wait:
-    /// made again, it is tried again. After a `Stop` the kernel is not used again. The calls on
-    /// readiness are still to come, and are ENOSYS for now.
+    /// made again, it is tried again. After a `Stop` the kernel is not used again.
     #[tactic(auto, using(crate::proofs::Quietly::over_devices))]
     pub fn call<I: Source, O: Sink, E: Sink>(
         &mut self,
@@ -231,7 +231,7 @@ impl NativeKernel {
         }
     }
 
-    /// A call on signals.
+    /// A call on signals, or one that waits for descriptors.
     #[tactic(auto, unfolding(native_calls::specs::Signals::kill_row, native_calls::specs::Signals::tkill_row, native_calls::specs::Signals::tgkill_row, native_calls::specs::Signals::rt_sigqueueinfo_row, native_calls::specs::Signals::rt_sigaction_row, native_calls::specs::Signals::rt_sigprocmask_row, native_calls::specs::Signals::rt_sigpending_row, native_calls::specs::Signals::rt_sigtimedwait_row, native_calls::specs::Signals::rt_sigsuspend_row, native_calls::specs::Signals::sigaltstack_row))]
     fn signal_call(&mut self, nr: u64, args: [u64; 6], mem: &mut HostMem) -> Result<Reply, NoMemory>
         ensures row { IfOk result (λ reply. IsQuiet (call_of_groups signal_groups nr args self.old mem.old) reply self.new mem.new) }
@@ -259,7 +259,44 @@ impl NativeKernel {
                 args[2],
                 mem,
             ),
-            _ => Ok(failure(Errno::ENOSYS)),
+            _ => Ok(self.poll_call(nr, args, mem)),
+        }
+    }
+
+    /// A call that waits for descriptors.
+    #[tactic(auto, unfolding(native_calls::specs::Polls::ppoll_row, native_calls::specs::Polls::pselect_row))]
+    fn poll_call(&self, nr: u64, args: [u64; 6], mem: &mut HostMem) -> Reply
+        ensures { IsQuiet (call_of_groups poll_groups nr args self.now mem.old) result self.now mem.new }
+    {
+        match nr {
+            PSELECT6 => {
+                let places = SetPlaces {
+                    read: args[1],
+                    write: args[2],
+                    except: args[3],
+                };
+                let count = low_word(args[0]).cast_signed();
+                pselect(
+                    &self.files,
+                    self.clock,
+                    count,
+                    places,
+                    args[4],
+                    args[5],
+                    mem,
+                )
+            }
+            PPOLL => ppoll(
+                &self.files,
+                self.clock,
+                args[0],
+                low_word(args[1]),
+                args[2],
+                args[3],
+                args[4],
+                mem,
+            ),
+            _ => failure(Errno::ENOSYS),
         }
     }
 }

@@ -56,6 +56,10 @@ pub(crate) const PREAD64: u64 = 67;
 
 pub(crate) const PWRITE64: u64 = 68;
 
+pub(crate) const PSELECT6: u64 = 72;
+
+pub(crate) const PPOLL: u64 = 73;
+
 pub(crate) const READLINKAT: u64 = 78;
 
 pub(crate) const NEWFSTATAT: u64 = 79;
