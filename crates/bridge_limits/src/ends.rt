@@ -1,0 +1,109 @@
+//! How the waits of ppoll(2), select(2) and pselect(2) end: the mask from before the call is put back, and the time that
+//! is left is stored.
+ghost use Rattle.std.specs.Prelude.{◌≡◌};
+ghost use Rattle.bridge_acceptance.specs.Ends.{Closes, KeepsEnd};
+ghost use Rattle.bridge_limits.specs.Limits.{StoresAlike, left_form, unmasked_kernel};
+ghost use Rattle.guest_space.specs.Memory.{Memory};
+ghost use Rattle.kernel_model.specs.Clock.{left_until};
+ghost use Rattle.kernel_model.specs.Stops.{StopsOnlyIfRose};
+ghost use Rattle.o32_model.specs.WaitEnds as spec;
+ghost use Rattle.o32_model.specs.WaitEnds.{ends_with, with_left};
+ghost use Rattle.outside.specs.Streams.{NoCountFell, contents};
+
+use crate::lefts::Left;
+use crate::times::TimePlace;
+use bridge_log::put;
+use bridge_signal_state::set_mask;
+use guest_space::Space;
+use host_mem::HostMem;
+use kernel_core::{Errno, NoMemory, Stop};
+use native_kernel::NativeKernel;
+use o32_model::{Cause, Close, Log, Wait};
+use outside::{Devices, Sink, Source};
+
+const TIME_SIZE: u32 = 8;
+
+/// How a wait ends after a stop: the call is carried out again, which takes the time that is left, and is EINTR where
+/// that can't be stored.
+pub fn again_or_interrupted(at: TimePlace, space: &Space, wait: &Wait, clock: u64) -> Close
+    ensures { result ≡ spec.again_or_interrupted (left_form at) wait.now clock space.now }
+{
+    if at.address != 0 && space.writable(at.address, TIME_SIZE) != TIME_SIZE {
+        Close::Error(Errno::EINTR)
+    } else {
+        Close::Again
+    }
+}
+
+/// Ends the wait of a call with a time, at the kernel's time `clock` in nanoseconds, with this close: the mask from before
+/// it is put back, if it has set one of its own, but not where a handler ends it, whose frame keeps that mask; and the
+/// time that is left is stored, where there is room for it. It stops for want of memory or by a device alone.
+pub fn end_limited<I: Source, O: Sink, E: Sink>(
+    close: Close,
+    at: TimePlace,
+    wait: &Wait,
+    cause: Cause,
+    clock: u64,
+    space: &mut Space,
+    k: &mut NativeKernel,
+    mem: &mut HostMem,
+    dev: &mut Devices<I, O, E>,
+    log: &mut Log,
+) -> Result<Close, Stop>
+    ensures ends { (before : Memory) → StoresAlike before space.old
+        → Closes (with_left (left_form at) wait.now clock before
+            (ends_with close (unmasked_kernel wait.now cause k.old) space.old)) result k.new space.new
+        (contents I.left O.written E.written dev.old) (contents I.left O.written E.written dev.new) }
+    ensures kept { KeepsEnd result (I.left dev.old.input) k.old k.new space.old.pages space.new.pages log.old log.new }
+    ensures cause { StopsOnlyIfRose I.faults O.faults E.faults result dev.old dev.new }
+    ensures counts { NoCountFell I.faults O.faults E.faults dev.old dev.new }
+    ensures clock { k.new.clock ≡ k.old.clock }
+{
+    store_remaining(at, wait, clock, space, log)?;
+    put_back(wait, cause, k, mem, dev, log)?;
+    Ok(close)
+}
+
+/// Stores the time that is left until the wait's deadline, 0 where it has none, unless the call has no time.
+fn store_remaining(
+    at: TimePlace,
+    wait: &Wait,
+    clock: u64,
+    space: &mut Space,
+    log: &mut Log,
+) -> Result<(), NoMemory> {
+    if at.address == 0 {
+        return Ok(());
+    }
+    let left = Left::of(left_until(clock, wait.deadline));
+    put(space, at.address, &left.bytes(at.form), log)?;
+    Ok(())
+}
+
+/// How long it is to a deadline, in nanoseconds, at least 0; 0 where there is none.
+fn left_until(clock: u64, deadline: Option<u64>) -> u64
+    ensures { result ≡ left_until clock deadline }
+{
+    match deadline {
+        None => 0,
+        Some(deadline) => deadline.saturating_sub(clock),
+    }
+}
+
+/// Puts the mask from before the call back, but not where a handler ends the wait.
+fn put_back<I: Source, O: Sink, E: Sink>(
+    wait: &Wait,
+    cause: Cause,
+    k: &mut NativeKernel,
+    mem: &mut HostMem,
+    dev: &mut Devices<I, O, E>,
+    log: &mut Log,
+) -> Result<(), Stop> {
+    match (cause, wait.mask) {
+        (Cause::Handler, _) | (_, None) => Ok(()),
+        (_, Some(mask)) => {
+            set_mask(mask, k, mem, dev, log)?;
+            Ok(())
+        }
+    }
+}

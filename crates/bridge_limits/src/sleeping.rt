@@ -1,0 +1,54 @@
+//! Calls that wait, with a mask of their own.
+ghost use Rattle.std.specs.Prelude.{◌≡◌};
+ghost use Rattle.bridge_limits.specs.Limits.{asleep, given_mask, masked_kernel};
+ghost use Rattle.bridge_signal_state.specs.Acts.{Acts};
+ghost use Rattle.kernel_model.specs.Stops.{StopsOnlyIfRose};
+ghost use Rattle.o32_model.specs.Step as o32_step;
+ghost use Rattle.outside.specs.Streams.{NoCountFell, contents};
+
+use crate::masks::OwnMask;
+use bridge_mem::six_words;
+use bridge_signal_state::{mask, set_mask};
+use host_mem::HostMem;
+use kernel_core::Stop;
+use native_kernel::NativeKernel;
+use o32_model::{CallWords, Log, Outcome, Wait};
+use outside::{Devices, Sink, Source};
+
+/// A call with these words waits, until a time of the clock in nanoseconds or without end. Where it has a mask of its own
+/// that becomes the mask, without KILL and STOP, and the wait keeps the one before (sigsuspend(2)). It stops for want of
+/// memory or by a device alone.
+pub fn sleep<I: Source, O: Sink, E: Sink>(
+    words: &CallWords,
+    until: Option<u64>,
+    own: OwnMask,
+    k: &mut NativeKernel,
+    mem: &mut HostMem,
+    dev: &mut Devices<I, O, E>,
+    log: &mut Log,
+) -> Result<Outcome, Stop>
+    ensures acts { Acts (λ outcome became.
+        (outcome ≡ asleep k.old (o32_step.wait_of words.now (record { done = 0; until = until })) (given_mask own))
+        × (became ≡ masked_kernel k.old (given_mask own))) result k.old k.new
+        (contents I.left O.written E.written dev.old) (contents I.left O.written E.written dev.new) log.old log.new }
+    ensures cause { StopsOnlyIfRose I.faults O.faults E.faults result dev.old dev.new }
+    ensures counts { NoCountFell I.faults O.faults E.faults dev.old dev.new }
+    ensures clock { k.new.clock ≡ k.old.clock }
+{
+    let OwnMask::Set(set) = own else {
+        return Ok(Outcome::Sleep(waiting(words, until, None)));
+    };
+    let before = mask(k, mem, dev, log)?;
+    set_mask(set, k, mem, dev, log)?;
+    Ok(Outcome::Sleep(waiting(words, until, Some(before))))
+}
+
+fn waiting(words: &CallWords, until: Option<u64>, mask: Option<[u32; 4]>) -> Wait {
+    Wait {
+        nr: words.nr,
+        words: six_words(words),
+        deadline: until,
+        done: 0,
+        mask,
+    }
+}

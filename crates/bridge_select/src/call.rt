@@ -1,0 +1,46 @@
+//! The calls by their words.
+ghost use Rattle.std.specs.Prelude.{◌≡◌, ◌==◌, ◌||◌, ◌⊎◌};
+ghost use Rattle.bridge_log.specs.Keeping.{KeepsCall};
+ghost use Rattle.bridge_select.specs.Found.{found};
+ghost use Rattle.kernel_model.specs.Stops.{StopsOnlyIfRose};
+ghost use Rattle.o32_model.specs.Answered.{IsCall};
+ghost use Rattle.o32_model.specs.Table.{machine_call};
+ghost use Rattle.outside.specs.Streams.{NoCountFell, contents};
+
+use guest_space::Space;
+use host_mem::HostMem;
+use kernel_core::{Errno, Stop};
+use mips_exec::Cpu;
+use native_kernel::NativeKernel;
+use o32_model::{CallWords, Log, Outcome, Seen};
+use outside::{Devices, Sink, Source};
+
+/// Whether a number is that of one of these calls.
+pub fn is_select_call(number: u32) -> bool
+    ensures { result ≡ ((number == 4142) || (number == 4301)) }
+{
+    matches!(number, 4142 | 4301)
+}
+
+/// Makes the call of the program ... It stops early for want of memory, or by a device.
+pub fn select_call<I: Source, O: Sink, E: Sink>(
+    args: &CallWords,
+    cpu: &mut Cpu,
+    space: &mut Space,
+    k: &mut NativeKernel,
+    mem: &mut HostMem,
+    dev: &mut Devices<I, O, E>,
+    log: &mut Log,
+    seen: &Seen,
+) -> Result<Outcome, Stop>
+    requires { (args.now.nr ≡ 4142) ⊎ (args.now.nr ≡ 4301) }
+    ensures row { IsCall (machine_call seen.now k.old (found args.now cpu.old space.old)) result k.new space.new cpu.new
+        (contents I.left O.written E.written dev.old) (contents I.left O.written E.written dev.new) }
+    ensures kept { KeepsCall (machine_call seen.now k.old (found args.now cpu.old space.old)) result k.old
+        (found args.now cpu.old space.old) (I.left dev.old.input) log.old log.new }
+    ensures cause { StopsOnlyIfRose I.faults O.faults E.faults result dev.old dev.new }
+    ensures counts { NoCountFell I.faults O.faults E.faults dev.old dev.new }
+    ensures clock { k.new.clock ≡ k.old.clock }
+{
+    Ok(Outcome::Error(Errno::ENOSYS))
+}

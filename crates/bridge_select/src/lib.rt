@@ -1,0 +1,8 @@
+//! The calls select(2) and pselect(2) of an o32 program, made by calls of the 64-bit kernel, and how their waits end.
+#![tactic(auto)]
+
+mod call;
+mod ends;
+
+pub use call::{is_select_call, select_call};
+pub use ends::select_end;
