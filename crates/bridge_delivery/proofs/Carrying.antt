@@ -18,7 +18,7 @@ use Rattle.mips_exec.specs.Processor.{Processor}
 use Rattle.o32_model.specs.Logs.{Kept}
 use Rattle.o32_model.specs.declared.wait.Cause.TheVariants.{Handler}
 use Rattle.o32_model.specs.declared.wait.Wait.{Wait}
-use Rattle.o32_turns.specs.Built.{built_end}
+use Rattle.o32_turns.specs.Closing.{whole_end}
 use Rattle.o32_turns.specs.Going.{Carries, Standing, within_of}
 use Rattle.o32_turns.specs.Handling.{Framed, begun, entered_by, entering, frame_for, handling, is_segv, not_entered, saved_or, wait_left_by}
 use Rattle.o32_turns.specs.Machine.{Within}
@@ -50,7 +50,7 @@ carried_then result first rest whole before between after contents middle became
 -- The wait that a handler ends
 
 pub wait_left : (action : Action) (restarts : Bool) → restarts ≡ action.flags.restart → (wait : Option Wait) (within : Within)
-    → ended_wait restarts Handler (record within { saved = kept_of wait within.saved }) wait ≡ wait_left_by built_end action wait within
+    → ended_wait restarts Handler (record within { saved = kept_of wait within.saved }) wait ≡ wait_left_by whole_end action wait within
 wait_left action restarts is None within = refl
 wait_left action restarts is (Some wait) within =
     ap (λ (b : Bool). ended_wait b Handler (record within { saved = kept_of (Some wait) within.saved }) (Some wait)) is

@@ -9,7 +9,7 @@ use Rattle.kernel_model.specs.SignalRows.{action_at, pending_at, with_pending, w
 use Rattle.kernel_model.specs.SignalSets.{place}
 use Rattle.kernel_model.specs.State.{Kernel}
 use Rattle.mips_exec.specs.Processor.{Processor}
-use Rattle.o32_turns.specs.Built.{built_end}
+use Rattle.o32_turns.specs.Closing.{whole_end}
 use Rattle.o32_turns.specs.Delivering.{delivered, signal_taken}
 use Rattle.o32_turns.specs.Going.{Standing, within_of}
 use Rattle.schedule.specs.declared.events.Due.{Due}
@@ -21,11 +21,11 @@ module _ (standing : Standing) (processor : Processor) (memory : Memory) (kernel
   pub taken_none : None ≡ slice_get (pending_at kernel.signals signal) 0
       → became ≡ with_signals kernel (with_pending kernel.signals signal (drop 1 (pending_at kernel.signals signal)))
       → within_of standing processor memory became coming idle
-      ≡ signal_taken built_end (within_of standing processor memory kernel coming idle) signal (pending_at kernel.signals signal)
+      ≡ signal_taken whole_end (within_of standing processor memory kernel coming idle) signal (pending_at kernel.signals signal)
   taken_none = by (pending_at kernel.signals signal) refl where
     by : (queue : List Info) → pending_at kernel.signals signal ≡ queue → None ≡ slice_get queue 0
         → became ≡ with_signals kernel (with_pending kernel.signals signal (drop 1 queue))
-        → within_of standing processor memory became coming idle ≡ signal_taken built_end (within_of standing processor memory kernel coming idle) signal queue
+        → within_of standing processor memory became coming idle ≡ signal_taken whole_end (within_of standing processor memory kernel coming idle) signal queue
     by [] at none is =
         let same : set kernel.signals.pending (place signal) [] ≡ kernel.signals.pending =
         ap (λ (q : List Info). set kernel.signals.pending (place signal) q) (sym at) ∙ set-get_or kernel.signals.pending (place signal) [] in
@@ -35,13 +35,13 @@ module _ (standing : Standing) (processor : Processor) (memory : Memory) (kernel
 
   pub taken_some : (info : Info) → Some info ≡ slice_get (pending_at kernel.signals signal) 0
       → became ≡ with_signals kernel (with_pending kernel.signals signal (drop 1 (pending_at kernel.signals signal)))
-      → delivered built_end (within_of standing processor memory became coming idle) info (action_at kernel.signals signal)
-      ≡ signal_taken built_end (within_of standing processor memory kernel coming idle) signal (pending_at kernel.signals signal)
+      → delivered whole_end (within_of standing processor memory became coming idle) info (action_at kernel.signals signal)
+      ≡ signal_taken whole_end (within_of standing processor memory kernel coming idle) signal (pending_at kernel.signals signal)
   taken_some info = by (pending_at kernel.signals signal) where
     by : (queue : List Info) → Some info ≡ slice_get queue 0 → became ≡ with_signals kernel (with_pending kernel.signals signal (drop 1 queue))
-        → delivered built_end (within_of standing processor memory became coming idle) info (action_at kernel.signals signal)
-        ≡ signal_taken built_end (within_of standing processor memory kernel coming idle) signal queue
+        → delivered whole_end (within_of standing processor memory became coming idle) info (action_at kernel.signals signal)
+        ≡ signal_taken whole_end (within_of standing processor memory kernel coming idle) signal queue
     by [] there is = absurd cc
     by (first ∷ queue) there is =
-        ap (λ (k : Kernel). delivered built_end (within_of standing processor memory k coming idle) info (action_at kernel.signals signal)) is
-        ∙ ap (λ (i : Info). delivered built_end (within_of standing processor memory (with_signals kernel (with_pending kernel.signals signal queue)) coming idle) i (action_at kernel.signals signal)) (some_is there)
+        ap (λ (k : Kernel). delivered whole_end (within_of standing processor memory k coming idle) info (action_at kernel.signals signal)) is
+        ∙ ap (λ (i : Info). delivered whole_end (within_of standing processor memory (with_signals kernel (with_pending kernel.signals signal queue)) coming idle) i (action_at kernel.signals signal)) (some_is there)

@@ -2,7 +2,7 @@
 ghost use Rattle.std.specs.Prelude.{◌≡◌, Some};
 ghost use Rattle.bridge_delivery.specs.inside.Standings.{Finds, is_over};
 ghost use Rattle.kernel_model.specs.Stops.{StopsOnlyIfRose};
-ghost use Rattle.o32_turns.specs.Built.{built_end};
+ghost use Rattle.o32_turns.specs.Closing.{whole_end};
 ghost use Rattle.o32_turns.specs.Delivering as spec;
 ghost use Rattle.o32_turns.specs.Delivering.{fault_delivered, next_signal, next_taken};
 ghost use Rattle.o32_turns.specs.Going.{Carries, within_of};
@@ -42,7 +42,7 @@ pub fn deliver<I: Source, O: Sink, E: Sink>(
     log: &mut Log,
 ) -> Result<(), Stop>
     requires clock { k.old.clock ≡ clock }
-    ensures delivered { Carries (spec.deliver built_end) result
+    ensures delivered { Carries (spec.deliver whole_end) result
         (within_of going.old cpu.old space.old k.old) (within_of going.new cpu.new space.new k.new)
         (contents I.left O.written E.written dev.old) (contents I.left O.written E.written dev.new) }
     ensures cause { StopsOnlyIfRose I.faults O.faults E.faults result dev.old dev.new }
@@ -80,7 +80,7 @@ fn round<I: Source, O: Sink, E: Sink>(
     log: &mut Log,
 ) -> Result<(), Stop>
     requires { k.old.clock ≡ clock }
-    ensures delivered { Carries (λ within. spec.round_by built_end within within.machine.fault) result
+    ensures delivered { Carries (λ within. spec.round_by whole_end within within.machine.fault) result
         (within_of going.old cpu.old space.old k.old) (within_of going.new cpu.new space.new k.new)
         (contents I.left O.written E.written dev.old) (contents I.left O.written E.written dev.new) }
     ensures cause { StopsOnlyIfRose I.faults O.faults E.faults result dev.old dev.new }
@@ -106,7 +106,7 @@ fn take_fault<I: Source, O: Sink, E: Sink>(
     log: &mut Log,
 ) -> Result<(), Stop>
     requires { k.old.clock ≡ clock }
-    ensures delivered { Carries (λ within. spec.fault_taken built_end within info.now) result
+    ensures delivered { Carries (λ within. spec.fault_taken whole_end within info.now) result
         (within_of going.old cpu.old space.old k.old) (within_of going.new cpu.new space.new k.new)
         (contents I.left O.written E.written dev.old) (contents I.left O.written E.written dev.new) }
     ensures cause { StopsOnlyIfRose I.faults O.faults E.faults result dev.old dev.new }
@@ -137,7 +137,7 @@ fn deliver_fault<I: Source, O: Sink, E: Sink>(
 ) -> Result<(), Stop>
     requires { k.old.clock ≡ clock }
     ensures delivered { blocked ≡ k.old.signals.mask
-        → Carries (λ within. fault_delivered built_end within info.now action.now) result
+        → Carries (λ within. fault_delivered whole_end within info.now action.now) result
         (within_of going.old cpu.old space.old k.old) (within_of going.new cpu.new space.new k.new)
         (contents I.left O.written E.written dev.old) (contents I.left O.written E.written dev.new) }
     ensures cause { StopsOnlyIfRose I.faults O.faults E.faults result dev.old dev.new }
@@ -163,7 +163,7 @@ fn take_next<I: Source, O: Sink, E: Sink>(
     log: &mut Log,
 ) -> Result<(), Stop>
     requires { k.old.clock ≡ clock }
-    ensures delivered { Carries (λ within. next_taken built_end within (next_signal within.machine.kernel.signals)) result
+    ensures delivered { Carries (λ within. next_taken whole_end within (next_signal within.machine.kernel.signals)) result
         (within_of going.old cpu.old space.old k.old) (within_of going.new cpu.new space.new k.new)
         (contents I.left O.written E.written dev.old) (contents I.left O.written E.written dev.new) }
     ensures cause { StopsOnlyIfRose I.faults O.faults E.faults result dev.old dev.new }
@@ -207,7 +207,7 @@ fn take_signal<I: Source, O: Sink, E: Sink>(
     log: &mut Log,
 ) -> Result<(), Stop>
     requires { k.old.clock ≡ clock }
-    ensures delivered { Carries (λ within. next_taken built_end within (Some sig)) result
+    ensures delivered { Carries (λ within. next_taken whole_end within (Some sig)) result
         (within_of going.old cpu.old space.old k.old) (within_of going.new cpu.new space.new k.new)
         (contents I.left O.written E.written dev.old) (contents I.left O.written E.written dev.new) }
     ensures cause { StopsOnlyIfRose I.faults O.faults E.faults result dev.old dev.new }
@@ -235,7 +235,7 @@ fn deliver_sent<I: Source, O: Sink, E: Sink>(
     log: &mut Log,
 ) -> Result<(), Stop>
     requires { k.old.clock ≡ clock }
-    ensures delivered { Carries (λ within. spec.delivered built_end within info.now action.now) result
+    ensures delivered { Carries (λ within. spec.delivered whole_end within info.now action.now) result
         (within_of going.old cpu.old space.old k.old) (within_of going.new cpu.new space.new k.new)
         (contents I.left O.written E.written dev.old) (contents I.left O.written E.written dev.new) }
     ensures cause { StopsOnlyIfRose I.faults O.faults E.faults result dev.old dev.new }

@@ -2,7 +2,7 @@
 ghost use Rattle.std.specs.Prelude.{◌≡◌};
 ghost use Rattle.bridge_delivery.specs.inside.Standings.{Becomes};
 ghost use Rattle.kernel_model.specs.Stops.{StopsOnlyIfRose};
-ghost use Rattle.o32_turns.specs.Built.{built_end};
+ghost use Rattle.o32_turns.specs.Closing.{whole_end};
 ghost use Rattle.o32_turns.specs.Going.{Carries, within_of};
 ghost use Rattle.o32_turns.specs.Handling as spec;
 ghost use Rattle.o32_turns.specs.Handling.{begun, wait_left_by, without_action};
@@ -40,7 +40,7 @@ pub(crate) fn handle<I: Source, O: Sink, E: Sink>(
     log: &mut Log,
 ) -> Result<(), Stop>
     requires { k.old.clock ≡ clock }
-    ensures handled { Carries (λ within. spec.handled built_end within info.now action.now) result
+    ensures handled { Carries (λ within. spec.handled whole_end within info.now action.now) result
         (within_of going.old cpu.old space.old k.old) (within_of going.new cpu.new space.new k.new)
         (contents I.left O.written E.written dev.old) (contents I.left O.written E.written dev.new) }
     ensures cause { StopsOnlyIfRose I.faults O.faults E.faults result dev.old dev.new }
@@ -65,7 +65,7 @@ fn leave_wait<I: Source, O: Sink, E: Sink>(
     log: &mut Log,
 ) -> Result<(), Stop>
     requires { k.old.clock ≡ clock }
-    ensures left { Carries (λ within. wait_left_by built_end action.now within.machine.wait within) result
+    ensures left { Carries (λ within. wait_left_by whole_end action.now within.machine.wait within) result
         (within_of going.old cpu.old space.old k.old) (within_of going.new cpu.new space.new k.new)
         (contents I.left O.written E.written dev.old) (contents I.left O.written E.written dev.new) }
     ensures cause { StopsOnlyIfRose I.faults O.faults E.faults result dev.old dev.new }

@@ -4,6 +4,7 @@ use Rattle.std.specs.Prelude.{◌==◌, ◌||◌, ◌&&◌, not, length, Option,
 use Rattle.bridge_acceptance.specs.Ends.{Keeps}
 use Rattle.bridge_log.proofs.Histories.{logged_none}
 use Rattle.bridge_log.specs.Keeping.{Logged, reached}
+use Rattle.bridge_wait.specs.Numbers.{is_sleep}
 use Rattle.guest_space.specs.Memory.{Memory, Pages}
 use Rattle.kernel_core.specs.declared.log_entry.LogEntry.{LogEntry}
 use Rattle.kernel_model.specs.Clock.{left_until}
@@ -19,7 +20,6 @@ use Rattle.o32_model.specs.WaitEnds.{Sleeping, WaitEnd, interrupted, interrupted
 use Rattle.o32_model.specs.declared.wait.Cause.{Cause}
 use Rattle.o32_model.specs.declared.wait.Cause.TheVariants.{Due, Accepted, Handler, Stopped}
 use Rattle.o32_model.specs.declared.wait.Wait.{Wait}
-use Rattle.o32_turns.specs.Built.{is_sleep}
 
 -- A sleep makes no native call, and its end leaves the kernel.
 

@@ -17,7 +17,7 @@ use Rattle.kernel_model.specs.declared.signal.Post.{Post}
 use Rattle.mips_exec.specs.Processor.{Processor}
 use Rattle.o32_model.specs.SignalWaitEnds.{named_signals}
 use Rattle.o32_model.specs.declared.wait.Wait.{Wait}
-use Rattle.o32_turns.specs.Built.{built}
+use Rattle.o32_turns.specs.Turn.{whole}
 use Rattle.o32_turns.specs.Going.{Standing, within_of}
 use Rattle.o32_turns.specs.Machine.{Machine}
 use Rattle.o32_turns.specs.Posting.{after_post, awaited_by, expiry_events, post_event, timer_posted, waits_for}
@@ -30,7 +30,7 @@ names_as interrupted machine None is = refl
 names_as interrupted machine (Some wait) is = ap (λ (b : Bool). if b then [] else named_signals machine.memory wait) (sym is)
 
 pub waits_as : (going : Standing) (processor : Processor) (memory : Memory) (kernel : Kernel) (coming : List Due) (idle : ℕ) (signal : Sig)
-    → list_any (λ (other : Sig). place other == place signal) (names going.interrupted memory going.wait) ≡ waits_for built (within_of going processor memory kernel coming idle).machine signal
+    → list_any (λ (other : Sig). place other == place signal) (names going.interrupted memory going.wait) ≡ waits_for whole (within_of going processor memory kernel coming idle).machine signal
 waits_as going processor memory kernel coming idle signal =
     ap (list_any (λ (other : Sig). place other == place signal))
     (names_as going.interrupted (within_of going processor memory kernel coming idle).machine going.wait refl)
@@ -75,10 +75,10 @@ told_of old clock period (Some time) =
     ∙ ap (λ (e : List Event). record old { events = old.events ++ e }) (expires (nat_le time clock && comes time) (next_due clock time period))
 
 pub after_timer : (old new : Standing) (processor : Processor) (memory : Memory) (kernel became : Kernel) (clock : ℕ) (coming : List Due) (idle : ℕ) (kept : Bool)
-    → kept ≡ waits_for built (within_of old processor memory (record kernel { clock = clock }) coming idle).machine sigs.Alrm
+    → kept ≡ waits_for whole (within_of old processor memory (record kernel { clock = clock }) coming idle).machine sigs.Alrm
     → became ≡ advance kernel clock kept → new ≡ timer_told old clock (next_time kernel.timer)
-    → within_of new processor memory became coming idle ≡ timer_posted built (within_of old processor memory (record kernel { clock = clock }) coming idle)
+    → within_of new processor memory became coming idle ≡ timer_posted whole (within_of old processor memory (record kernel { clock = clock }) coming idle)
 unfolding advance
 after_timer old new processor memory kernel became clock coming idle kept awaited row told =
     ap (λ (k : Kernel). within_of new processor memory k coming idle) (row ∙ ap (advance kernel clock) awaited)
-    ∙ ap (λ (s : Standing). within_of s processor memory (advance kernel clock (waits_for built (within_of old processor memory (record kernel { clock = clock }) coming idle).machine sigs.Alrm)) coming idle) (told ∙ told_of old clock kernel.timer.period kernel.timer.due)
+    ∙ ap (λ (s : Standing). within_of s processor memory (advance kernel clock (waits_for whole (within_of old processor memory (record kernel { clock = clock }) coming idle).machine sigs.Alrm)) coming idle) (told ∙ told_of old clock kernel.timer.period kernel.timer.due)

@@ -1,8 +1,10 @@
 -- An end that is the same as another, and the machine behind it.
-use Rattle.std.proofs.Common.{◌≡◌, ◌∙◌, Bool, true, false, subst, sym, ap, refl}
-use Rattle.std.specs.Prelude.{◌==◌, Result, if◌then◌else◌}
+use Rattle.std.proofs.Common.{◌≡◌, ◌∙◌, ℕ, Bool, true, false, subst, sym, ap, refl}
+use Rattle.std.specs.Prelude.{◌==◌, ◌||◌, Result, if◌then◌else◌}
 use Rattle.bridge_acceptance.specs.Ends.{Closes}
 use Rattle.bridge_ends.specs.inside.Endings.{old_mask, suspension_end}
+use Rattle.bridge_select.specs.Ends.{select_ended}
+use Rattle.bridge_wait.specs.Numbers.{is_sleep}
 use Rattle.guest_space.specs.Memory.{Memory}
 use Rattle.kernel_core.specs.declared.core_error.Stop.{Stop}
 use Rattle.kernel_model.specs.State.{Kernel}
@@ -12,8 +14,7 @@ use Rattle.o32_model.specs.declared.wait.Cause.{Cause}
 use Rattle.o32_model.specs.declared.wait.Cause.TheVariants.{Due, Accepted, Handler, Stopped}
 use Rattle.o32_model.specs.declared.wait.Close.{Close}
 use Rattle.o32_model.specs.declared.wait.Wait.{Wait}
-use Rattle.o32_turns.specs.Built.{built_end, is_sleep}
-use Rattle.o32_turns.specs.Closing.{is_one_of, transfer_waits}
+use Rattle.o32_turns.specs.Closing.{is_one_of, signal_waits, transfer_waits, whole_end}
 use Rattle.outside.specs.Streams.{Contents}
 
 pub closes_as : (end other : WaitEnd) (result : Result Close Stop) (kernel : Kernel) (memory : Memory) (before after : Contents) → other ≡ end
@@ -28,14 +29,39 @@ suspended wait Accepted kernel memory = refl
 suspended wait Handler kernel memory = refl
 suspended wait Stopped kernel memory = refl
 
--- neither a sleep nor a transfer
-pub by_signals : (restarts : Bool) (wait : Wait) (cause : Cause) (kernel : Kernel) (memory : Memory) → is_sleep wait.nr ≡ false
-    → is_one_of transfer_waits wait ≡ false → built_end restarts wait cause kernel memory ≡ signal_wait_ended wait cause kernel memory
-by_signals restarts wait cause kernel memory no_sleep no_transfer =
-    let signals = signal_wait_ended wait cause kernel memory in
+-- an end of a wait for signals, and one of a sleep or of a wait for descriptors
+
+pub by_signals : (restarts : Bool) (wait : Wait) (cause : Cause) (kernel : Kernel) (memory : Memory) → is_one_of transfer_waits wait ≡ false
+    → is_one_of signal_waits wait ≡ true → whole_end restarts wait cause kernel memory ≡ signal_wait_ended wait cause kernel memory
+by_signals restarts wait cause kernel memory no_transfer signals =
+    let signalled = signal_wait_ended wait cause kernel memory in
+    let timed = wait_ended wait cause kernel.clock kernel memory in
     let moved = ends_with (transfer_ended restarts wait cause) kernel memory in
-    ap (λ (b : Bool). if b then wait_ended wait cause kernel.clock kernel memory else (if is_one_of transfer_waits wait then moved else signals)) no_sleep
-    ∙ ap (λ (b : Bool). if b then moved else signals) no_transfer
+    ap (λ (b : Bool). if b then moved else (if is_one_of signal_waits wait then signalled else timed)) no_transfer
+    ∙ ap (λ (b : Bool). if b then signalled else timed) signals
+
+pub by_time : (restarts : Bool) (wait : Wait) (cause : Cause) (kernel : Kernel) (memory : Memory) (clock : ℕ) → kernel.clock ≡ clock
+    → is_one_of transfer_waits wait ≡ false → is_one_of signal_waits wait ≡ false
+    → whole_end restarts wait cause kernel memory ≡ wait_ended wait cause clock kernel memory
+by_time restarts wait cause kernel memory clock now no_transfer no_signals =
+    let signalled = signal_wait_ended wait cause kernel memory in
+    let timed = wait_ended wait cause kernel.clock kernel memory in
+    let moved = ends_with (transfer_ended restarts wait cause) kernel memory in
+    ap (λ (b : Bool). if b then moved else (if is_one_of signal_waits wait then signalled else timed)) no_transfer
+    ∙ ap (λ (b : Bool). if b then signalled else timed) no_signals
+    ∙ ap (λ (n : ℕ). wait_ended wait cause n kernel memory) now
+
+neither : (one other : Bool) → (one || other) ≡ false → (one ≡ false) × (other ≡ false)
+neither true other none = absurd cc
+neither false other none = (refl, none)
+
+-- neither a sleep nor poll(2) or ppoll(2)
+pub by_select : (wait : Wait) (cause : Cause) (clock : ℕ) (kernel : Kernel) (memory : Memory) → is_sleep wait.nr ≡ false
+    → ((wait.nr == 4188) || (wait.nr == 4302)) ≡ false → wait_ended wait cause clock kernel memory ≡ select_ended wait cause clock kernel memory
+by_select wait cause clock kernel memory no_sleep no_poll =
+    let sleeps = neither (wait.nr == 4166) (wait.nr == 4265) no_sleep in
+    let polls = neither (wait.nr == 4188) (wait.nr == 4302) no_poll in
+    rw (sleeps.0, sleeps.1, polls.0, polls.1) refl
 
 -- one of rt_sigtimedwait(2), and another
 

@@ -2,7 +2,7 @@
 use Rattle.std.specs.Prelude.{Bool, Option, Some, None}
 use Rattle.o32_model.specs.declared.wait.Cause.{Cause}
 use Rattle.o32_model.specs.declared.wait.Wait.{Wait}
-use Rattle.o32_turns.specs.Built.{built_end}
+use Rattle.o32_turns.specs.Closing.{whole_end}
 use Rattle.o32_turns.specs.Closing.{wait_over}
 use Rattle.o32_turns.specs.Machine.{Within, with_change}
 
@@ -11,4 +11,4 @@ abbrev pub ended_wait : Bool → Cause → Within → Option Wait → Within
 ended_wait restarts cause within None = within
 ended_wait restarts cause within (Some wait) =
     with_change within
-    (wait_over wait (built_end restarts wait cause within.machine.kernel within.machine.memory) within.machine)
+    (wait_over wait (whole_end restarts wait cause within.machine.kernel within.machine.memory) within.machine)

@@ -3,17 +3,19 @@ ghost use Rattle.std.specs.Prelude.{◌≡◌};
 ghost use Rattle.bridge_acceptance.specs.Ends.{Closes, KeepsEnd};
 ghost use Rattle.bridge_ends.specs.Ended.{ended_wait};
 ghost use Rattle.bridge_ends.specs.inside.Endings.{old_mask, suspension_end};
+ghost use Rattle.bridge_wait.specs.Numbers.{is_sleep};
 ghost use Rattle.guest_space.specs.Memory.{Memory, Pages};
 ghost use Rattle.kernel_model.specs.Stops.{StopsOnlyIfRose};
 ghost use Rattle.o32_model.specs.SignalWaitEnds.{signal_wait_ended, suspension_ended, transfer_ended};
-ghost use Rattle.o32_model.specs.WaitEnds.{ends_with, with_old_mask};
-ghost use Rattle.o32_turns.specs.Built.{built_end, is_sleep};
-ghost use Rattle.o32_turns.specs.Closing.{is_one_of, transfer_waits};
+ghost use Rattle.o32_model.specs.WaitEnds.{ends_with, wait_ended, with_old_mask};
+ghost use Rattle.o32_turns.specs.Closing.{is_one_of, signal_waits, transfer_waits, whole_end};
 ghost use Rattle.o32_turns.specs.Going.{Carries, within_of};
 ghost use Rattle.outside.specs.Streams.{NoCountFell, contents};
 
 use crate::closing::close;
 use bridge_acceptance::{acceptance_end, is_acceptance_call};
+use bridge_poll::{is_poll_call, poll_end};
+use bridge_select::select_end;
 use bridge_signal_state::set_mask;
 use bridge_wait::wait_end;
 use guest_space::Space;
@@ -72,27 +74,20 @@ fn wait_close<I: Source, O: Sink, E: Sink>(
     log: &mut Log,
 ) -> Result<Close, Stop>
     requires { k.old.clock ≡ clock }
-    ensures ends { Closes (built_end restarts wait.now cause k.old space.old) result k.new space.new
+    ensures ends { Closes (whole_end restarts wait.now cause k.old space.old) result k.new space.new
         (contents I.left O.written E.written dev.old) (contents I.left O.written E.written dev.new) }
     ensures kept { KeepsEnd result (I.left dev.old.input) k.old k.new space.old.pages space.new.pages log.old log.new }
     ensures cause { StopsOnlyIfRose I.faults O.faults E.faults result dev.old dev.new }
     ensures counts { NoCountFell I.faults O.faults E.faults dev.old dev.new }
     ensures clock { k.new.clock ≡ clock }
 {
-    if is_sleep(wait.nr) {
-        return wait_end(wait, cause, clock, space, k, mem, log);
-    }
     if is_transfer(wait) {
         return Ok(transfer_close(restarts, wait, cause));
     }
-    signal_wait_close(wait, cause, space, k, mem, dev, log)
-}
-
-/// Whether a call's wait is that of a sleep: nanosleep(2), clock_nanosleep(2).
-fn is_sleep(number: u32) -> bool
-    ensures { result ≡ is_sleep number }
-{
-    number == 4166 || number == 4265
+    if is_signal_wait(wait) {
+        return signal_wait_close(wait, cause, space, k, mem, dev, log);
+    }
+    timed_wait_close(wait, cause, clock, space, k, mem, dev, log)
 }
 
 /// Whether a wait is that of a transfer: read(2), write(2), readv(2), writev(2).
@@ -114,6 +109,47 @@ fn transfer_close(restarts: bool, wait: &Wait, cause: Cause) -> Close
         Cause::Handler if !restarts => Close::Error(Errno::EINTR),
         _ => Close::Again,
     }
+}
+
+/// Whether a wait is one for signals: pause(2), sigtimedwait(2), sigsuspend(2).
+fn is_signal_wait(wait: &Wait) -> bool
+    ensures { result ≡ is_one_of signal_waits wait.now }
+{
+    matches!(wait.nr, 4029 | 4197 | 4199)
+}
+
+/// The end of a sleep, or of a wait for descriptors.
+fn timed_wait_close<I: Source, O: Sink, E: Sink>(
+    wait: &Wait,
+    cause: Cause,
+    clock: u64,
+    space: &mut Space,
+    k: &mut NativeKernel,
+    mem: &mut HostMem,
+    dev: &mut Devices<I, O, E>,
+    log: &mut Log,
+) -> Result<Close, Stop>
+    ensures ends { Closes (wait_ended wait.now cause clock k.old space.old) result k.new space.new
+        (contents I.left O.written E.written dev.old) (contents I.left O.written E.written dev.new) }
+    ensures kept { KeepsEnd result (I.left dev.old.input) k.old k.new space.old.pages space.new.pages log.old log.new }
+    ensures cause { StopsOnlyIfRose I.faults O.faults E.faults result dev.old dev.new }
+    ensures counts { NoCountFell I.faults O.faults E.faults dev.old dev.new }
+    ensures clock { k.new.clock ≡ k.old.clock }
+{
+    if is_sleep(wait.nr) {
+        return wait_end(wait, cause, clock, space, k, mem, log);
+    }
+    if is_poll_call(wait.nr) {
+        return poll_end(wait, cause, clock, space, k, mem, dev, log);
+    }
+    select_end(wait, cause, clock, space, k, mem, dev, log)
+}
+
+/// Whether a call's wait is that of a sleep: nanosleep(2), clock_nanosleep(2).
+fn is_sleep(number: u32) -> bool
+    ensures { result ≡ is_sleep number }
+{
+    number == 4166 || number == 4265
 }
 
 /// The end of a wait for signals: of sigtimedwait(2), pause(2) and sigsuspend(2).

@@ -8,7 +8,7 @@ ghost use Rattle.kernel_model.specs.SignalRows.{info_of, parent_id};
 ghost use Rattle.kernel_model.specs.SignalSets.{place};
 ghost use Rattle.kernel_model.specs.State.{Kernel};
 ghost use Rattle.mips_exec.specs.Processor.{Processor};
-ghost use Rattle.o32_turns.specs.Built.{built};
+ghost use Rattle.o32_turns.specs.Turn.{whole};
 ghost use Rattle.o32_turns.specs.Going.{within_of};
 ghost use Rattle.o32_turns.specs.Posting.{event_info, let_go, post_event, sent_to, timer_posted};
 ghost use Rattle.schedule.specs.declared.events.Due.{Due};
@@ -37,7 +37,7 @@ pub fn post_event(
 ) -> Result<(), NoMemory>
     ensures posts { OnOk result ((processor : Processor) (coming : List Due) (idle : ℕ)
         → within_of going.new processor space.now k.new coming idle
-        ≡ sent_to built (within_of going.old processor space.now k.old coming idle) (event_info due)) }
+        ≡ sent_to whole (within_of going.old processor space.now k.old coming idle) (event_info due)) }
     ensures clock { k.new.clock ≡ k.old.clock }
 {
     let info = event_info(due);
@@ -60,7 +60,7 @@ pub fn post_timer(
     requires later { k.old.clock ≤ clock }
     ensures posts { OnOk result ((processor : Processor) (coming : List Due) (idle : ℕ)
         → within_of going.new processor space.now k.new coming idle
-        ≡ timer_posted built (within_of going.old processor space.now (record k.old { clock = clock }) coming idle)) }
+        ≡ timer_posted whole (within_of going.old processor space.now (record k.old { clock = clock }) coming idle)) }
     ensures clock { k.new.clock ≡ clock }
 {
     let next = k.next_time();

@@ -1,7 +1,6 @@
--- A call's number in the groups that there are, and in the whole table.
-use Rattle.std.proofs.Common.{◌≡◌, ℕ, Bool, true, false, List, [], ◌∷◌, Option, Some, None, inl, inr, refl, sym, ap, subst, ◌∙◌, eqb-true}
-use Rattle.std.specs.List.{list_any}
-use Rattle.std.specs.Prelude.{⊤, ◌⊎◌, is_some, ◌==◌, ◌||◌, if◌then◌else◌}
+-- A call's number in the groups, and in the whole table.
+use Rattle.std.proofs.Common.{◌≡◌, ℕ, Bool, true, false, List, [], ◌∷◌, Option, Some, None, refl, sym, ap, subst, ◌∙◌, eqb-true}
+use Rattle.std.specs.Prelude.{⊤, is_some, ◌==◌, ◌||◌, if◌then◌else◌}
 use Rattle.bridge_entries.specs.Numbers.{is_entries_call}
 use Rattle.bridge_file.specs.Numbers.{is_call_there}
 use Rattle.bridge_open.specs.Numbers.{is_open_call}
@@ -10,16 +9,53 @@ use Rattle.bridge_status.specs.Numbers.{is_status_call}
 use Rattle.bridge_timer.specs.Numbers as timer
 use Rattle.bridge_wait.specs.Numbers as wait
 use Rattle.kernel_model.specs.State.{Kernel}
-use Rattle.o32_turns.specs.Built.{built_call, built_of, built_file_call_or, built_signal_call_or, built_time_call_or, file_numbers, is_file_call_built, is_signal_call_built, is_time_call_built}
+use Rattle.o32_model.specs.Actions.{action_calls}
+use Rattle.o32_model.specs.Clocks.{clock_calls}
 use Rattle.o32_model.specs.Descriptors.{descriptor_calls}
+use Rattle.o32_model.specs.Entries.{entry_calls}
 use Rattle.o32_model.specs.Mappings.{map_calls}
+use Rattle.o32_model.specs.Names.{name_calls}
+use Rattle.o32_model.specs.NodeCalls.{node_calls}
+use Rattle.o32_model.specs.Opening.{opening_calls}
+use Rattle.o32_model.specs.Polling.{poll_calls}
+use Rattle.o32_model.specs.Returns.{return_calls}
 use Rattle.o32_model.specs.Seeing.{SeeingCall}
+use Rattle.o32_model.specs.Selecting.{select_calls}
+use Rattle.o32_model.specs.Sending.{sending_calls}
+use Rattle.o32_model.specs.Sleeps.{sleep_calls}
 use Rattle.o32_model.specs.Small.{small_calls}
+use Rattle.o32_model.specs.Status.{status_calls}
 use Rattle.o32_model.specs.Step.{Guest, O32Call}
-use Rattle.o32_model.specs.Table.{call_in, call_of, file_call_or, is_io_call, is_map_call, machine_call, o32_call, seeing_call_of, seeing_step_of, signal_call_or, step_of, wait_call_or}
+use Rattle.o32_model.specs.Suspending.{suspending_calls}
+use Rattle.o32_model.specs.Table.{call_in, call_of, file_call_or, is_file_call, is_io_call, is_map_call, machine_call, o32_call, seeing_call_of, seeing_step_of, signal_call_or, step_of, wait_call_or}
 use Rattle.o32_model.specs.Terminal.{terminal_calls}
 use Rattle.o32_model.specs.Transfers.{transfer_calls}
 use Rattle.o32_model.specs.declared.wait.Seen.{Seen}
+
+-- A number that is found in a list is found, whatever stands behind it.
+
+found_first : (call : O32Call) (rest other : Option O32Call) (b : Bool) → is_some (if b then Some call else rest) ≡ true → (is_some rest ≡ true → is_some other ≡ true)
+    → is_some (if b then Some call else other) ≡ true
+found_first call rest other true there more = refl
+found_first call rest other false there more = more there
+
+found_in : (calls : List O32Call) (rest other : Option O32Call) (number : ℕ) → (is_some rest ≡ true → is_some other ≡ true)
+    → is_some (call_in calls rest number) ≡ true → is_some (call_in calls other number) ≡ true
+found_in [] rest other number behind there = behind there
+found_in (call ∷ calls) rest other number behind there =
+    found_first call (call_in calls rest number) (call_in calls other number) (number == call.number) there (found_in calls rest other number behind)
+
+-- one that is found behind a list is found
+found_first_or : (call : O32Call) (rest : Option O32Call) (b : Bool) → is_some rest ≡ true → is_some (if b then Some call else rest) ≡ true
+found_first_or call rest true there = refl
+found_first_or call rest false there = there
+
+behind : (calls : List O32Call) (rest : Option O32Call) (number : ℕ) → is_some rest ≡ true → is_some (call_in calls rest number) ≡ true
+behind [] rest number there = there
+behind (call ∷ calls) rest number there = found_first_or call (call_in calls rest number) (number == call.number) (behind calls rest number there)
+
+nowhere : (other : Option O32Call) → is_some {A = O32Call} None ≡ true → is_some other ≡ true
+nowhere other there = absurd cc
 
 -- what is so of each number of a list
 
@@ -40,21 +76,6 @@ in_list [] otherwise number P each behind there = behind there
 in_list (call ∷ calls) otherwise number P each behind there =
     one_or call (call_in calls otherwise number) number P each.0 (in_list calls otherwise number P each.1 behind) (number == call.number) refl there
 
--- the same of a list of numbers
-
-abbrev EachNumber : (ℕ → Type 0) → List ℕ → Type 0
-EachNumber P [] = ⊤
-EachNumber P (number ∷ numbers) = P number × EachNumber P numbers
-
-one_number : (one number : ℕ) (rest : Bool) (P : ℕ → Type 0) → P one → (rest ≡ true → P number) → (b : Bool) → (number == one) ≡ b → (b || rest) ≡ true → P number
-one_number one number rest P at more true e there = subst P (sym (eqb-true number one e)) at
-one_number one number rest P at more false e there = more there
-
-among : (numbers : List ℕ) (number : ℕ) (P : ℕ → Type 0) → EachNumber P numbers → list_any (λ (built : ℕ). number == built) numbers ≡ true → P number
-among [] number P each there = absurd cc
-among (one ∷ numbers) number P each there =
-    one_number one number (list_any (λ (built : ℕ). number == built) numbers) P each.0 (among numbers number P each.1) (number == one) refl there
-
 -- one that is not found is none of the list, and stands nowhere behind it
 
 abbrev IsNot : Option O32Call → Option O32Call → Option O32Call → Type 0
@@ -74,147 +95,102 @@ none_of : (found : Option O32Call) → is_some found ≡ false → found ≡ Non
 none_of None none = refl
 none_of (Some call) none = absurd cc
 
--- the groups have what the whole table has
+-- The groups have what the whole table has.
+
+-- a number of a group, in the whole table
+
+io_there : (number : ℕ) → is_io_call number ≡ true → is_some (call_of number) ≡ true
+io_there number there =
+    let signals = signal_call_or (call_in map_calls None number) number in
+    let others = call_in small_calls (file_call_or (wait_call_or signals number) number) number in
+    found_in transfer_calls (call_in descriptor_calls (call_in terminal_calls None number) number) (call_in descriptor_calls (call_in terminal_calls others number) number) number
+    (found_in descriptor_calls (call_in terminal_calls None number) (call_in terminal_calls others number) number
+    (found_in terminal_calls None others number (nowhere others))) there
+
+behind_small : (rest : Option O32Call) (number : ℕ) → is_some rest ≡ true
+    → is_some (call_in transfer_calls (call_in descriptor_calls (call_in terminal_calls (call_in small_calls rest number) number) number) number) ≡ true
+behind_small rest number there =
+    let small = call_in small_calls rest number in
+    behind transfer_calls (call_in descriptor_calls (call_in terminal_calls small number) number) number
+    (behind descriptor_calls (call_in terminal_calls small number) number
+    (behind terminal_calls small number
+    (behind small_calls rest number there)))
+
+file_there : (number : ℕ) → is_file_call number ≡ true → is_some (call_of number) ≡ true
+file_there number there =
+    let others = wait_call_or (signal_call_or (call_in map_calls None number) number) number in
+    behind_small (file_call_or others number) number
+    (found_in opening_calls (call_in status_calls (call_in entry_calls (call_in name_calls (call_in node_calls None number) number) number) number)
+    (call_in status_calls (call_in entry_calls (call_in name_calls (call_in node_calls others number) number) number) number) number
+    (found_in status_calls (call_in entry_calls (call_in name_calls (call_in node_calls None number) number) number)
+    (call_in entry_calls (call_in name_calls (call_in node_calls others number) number) number) number
+    (found_in entry_calls (call_in name_calls (call_in node_calls None number) number) (call_in name_calls (call_in node_calls others number) number) number
+    (found_in name_calls (call_in node_calls None number) (call_in node_calls others number) number
+    (found_in node_calls None others number (nowhere others))))) there)
+
+map_there : (number : ℕ) → is_map_call number ≡ true → is_some (call_of number) ≡ true
+map_there number there =
+    let last = call_in map_calls None number in
+    let signals = signal_call_or last number in
+    let times = wait_call_or signals number in
+    behind_small (file_call_or times number) number
+    (behind opening_calls (call_in status_calls (call_in entry_calls (call_in name_calls (call_in node_calls times number) number) number) number) number
+    (behind status_calls (call_in entry_calls (call_in name_calls (call_in node_calls times number) number) number) number
+    (behind entry_calls (call_in name_calls (call_in node_calls times number) number) number
+    (behind name_calls (call_in node_calls times number) number
+    (behind node_calls times number
+    (behind clock_calls (call_in sleep_calls (call_in poll_calls (call_in select_calls signals number) number) number) number
+    (behind sleep_calls (call_in poll_calls (call_in select_calls signals number) number) number
+    (behind poll_calls (call_in select_calls signals number) number
+    (behind select_calls signals number
+    (behind sending_calls (call_in action_calls (call_in suspending_calls (call_in return_calls last number) number) number) number
+    (behind action_calls (call_in suspending_calls (call_in return_calls last number) number) number
+    (behind suspending_calls (call_in return_calls last number) number
+    (behind return_calls last number there)))))))))))))
 
 module _ (seen : Seen) (kernel : Kernel) (guest : Guest) (left : List ℕ) where
-  abbrev IsSame : ℕ → Type 0
-  IsSame number = step_of (call_of number) kernel guest left ≡ seeing_step_of (built_of number) (seeing_call_of number) seen kernel guest left
+  of_the_table : (found : Option O32Call) (other : Option SeeingCall) → is_some found ≡ true → step_of found kernel guest left ≡ seeing_step_of found other seen kernel guest left
+  of_the_table None other there = absurd cc
+  of_the_table (Some call) other there = refl
 
-  transfers_same : EachIs IsSame transfer_calls
-  transfers_same = (refl, (refl, (refl, (refl, (refl, (refl, tt))))))
+  pub io_call_same : is_io_call guest.words.nr ≡ true → o32_call kernel guest left ≡ machine_call seen kernel guest left
+  io_call_same there = of_the_table (call_of guest.words.nr) (seeing_call_of guest.words.nr) (io_there guest.words.nr there)
 
-  descriptors_same : EachIs IsSame descriptor_calls
-  descriptors_same = (refl, (refl, (refl, (refl, (refl, (refl, (refl, (refl, tt))))))))
+  pub file_call_same : is_file_call guest.words.nr ≡ true → o32_call kernel guest left ≡ machine_call seen kernel guest left
+  file_call_same there = of_the_table (call_of guest.words.nr) (seeing_call_of guest.words.nr) (file_there guest.words.nr there)
 
-  terminal_same : EachIs IsSame terminal_calls
-  terminal_same = (refl, tt)
+  pub map_call_same : is_map_call guest.words.nr ≡ true → o32_call kernel guest left ≡ machine_call seen kernel guest left
+  map_call_same there = of_the_table (call_of guest.words.nr) (seeing_call_of guest.words.nr) (map_there guest.words.nr there)
 
-  mappings_same : EachIs IsSame map_calls
-  mappings_same = (refl, (refl, (refl, (refl, (refl, (refl, (refl, (refl, tt))))))))
-
-  files_same : EachNumber IsSame file_numbers
-  files_same = (refl, (refl, (refl, (refl, (refl, (refl, (refl, (refl, (refl, (refl, (refl, (refl, (refl, (refl, (refl, (refl, (refl, (refl, (refl, (refl, (refl, (refl, (refl, (refl, (refl, (refl, (refl, (refl, (refl, (refl, (refl, (refl, (refl, (refl, (refl, (refl, (refl, (refl, (refl, (refl, (refl, (refl, (refl, tt)))))))))))))))))))))))))))))))))))))))))))
-
-  io_same : (number : ℕ) → is_io_call number ≡ true → IsSame number
-  io_same number there =
-      in_list transfer_calls (call_in descriptor_calls (call_in terminal_calls None number) number) number IsSame transfers_same (λ behind.
-      in_list descriptor_calls (call_in terminal_calls None number) number IsSame descriptors_same (λ last.
-      in_list terminal_calls None number IsSame terminal_same (λ none. absurd (let wrong : false ≡ true = none in cc)) last) behind) there
-
-  map_same : (number : ℕ) → is_map_call number ≡ true → IsSame number
-  map_same number there = in_list map_calls None number IsSame mappings_same (λ none. absurd (let wrong : false ≡ true = none in cc)) there
-
-  -- so have the calls on time
-
-  abbrev IsSameTime : ℕ → Type 0
-  IsSameTime number = seeing_step_of (call_of number) (seeing_call_of number) seen kernel guest left ≡ seeing_step_of (built_of number) (seeing_call_of number) seen kernel guest left
-
-  at_number : (number one : ℕ) → IsSameTime one → (number == one) ≡ true → IsSameTime number
-  at_number number one same there = subst IsSameTime (sym (eqb-true number one there)) same
-
-  either : (one other : Bool) → (one || other) ≡ true → (one ≡ true) ⊎ (other ≡ true)
-  either true other there = inl refl
-  either false other there = inr there
-
-  or_last : (front : Bool) (number one : ℕ) → (front ≡ true → IsSameTime number) → IsSameTime one → (front || number == one) ≡ true → IsSameTime number
-  or_last front number one before same there = elim (either front (number == one) there) [ inl first ↦ before first | inr last ↦ at_number number one same last ]
-
-  time_same : (number : ℕ) → wait.is_call_there number ≡ true → IsSameTime number
-  time_same number there =
-      or_last (number == 4013 || number == 4078 || number == 4166 || number == 4263 || number == 4264) number 4265
-      (or_last (number == 4013 || number == 4078 || number == 4166 || number == 4263) number 4264
-      (or_last (number == 4013 || number == 4078 || number == 4166) number 4263
-      (or_last (number == 4013 || number == 4078) number 4166
-      (or_last (number == 4013) number 4078
-      (at_number number 4013 refl) refl) refl) refl) refl) refl there
-
-  timer_same : (number : ℕ) → timer.is_call_there number ≡ true → IsSameTime number
-  timer_same number there =
-      or_last (number == 4027 || number == 4104) number 4105
-      (or_last (number == 4027) number 4104
-      (at_number number 4027 refl) refl) refl there
-
-  -- and those on signals
-  signal_same : (number : ℕ) → signal.is_call_there number ≡ true → IsSameTime number
-  signal_same number there =
-      or_last (number == 4029 || number == 4037 || number == 4119 || number == 4193 || number == 4194 || number == 4195 || number == 4196 || number == 4198 || number == 4199 || number == 4206 || number == 4236 || number == 4253) number 4266
-      (or_last (number == 4029 || number == 4037 || number == 4119 || number == 4193 || number == 4194 || number == 4195 || number == 4196 || number == 4198 || number == 4199 || number == 4206 || number == 4236) number 4253
-      (or_last (number == 4029 || number == 4037 || number == 4119 || number == 4193 || number == 4194 || number == 4195 || number == 4196 || number == 4198 || number == 4199 || number == 4206) number 4236
-      (or_last (number == 4029 || number == 4037 || number == 4119 || number == 4193 || number == 4194 || number == 4195 || number == 4196 || number == 4198 || number == 4199) number 4206
-      (or_last (number == 4029 || number == 4037 || number == 4119 || number == 4193 || number == 4194 || number == 4195 || number == 4196 || number == 4198) number 4199
-      (or_last (number == 4029 || number == 4037 || number == 4119 || number == 4193 || number == 4194 || number == 4195 || number == 4196) number 4198
-      (or_last (number == 4029 || number == 4037 || number == 4119 || number == 4193 || number == 4194 || number == 4195) number 4196
-      (or_last (number == 4029 || number == 4037 || number == 4119 || number == 4193 || number == 4194) number 4195
-      (or_last (number == 4029 || number == 4037 || number == 4119 || number == 4193) number 4194
-      (or_last (number == 4029 || number == 4037 || number == 4119) number 4193
-      (or_last (number == 4029 || number == 4037) number 4119
-      (or_last (number == 4029) number 4037
-      (at_number number 4029 refl) refl) refl) refl) refl) refl) refl) refl) refl) refl) refl) refl) refl there
-
-  pub io_call_same : is_io_call guest.words.nr ≡ true → o32_call kernel guest left ≡ built_call seen kernel guest left
-  io_call_same there = io_same guest.words.nr there
-
-  pub file_call_same : is_file_call_built guest.words.nr ≡ true → o32_call kernel guest left ≡ built_call seen kernel guest left
-  file_call_same there = among file_numbers guest.words.nr IsSame files_same there
-
-  pub map_call_same : is_map_call guest.words.nr ≡ true → o32_call kernel guest left ≡ built_call seen kernel guest left
-  map_call_same there = map_same guest.words.nr there
-
-  pub time_call_same : wait.is_call_there guest.words.nr ≡ true → machine_call seen kernel guest left ≡ built_call seen kernel guest left
-  time_call_same there = time_same guest.words.nr there
-
-  pub timer_call_same : timer.is_call_there guest.words.nr ≡ true → machine_call seen kernel guest left ≡ built_call seen kernel guest left
-  timer_call_same there = timer_same guest.words.nr there
-
-  pub acceptance_call_same : (guest.words.nr == 4197) ≡ true → machine_call seen kernel guest left ≡ built_call seen kernel guest left
-  acceptance_call_same there = at_number guest.words.nr 4197 refl there
-
-  pub signal_call_same : signal.is_call_there guest.words.nr ≡ true → machine_call seen kernel guest left ≡ built_call seen kernel guest left
-  signal_call_same there = signal_same guest.words.nr there
-
--- a number that none of the calls on time and on signals has
-
--- none of some tests is true
+-- Calls on time and readiness, and on signals: a number that none of them has.
 
 neither : (one other : Bool) → (one || other) ≡ false → (one ≡ false) × (other ≡ false)
 neither true other none = absurd cc
 neither false other none = (refl, none)
 
-no_time : (a b c d e f g h i : Bool) → (a || b || c || d || e || f) ≡ false → (g || h || i) ≡ false
-    → ((a || (b || (c || (e || (f || (g || (h || (i || false)))))))) ≡ false) × (d ≡ false)
-no_time true b c d e f g h i none other = absurd cc
-no_time false true c d e f g h i none other = absurd cc
-no_time false false true d e f g h i none other = absurd cc
-no_time false false false true e f g h i none other = absurd cc
-no_time false false false false true f g h i none other = absurd cc
-no_time false false false false false true g h i none other = absurd cc
-no_time false false false false false false true h i none other = absurd cc
-no_time false false false false false false false true i none other = absurd cc
-no_time false false false false false false false false true none other = absurd cc
-no_time false false false false false false false false false none other = (refl, refl)
+abbrev is_poll_call : ℕ → Bool
+is_poll_call number = (number == 4188) || (number == 4302)
 
-not_time : (number : ℕ) → wait.is_call_there number ≡ false → timer.is_call_there number ≡ false → (is_time_call_built number ≡ false) × ((number == 4263) ≡ false)
-not_time number none other =
-    no_time (number == 4013) (number == 4078) (number == 4166) (number == 4263) (number == 4264) (number == 4265) (number == 4027) (number == 4104) (number == 4105) none other
+abbrev is_select_call : ℕ → Bool
+is_select_call number = (number == 4142) || (number == 4301)
 
--- the same list of tests, one way and the other
+no_time : (number : ℕ) (otherwise : Option O32Call) → wait.is_call_there number ≡ false → timer.is_call_there number ≡ false → is_poll_call number ≡ false → is_select_call number ≡ false
+    → (wait_call_or otherwise number ≡ otherwise) × ((number == 4263) ≡ false)
+no_time number otherwise no_wait no_timer no_poll no_select =
+    let time_4265 = neither (number == 4013 || number == 4078 || number == 4166 || number == 4263 || number == 4264) (number == 4265) no_wait in
+    let time_4264 = neither (number == 4013 || number == 4078 || number == 4166 || number == 4263) (number == 4264) time_4265.0 in
+    let time_4263 = neither (number == 4013 || number == 4078 || number == 4166) (number == 4263) time_4264.0 in
+    let time_4166 = neither (number == 4013 || number == 4078) (number == 4166) time_4263.0 in
+    let time_4078 = neither (number == 4013) (number == 4078) time_4166.0 in
+    let timer_4105 = neither (number == 4027 || number == 4104) (number == 4105) no_timer in
+    let timer_4104 = neither (number == 4027) (number == 4104) timer_4105.0 in
+    let poll_4302 = neither (number == 4188) (number == 4302) no_poll in
+    let select_4301 = neither (number == 4142) (number == 4301) no_select in
+    (rw (time_4078.0, time_4078.1, time_4264.1, timer_4104.0, timer_4104.1, timer_4105.1, time_4166.1, time_4265.1, poll_4302.0, poll_4302.1, select_4301.0, select_4301.1) refl, time_4263.1)
 
-abbrev all_false : List Bool → Type 0
-all_false [] = ⊤
-all_false (test ∷ tests) = (test ≡ false) × all_false tests
-
-any_of : List Bool → Bool
-any_of [] = false
-any_of (test ∷ tests) = test || any_of tests
-
-none_of_all : (tests : List Bool) → all_false tests → any_of tests ≡ false
-unfolding any_of
-none_of_all [] none = refl
-none_of_all (test ∷ tests) none = rw none.0 (none_of_all tests none.1)
-
-not_signal : (number : ℕ) → signal.is_call_there number ≡ false → (number == 4197) ≡ false → (is_signal_call_built number ≡ false) × ((number == 4253) ≡ false)
-unfolding any_of
-not_signal number none not_accepted =
+no_signal : (number : ℕ) (otherwise : Option O32Call) → signal.is_call_there number ≡ false → (number == 4197) ≡ false
+    → (signal_call_or otherwise number ≡ otherwise) × ((number == 4253) ≡ false)
+no_signal number otherwise none not_accepted =
     let test_4266 = neither (number == 4029 || number == 4037 || number == 4119 || number == 4193 || number == 4194 || number == 4195 || number == 4196 || number == 4198 || number == 4199 || number == 4206 || number == 4236 || number == 4253) (number == 4266) none in
     let test_4253 = neither (number == 4029 || number == 4037 || number == 4119 || number == 4193 || number == 4194 || number == 4195 || number == 4196 || number == 4198 || number == 4199 || number == 4206 || number == 4236) (number == 4253) test_4266.0 in
     let test_4236 = neither (number == 4029 || number == 4037 || number == 4119 || number == 4193 || number == 4194 || number == 4195 || number == 4196 || number == 4198 || number == 4199 || number == 4206) (number == 4236) test_4253.0 in
@@ -226,54 +202,88 @@ not_signal number none not_accepted =
     let test_4194 = neither (number == 4029 || number == 4037 || number == 4119 || number == 4193) (number == 4194) test_4195.0 in
     let test_4193 = neither (number == 4029 || number == 4037 || number == 4119) (number == 4193) test_4194.0 in
     let test_4119 = neither (number == 4029 || number == 4037) (number == 4119) test_4193.0 in
-    let test_4037 = neither (number == 4029) (number == 4037) test_4119.0 in (
-      none_of_all
-          ((number == 4037) ∷ (number == 4236) ∷ (number == 4266) ∷ (number == 4198) ∷ (number == 4194) ∷ (number == 4195) ∷ (number == 4196) ∷ (number == 4206) ∷ (number == 4029) ∷ (number == 4197) ∷ (number == 4199) ∷ (number == 4119) ∷ (number == 4193) ∷ [])
-          (test_4037.1, (test_4236.1, (test_4266.1, (test_4198.1, (test_4194.1, (test_4195.1, (test_4196.1, (test_4206.1, (test_4037.0, (not_accepted, (test_4199.1, (test_4119.1, (test_4193.1, tt))))))))))))),
-      test_4253.1,
-    )
+    let test_4037 = neither (number == 4029) (number == 4037) test_4119.0 in
+    (rw (test_4037.1, test_4198.1, test_4236.1, test_4266.1, test_4194.1, test_4195.1, test_4196.1, test_4206.1, test_4037.0, not_accepted, test_4199.1, test_4119.1, test_4193.1) refl, test_4253.1)
 
 -- what is in none of these groups is looked for among the small calls alone
 
-small_of : (number : ℕ) → is_io_call number ≡ false → is_file_call_built number ≡ false → wait.is_call_there number ≡ false → timer.is_call_there number ≡ false → signal.is_call_there number ≡ false → (number == 4197) ≡ false
-    → is_map_call number ≡ false → built_of number ≡ call_in small_calls None number
-small_of number no_io no_file no_time no_timer no_signal not_accepted no_map =
-    let last = call_in map_calls None number in
-    let signals = built_signal_call_or last number in
-    let times = built_time_call_or signals number in
-    let others = call_in small_calls (built_file_call_or times number) number in
-    let first = not_in transfer_calls (call_in descriptor_calls (call_in terminal_calls None number) number)
-    (call_in descriptor_calls (call_in terminal_calls others number) number) number no_io in
-    let second = not_in descriptor_calls (call_in terminal_calls None number) (call_in terminal_calls others number) number first.1 in
-    let third = not_in terminal_calls None others number second.1 in
-    first.0 ∙ second.0 ∙ third.0
-    ∙ ap (λ (b : Bool). call_in small_calls (if b then file_call_or times number else times) number) no_file
-    ∙ ap (λ (b : Bool). call_in small_calls (if b then wait_call_or signals number else signals) number) (not_time number no_time no_timer).0
-    ∙ ap (λ (b : Bool). call_in small_calls (if b then signal_call_or last number else last) number) (not_signal number no_signal not_accepted).0
-    ∙ ap (λ (o : Option O32Call). call_in small_calls o number) (none_of last no_map)
+no_file : (number : ℕ) (otherwise : Option O32Call) → is_file_call number ≡ false → file_call_or otherwise number ≡ otherwise
+no_file number otherwise none =
+    let first = not_in opening_calls (call_in status_calls (call_in entry_calls (call_in name_calls (call_in node_calls None number) number) number) number)
+    (call_in status_calls (call_in entry_calls (call_in name_calls (call_in node_calls otherwise number) number) number) number) number none in
+    let second = not_in status_calls (call_in entry_calls (call_in name_calls (call_in node_calls None number) number) number)
+    (call_in entry_calls (call_in name_calls (call_in node_calls otherwise number) number) number) number first.1 in
+    let third = not_in entry_calls (call_in name_calls (call_in node_calls None number) number) (call_in name_calls (call_in node_calls otherwise number) number) number second.1 in
+    let fourth = not_in name_calls (call_in node_calls None number) (call_in node_calls otherwise number) number third.1 in
+    let fifth = not_in node_calls None otherwise number fourth.1 in
+    first.0 ∙ second.0 ∙ third.0 ∙ fourth.0 ∙ fifth.0
 
-none_seeing : (number : ℕ) → wait.is_call_there number ≡ false → timer.is_call_there number ≡ false → signal.is_call_there number ≡ false → (number == 4197) ≡ false → seeing_call_of number ≡ None
-none_seeing number no_time no_timer no_signal not_accepted = rw ((not_time number no_time no_timer).1, (not_signal number no_signal not_accepted).1) refl
+no_io : (number : ℕ) (otherwise : Option O32Call) → is_io_call number ≡ false
+    → call_in transfer_calls (call_in descriptor_calls (call_in terminal_calls otherwise number) number) number ≡ otherwise
+no_io number otherwise none =
+    let first = not_in transfer_calls (call_in descriptor_calls (call_in terminal_calls None number) number)
+    (call_in descriptor_calls (call_in terminal_calls otherwise number) number) number none in
+    let second = not_in descriptor_calls (call_in terminal_calls None number) (call_in terminal_calls otherwise number) number first.1 in
+    let third = not_in terminal_calls None otherwise number second.1 in
+    first.0 ∙ second.0 ∙ third.0
+
+-- a number that is none of these
+pub record IsOther (number : ℕ) : Type 0 where
+  pub io : is_io_call number ≡ false
+  pub file : is_file_call number ≡ false
+  pub map : is_map_call number ≡ false
+  pub time : wait.is_call_there number ≡ false
+  pub timer : timer.is_call_there number ≡ false
+  pub poll : is_poll_call number ≡ false
+  pub select : is_select_call number ≡ false
+  pub accepted : (number == 4197) ≡ false
+  pub signal : signal.is_call_there number ≡ false
+
+small_of : (number : ℕ) → IsOther number → call_of number ≡ call_in small_calls None number
+small_of number other =
+    let last = call_in map_calls None number in
+    let signals = signal_call_or last number in
+    let times = wait_call_or signals number in
+    no_io number (call_in small_calls (file_call_or times number) number) other.io
+    ∙ ap (λ (o : Option O32Call). call_in small_calls o number)
+    (no_file number times other.file
+    ∙ (no_time number signals other.time other.timer other.poll other.select).0
+    ∙ (no_signal number last other.signal other.accepted).0
+    ∙ none_of last other.map)
+
+none_seeing : (number : ℕ) → IsOther number → seeing_call_of number ≡ None
+none_seeing number other =
+    rw ((no_time number None other.time other.timer other.poll other.select).1, (no_signal number None other.signal other.accepted).1) refl
 
 found_small : (seen : Seen) (kernel : Kernel) (guest : Guest) (left : List ℕ) (found : Option O32Call) → step_of found kernel guest left ≡ seeing_step_of found None seen kernel guest left
 found_small seen kernel guest left None = refl
 found_small seen kernel guest left (Some call) = refl
 
-pub small_call_same : (seen : Seen) (kernel : Kernel) (guest : Guest) (left : List ℕ) → is_io_call guest.words.nr ≡ false → is_file_call_built guest.words.nr ≡ false → wait.is_call_there guest.words.nr ≡ false
-    → timer.is_call_there guest.words.nr ≡ false → signal.is_call_there guest.words.nr ≡ false → (guest.words.nr == 4197) ≡ false → is_map_call guest.words.nr ≡ false
-    → step_of (call_in small_calls None guest.words.nr) kernel guest left ≡ built_call seen kernel guest left
-small_call_same seen kernel guest left no_io no_file no_time no_timer no_signal not_accepted no_map =
+pub small_call_same : (seen : Seen) (kernel : Kernel) (guest : Guest) (left : List ℕ) → IsOther guest.words.nr
+    → step_of (call_in small_calls None guest.words.nr) kernel guest left ≡ machine_call seen kernel guest left
+small_call_same seen kernel guest left other =
     found_small seen kernel guest left (call_in small_calls None guest.words.nr)
-    ∙ ap (λ (o : Option O32Call). seeing_step_of o None seen kernel guest left) (sym (small_of guest.words.nr no_io no_file no_time no_timer no_signal not_accepted no_map))
-    ∙ ap (λ (o : Option SeeingCall). seeing_step_of (built_of guest.words.nr) o seen kernel guest left) (sym (none_seeing guest.words.nr no_time no_timer no_signal not_accepted))
+    ∙ ap (λ (o : Option O32Call). seeing_step_of o None seen kernel guest left) (sym (small_of guest.words.nr other))
+    ∙ ap (λ (o : Option SeeingCall). seeing_step_of (call_of guest.words.nr) o seen kernel guest left) (sym (none_seeing guest.words.nr other))
 
 -- a call on files is made by one of four crates
 
 abbrev IsMade : ℕ → Type 0
 IsMade number = (is_open_call number || (is_status_call number || (is_entries_call number || is_call_there number))) ≡ true
 
-files_made : EachNumber IsMade file_numbers
-files_made = (refl, (refl, (refl, (refl, (refl, (refl, (refl, (refl, (refl, (refl, (refl, (refl, (refl, (refl, (refl, (refl, (refl, (refl, (refl, (refl, (refl, (refl, (refl, (refl, (refl, (refl, (refl, (refl, (refl, (refl, (refl, (refl, (refl, (refl, (refl, (refl, (refl, (refl, (refl, (refl, (refl, (refl, (refl, tt)))))))))))))))))))))))))))))))))))))))))))
+file_made : (number : ℕ) → is_file_call number ≡ true → IsMade number
+file_made number there =
+    in_list opening_calls (call_in status_calls (call_in entry_calls (call_in name_calls (call_in node_calls None number) number) number) number) number IsMade
+    (refl, (refl, (refl, (refl, (refl, tt))))) (λ second.
+    in_list status_calls (call_in entry_calls (call_in name_calls (call_in node_calls None number) number) number) number IsMade
+    (refl, (refl, (refl, (refl, (refl, (refl, (refl, tt))))))) (λ third.
+    in_list entry_calls (call_in name_calls (call_in node_calls None number) number) number IsMade
+    (refl, (refl, tt)) (λ fourth.
+    in_list name_calls (call_in node_calls None number) number IsMade
+    (refl, (refl, (refl, (refl, (refl, (refl, (refl, (refl, (refl, (refl, (refl, (refl, (refl, tt))))))))))))) (λ fifth.
+    in_list node_calls None number IsMade
+    (refl, (refl, (refl, (refl, (refl, (refl, (refl, (refl, (refl, (refl, (refl, (refl, (refl, (refl, (refl, (refl, tt)))))))))))))))) (λ none. absurd (let wrong : false ≡ true = none in cc))
+    fifth) fourth) third) second) there
 
 last_of : (one two three four : Bool) → (one || (two || (three || four))) ≡ true → one ≡ false → two ≡ false → three ≡ false → four ≡ true
 last_of false false false four made a b c = made
@@ -281,6 +291,6 @@ last_of true two three four made a b c = absurd cc
 last_of false true three four made a b c = absurd cc
 last_of false false true four made a b c = absurd cc
 
-pub path_call_there : (number : ℕ) → is_file_call_built number ≡ true → is_open_call number ≡ false → is_status_call number ≡ false → is_entries_call number ≡ false → is_call_there number ≡ true
+pub path_call_there : (number : ℕ) → is_file_call number ≡ true → is_open_call number ≡ false → is_status_call number ≡ false → is_entries_call number ≡ false → is_call_there number ≡ true
 path_call_there number there no_open no_status no_entries =
-    last_of (is_open_call number) (is_status_call number) (is_entries_call number) (is_call_there number) (among file_numbers number IsMade files_made there) no_open no_status no_entries
+    last_of (is_open_call number) (is_status_call number) (is_entries_call number) (is_call_there number) (file_made number there) no_open no_status no_entries

@@ -27,13 +27,13 @@ use Rattle.o32_model.specs.declared.wait.Wait.{Wait}
 use Rattle.kernel_core.specs.declared.info.Info.{Info}
 use Rattle.kernel_core.specs.declared.signal.Sig.{Sig}
 use Rattle.o32_turns.proofs.Still.{delivery_stays}
-use Rattle.o32_turns.specs.Built.{built, built_end}
+use Rattle.o32_turns.specs.Closing.{whole_end}
 use Rattle.o32_turns.specs.Delivering.{next_signal}
 use Rattle.o32_turns.specs.Instruction.{after_step, at_time, executed, stepped}
 use Rattle.o32_turns.specs.Machine.{Machine, Turn, Within, begin, with_machine}
 use Rattle.o32_turns.specs.Posting.{event_info, events_posted, expiry_events, sent_to, timer_posted}
 use Rattle.o32_turns.specs.Runs.{IsRunningAt, Reached, after_attempt, attempt, is_blocked, reached, unless_over}
-use Rattle.o32_turns.specs.Turn.{after_events, fifth_or_sixth, first_step, fourth_step, next_event, second_step, sooner, third_step, turn_of, unless_killed}
+use Rattle.o32_turns.specs.Turn.{after_events, fifth_or_sixth, first_step, fourth_step, next_event, second_step, sooner, third_step, turn_of, unless_killed, whole}
 use Rattle.outside.specs.Streams.{Contents}
 use Rattle.schedule.specs.declared.events.Due.{Due}
 
@@ -88,16 +88,16 @@ module _ (machine : Machine) where
       ∙ ap (λ (f : Option Info). record machine { wait = None; fault = f }) faults
       ∙ ap (λ (s : Bool). record machine { wait = None; fault = None; stopped = s }) stops
 
-  none_posted : (coming : List Due) → machine.coming ≡ coming → IsBefore machine.kernel.clock (next_event coming) → events_posted built coming (begin plain) ≡ begin plain
+  none_posted : (coming : List Due) → machine.coming ≡ coming → IsBefore machine.kernel.clock (next_event coming) → events_posted whole coming (begin plain) ≡ begin plain
   none_posted [] is before = ap (λ (list : List Due). begin (record plain { coming = list })) (sym is)
   none_posted (due ∷ more) is before =
       ap
-      (λ (b : Bool). if b then events_posted built more (sent_to built (begin plain) (event_info due))
+      (λ (b : Bool). if b then events_posted whole more (sent_to whole (begin plain) (event_info due))
       else with_machine (begin plain) (record plain { coming = due ∷ more }))
       (later_false due.time machine.kernel.clock before)
       ∙ ap (λ (list : List Due). begin (record plain { coming = list })) (sym is)
 
-  no_timer : gone_off machine.kernel.clock machine.kernel.timer ≡ None → timer_posted built (begin plain) ≡ begin plain
+  no_timer : gone_off machine.kernel.clock machine.kernel.timer ≡ None → timer_posted whole (begin plain) ≡ begin plain
   unfolding advance
   no_timer none =
       ap
@@ -107,31 +107,31 @@ module _ (machine : Machine) where
       })
       none
 
-  posts_nothing : IsBefore machine.kernel.clock (next_event machine.coming) → gone_off machine.kernel.clock machine.kernel.timer ≡ None → first_step built plain ≡ begin plain
-  posts_nothing before none = ap (timer_posted built) (none_posted machine.coming refl before) ∙ no_timer none
+  posts_nothing : IsBefore machine.kernel.clock (next_event machine.coming) → gone_off machine.kernel.clock machine.kernel.timer ≡ None → first_step whole plain ≡ begin plain
+  posts_nothing before none = ap (timer_posted whole) (none_posted machine.coming refl before) ∙ no_timer none
 
-  second_nothing : (interrupted : Bool) → second_step built (begin (record plain { interrupted = interrupted })) ≡ begin (record plain { interrupted = interrupted })
+  second_nothing : (interrupted : Bool) → second_step whole (begin (record plain { interrupted = interrupted })) ≡ begin (record plain { interrupted = interrupted })
   second_nothing true = refl
   second_nothing false = refl
 
-  fourth_nothing : (interrupted : Bool) → fourth_step built (begin (record plain { interrupted = interrupted })) ≡ begin (record plain { interrupted = interrupted })
+  fourth_nothing : (interrupted : Bool) → fourth_step whole (begin (record plain { interrupted = interrupted })) ≡ begin (record plain { interrupted = interrupted })
   fourth_nothing true = refl
   fourth_nothing false = refl
 
-  third_nothing : next_signal machine.kernel.signals ≡ None → third_step built (begin plain) ≡ begin plain
-  third_nothing none = delivery_stays built_end (begin plain) (ap (λ (signal : Option Sig). is_none signal) none)
+  third_nothing : next_signal machine.kernel.signals ≡ None → third_step whole (begin plain) ≡ begin plain
+  third_nothing none = delivery_stays whole_end (begin plain) (ap (λ (signal : Option Sig). is_none signal) none)
 
   module _ (quantum : ℕ) (left : List ℕ) where
     plain_turn : IsBefore machine.kernel.clock (next_event machine.coming) → gone_off machine.kernel.clock machine.kernel.timer ≡ None → next_signal machine.kernel.signals ≡ None
-        → turn_of quantum plain left ≡ executed built quantum plain left
+        → turn_of quantum plain left ≡ executed whole quantum plain left
     unfolding turn_of
     plain_turn before timer signals =
-        ap (λ (w : Within). unless_killed built quantum (third_step built (second_step built w)) left) (posts_nothing before timer)
-        ∙ ap (λ (w : Within). unless_killed built quantum (third_step built w) left) (second_nothing machine.interrupted)
-        ∙ ap (λ (w : Within). unless_killed built quantum w left) (third_nothing signals)
-        ∙ ap (λ (w : Within). fifth_or_sixth built quantum w left) (fourth_nothing machine.interrupted)
+        ap (λ (w : Within). unless_killed whole quantum (third_step whole (second_step whole w)) left) (posts_nothing before timer)
+        ∙ ap (λ (w : Within). unless_killed whole quantum (third_step whole w) left) (second_nothing machine.interrupted)
+        ∙ ap (λ (w : Within). unless_killed whole quantum w left) (third_nothing signals)
+        ∙ ap (λ (w : Within). fifth_or_sixth whole quantum w left) (fourth_nothing machine.interrupted)
 
-    pub one_instruction : (most : ℕ) → OnlyExecutes quantum machine most → turn_of quantum machine left ≡ executed built quantum machine left
+    pub one_instruction : (most : ℕ) → OnlyExecutes quantum machine most → turn_of quantum machine left ≡ executed whole quantum machine left
     one_instruction most only =
         let now = earlier machine.kernel.clock (machine.kernel.clock + most * quantum) (next_due machine) (omega arith) only.early in
         let events = before_first machine.kernel.clock (next_event machine.coming) (next_time machine.kernel.timer) now in
@@ -139,7 +139,7 @@ module _ (machine : Machine) where
         let same = plain_is only.waits only.faults only.stops in
         ap (λ (m : Machine). turn_of quantum m left) same
         ∙ plain_turn events (timer_quiet machine.kernel.clock machine.kernel.timer timer) only.delivers
-        ∙ ap (λ (m : Machine). executed built quantum m left) (sym same)
+        ∙ ap (λ (m : Machine). executed whole quantum m left) (sym same)
 
 -- Turns of that kind, one after the other
 
@@ -174,10 +174,10 @@ module _ (quantum : ℕ) (machine : Machine) where
 
     -- its turn
     pub turn_is : (k : ℕ) (left : List ℕ) (now : Processor) (kept : Memory) (next : Processor) (stored : Memory) (came : Stepped) → k ≤ most → Steps now kept came next stored
-        → turn_of quantum (here k now kept) left ≡ at_time (time_after k + quantum) (after_step built (here k next stored) came left)
+        → turn_of quantum (here k now kept) left ≡ at_time (time_after k + quantum) (after_step whole (here k next stored) came left)
     turn_is k left now kept next stored came few step =
         one_instruction (here k now kept) quantum left 0 (only_here k now kept few)
-        ∙ ap (λ (s : Step). at_time (time_after k + quantum) (after_step built (stepped (here k now kept) s.processor s.memory) s.came left)) step
+        ∙ ap (λ (s : Step). at_time (time_after k + quantum) (after_step whole (stepped (here k now kept) s.processor s.memory) s.came left)) step
 
     abbrev so_far : ℕ → List ℕ → Processor → Memory → Reached
     so_far k left now kept = record { machine = here k now kept; left = left; sent = nothing; over = None }
@@ -297,16 +297,16 @@ module _ (quantum limit : ℕ) (machine : Machine) (turns most k : ℕ) (only : 
     module _ (time : ℕ) (time_so : time ≡ machine.kernel.clock + k * quantum) (moved : ProcessState) (moved_is : machine_of moved ≡ record machine { processor = next; memory = stored; kernel = at_clock time machine.kernel })
         (none_yet : moved.going.events ≡ []) where
       abbrev defined : List ℕ → Turn
-      defined left = after_events moved.going.events (after_step built (machine_of moved) came left)
+      defined left = after_events moved.going.events (after_step whole (machine_of moved) came left)
 
       time_there : time ≡ time_after quantum machine k
       time_there = time_so ∙ sym (time_is quantum machine k)
 
       defined_here : (left : List ℕ) → at_time (time + quantum) (defined left) ≡ turn_of quantum middle left
       defined_here left =
-          ap (λ (list : List Event). at_time (time + quantum) (after_events list (after_step built (machine_of moved) came left))) none_yet
-          ∙ ap (λ (m : Machine). at_time (time + quantum) (after_step built m came left)) moved_is
-          ∙ ap (λ (n : ℕ). at_time (n + quantum) (after_step built (record machine { processor = next; memory = stored; kernel = at_clock n machine.kernel }) came left)) time_there
+          ap (λ (list : List Event). at_time (time + quantum) (after_events list (after_step whole (machine_of moved) came left))) none_yet
+          ∙ ap (λ (m : Machine). at_time (time + quantum) (after_step whole m came left)) moved_is
+          ∙ ap (λ (n : ℕ). at_time (n + quantum) (after_step whole (record machine { processor = next; memory = stored; kernel = at_clock n machine.kernel }) came left)) time_there
           ∙ sym (turn_is quantum machine most only k left stepped_there.0 stepped_there.1 next stored came few stepped_there.3)
 
       pub went_after : (turn : code.Turn) (became : Machine) (turns_then : ℕ) (events : List Event) (before after : Contents)
@@ -388,7 +388,7 @@ module _ (emulated : Emulated) (clock quantum turns : ℕ) (over : Bool) (proces
         all_is = moved_is ∙ ap (λ (p : ProcessState). record p { kernel = at_clock time p.kernel }) ran_is
 
         pub quick_went : (turn : code.Turn) (became : Machine) (turns_then : ℕ) (events : List Event) (before after : Contents)
-            → ((left : List ℕ) → before.left ≡ Some left → Turned (after_events moved.going.events (after_step built (machine_of moved) came left)) turn became events before after)
+            → ((left : List ℕ) → before.left ≡ Some left → Turned (after_events moved.going.events (after_step whole (machine_of moved) came left)) turn became events before after)
             → turns_of turn ≡ 1 → turns_then ≡ turns + k + 1 → AfterQuick (Ok turn) (machine_at (time + quantum) became) turns_then events before after
         quick_went turn became turns_then events before after answered one counted =
             of_emulated (Ok turn) (machine_at (time + quantum) became) turns_then events before after
@@ -396,7 +396,7 @@ module _ (emulated : Emulated) (clock quantum turns : ℕ) (over : Bool) (proces
             (ap machine_of all_is) (ap (λ (p : ProcessState). p.going.events) all_is) turn became turns_then events before after answered one counted)
 
         pub quick_stopped : (result : Result code.Turn Stop) (became : Machine) (turns_then : ℕ) (events : List Event) (before after : Contents)
-            → ((left : List ℕ) → before.left ≡ Some left → Stopped (after_events moved.going.events (after_step built (machine_of moved) came left)) before after)
+            → ((left : List ℕ) → before.left ≡ Some left → Stopped (after_events moved.going.events (after_step whole (machine_of moved) came left)) before after)
             → IsErr result → turns_then ≡ turns + k → AfterQuick result became turns_then events before after
         quick_stopped result became turns_then events before after answered failed counted =
             of_emulated result became turns_then events before after

@@ -18,10 +18,10 @@ use Rattle.o32_model.specs.Words.{call_words}
 use Rattle.o32_model.specs.declared.call_words.CallWords.{CallWords}
 use Rattle.o32_model.specs.declared.outcome.Outcome.{Outcome}
 use Rattle.o32_model.specs.declared.wait.Seen.{Seen}
-use Rattle.o32_turns.specs.Built.{built, built_call}
+use Rattle.o32_model.specs.Table.{machine_call}
 use Rattle.o32_turns.specs.Instruction.{after_call, after_outcome, at_time, behind, called, seen_of}
 use Rattle.o32_turns.specs.Machine.{Machine, Turn, Within}
-use Rattle.o32_turns.specs.Turn.{after_events}
+use Rattle.o32_turns.specs.Turn.{after_events, whole}
 use Rattle.outside.proofs.OutputLemmas.{GainsBetween-exact, GainsBetween-lower, GainsBetween-nothing, GainsText-nothing, IsPrefix-empty}
 use Rattle.outside.specs.Output.{GainsText}
 use Rattle.outside.specs.Streams.{Contents}
@@ -60,10 +60,10 @@ stops defined (Err stop) machine events before after failed stopped = stopped
 
 -- the words of the call are those that were read
 pub called_is : (machine : Machine) (seen : Seen) (words : CallWords) (left : List ℕ) → seen ≡ seen_of machine → words ≡ call_words machine.processor machine.memory
-    → called built machine left ≡ after_call machine words (built_call seen machine.kernel (found words machine.processor machine.memory) left)
+    → called whole machine left ≡ after_call machine words (machine_call seen machine.kernel (found words machine.processor machine.memory) left)
 called_is machine seen words left sees same =
-    ap (λ (w : CallWords). after_call machine w (built_call (seen_of machine) machine.kernel (found w machine.processor machine.memory) left)) (sym same)
-    ∙ ap (λ (s : Seen). after_call machine words (built_call s machine.kernel (found words machine.processor machine.memory) left)) (sym sees)
+    ap (λ (w : CallWords). after_call machine w (machine_call (seen_of machine) machine.kernel (found w machine.processor machine.memory) left)) (sym same)
+    ∙ ap (λ (s : Seen). after_call machine words (machine_call s machine.kernel (found words machine.processor machine.memory) left)) (sym sees)
 
 -- A call was carried out, which left the process so.
 module _ (words : CallWords) (process : ProcessState) (step : O32Step) (processor_left : ProcessState) (outcome : Outcome) (before after : Contents)
@@ -108,10 +108,10 @@ call_stopped front machine words step before after stopped = record { rest = sto
 module _ (now : ProcessState) (process : ProcessState) (seen : Seen) (words : CallWords) (left : List ℕ) (is : process ≡ now) (sees : seen ≡ seen_of (machine_of process))
     (read : words ≡ call_words process.processor process.memory) where
   abbrev its_step : O32Step
-  its_step = built_call seen process.kernel (found words process.processor process.memory) left
+  its_step = machine_call seen process.kernel (found words process.processor process.memory) left
 
   abbrev defined : ProcessState → Turn
-  defined state = after_events state.going.events (called built (machine_of state) left)
+  defined state = after_events state.going.events (called whole (machine_of state) left)
 
   defined_is : after_events process.going.events (after_call (machine_of process) words its_step) ≡ defined process
   defined_is = ap (after_events process.going.events) (sym (called_is (machine_of process) seen words left sees read))
@@ -166,21 +166,21 @@ not_due kernel clock none = ap (λ (gone : Option Timer). after_expiry (record k
 module _ (emulated : Emulated) (clock quantum turns : ℕ) (over : Bool) (process before_call : ProcessState)
     (is : record { machine = machine_at clock (machine_of process); quantum = quantum; turns = turns; over = over; events = process.going.events } ≡ emulated)
     (before_is : before_call ≡ record process { kernel = at_clock clock process.kernel; going = begun process.going }) (left : List ℕ) where
-  call_is : at_time clock (after_events before_call.going.events (called built (machine_of before_call) left)) ≡ at_time emulated.machine.kernel.clock (called built emulated.machine left)
+  call_is : at_time clock (after_events before_call.going.events (called whole (machine_of before_call) left)) ≡ at_time emulated.machine.kernel.clock (called whole emulated.machine left)
   call_is =
-      ap (λ (p : ProcessState). at_time clock (after_events p.going.events (called built (machine_of p) left))) before_is
-      ∙ ap (λ (e : Emulated). at_time e.machine.kernel.clock (called built e.machine left)) is
+      ap (λ (p : ProcessState). at_time clock (after_events p.going.events (called whole (machine_of p) left))) before_is
+      ∙ ap (λ (e : Emulated). at_time e.machine.kernel.clock (called whole e.machine left)) is
 
-  pub call_went : (turn : code.Turn) (became : Machine) (events : List Event) (before after : Contents) → Turned (after_events before_call.going.events (called built (machine_of before_call) left)) turn became events before after
-      → Turned (at_time emulated.machine.kernel.clock (called built emulated.machine left)) turn (machine_at clock became) events before after
+  pub call_went : (turn : code.Turn) (became : Machine) (events : List Event) (before after : Contents) → Turned (after_events before_call.going.events (called whole (machine_of before_call) left)) turn became events before after
+      → Turned (at_time emulated.machine.kernel.clock (called whole emulated.machine left)) turn (machine_at clock became) events before after
   call_went turn became events before after turned =
       subst (λ (t : Turn). Turned t turn (machine_at clock became) events before after) call_is
-      (at_time_answers clock (after_events before_call.going.events (called built (machine_of before_call) left)) turn became events before after turned)
+      (at_time_answers clock (after_events before_call.going.events (called whole (machine_of before_call) left)) turn became events before after turned)
 
   pub call_stopped_here : (result : Result code.Turn Stop) (became : Machine) (events : List Event) (before after : Contents) → IsErr result
-      → Stopped (after_events before_call.going.events (called built (machine_of before_call) left)) before after
-      → Answers (at_time emulated.machine.kernel.clock (called built emulated.machine left)) result became events before after
+      → Stopped (after_events before_call.going.events (called whole (machine_of before_call) left)) before after
+      → Answers (at_time emulated.machine.kernel.clock (called whole emulated.machine left)) result became events before after
   call_stopped_here result became events before after failed stopped =
       subst (λ (t : Turn). Answers t result became events before after) call_is
-      (stops (at_time clock (after_events before_call.going.events (called built (machine_of before_call) left))) result became events before after failed
-      (at_time_stopped clock (after_events before_call.going.events (called built (machine_of before_call) left)) before after stopped))
+      (stops (at_time clock (after_events before_call.going.events (called whole (machine_of before_call) left))) result became events before after failed
+      (at_time_stopped clock (after_events before_call.going.events (called whole (machine_of before_call) left)) before after stopped))

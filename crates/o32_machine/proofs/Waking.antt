@@ -17,10 +17,9 @@ use Rattle.o32_model.specs.Logs.{Kept}
 use Rattle.o32_model.specs.SignalWaitEnds.{named_signals}
 use Rattle.o32_model.specs.declared.wait.Cause.TheVariants.{Accepted, Due}
 use Rattle.o32_model.specs.declared.wait.Wait.{Wait}
-use Rattle.o32_turns.specs.Built.{built}
 use Rattle.o32_turns.specs.Machine.{Machine, Within, no_change, with_change}
 use Rattle.o32_turns.specs.Posting.{awaited_by}
-use Rattle.o32_turns.specs.Turn.{accepts, ended_by, ended_if_over, is_over_at, second_step}
+use Rattle.o32_turns.specs.Turn.{accepts, ended_by, ended_if_over, is_over_at, second_step, whole}
 use Rattle.outside.specs.Streams.{Contents}
 
 -- A look at the kernel
@@ -58,10 +57,10 @@ module _ (within : Within) where
   machine = within.machine
 
   abbrev step_by : Bool → Option Wait → Within
-  step_by held wait = if held then within else with_change within (ended_if_over built machine wait)
+  step_by held wait = if held then within else with_change within (ended_if_over whole machine wait)
 
   -- a call that is not held waits for the signals that it names
-  names_all : (wait : Wait) → (machine.stopped || machine.interrupted) ≡ false → machine.wait ≡ Some wait → accepts built machine ≡ accepts_by machine (Some wait)
+  names_all : (wait : Wait) → (machine.stopped || machine.interrupted) ≡ false → machine.wait ≡ Some wait → accepts whole machine ≡ accepts_by machine (Some wait)
   names_all wait free is =
       ap (λ (w : Option Wait). list_any (λ (signal : Sig). pends machine.kernel.signals signal) (awaited_by machine w)) is
       ∙ ap (λ (b : Bool). list_any (λ (signal : Sig). pends machine.kernel.signals signal) (if b then [] else named_signals machine.memory wait))
@@ -72,8 +71,8 @@ module _ (within : Within) where
   accepted_by true wait is same some = absurd cc
   accepted_by false None is same some = absurd cc
   accepted_by false (Some wait) is same some =
-      ap (λ (b : Bool). with_change within (if b then ended_by built Accepted wait machine
-      else (if is_over_at machine.kernel.clock wait.deadline then ended_by built Due wait machine else no_change machine)))
+      ap (λ (b : Bool). with_change within (if b then ended_by whole Accepted wait machine
+      else (if is_over_at machine.kernel.clock wait.deadline then ended_by whole Due wait machine else no_change machine)))
       (names_all wait is same ∙ some)
 
   due_by : (held : Bool) (wait : Option Wait) → (machine.stopped || machine.interrupted) ≡ held → machine.wait ≡ wait → (not held && accepts_by machine wait) ≡ false
@@ -81,10 +80,10 @@ module _ (within : Within) where
   due_by true wait is same none over = absurd cc
   due_by false None is same none over = absurd cc
   due_by false (Some wait) is same none over =
-      ap (λ (b : Bool). with_change within (if b then ended_by built Accepted wait machine
-      else (if is_over_at machine.kernel.clock wait.deadline then ended_by built Due wait machine else no_change machine)))
+      ap (λ (b : Bool). with_change within (if b then ended_by whole Accepted wait machine
+      else (if is_over_at machine.kernel.clock wait.deadline then ended_by whole Due wait machine else no_change machine)))
       (names_all wait is same ∙ none)
-      ∙ ap (λ (b : Bool). with_change within (if b then ended_by built Due wait machine else no_change machine)) over
+      ∙ ap (λ (b : Bool). with_change within (if b then ended_by whole Due wait machine else no_change machine)) over
 
   stays : with_change within (no_change machine) ≡ within
   stays = ap (λ (e : List Event). record within { events = e }) (append-nil within.events)
@@ -94,28 +93,28 @@ module _ (within : Within) where
   waits_by true wait is same none over = refl
   waits_by false None is same none over = stays
   waits_by false (Some wait) is same none over =
-      ap (λ (b : Bool). with_change within (if b then ended_by built Accepted wait machine
-      else (if is_over_at machine.kernel.clock wait.deadline then ended_by built Due wait machine else no_change machine)))
+      ap (λ (b : Bool). with_change within (if b then ended_by whole Accepted wait machine
+      else (if is_over_at machine.kernel.clock wait.deadline then ended_by whole Due wait machine else no_change machine)))
       (names_all wait is same ∙ none)
-      ∙ ap (λ (b : Bool). with_change within (if b then ended_by built Due wait machine else no_change machine)) over
+      ∙ ap (λ (b : Bool). with_change within (if b then ended_by whole Due wait machine else no_change machine)) over
       ∙ stays
 
-  pub accepted : wakes_for machine ≡ true → second_step built within ≡ ended_wait false Accepted within machine.wait
+  pub accepted : wakes_for machine ≡ true → second_step whole within ≡ ended_wait false Accepted within machine.wait
   accepted some = accepted_by (machine.stopped || machine.interrupted) machine.wait refl refl some
 
-  pub due : wakes_for machine ≡ false → wakes machine.kernel.clock machine ≡ true → second_step built within ≡ ended_wait false Due within machine.wait
+  pub due : wakes_for machine ≡ false → wakes machine.kernel.clock machine ≡ true → second_step whole within ≡ ended_wait false Due within machine.wait
   due none over = due_by (machine.stopped || machine.interrupted) machine.wait refl refl none over
 
-  pub waits : wakes_for machine ≡ false → wakes machine.kernel.clock machine ≡ false → second_step built within ≡ within
+  pub waits : wakes_for machine ≡ false → wakes machine.kernel.clock machine ≡ false → second_step whole within ≡ within
   waits none over = waits_by (machine.stopped || machine.interrupted) machine.wait refl refl none over
 
 -- The step behind a look
 
 pub woken_so : {A : Type 0} (result : Result A Stop) (old middle new : ProcessState) (part : Within → Within) (before between after : Contents) → between ≡ before
-    → within_now middle ≡ within_now old → second_step built (within_now old) ≡ part (within_now old) → Takes part result middle new between after
-    → Takes (second_step built) result old new before after
+    → within_now middle ≡ within_now old → second_step whole (within_now old) ≡ part (within_now old) → Takes part result middle new between after
+    → Takes (second_step whole) result old new before after
 woken_so result old middle new part before between after rest same is takes = λ left told.
     let done = takes left (ap (λ (c : Contents). c.left) rest ∙ told) in (
       done.0 ∙ rest,
-      on_ok result (within_now new ≡ part (within_now middle)) (within_now new ≡ second_step built (within_now old)) (λ e. e ∙ ap part same ∙ sym is) done.1,
+      on_ok result (within_now new ≡ part (within_now middle)) (within_now new ≡ second_step whole (within_now old)) (λ e. e ∙ ap part same ∙ sym is) done.1,
     )

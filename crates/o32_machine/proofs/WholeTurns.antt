@@ -23,11 +23,10 @@ use Rattle.o32_machine.specs.inside.Quieting.{IsBefore, OnlyExecutes, goes, next
 use Rattle.o32_machine.specs.inside.Stepping.{Goes, GoesThen, Steps}
 use Rattle.o32_machine.specs.inside.Steps.{LastAnswers, jumped_within, last_steps, settled}
 use Rattle.o32_model.specs.declared.wait.Wait.{Wait}
-use Rattle.o32_turns.specs.Built.{built}
 use Rattle.o32_turns.specs.Delivering.{next_signal}
 use Rattle.o32_turns.specs.Instruction.{after_step, at_time, stepped}
 use Rattle.o32_turns.specs.Machine.{Machine, Turn, Within, turn}
-use Rattle.o32_turns.specs.Turn.{after_events, fifth_or_sixth, fifth_step, jumped, next_for, sixth_step, turn_of}
+use Rattle.o32_turns.specs.Turn.{after_events, fifth_or_sixth, fifth_step, jumped, next_for, sixth_step, turn_of, whole}
 use Rattle.outside.specs.Streams.{Contents}
 
 -- one instruction alone
@@ -52,7 +51,7 @@ module _ (quantum clock : ℕ) (process : ProcessState) (at : process.kernel.clo
 
   over_is : (finish : Finish) → process.going.over ≡ Some finish → defined ≡ turn (within_now process) left nothing
   over_is finish over =
-      ap (λ (o : Option Finish). if is_some o then turn (within_now process) left nothing else fifth_or_sixth built quantum (within_now process) left) over
+      ap (λ (o : Option Finish). if is_some o then turn (within_now process) left nothing else fifth_or_sixth whole quantum (within_now process) left) over
 
   -- a process that was killed has ended
   pub over_last : (finish : Finish) (contents : Contents) → process.going.over ≡ Some finish → contents.left ≡ Some left
@@ -67,13 +66,13 @@ module _ (quantum clock : ℕ) (process : ProcessState) (at : process.kernel.clo
       (ap (λ (t : Turn). t.sent) is)
 
   module _ (alive : process.going.over ≡ None) where
-    alive_is : defined ≡ fifth_or_sixth built quantum (within_now process) left
-    alive_is = ap (λ (o : Option Finish). if is_some o then turn (within_now process) left nothing else fifth_or_sixth built quantum (within_now process) left) alive
+    alive_is : defined ≡ fifth_or_sixth whole quantum (within_now process) left
+    alive_is = ap (λ (o : Option Finish). if is_some o then turn (within_now process) left nothing else fifth_or_sixth whole quantum (within_now process) left) alive
 
     rests_is : (rests : Bool) → (process.going.stopped || is_some process.going.wait) ≡ rests
-        → defined ≡ (if rests then fifth_step (within_now process) left else sixth_step built quantum (within_now process) left)
+        → defined ≡ (if rests then fifth_step (within_now process) left else sixth_step whole quantum (within_now process) left)
     rests_is rests so =
-        alive_is ∙ ap (λ (b : Bool). if b then fifth_step (within_now process) left else sixth_step built quantum (within_now process) left) so
+        alive_is ∙ ap (λ (b : Bool). if b then fifth_step (within_now process) left else sixth_step whole quantum (within_now process) left) so
 
     jump_events : (next : Option ℕ) → (jumped next (within_now process)).events ≡ process.going.events
     jump_events None = refl
@@ -94,7 +93,7 @@ module _ (quantum clock : ℕ) (process : ProcessState) (at : process.kernel.clo
 
     -- an instruction is carried out
     pub execute_last : (result : Result Last Stop) (new : ProcessState) (before after : Contents) → (process.going.stopped || is_some process.going.wait) ≡ false
-        → LastAnswers (sixth_step built quantum (within_now process) left) result new before after → LastAnswers defined result new before after
+        → LastAnswers (sixth_step whole quantum (within_now process) left) result new before after → LastAnswers defined result new before after
     execute_last result new before after rests answers = subst (λ (t : Turn). LastAnswers t result new before after) (sym (rests_is false rests)) answers
 
 -- One instruction
@@ -105,24 +104,24 @@ module _ (quantum clock : ℕ) (process ran : ProcessState) (came : Stepped) (at
   ran_clock = ap (λ (p : ProcessState). p.kernel.clock) others ∙ at
 
   abbrev ended : ProcessState → Turn
-  ended state = after_events state.going.events (after_step built (machine_of state) came left)
+  ended state = after_events state.going.events (after_step whole (machine_of state) came left)
 
-  executes : sixth_step built quantum (within_now process) left ≡ at_time (clock + quantum) (ended ran)
+  executes : sixth_step whole quantum (within_now process) left ≡ at_time (clock + quantum) (ended ran)
   executes =
-      ap (λ (s : Step). at_time (process.kernel.clock + quantum) (after_events process.going.events (after_step built (stepped (machine_of process) s.processor s.memory) s.came left))) step
+      ap (λ (s : Step). at_time (process.kernel.clock + quantum) (after_events process.going.events (after_step whole (stepped (machine_of process) s.processor s.memory) s.came left))) step
       ∙ ap (λ (n : ℕ). at_time (n + quantum) (ended (record process { processor = ran.processor; memory = ran.memory }))) at
       ∙ ap (λ (p : ProcessState). at_time (clock + quantum) (ended p)) (sym others)
 
   pub executed_last : (last : Last) (new : ProcessState) (before after : Contents) → last.clock ≡ clock + quantum
       → Turned (ended ran) last.turn (machine_of new) new.going.events before after
-      → Turned (sixth_step built quantum (within_now process) left) last.turn (machine_at last.clock (machine_of new)) new.going.events before after
+      → Turned (sixth_step whole quantum (within_now process) left) last.turn (machine_at last.clock (machine_of new)) new.going.events before after
   executed_last last new before after time turned =
-      subst (λ (n : ℕ). Turned (sixth_step built quantum (within_now process) left) last.turn (machine_at n (machine_of new)) new.going.events before after) (sym time)
+      subst (λ (n : ℕ). Turned (sixth_step whole quantum (within_now process) left) last.turn (machine_at n (machine_of new)) new.going.events before after) (sym time)
       (subst (λ (t : Turn). Turned t last.turn (machine_at (clock + quantum) (machine_of new)) new.going.events before after) (sym executes)
       (at_time_answers (clock + quantum) (ended ran) last.turn (machine_of new) new.going.events before after turned))
 
   pub executed_stops : (result : Result Last Stop) (new : ProcessState) (before after : Contents) → IsErr result → Stopped (ended ran) before after
-      → LastAnswers (sixth_step built quantum (within_now process) left) result new before after
+      → LastAnswers (sixth_step whole quantum (within_now process) left) result new before after
   executed_stops (Ok last) new before after failed stopped = absurd cc
   executed_stops (Err stop) new before after failed stopped =
       subst (λ (t : Turn). Stopped t before after) (sym executes)

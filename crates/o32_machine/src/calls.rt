@@ -4,7 +4,7 @@ ghost use Rattle.bridge_log.specs.Keeping.{KeepsCall};
 ghost use Rattle.kernel_model.specs.Stops.{StopsOnlyIfRose};
 ghost use Rattle.o32_machine.specs.inside.Plain.{found};
 ghost use Rattle.o32_model.specs.Answered.{IsCall};
-ghost use Rattle.o32_turns.specs.Built.{built_call};
+ghost use Rattle.o32_model.specs.Table.{machine_call};
 ghost use Rattle.outside.specs.Streams.{NoCountFell, contents};
 
 use crate::files::call_on_files;
@@ -15,6 +15,8 @@ use crate::small::small_call;
 use bridge_acceptance::{acceptance_call, is_acceptance_call};
 use bridge_io::io_call;
 use bridge_map::map_call;
+use bridge_poll::{is_poll_call, poll_call};
+use bridge_select::{is_select_call, select_call};
 use bridge_signal::signal_call;
 use bridge_timer::timer_call;
 use bridge_wait::wait_call;
@@ -27,8 +29,8 @@ use o32_model::{CallWords, Log, Outcome, Seen};
 use outside::{Devices, Sink, Source};
 use std::alloc::Global;
 
-/// Makes a call of the program, by its words, of those that there are so far. Any other number is ENOSYS. The
-/// native clock stands at the machine's.
+/// Makes a call of the program, by its words. A number that no call has is ENOSYS. The native clock stands at the
+/// machine's.
 pub(crate) fn make_call<I: Source, O: Sink, E: Sink>(
     alloc: Global,
     args: &CallWords,
@@ -40,9 +42,9 @@ pub(crate) fn make_call<I: Source, O: Sink, E: Sink>(
     log: &mut Log,
     seen: &Seen,
 ) -> Result<Outcome, Stop>
-    ensures row { IsCall (built_call seen.now k.old (found args.now cpu.old space.old)) result k.new space.new cpu.new
+    ensures row { IsCall (machine_call seen.now k.old (found args.now cpu.old space.old)) result k.new space.new cpu.new
         (contents I.left O.written E.written dev.old) (contents I.left O.written E.written dev.new) }
-    ensures kept { KeepsCall (built_call seen.now k.old (found args.now cpu.old space.old)) result k.old
+    ensures kept { KeepsCall (machine_call seen.now k.old (found args.now cpu.old space.old)) result k.old
         (found args.now cpu.old space.old) (I.left dev.old.input) log.old log.new }
     ensures clock { k.new.clock ≡ k.old.clock }
     ensures cause { StopsOnlyIfRose I.faults O.faults E.faults result dev.old dev.new }
@@ -62,6 +64,12 @@ pub(crate) fn make_call<I: Source, O: Sink, E: Sink>(
     }
     if is_timer_call(args.nr) {
         return timer_call(args, cpu, space, k, mem, dev, log, seen);
+    }
+    if is_poll_call(args.nr) {
+        return poll_call(args, cpu, space, k, mem, dev, log, seen);
+    }
+    if is_select_call(args.nr) {
+        return select_call(args, cpu, space, k, mem, dev, log, seen);
     }
     if is_acceptance_call(args.nr) {
         return acceptance_call(args, cpu, space, k, mem, dev, log, seen);

@@ -10,9 +10,8 @@ ghost use Rattle.o32_machine.specs.Answered.{IsTurn, is_last, turns_done};
 ghost use Rattle.o32_machine.specs.Emulator.{coming_of, first_emulated, first_machine, runs};
 ghost use Rattle.o32_machine.specs.Quiet.{IsTurnAfter};
 ghost use Rattle.o32_machine.specs.inside.Quieting.{OnlyExecutes};
-ghost use Rattle.o32_turns.specs.Built.{built};
 ghost use Rattle.o32_turns.specs.Instruction.{at_time, called};
-ghost use Rattle.o32_turns.specs.Turn.{turn_of};
+ghost use Rattle.o32_turns.specs.Turn.{turn_of, whole};
 ghost use Rattle.outside.specs.Streams.{NoCountFell, contents};
 ghost use Rattle.schedule.specs.Ranges.{IsGivenSchedule};
 
@@ -237,7 +236,7 @@ impl Emulator {
     ) -> Result<Turn, Stop>
         requires running { runs self.old ≡ true }
         requires timer { gone_off self.old.machine.kernel.clock self.old.machine.kernel.timer ≡ None }
-        ensures turn { IsTurn (λ left. at_time self.old.machine.kernel.clock (called built self.old.machine left)) result self.new.machine self.new.events
+        ensures turn { IsTurn (λ left. at_time self.old.machine.kernel.clock (called whole self.old.machine left)) result self.new.machine self.new.events
             (contents I.left O.written E.written dev.old) (contents I.left O.written E.written dev.new) }
         ensures quantum { self.new.quantum ≡ self.old.quantum }
         ensures turns { self.new.turns ≡ self.old.turns }

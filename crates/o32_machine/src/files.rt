@@ -4,7 +4,7 @@ ghost use Rattle.bridge_log.specs.Keeping.{KeepsCall};
 ghost use Rattle.kernel_model.specs.Stops.{StopsOnlyIfRose};
 ghost use Rattle.o32_machine.specs.inside.Plain.{found};
 ghost use Rattle.o32_model.specs.Answered.{IsCall};
-ghost use Rattle.o32_turns.specs.Built.{is_file_call_built};
+ghost use Rattle.o32_model.specs.Table.{is_file_call};
 ghost use Rattle.o32_model.specs.Table.{o32_call};
 ghost use Rattle.outside.specs.Streams.{NoCountFell, contents};
 
@@ -22,7 +22,7 @@ use o32_model::{CallWords, Log, Outcome, Seen};
 use outside::{Devices, Sink, Source};
 use std::alloc::Global;
 
-/// Makes a call of the program on files, by its words, of those that there are so far.
+/// Makes a call of the program on files, by its words.
 pub(crate) fn call_on_files<I: Source, O: Sink, E: Sink>(
     alloc: Global,
     args: &CallWords,
@@ -34,7 +34,7 @@ pub(crate) fn call_on_files<I: Source, O: Sink, E: Sink>(
     log: &mut Log,
     seen: &Seen,
 ) -> Result<Outcome, Stop>
-    requires { is_file_call_built args.now.nr ≡ true }
+    requires { is_file_call args.now.nr ≡ true }
     ensures row { IsCall (o32_call k.old (found args.now cpu.old space.old)) result k.new space.new cpu.new
         (contents I.left O.written E.written dev.old) (contents I.left O.written E.written dev.new) }
     ensures kept { KeepsCall (o32_call k.old (found args.now cpu.old space.old)) result k.old

@@ -8,10 +8,7 @@ ghost use Rattle.bridge_signal.specs.Numbers as signal;
 ghost use Rattle.bridge_status.specs.Numbers as status;
 ghost use Rattle.bridge_timer.specs.Numbers as timer;
 ghost use Rattle.bridge_wait.specs.Numbers as wait;
-ghost use Rattle.o32_turns.specs.Built.{is_file_call_built};
 ghost use Rattle.o32_model.specs.Table as table;
-
-use bridge_file::is_call_there;
 
 pub(crate) const UNAME: u64 = 160;
 
@@ -60,11 +57,55 @@ pub(crate) fn is_map_call(nr: u32) -> bool
     }
 }
 
-/// Whether a number is that of a call on files that there is.
+/// Whether a number is that of a call on files.
 pub(crate) fn is_file_call(nr: u32) -> bool
-    ensures { result ≡ is_file_call_built nr }
+    ensures { result ≡ table.is_file_call nr }
 {
-    is_call_there(nr) || is_open_call(nr) || is_status_call(nr) || is_entries_call(nr)
+    matches!(
+        nr,
+        4005 | 4008
+            | 4009
+            | 4010
+            | 4012
+            | 4015
+            | 4019
+            | 4033
+            | 4038
+            | 4039
+            | 4040
+            | 4060
+            | 4083
+            | 4085
+            | 4092
+            | 4093
+            | 4094
+            | 4106
+            | 4107
+            | 4108
+            | 4118
+            | 4133
+            | 4140
+            | 4141
+            | 4152
+            | 4203
+            | 4211
+            | 4212
+            | 4213
+            | 4214
+            | 4215
+            | 4219
+            | 4288
+            | 4289
+            | 4293
+            | 4294
+            | 4295
+            | 4296
+            | 4297
+            | 4298
+            | 4299
+            | 4300
+            | 4316
+    )
 }
 
 /// Whether a number is that of a call that opens a file.
@@ -88,7 +129,7 @@ pub(crate) fn is_entries_call(nr: u32) -> bool
     nr == 4141 || nr == 4219
 }
 
-/// Whether a number is that of a call on clocks or a sleep, of those that there are.
+/// Whether a number is that of a call on clocks or a sleep.
 pub(crate) fn is_time_call(nr: u32) -> bool
     ensures { result ≡ wait.is_call_there nr }
 {
@@ -103,14 +144,14 @@ pub(crate) fn is_time_call(nr: u32) -> bool
     }
 }
 
-/// Whether a number is that of a call on the timer, of those that there are.
+/// Whether a number is that of a call on the timer.
 pub(crate) fn is_timer_call(nr: u32) -> bool
     ensures { result ≡ timer.is_call_there nr }
 {
     nr == 4027 || nr == 4104 || nr == 4105
 }
 
-/// Whether a number is that of a call on signals that there is.
+/// Whether a number is that of a call on signals.
 pub(crate) fn is_signal_call(nr: u32) -> bool
     ensures { result ≡ signal.is_call_there nr }
 {

@@ -2,7 +2,7 @@
 ghost use Rattle.std.specs.Prelude.{◌≡◌, ◌≤◌, ℕ, List, OnOk};
 ghost use Rattle.mips_exec.specs.Processor.{Processor};
 ghost use Rattle.o32_machine.specs.Emulator.{at_clock, coming_of};
-ghost use Rattle.o32_turns.specs.Built.{built};
+ghost use Rattle.o32_turns.specs.Turn.{whole};
 ghost use Rattle.o32_turns.specs.Going.{within_of};
 ghost use Rattle.o32_turns.specs.Posting.{events_posted};
 ghost use Rattle.schedule.specs.Ranges.{IsGivenSchedule};
@@ -26,7 +26,7 @@ pub(crate) fn post_due(
 ) -> Result<(), NoMemory>
     requires given { IsGivenSchedule schedule.old }
     ensures posted { OnOk result ((processor : Processor) (coming : List Coming) (idle : ℕ)
-        → events_posted built (coming_of schedule.old) (within_of going.old processor space.now (at_clock clock k.old) coming idle)
+        → events_posted whole (coming_of schedule.old) (within_of going.old processor space.now (at_clock clock k.old) coming idle)
         ≡ within_of going.new processor space.now (at_clock clock k.new) (coming_of schedule.new) idle) }
     ensures given { IsGivenSchedule schedule.new }
     ensures clock { k.new.clock ≡ k.old.clock }

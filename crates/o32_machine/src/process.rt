@@ -13,12 +13,11 @@ ghost use Rattle.o32_machine.specs.inside.Finishing.{finished};
 ghost use Rattle.o32_machine.specs.inside.Quieting.{goes, next_due};
 ghost use Rattle.o32_machine.specs.inside.Stepping.{GoesThen};
 ghost use Rattle.o32_machine.specs.inside.Steps.{Finds, IsLast, Settles, Takes, begun, goes_on, jumped_within, last_steps, resumes, wakes, wakes_for};
-ghost use Rattle.o32_turns.specs.Built.{built};
 ghost use Rattle.o32_turns.specs.Handling.{faults, frame_fault};
 ghost use Rattle.o32_turns.specs.Instruction.{after_step, called, fault_info, restart_after, seen_of};
 ghost use Rattle.o32_turns.specs.Machine.{Machine, begin};
 ghost use Rattle.o32_turns.specs.Posting.{posted};
-ghost use Rattle.o32_turns.specs.Turn.{after_events, next_event, next_for, second_step, sixth_step, third_step};
+ghost use Rattle.o32_turns.specs.Turn.{after_events, next_event, next_for, second_step, sixth_step, third_step, whole};
 ghost use Rattle.o32_model.specs.Words.{a3, v0, with_result};
 ghost use Rattle.o32_model.specs.declared.call_words.CallWords.{CallWords};
 ghost use Rattle.outside.specs.Streams.{NoCountFell, contents};
@@ -188,7 +187,7 @@ impl Process {
     /// and then the timer's. The kernel's clock, which is not past that time, goes there.
     pub(crate) fn post(&mut self, clock: u64) -> Result<(), NoMemory>
         requires later { self.old.kernel.clock ≤ clock }
-        ensures posted { OnOk result (within_now self.new ≡ posted built (within_at clock self.old)) }
+        ensures posted { OnOk result (within_now self.new ≡ posted whole (within_at clock self.old)) }
         ensures clock { OnOk result (self.new.kernel.clock ≡ clock) }
         ensures behind { self.new.kernel.clock ≤ clock }
         ensures idle { self.new.idle ≡ self.old.idle }
@@ -280,7 +279,7 @@ impl Process {
         dev: &mut Devices<I, O, E>,
     ) -> Result<(), Stop>
         requires clock { self.old.kernel.clock ≡ clock }
-        ensures woken { Takes (second_step built) result self.old self.new
+        ensures woken { Takes (second_step whole) result self.old self.new
             (contents I.left O.written E.written dev.old) (contents I.left O.written E.written dev.new) }
         ensures clock { self.new.kernel.clock ≡ clock }
         ensures idle { self.new.idle ≡ self.old.idle }
@@ -304,7 +303,7 @@ impl Process {
         dev: &mut Devices<I, O, E>,
     ) -> Result<(), Stop>
         requires clock { self.old.kernel.clock ≡ clock }
-        ensures delivered { Takes (third_step built) result self.old self.new
+        ensures delivered { Takes (third_step whole) result self.old self.new
             (contents I.left O.written E.written dev.old) (contents I.left O.written E.written dev.new) }
         ensures clock { self.new.kernel.clock ≡ clock }
         ensures idle { self.new.idle ≡ self.old.idle }
@@ -362,7 +361,7 @@ impl Process {
         dev: &mut Devices<I, O, E>,
     ) -> Result<(), Stop>
         requires clock { self.old.kernel.clock ≡ clock }
-        ensures took { Takes (λ within. goes_on (third_step built within)) result self.old self.new
+        ensures took { Takes (λ within. goes_on (third_step whole within)) result self.old self.new
             (contents I.left O.written E.written dev.old) (contents I.left O.written E.written dev.new) }
         ensures clock { self.new.kernel.clock ≡ clock }
         ensures idle { self.new.idle ≡ self.old.idle }
@@ -380,7 +379,7 @@ impl Process {
         dev: &mut Devices<I, O, E>,
     ) -> Result<(), Stop>
         requires clock { self.old.kernel.clock ≡ clock }
-        ensures took { Takes (λ within. goes_on (third_step built (second_step built within))) result self.old self.new
+        ensures took { Takes (λ within. goes_on (third_step whole (second_step whole within))) result self.old self.new
             (contents I.left O.written E.written dev.old) (contents I.left O.written E.written dev.new) }
         ensures clock { self.new.kernel.clock ≡ clock }
         ensures idle { self.new.idle ≡ self.old.idle }
@@ -528,7 +527,7 @@ impl Process {
         requires clock { self.old.kernel.clock ≡ clock }
         requires quantum { quantum ≤ 1_000_000 }
         requires few { clock + 1_000_000 < 2 ^ 64 }
-        ensures last { IsLast (sixth_step built quantum (within_now self.old)) result self.new
+        ensures last { IsLast (sixth_step whole quantum (within_now self.old)) result self.new
             (contents I.left O.written E.written dev.old) (contents I.left O.written E.written dev.new) }
         ensures time { IfOk result (λ last. last.clock ≡ clock + quantum) }
         ensures counted { IfOk result (λ last. turns_of last.turn ≡ 1) }
@@ -564,7 +563,7 @@ impl Process {
         dev: &mut Devices<I, O, E>,
     ) -> Result<Turn, Stop>
         requires clock { self.old.kernel.clock ≡ clock }
-        ensures turn { IsTurn (λ left. after_events self.old.going.events (after_step built (machine_of self.old) came left)) result
+        ensures turn { IsTurn (λ left. after_events self.old.going.events (after_step whole (machine_of self.old) came left)) result
             (machine_of self.new) self.new.going.events
             (contents I.left O.written E.written dev.old) (contents I.left O.written E.written dev.new) }
         ensures clock { self.new.kernel.clock ≡ clock }
@@ -593,7 +592,7 @@ impl Process {
         dev: &mut Devices<I, O, E>,
     ) -> Result<Turn, Stop>
         requires { self.old.kernel.clock ≡ clock }
-        ensures turn { IsTurn (λ left. after_events self.old.going.events (called built (machine_of self.old) left)) result
+        ensures turn { IsTurn (λ left. after_events self.old.going.events (called whole (machine_of self.old) left)) result
             (machine_of self.new) self.new.going.events
             (contents I.left O.written E.written dev.old) (contents I.left O.written E.written dev.new) }
         ensures clock { self.new.kernel.clock ≡ clock }

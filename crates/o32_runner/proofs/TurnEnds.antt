@@ -15,13 +15,13 @@ use Rattle.mips_exec.specs.Step.{step_of}
 use Rattle.mips_exec.specs.declared.execution.Stepped.{Stepped}
 use Rattle.mips_exec.specs.declared.execution.Stepped.TheVariants.{Next, Syscall, Fault}
 use Rattle.o32_model.specs.GuestBytes.{is_storable}
-use Rattle.o32_turns.specs.Built.{built, built_end}
+use Rattle.o32_turns.specs.Closing.{whole_end}
 use Rattle.o32_turns.specs.Delivering.{by_default, deliver, delivered, fault_delivered, has_handler, is_delivered, most_rounds, next_signal, next_taken, round_by, rounds, signal_taken, stops, used_up}
 use Rattle.o32_turns.specs.Handling.{Framed, entered_by, entering, faults, frame_fault, frame_for, handled, is_segv, killed, not_entered, saved_or, wait_left_by}
 use Rattle.o32_turns.specs.Instruction.{after_outcome, after_step, behind, executed, guest_of, seen_of, stepped}
 use Rattle.o32_turns.specs.Machine.{Ends as WaitEnds, Machine, Rules, Turn, Within, begin, happens, turn, with_change, with_machine}
 use Rattle.o32_turns.specs.Posting.{event_info, events_posted, sent_to}
-use Rattle.o32_turns.specs.Turn.{continued, ended_if_over, fifth_or_sixth, fifth_step, first_step, fourth_step, jumped, next_for, second_step, sixth_step, third_step, turn_of}
+use Rattle.o32_turns.specs.Turn.{continued, ended_if_over, fifth_or_sixth, fifth_step, first_step, fourth_step, jumped, next_for, second_step, sixth_step, third_step, turn_of, whole}
 use Rattle.o32_model.specs.declared.call_words.CallWords.{CallWords}
 use Rattle.o32_model.specs.declared.outcome.Outcome.{Outcome}
 use Rattle.o32_model.specs.declared.outcome.Outcome.TheVariants as outcomes
@@ -129,11 +129,11 @@ rounds_kill ended (suc more) within none =
     either_kills (is_delivered within) within (rounds ended more (round_by ended within within.machine.fault)) none
     (rounds_kill ended more (round_by ended within within.machine.fault) (round_kills ended within within.machine.fault none))
 
-delivery_kills : (within : Within) → IsKillOrNone within.over → IsKillOrNone (deliver built_end within).over
+delivery_kills : (within : Within) → IsKillOrNone within.over → IsKillOrNone (deliver whole_end within).over
 delivery_kills within none =
-    either_kills (is_some within.machine.processor.slot) within (rounds built_end most_rounds within) none (rounds_kill built_end most_rounds within none)
+    either_kills (is_some within.machine.processor.slot) within (rounds whole_end most_rounds within) none (rounds_kill whole_end most_rounds within none)
 
-third_over : (stopped : Bool) (within : Within) → IsKillOrNone within.over → IsKillOrNone (if stopped then within else built.deliver within).over
+third_over : (stopped : Bool) (within : Within) → IsKillOrNone within.over → IsKillOrNone (if stopped then within else whole.deliver within).over
 third_over true within none = none
 third_over false within none = delivery_kills within none
 
@@ -193,24 +193,24 @@ none_of None is = refl
 none_of (Some finish) is = absurd cc
 
 last_ends : (quantum : ℕ) (within : Within) (left : List ℕ) (asleep : Bool) → within.over ≡ None →
-    Ends left (if asleep then fifth_step within left else sixth_step built quantum within left)
+    Ends left (if asleep then fifth_step within left else sixth_step whole quantum within left)
 last_ends quantum within left true none = fifth_ends (next_for within.machine) within left none
-last_ends quantum within left false none = λ finish over. sixth_ends built quantum within.machine left (sixth_step built quantum within left) finish over
+last_ends quantum within left false none = λ finish over. sixth_ends whole quantum within.machine left (sixth_step whole quantum within left) finish over
 
 rest_ends : (quantum : ℕ) (within : Within) (left : List ℕ) (over : Bool) → is_some within.over ≡ over → IsKillOrNone within.over →
-    Ends left (if over then turn within left nothing else fifth_or_sixth built quantum (fourth_step built within) left)
+    Ends left (if over then turn within left nothing else fifth_or_sixth whole quantum (fourth_step whole within) left)
 rest_ends quantum within left true is kill = λ finish over. killed_ends left (turn within left nothing) finish (subst IsKillOrNone over kill)
 rest_ends quantum within left false is kill =
     let none : within.over ≡ None = none_of within.over is in
     let machine = within.machine in
-    let fourth = fourth_step built within in
+    let fourth = fourth_step whole within in
     last_ends quantum fourth left (fourth.machine.stopped || is_some fourth.machine.wait)
-    (either_over (machine.interrupted && not machine.stopped) (with_change within (continued built machine machine.wait)) within None none none)
+    (either_over (machine.interrupted && not machine.stopped) (with_change within (continued whole machine machine.wait)) within None none none)
 
 pub turn_ends : (quantum : ℕ) (machine : Machine) (left : List ℕ) (finish : Finish) → (turn_of quantum machine left).over ≡ Some finish → EndsSo left (turn_of quantum machine left) finish
 unfolding turn_of
 turn_ends quantum machine left =
-    let second = second_step built (first_step built machine) in
-    let third = third_step built second in
-    let kill : IsKillOrNone second.over = subst IsKillOrNone (sym (second_over built machine)) tt in
+    let second = second_step whole (first_step whole machine) in
+    let third = third_step whole second in
+    let kill : IsKillOrNone second.over = subst IsKillOrNone (sym (second_over whole machine)) tt in
     rest_ends quantum third left (is_some third.over) refl (third_over second.machine.stopped second kill)

@@ -1,10 +1,10 @@
 -- A turn in which nothing is to be delivered is one without delivery.
 use Rattle.std.proofs.Common.{◌≡◌, ℕ, zero, suc, Bool, true, false, List, refl, sym, ap, ◌∙◌}
 use Rattle.std.specs.Prelude.{is_some, if◌then◌else◌}
-use Rattle.o32_turns.specs.Built.{built, built_end}
+use Rattle.o32_turns.specs.Closing.{whole_end}
 use Rattle.o32_turns.specs.Delivering.{deliver, is_delivered, most_rounds, round_by, rounds}
 use Rattle.o32_turns.specs.Machine.{Ends, Machine, Rules, Turn, Within}
-use Rattle.o32_turns.specs.Turn.{first_step, second_step, third_step, turn_by, turn_of, unless_killed}
+use Rattle.o32_turns.specs.Turn.{first_step, second_step, third_step, turn_by, turn_of, unless_killed, whole}
 
 -- the same in either case
 pub either : {A : Type 0} (test : Bool) (one other same : A) → one ≡ same → other ≡ same → (if test then one else other) ≡ same
@@ -22,21 +22,21 @@ delivery_stays ended within done =
     either (is_some within.machine.processor.slot) within (rounds ended most_rounds within) within refl (rounds_stay ended most_rounds within done)
 
 abbrev pub still : Rules
-still = record built { deliver = λ within. within }
+still = record whole { deliver = λ within. within }
 
 abbrev pub still_turn : ℕ → Machine → List ℕ → Turn
 still_turn quantum machine left = turn_by still quantum machine left
 
 -- what the first two steps leave, before anything is delivered
 abbrev pub before_delivery : Machine → Within
-before_delivery machine = second_step built (first_step built machine)
+before_delivery machine = second_step whole (first_step whole machine)
 
 pub nothing_delivered : (quantum : ℕ) (machine : Machine) (left : List ℕ) → is_delivered (before_delivery machine) ≡ true
     → turn_of quantum machine left ≡ still_turn quantum machine left
 unfolding turn_of
 nothing_delivered quantum machine left done =
     let within = before_delivery machine in
-    let stays : third_step built within ≡ within =
-    either within.machine.stopped within (built.deliver within) within refl (delivery_stays built_end within done) in
+    let stays : third_step whole within ≡ within =
+    either within.machine.stopped within (whole.deliver within) within refl (delivery_stays whole_end within done) in
     let still_stays : third_step still within ≡ within = either within.machine.stopped within within within refl refl in
-    ap (λ (w : Within). unless_killed built quantum w left) (stays ∙ sym still_stays)
+    ap (λ (w : Within). unless_killed whole quantum w left) (stays ∙ sym still_stays)

@@ -1,4 +1,3 @@
-pub mod Built
 pub mod Closing
 pub mod Delivering
 pub mod Going

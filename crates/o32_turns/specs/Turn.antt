@@ -9,7 +9,6 @@ use Rattle.kernel_core.specs.declared.signal.Sig.{Sig}
 use Rattle.kernel_model.specs.Clock.{if_comes, is_due, next_time}
 use Rattle.kernel_model.specs.Pipes.{nothing}
 use Rattle.kernel_model.specs.SignalRows.{pends}
-use Rattle.o32_turns.specs.Built.{built}
 use Rattle.o32_turns.specs.Closing.{wait_over, whole_end}
 use Rattle.o32_turns.specs.Delivering.{deliver}
 use Rattle.o32_turns.specs.Instruction.{executed}
@@ -124,14 +123,10 @@ abbrev pub turn_by : Rules → ℕ → Machine → List ℕ → Turn
 turn_by rules quantum machine left =
     unless_killed rules quantum (third_step rules (second_step rules (first_step rules machine))) left
 
--- One turn as it is built so far. `quantum` is what one with an instruction takes, in nanoseconds of the clock.
-unfoldable pub turn_of : ℕ → Machine → List ℕ → Turn
-turn_of quantum machine left = turn_by built quantum machine left
-
--- One turn with all calls and the delivery of signals. What is built so far is `built` in its place.
-
+-- What a turn of an o32 program is made of: all calls, all ends of waits, and the delivery of signals
 abbrev pub whole : Rules
 whole = record { call = machine_call; awaited = awaited; ended = whole_end; deliver = deliver whole_end }
 
-unfoldable pub whole_turn_of : ℕ → Machine → List ℕ → Turn
-whole_turn_of quantum machine left = turn_by whole quantum machine left
+-- One turn. `quantum` is what one with an instruction takes, in nanoseconds of the clock.
+unfoldable pub turn_of : ℕ → Machine → List ℕ → Turn
+turn_of quantum machine left = turn_by whole quantum machine left

@@ -14,7 +14,6 @@ use Rattle.o32_model.specs.WaitEnds.{Sleeping, WaitEnd, has_room, has_time, inte
 use Rattle.o32_model.specs.declared.wait.Cause.TheVariants.{Handler}
 use Rattle.o32_model.specs.declared.wait.Wait.{Wait}
 use Rattle.mips_exec.specs.declared.cpu.Slot.{Slot}
-use Rattle.o32_turns.specs.Built.{built_end, is_sleep}
 use Rattle.o32_turns.specs.Closing.{is_one_of, signal_waits, transfer_waits, whole_end}
 use Rattle.o32_turns.specs.Handling.{is_segv}
 use Rattle.o32_turns.specs.Delivering.{deliver, is_delivered, most_rounds, round_by, rounds}
@@ -79,11 +78,6 @@ module _ (wait : Wait) (clock : ℕ) (kernel : Kernel) (memory : Memory) where
   by_signal : (signal_wait_ended wait Handler kernel memory).kernel ≡ kernel
   by_signal = either kernel (wait.nr == 4197) _ _ refl refl
 
-built_stays : (restarts : Bool) (wait : Wait) (kernel : Kernel) (memory : Memory) → (built_end restarts wait Handler kernel memory).kernel ≡ kernel
-built_stays restarts wait kernel memory =
-    either kernel (is_sleep wait.nr) _ _ (by_time wait kernel.clock kernel memory)
-    (either kernel (is_one_of transfer_waits wait) _ _ refl (by_signal wait 0 kernel memory))
-
 whole_stays : (restarts : Bool) (wait : Wait) (kernel : Kernel) (memory : Memory) → (whole_end restarts wait Handler kernel memory).kernel ≡ kernel
 whole_stays restarts wait kernel memory =
     either kernel (is_one_of transfer_waits wait) _ _ refl
@@ -100,10 +94,6 @@ delivery_ends : (ended : Ends) → KeepsFew ended → (within : Within) → AreS
 delivery_ends ended keeps within are free =
     ap (λ (slot : Option Slot). is_delivered (if is_some slot then within else rounds ended most_rounds within)) free
     ∙ enough ended keeps most_rounds within (omega (arith, total_few within.machine.kernel.signals are, weight_few within.machine.fault))
-
-pub built_ends : (within : Within) → AreSignals within.machine.kernel.signals → within.machine.processor.slot ≡ None → is_delivered (deliver built_end within) ≡ true
-built_ends =
-    delivery_ends built_end (λ restarts wait kernel memory. let same = ap (λ (k : Kernel). total k.signals) (built_stays restarts wait kernel memory) in omega (arith, same))
 
 pub whole_ends : (within : Within) → AreSignals within.machine.kernel.signals → within.machine.processor.slot ≡ None → is_delivered (deliver whole_end within) ≡ true
 whole_ends =

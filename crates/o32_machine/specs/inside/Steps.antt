@@ -10,10 +10,9 @@ use Rattle.o32_machine.specs.Emulator.{ProcessState, machine_at, machine_of, wit
 use Rattle.o32_machine.specs.declared.process.Last.{Last}
 use Rattle.o32_model.specs.SignalWaitEnds.{named_signals}
 use Rattle.o32_model.specs.declared.wait.Wait.{Wait}
-use Rattle.o32_turns.specs.Built.{built}
 use Rattle.o32_turns.specs.Going.{Standing}
 use Rattle.o32_turns.specs.Machine.{Machine, Turn, Within, turn}
-use Rattle.o32_turns.specs.Turn.{fifth_or_sixth, first_step, fourth_step, is_over_at, jumped, next_for, second_step, third_step}
+use Rattle.o32_turns.specs.Turn.{fifth_or_sixth, first_step, fourth_step, is_over_at, jumped, next_for, second_step, third_step, whole}
 use Rattle.outside.specs.Streams.{Contents}
 
 -- a turn begins, in which nothing has happened
@@ -40,7 +39,7 @@ wakes_for machine = not (machine.stopped || machine.interrupted) && accepts_by m
 
 -- the fourth step, which a process that was killed doesn't take
 abbrev pub goes_on : Within → Within
-goes_on within = if is_some within.over then within else fourth_step built within
+goes_on within = if is_some within.over then within else fourth_step whole within
 
 -- whether it ends a wait
 abbrev pub resumes : Standing → Bool
@@ -48,11 +47,11 @@ resumes standing = is_none standing.over && standing.interrupted && not standing
 
 -- behind the first four steps, at the machine's time
 abbrev pub settled : Machine → Within
-settled machine = goes_on (third_step built (second_step built (first_step built machine)))
+settled machine = goes_on (third_step whole (second_step whole (first_step whole machine)))
 
 -- the end of the process, or the fifth or the sixth step
 abbrev pub last_steps : ℕ → Within → List ℕ → Turn
-last_steps quantum within left = if is_some within.over then turn within left nothing else fifth_or_sixth built quantum within left
+last_steps quantum within left = if is_some within.over then turn within left nothing else fifth_or_sixth whole quantum within left
 
 -- the clock jumps, by what stands before
 abbrev pub jumped_within : Within → Within

@@ -29,10 +29,10 @@ use Rattle.o32_model.specs.Descriptors.{pipe_row}
 use Rattle.o32_turns.specs.Runs.{Reached, after_attempt, reached, is_blocked, unless_over, IsRunningAt, IsOverAt}
 use Rattle.o32_model.specs.Small.{exit_row}
 use Rattle.o32_model.specs.Transfers.{read_row}
-use Rattle.o32_turns.specs.Built.{built, built_end}
+use Rattle.o32_turns.specs.Closing.{whole_end}
 use Rattle.o32_turns.specs.Instruction.{after_step, at_time, called, fault_info, stepped}
 use Rattle.o32_turns.specs.Machine.{Machine, Turn, Within, with_machine}
-use Rattle.o32_turns.specs.Turn.{turn_of, unless_killed}
+use Rattle.o32_turns.specs.Turn.{turn_of, unless_killed, whole}
 use Rattle.o32_model.specs.WaitEnds.{ends_with, wait_ended}
 use Rattle.o32_model.specs.Words.{call_words, six_words}
 use Rattle.o32_model.specs.declared.wait.Cause.TheVariants.{Due}
@@ -52,9 +52,9 @@ neither : {A : Type 0} (test : Bool) (one other : A) → (if test && false then 
 neither true one other = refl
 neither false one other = refl
 
-module _ (whole : Kernel) (nodes : Nodes) (memory : Memory) (left : List ℕ) (none : next_signal whole.signals ≡ None) where
+module _ (any : Kernel) (nodes : Nodes) (memory : Memory) (left : List ℕ) (none : next_signal any.signals ≡ None) where
   -- so nothing is delivered
-  abbrev is_still : is_none (next_signal whole.signals) ≡ true
+  abbrev is_still : is_none (next_signal any.signals) ≡ true
   is_still = ap is_none none
 
   abbrev at : Kernel → ℕ → List ℕ → Machine
@@ -85,7 +85,7 @@ module _ (whole : Kernel) (nodes : Nodes) (memory : Memory) (left : List ℕ) (n
 
   -- no timer is armed
   abbrev quiet : Kernel
-  quiet = record whole { timer = unarmed }
+  quiet = record any { timer = unarmed }
 
   -- the kernel at first, and with an empty pipe whose read end is 3
   abbrev first : Kernel
@@ -147,7 +147,7 @@ module _ (whole : Kernel) (nodes : Nodes) (memory : Memory) (left : List ℕ) (n
       unfolding step_of effect_at special_rows
       takes = simp syscall refl
 
-      sleeps : called built (at with_pipe 65540 (registers 4003 5 3 65792 1 9)) left ≡ goes_on (waiting_at with_pipe) (events.Wait 4003 (3 ∷ 65792 ∷ 1 ∷ 9 ∷ []) ∷ [])
+      sleeps : called whole (at with_pipe 65540 (registers 4003 5 3 65792 1 9)) left ≡ goes_on (waiting_at with_pipe) (events.Wait 4003 (3 ∷ 65792 ∷ 1 ∷ 9 ∷ []) ∷ [])
       unfolding call_words read_row kernel_read read
       sleeps = simp room refl
 
@@ -252,22 +252,22 @@ module _ (whole : Kernel) (nodes : Nodes) (memory : Memory) (left : List ℕ) (n
   abbrev faulted : Kernel → Machine
   faulted kernel = record (at kernel 65536 (registers 5 5 6 7 8 9)) { fault = Some (fault_info Segv 1 0) }
 
-  module _ (plain : action_at whole.signals Segv ≡ no_action) where
+  module _ (plain : action_at any.signals Segv ≡ no_action) where
     kills_by : (within : Within) → action_at within.machine.kernel.signals Segv ≡ no_action
-        → fault_taken built_end within (fault_info Segv 1 0) ≡ handling.killed Segv (with_machine within (record within.machine { fault = None }))
+        → fault_taken whole_end within (fault_info Segv 1 0) ≡ handling.killed Segv (with_machine within (record within.machine { fault = None }))
     kills_by within without =
         let used = with_machine within (record within.machine { fault = None }) in
-        ap (fault_delivered built_end used (fault_info Segv 1 0)) without
-        ∙ neither (not (has within.machine.kernel.signals.mask Segv)) (handled built_end used (fault_info Segv 1 0) no_action) (handling.killed Segv used)
+        ap (fault_delivered whole_end used (fault_info Segv 1 0)) without
+        ∙ neither (not (has within.machine.kernel.signals.mask Segv)) (handled whole_end used (fault_info Segv 1 0) no_action) (handling.killed Segv used)
 
     kills : (clock : ℕ) → turn_of 1000 (faulted (record first { clock = clock })) left ≡ ends (at (record first { clock = clock }) 65536 (registers 5 5 6 7 8 9)) (events.Killed Segv ∷ []) (Killed 11)
     unfolding turn_of advance rounds
     kills clock =
-        ap (λ (w : Within). unless_killed built 1000 w left)
-        (ap (λ (w : Within). rounds built_end 2111 w) (kills_by (before_delivery (faulted (record first { clock = clock }))) plain))
+        ap (λ (w : Within). unless_killed whole 1000 w left)
+        (ap (λ (w : Within). rounds whole_end 2111 w) (kills_by (before_delivery (faulted (record first { clock = clock }))) plain))
 
   -- LW $v0, 0($zero) stands there, and the page at 0 is absent
-  module _ (load : loaded memory 65536 4 ≡ Ok 0x8C02_0000) (absent : loaded memory 0 4 ≡ Err (record { addr = 0; why = Absent })) (plain : action_at whole.signals Segv ≡ no_action) where
+  module _ (load : loaded memory 65536 4 ≡ Ok 0x8C02_0000) (absent : loaded memory 0 4 ≡ Err (record { addr = 0; why = Absent })) (plain : action_at any.signals Segv ≡ no_action) where
     abbrev loading : Machine
     loading = at first 65536 (registers 5 5 6 7 8 9)
 

@@ -2,7 +2,7 @@
 use Rattle.std.proofs.Common.{◌∙◌, ◌+◌, ◌-◌, ap, sym, List, ℕ, arith, rules}
 use Rattle.std.specs.Prelude.{is_some}
 use Rattle.mips_exec.specs.Processor.{Processor}
-use Rattle.o32_turns.specs.Built.{built_end}
+use Rattle.o32_turns.specs.Closing.{whole_end}
 use Rattle.o32_turns.specs.Delivering.{rounds}
 use Rattle.o32_turns.specs.Going.{within_of}
 use Rattle.o32_turns.specs.Machine.{Within}
@@ -30,7 +30,7 @@ loop-round-preserved g c = record {
       let done = c.in_ok-round.ensures.delivered left (ap (λ (at : Contents). at.left) so.0 ∙ told) in (
         done.0 ∙ so.0,
         λ (coming : List Due) (idle : ℕ).
-            ap (λ (w : Within). rounds built_end (2112 - (c.loop-round._round + 1)) w) (done.1 coming idle)
+            ap (λ (w : Within). rounds whole_end (2112 - (c.loop-round._round + 1)) w) (done.1 coming idle)
             ∙ sym (one_round c.loop-round._round (within_of c.loop-round.going c.loop-round.cpu c.loop-round.space c.loop-round.k coming idle)
             (omega arith) (sym c.is_delivered.ensures ∙ c.if-is_delivered.false))
             ∙ so.1 coming idle,

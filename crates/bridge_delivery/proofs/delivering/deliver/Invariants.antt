@@ -1,5 +1,5 @@
 use Rattle.std.proofs.Common.{◌≡◌, ℕ, ◌-◌, List, Some}
-use Rattle.o32_turns.specs.Built.{built_end}
+use Rattle.o32_turns.specs.Closing.{whole_end}
 use Rattle.o32_turns.specs.Delivering.{most_rounds, rounds}
 use Rattle.o32_turns.specs.Going.{within_of}
 use Rattle.outside.specs.Streams.{NoCountFell, NoCountRose, contents}
@@ -12,8 +12,8 @@ invariant-loop-round g l = record {
   clock : l.k.clock ≡ l.clock;
   carried : (left : List ℕ) → (contents g.I.Source.left g.O.Sink.written g.E.Sink.written l.fn.dev).left ≡ Some left
       → (contents g.I.Source.left g.O.Sink.written g.E.Sink.written l.dev ≡ contents g.I.Source.left g.O.Sink.written g.E.Sink.written l.fn.dev)
-      × ((coming : List Due) (idle : ℕ) → rounds built_end (most_rounds - l._round) (within_of l.going l.cpu l.space l.k coming idle)
-      ≡ rounds built_end most_rounds (within_of l.fn.going l.fn.cpu l.fn.space l.fn.k coming idle));
+      × ((coming : List Due) (idle : ℕ) → rounds whole_end (most_rounds - l._round) (within_of l.going l.cpu l.space l.k coming idle)
+      ≡ rounds whole_end most_rounds (within_of l.fn.going l.fn.cpu l.fn.space l.fn.k coming idle));
   later : NoCountFell g.I.Source.faults g.O.Sink.faults g.E.Sink.faults l.fn.dev l.dev;
   stays : NoCountRose g.I.Source.faults g.O.Sink.faults g.E.Sink.faults l.fn.dev l.dev;
 }

@@ -3,7 +3,7 @@ use Rattle.std.proofs.Common.{◌≡◌, ◌∙◌, ap, sym, List, ℕ}
 use Rattle.kernel_model.specs.SignalRows.{action_at, pending_at}
 use Rattle.kernel_model.specs.State.{Kernel}
 use Rattle.kernel_model.specs.declared.signal.Action.{Action}
-use Rattle.o32_turns.specs.Built.{built_end}
+use Rattle.o32_turns.specs.Closing.{whole_end}
 use Rattle.o32_turns.specs.Delivering.{delivered, signal_taken}
 use Rattle.o32_turns.specs.Going.{within_of}
 use Rattle.outside.specs.Streams.{Contents}
@@ -22,7 +22,7 @@ returns-in-None-clause-delivered g c = λ left told.
       took.1.rest ∙ seen.1.rest,
       λ (coming : List Due) (idle : ℕ).
           taken_none going cpu space c.action.new.k c.take.new.k c.args.sig coming idle (sym c.in-None.is ∙ took.0.0) took.0.1
-          ∙ ap (λ (k : Kernel). signal_taken built_end (within_of going cpu space k coming idle) c.args.sig (pending_at k.signals c.args.sig)) seen.1.same,
+          ∙ ap (λ (k : Kernel). signal_taken whole_end (within_of going cpu space k coming idle) c.args.sig (pending_at k.signals c.args.sig)) seen.1.same,
     )
 
 pub returns-in-Some-clause-delivered : goal.returns-in-Some-clause-delivered
@@ -37,9 +37,9 @@ returns-in-Some-clause-delivered g c = λ left told.
     let action : c.in_ok-action.action ≡ action_at c.action.new.k.signals c.args.sig = seen.0 ∙ ap (λ (k : Kernel). action_at k.signals c.args.sig) (sym seen.1.same) in (
       sent.0 ∙ took.1.rest ∙ seen.1.rest,
       on_ok c.deliver_sent.result _ _ (λ (is : (coming : List Due) (idle : ℕ) → within_of c.deliver_sent.new.going c.deliver_sent.new.cpu c.deliver_sent.new.space c.deliver_sent.new.k coming idle
-          ≡ delivered built_end (within_of going cpu space c.take.new.k coming idle) info c.in_ok-action.action). λ (coming : List Due) (idle : ℕ).
+          ≡ delivered whole_end (within_of going cpu space c.take.new.k coming idle) info c.in_ok-action.action). λ (coming : List Due) (idle : ℕ).
           is coming idle
-          ∙ ap (λ (a : Action). delivered built_end (within_of going cpu space c.take.new.k coming idle) info a) action
+          ∙ ap (λ (a : Action). delivered whole_end (within_of going cpu space c.take.new.k coming idle) info a) action
           ∙ taken_some going cpu space c.action.new.k c.take.new.k c.args.sig coming idle info (sym c.in-Some.is ∙ took.0.0) took.0.1
-          ∙ ap (λ (k : Kernel). signal_taken built_end (within_of going cpu space k coming idle) c.args.sig (pending_at k.signals c.args.sig)) seen.1.same) sent.1,
+          ∙ ap (λ (k : Kernel). signal_taken whole_end (within_of going cpu space k coming idle) c.args.sig (pending_at k.signals c.args.sig)) seen.1.same) sent.1,
     )

@@ -2,7 +2,7 @@
 use Rattle.std.proofs.Common.{◌∙◌, ℕ, List, ap, refl}
 use Rattle.kernel_core.specs.declared.event.Delivery.TheVariants as deliveries
 use Rattle.kernel_core.specs.declared.event.Event.TheVariants as events
-use Rattle.o32_turns.specs.Built.{built_end}
+use Rattle.o32_turns.specs.Closing.{whole_end}
 use Rattle.o32_turns.specs.Going.{Standing, within_of}
 use Rattle.o32_turns.specs.Handling.{begun, handled, wait_left_by}
 use Rattle.o32_turns.specs.Machine.{Within, happens}
@@ -16,9 +16,9 @@ returns-clause-handled g c = λ left told.
     let ended = c.in_ok-leave_wait.ensures.left left told in
     let info = c.args.info.now in
     carried_then c.begin.result
-    (λ (w : Within). happens (wait_left_by built_end c.args.action.now w.machine.wait w) (events.Signal info.sig deliveries.Handler))
+    (λ (w : Within). happens (wait_left_by whole_end c.args.action.now w.machine.wait w) (events.Signal info.sig deliveries.Handler))
     (λ (w : Within). begun w info c.args.action.now)
-    (λ (w : Within). handled built_end w info c.args.action.now)
+    (λ (w : Within). handled whole_end w info c.args.action.now)
     (within_of c.args.going.now c.args.cpu.now c.args.space.now c.args.k.now)
     (within_of c.tell.new.going c.leave_wait.new.cpu c.leave_wait.new.space c.leave_wait.new.k)
     (within_of c.begin.new.going c.begin.new.cpu c.begin.new.space c.begin.new.k)

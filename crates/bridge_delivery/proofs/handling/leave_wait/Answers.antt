@@ -1,7 +1,7 @@
 -- The mask is kept, and then the wait ends.
 use Rattle.std.proofs.Common.{ℕ, List, ap, refl}
 use Rattle.o32_model.specs.declared.wait.Cause.TheVariants.{Handler}
-use Rattle.o32_turns.specs.Built.{built_end}
+use Rattle.o32_turns.specs.Closing.{whole_end}
 use Rattle.o32_turns.specs.Going.{Standing, within_of}
 use Rattle.o32_turns.specs.Handling.{wait_left_by}
 use Rattle.o32_turns.specs.Machine.{Within}
@@ -18,7 +18,7 @@ returns-clause-left g c = λ left told.
     carried_then c.end_wait.result
     (λ (w : Within). record w { saved = kept_of w.machine.wait w.saved })
     (λ (w : Within). ended_wait c.restart-restarts.result Handler w w.machine.wait)
-    (λ (w : Within). wait_left_by built_end c.args.action.now w.machine.wait w)
+    (λ (w : Within). wait_left_by whole_end c.args.action.now w.machine.wait w)
     (within_of c.args.going.now c.args.cpu.now c.args.space.now c.args.k.now)
     (within_of c.keep_mask.new.going c.args.cpu.now c.args.space.now c.args.k.now)
     (within_of c.end_wait.new.going c.end_wait.new.cpu c.end_wait.new.space c.end_wait.new.k)

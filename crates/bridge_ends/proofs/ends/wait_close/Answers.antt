@@ -1,36 +1,22 @@
--- The end of a wait that is neither a sleep nor a transfer.
-use Rattle.std.proofs.Common.{◌≡◌, ◌∙◌, ap, sym}
-use Rattle.std.specs.Prelude.{Result, Ok, Err, IfOk, OnOk}
-use Rattle.bridge_ends.proofs.SameEnds.{by_signals, closes_as}
+-- The end of a wait that is no transfer's.
+use Rattle.std.proofs.Common.{◌∙◌, sym}
+use Rattle.bridge_ends.proofs.SameEnds.{by_signals, by_time, closes_as}
 use Rattle.o32_model.specs.SignalWaitEnds.{signal_wait_ended}
-use Rattle.bridge_ends.proofs.KeptEnds.{sleep_keeps}
-use Rattle.bridge_acceptance.specs.Ends.{Keeps}
-use Rattle.bridge_log.specs.Keeping.{reached}
-use Rattle.kernel_core.specs.declared.core_error.Stop.{Stop}
-use Rattle.kernel_model.specs.Pipes.{Sent}
-use Rattle.mips_exec.specs.Processor.{Processor}
-use Rattle.o32_model.specs.Effects.{Effected}
-use Rattle.o32_model.specs.WaitEnds.{WaitEnd, ends_with, wait_ended}
-use Rattle.o32_model.specs.declared.wait.Close.{Close}
-use Rattle.o32_turns.specs.Built.{built_end}
+use Rattle.o32_model.specs.WaitEnds.{wait_ended}
+use Rattle.o32_turns.specs.Closing.{whole_end}
 use Rattle.outside.specs.Streams.{contents}
 use Rattle.bridge_ends.proofs.ends.wait_close.Goals as goal
 
-pub returns-clause-ends : goal.returns-clause-ends
-returns-clause-ends g c =
-    closes_as (signal_wait_ended c.args.wait.now c.args.cause c.args.k.now c.args.space.now) (built_end c.args.restarts c.args.wait.now c.args.cause c.args.k.now c.args.space.now)
+pub returns-then-is_signal_wait-clause-ends : goal.returns-then-is_signal_wait-clause-ends
+returns-then-is_signal_wait-clause-ends g c =
+    closes_as (signal_wait_ended c.args.wait.now c.args.cause c.args.k.now c.args.space.now) (whole_end c.args.restarts c.args.wait.now c.args.cause c.args.k.now c.args.space.now)
     c.signal_wait_close.result c.signal_wait_close.new.k c.signal_wait_close.new.space (contents g.I.Source.left g.O.Sink.written g.E.Sink.written c.args.dev.now) (contents g.I.Source.left g.O.Sink.written g.E.Sink.written c.signal_wait_close.new.dev)
-    (by_signals c.args.restarts c.args.wait.now c.args.cause c.args.k.now c.args.space.now (sym c.is_sleep.ensures ∙ c.if-is_sleep.false) (sym c.is_transfer.ensures ∙ c.if-is_transfer.false))
+    (by_signals c.args.restarts c.args.wait.now c.args.cause c.args.k.now c.args.space.now (sym c.is_transfer.ensures ∙ c.if-is_transfer.false) (sym c.is_signal_wait.ensures ∙ c.if-is_signal_wait.true))
     c.signal_wait_close.ensures.ends
 
-pub returns-then-is_sleep-clause-kept : goal.returns-then-is_sleep-clause-kept
-returns-then-is_sleep-clause-kept g c left told =
-    by c.wait_end.result c.wait_end.ensures.ends c.wait_end.ensures.effects where
-      by : (result : Result Close Stop)
-          → IfOk result (λ close. wait_ended c.args.wait.now c.args.cause c.args.clock c.args.k.now c.args.space.now ≡ ends_with close c.wait_end.new.k c.wait_end.new.space)
-          → OnOk result ((processor : Processor) (sent : Sent) → Effected c.args.log.now.effects c.wait_end.new.log.effects (reached processor c.args.space.now.pages sent) (reached processor c.wait_end.new.space.pages sent))
-          → OnOk result (Keeps c.args.k.now c.wait_end.new.k c.args.space.now.pages c.wait_end.new.space.pages left c.args.log.now c.wait_end.new.log)
-      by (Ok close) ends effects =
-          sleep_keeps c.args.wait.now c.args.cause c.args.clock c.args.k.now c.wait_end.new.k c.args.space.now c.wait_end.new.space.pages left c.args.log.now c.wait_end.new.log
-          (sym c.is_sleep.ensures ∙ c.if-is_sleep.true) (sym (ap (λ (e : WaitEnd). e.kernel) ends)) c.wait_end.ensures.native effects
-      by (Err stop) ends effects = tt
+pub returns-clause-ends : goal.returns-clause-ends
+returns-clause-ends g c =
+    closes_as (wait_ended c.args.wait.now c.args.cause c.args.clock c.args.k.now c.args.space.now) (whole_end c.args.restarts c.args.wait.now c.args.cause c.args.k.now c.args.space.now)
+    c.timed_wait_close.result c.timed_wait_close.new.k c.timed_wait_close.new.space (contents g.I.Source.left g.O.Sink.written g.E.Sink.written c.args.dev.now) (contents g.I.Source.left g.O.Sink.written g.E.Sink.written c.timed_wait_close.new.dev)
+    (by_time c.args.restarts c.args.wait.now c.args.cause c.args.k.now c.args.space.now c.args.clock c.requires (sym c.is_transfer.ensures ∙ c.if-is_transfer.false) (sym c.is_signal_wait.ensures ∙ c.if-is_signal_wait.false))
+    c.timed_wait_close.ensures.ends

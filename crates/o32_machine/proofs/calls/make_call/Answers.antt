@@ -2,7 +2,7 @@
 use Rattle.std.proofs.Common.{OnOk, sym, subst, ◌∙◌}
 use Rattle.outside.specs.Streams.{contents}
 use Rattle.bridge_log.specs.Keeping.{Keeps}
-use Rattle.o32_machine.proofs.Numbering.{acceptance_call_same, file_call_same, io_call_same, map_call_same, signal_call_same, small_call_same, time_call_same, timer_call_same}
+use Rattle.o32_machine.proofs.Numbering.{IsOther, file_call_same, io_call_same, map_call_same, small_call_same}
 use Rattle.o32_machine.specs.inside.Plain.{found}
 use Rattle.o32_model.specs.Answered.{Answers}
 use Rattle.o32_model.specs.Step.{O32Step}
@@ -52,62 +52,10 @@ returns-clause-row g c = λ left told.
     let guest = found c.args.args.now c.args.cpu.now c.args.space.now in
     subst (λ (s : O32Step). Answers s c.small_call.result c.small_call.new.k c.small_call.new.space c.small_call.new.cpu
     (contents g.I.Source.left g.O.Sink.written g.E.Sink.written c.args.dev.now) (contents g.I.Source.left g.O.Sink.written g.E.Sink.written c.small_call.new.dev))
-    (small_call_same c.args.seen.now c.args.k.now guest left (sym c.is_io_call.ensures ∙ c.if-is_io_call.false) (sym c.is_file_call.ensures ∙ c.if-is_file_call.false) (sym c.is_time_call.ensures ∙ c.if-is_time_call.false) (sym c.is_timer_call.ensures ∙ c.if-is_timer_call.false) (sym c.is_signal_call.ensures ∙ c.if-is_signal_call.false) (sym c.is_acceptance_call.ensures ∙ c.if-is_acceptance_call.false) (sym c.is_map_call.ensures ∙ c.if-is_map_call.false)) (c.small_call.ensures.row left told)
+    (let other : IsOther c.args.args.now.nr = record { io = sym c.is_io_call.ensures ∙ c.if-is_io_call.false; file = sym c.is_file_call.ensures ∙ c.if-is_file_call.false; map = sym c.is_map_call.ensures ∙ c.if-is_map_call.false; time = sym c.is_time_call.ensures ∙ c.if-is_time_call.false; timer = sym c.is_timer_call.ensures ∙ c.if-is_timer_call.false; poll = sym c.is_poll_call.ensures ∙ c.if-is_poll_call.false; select = sym c.is_select_call.ensures ∙ c.if-is_select_call.false; accepted = sym c.is_acceptance_call.ensures ∙ c.if-is_acceptance_call.false; signal = sym c.is_signal_call.ensures ∙ c.if-is_signal_call.false } in small_call_same c.args.seen.now c.args.k.now guest left other) (c.small_call.ensures.row left told)
 
 pub returns-clause-kept : goal.returns-clause-kept
 returns-clause-kept g c = λ left told.
     let guest = found c.args.args.now c.args.cpu.now c.args.space.now in
     subst (λ (s : O32Step). OnOk c.small_call.result (Keeps s c.args.k.now left guest c.args.log.now c.small_call.new.log))
-    (small_call_same c.args.seen.now c.args.k.now guest left (sym c.is_io_call.ensures ∙ c.if-is_io_call.false) (sym c.is_file_call.ensures ∙ c.if-is_file_call.false) (sym c.is_time_call.ensures ∙ c.if-is_time_call.false) (sym c.is_timer_call.ensures ∙ c.if-is_timer_call.false) (sym c.is_signal_call.ensures ∙ c.if-is_signal_call.false) (sym c.is_acceptance_call.ensures ∙ c.if-is_acceptance_call.false) (sym c.is_map_call.ensures ∙ c.if-is_map_call.false)) (c.small_call.ensures.kept left told)
-
-pub returns-then-is_time_call-clause-row : goal.returns-then-is_time_call-clause-row
-returns-then-is_time_call-clause-row g c = λ left told.
-    let guest = found c.args.args.now c.args.cpu.now c.args.space.now in
-    subst (λ (s : O32Step). Answers s c.wait_call.result c.wait_call.new.k c.wait_call.new.space c.wait_call.new.cpu
-    (contents g.I.Source.left g.O.Sink.written g.E.Sink.written c.args.dev.now) (contents g.I.Source.left g.O.Sink.written g.E.Sink.written c.wait_call.new.dev))
-    (time_call_same c.args.seen.now c.args.k.now guest left (sym c.is_time_call.ensures ∙ c.if-is_time_call.true)) (c.wait_call.ensures.row left told)
-
-pub returns-then-is_time_call-clause-kept : goal.returns-then-is_time_call-clause-kept
-returns-then-is_time_call-clause-kept g c = λ left told.
-    let guest = found c.args.args.now c.args.cpu.now c.args.space.now in
-    subst (λ (s : O32Step). OnOk c.wait_call.result (Keeps s c.args.k.now left guest c.args.log.now c.wait_call.new.log))
-    (time_call_same c.args.seen.now c.args.k.now guest left (sym c.is_time_call.ensures ∙ c.if-is_time_call.true)) (c.wait_call.ensures.kept left told)
-
-pub returns-then-is_timer_call-clause-row : goal.returns-then-is_timer_call-clause-row
-returns-then-is_timer_call-clause-row g c = λ left told.
-    let guest = found c.args.args.now c.args.cpu.now c.args.space.now in
-    subst (λ (s : O32Step). Answers s c.timer_call.result c.timer_call.new.k c.timer_call.new.space c.timer_call.new.cpu
-    (contents g.I.Source.left g.O.Sink.written g.E.Sink.written c.args.dev.now) (contents g.I.Source.left g.O.Sink.written g.E.Sink.written c.timer_call.new.dev))
-    (timer_call_same c.args.seen.now c.args.k.now guest left (sym c.is_timer_call.ensures ∙ c.if-is_timer_call.true)) (c.timer_call.ensures.row left told)
-
-pub returns-then-is_timer_call-clause-kept : goal.returns-then-is_timer_call-clause-kept
-returns-then-is_timer_call-clause-kept g c = λ left told.
-    let guest = found c.args.args.now c.args.cpu.now c.args.space.now in
-    subst (λ (s : O32Step). OnOk c.timer_call.result (Keeps s c.args.k.now left guest c.args.log.now c.timer_call.new.log))
-    (timer_call_same c.args.seen.now c.args.k.now guest left (sym c.is_timer_call.ensures ∙ c.if-is_timer_call.true)) (c.timer_call.ensures.kept left told)
-
-pub returns-then-is_signal_call-clause-row : goal.returns-then-is_signal_call-clause-row
-returns-then-is_signal_call-clause-row g c = λ left told.
-    let guest = found c.args.args.now c.args.cpu.now c.args.space.now in
-    subst (λ (s : O32Step). Answers s c.signal_call.result c.signal_call.new.k c.signal_call.new.space c.signal_call.new.cpu
-    (contents g.I.Source.left g.O.Sink.written g.E.Sink.written c.args.dev.now) (contents g.I.Source.left g.O.Sink.written g.E.Sink.written c.signal_call.new.dev))
-    (signal_call_same c.args.seen.now c.args.k.now guest left (sym c.is_signal_call.ensures ∙ c.if-is_signal_call.true)) (c.signal_call.ensures.row left told)
-
-pub returns-then-is_signal_call-clause-kept : goal.returns-then-is_signal_call-clause-kept
-returns-then-is_signal_call-clause-kept g c = λ left told.
-    let guest = found c.args.args.now c.args.cpu.now c.args.space.now in
-    subst (λ (s : O32Step). OnOk c.signal_call.result (Keeps s c.args.k.now left guest c.args.log.now c.signal_call.new.log))
-    (signal_call_same c.args.seen.now c.args.k.now guest left (sym c.is_signal_call.ensures ∙ c.if-is_signal_call.true)) (c.signal_call.ensures.kept left told)
-
-pub returns-then-is_acceptance_call-clause-row : goal.returns-then-is_acceptance_call-clause-row
-returns-then-is_acceptance_call-clause-row g c = λ left told.
-    let guest = found c.args.args.now c.args.cpu.now c.args.space.now in
-    subst (λ (s : O32Step). Answers s c.acceptance_call.result c.acceptance_call.new.k c.acceptance_call.new.space c.acceptance_call.new.cpu
-    (contents g.I.Source.left g.O.Sink.written g.E.Sink.written c.args.dev.now) (contents g.I.Source.left g.O.Sink.written g.E.Sink.written c.acceptance_call.new.dev))
-    (acceptance_call_same c.args.seen.now c.args.k.now guest left (sym c.is_acceptance_call.ensures ∙ c.if-is_acceptance_call.true)) (c.acceptance_call.ensures.row left told)
-
-pub returns-then-is_acceptance_call-clause-kept : goal.returns-then-is_acceptance_call-clause-kept
-returns-then-is_acceptance_call-clause-kept g c = λ left told.
-    let guest = found c.args.args.now c.args.cpu.now c.args.space.now in
-    subst (λ (s : O32Step). OnOk c.acceptance_call.result (Keeps s c.args.k.now left guest c.args.log.now c.acceptance_call.new.log))
-    (acceptance_call_same c.args.seen.now c.args.k.now guest left (sym c.is_acceptance_call.ensures ∙ c.if-is_acceptance_call.true)) (c.acceptance_call.ensures.kept left told)
+    (let other : IsOther c.args.args.now.nr = record { io = sym c.is_io_call.ensures ∙ c.if-is_io_call.false; file = sym c.is_file_call.ensures ∙ c.if-is_file_call.false; map = sym c.is_map_call.ensures ∙ c.if-is_map_call.false; time = sym c.is_time_call.ensures ∙ c.if-is_time_call.false; timer = sym c.is_timer_call.ensures ∙ c.if-is_timer_call.false; poll = sym c.is_poll_call.ensures ∙ c.if-is_poll_call.false; select = sym c.is_select_call.ensures ∙ c.if-is_select_call.false; accepted = sym c.is_acceptance_call.ensures ∙ c.if-is_acceptance_call.false; signal = sym c.is_signal_call.ensures ∙ c.if-is_signal_call.false } in small_call_same c.args.seen.now c.args.k.now guest left other) (c.small_call.ensures.kept left told)

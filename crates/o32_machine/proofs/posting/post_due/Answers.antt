@@ -4,7 +4,7 @@ use Rattle.std.specs.Prelude.{slice_get}
 use Rattle.o32_machine.proofs.Coming.{due_there}
 use Rattle.o32_machine.proofs.EventPosts.{all_posted, one_posted}
 use Rattle.o32_machine.specs.Emulator.{at_clock, coming_of}
-use Rattle.o32_turns.specs.Built.{built}
+use Rattle.o32_turns.specs.Turn.{whole}
 use Rattle.o32_turns.specs.Going.{within_of}
 use Rattle.o32_turns.specs.Posting.{events_posted}
 use Rattle.schedule.specs.Cursor.{place_after}
@@ -24,7 +24,7 @@ loop-due-preserved c =
           c.loop-due.invariant.so_far processor coming idle
           ∙ one_posted c.args.clock processor c.args.space.now coming idle old.events old.at c.in-Some.due c.loop-due.going c.post_event.new.going c.loop-due.k c.post_event.new.k there.0 there.1
           (c.in_ok-post_event.ensures.posts processor coming idle)
-          ∙ ap (λ (s : Schedule). events_posted built (coming_of s) (within_of c.post_event.new.going processor c.args.space.now (at_clock c.args.clock c.post_event.new.k) coming idle)) (sym cursor);
+          ∙ ap (λ (s : Schedule). events_posted whole (coming_of s) (within_of c.post_event.new.going processor c.args.space.now (at_clock c.args.clock c.post_event.new.k) coming idle)) (sym cursor);
     }
 
 pub returns-clause-posted : goal.returns-clause-posted

@@ -5,13 +5,13 @@ use Rattle.o32_machine.proofs.Turning.{call_stopped_here, call_went, fails_befor
 use Rattle.kernel_model.specs.Clock.{gone_off}
 use Rattle.o32_machine.specs.Emulator.{Emulated, ProcessState, at_clock, machine_of}
 use Rattle.o32_machine.specs.inside.Steps.{begun}
-use Rattle.o32_turns.specs.Built.{built}
+use Rattle.o32_turns.specs.Turn.{whole}
 use Rattle.o32_turns.specs.Instruction.{at_time, called}
 use Rattle.o32_machine.proofs.emulator.Emulator.call.Goals as goal
 
 pub returns-in_err-set_clock-clause-turn : goal.returns-in_err-set_clock-clause-turn
 returns-in_err-set_clock-clause-turn g c = λ left told.
-    fails_before (at_time c.args.self.now.machine.kernel.clock (called built c.args.self.now.machine left)) c.from_residual.result _ _
+    fails_before (at_time c.args.self.now.machine.kernel.clock (called whole c.args.self.now.machine left)) c.from_residual.result _ _
     (contents g.I.Source.left g.O.Sink.written g.E.Sink.written c.args.dev.now) c.from_residual.ensures.0
 
 pub returns-in_err-turn-clause-turn : goal.returns-in_err-turn-clause-turn

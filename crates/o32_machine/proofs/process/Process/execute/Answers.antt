@@ -2,13 +2,13 @@
 use Rattle.std.proofs.Common.{◌≡◌, ◌∙◌, ◌+◌, arith}
 use Rattle.o32_machine.proofs.WholeTurns.{executed_last, executed_stops, lacks_first, steps_once}
 use Rattle.o32_machine.specs.Emulator.{within_now}
-use Rattle.o32_turns.specs.Built.{built}
+use Rattle.o32_turns.specs.Turn.{whole}
 use Rattle.o32_turns.specs.Turn.{sixth_step}
 use Rattle.o32_machine.proofs.process.Process.execute.Goals as goal
 
 pub returns-in_err-came-clause-last : goal.returns-in_err-came-clause-last
 returns-in_err-came-clause-last g c = λ left told.
-    lacks_first (sixth_step built c.args.quantum (within_now c.args.self.now) left) c.from_residual.result _ _ c.from_residual.ensures.0
+    lacks_first (sixth_step whole c.args.quantum (within_now c.args.self.now) left) c.from_residual.result _ _ c.from_residual.ensures.0
 
 pub returns-in_err-turn-clause-last : goal.returns-in_err-turn-clause-last
 returns-in_err-turn-clause-last g c = λ left told.
