@@ -10,9 +10,9 @@ use Rattle.native_kernel.proofs.kernel.NativeKernel.poll_call.Goals as goal
 
 pub returns-in-72 : goal.returns-in-72
 returns-in-72 c =
-    let count : to_z w32 (of_z w32 c.cast_signed.result) ≡ signed_word c.args.args 0 = first_of (search rules, grind (arith, to_z-of_z)) in
+    let count : to_z w32 (of_z w32 c.cast_signed-count.result) ≡ signed_word c.args.args 0 = first_of (search rules, grind (arith, to_z-of_z)) in
     select_call c.args.nr c.args.args c.args.self.now c.args.mem.now c.pselect.new.mem c.self.inside.files c.self.inside.clock
-    (to_z w32 (of_z w32 c.cast_signed.result)) c.pselect.result c.in-72.is count
+    (to_z w32 (of_z w32 c.cast_signed-count.result)) c.pselect.result c.in-72.is count
     (ap (λ (k : Kernel). k.files) c.self.view_is) (ap (λ (k : Kernel). k.clock) c.self.view_is) c.pselect.ensures
 
 pub returns-in-73 : goal.returns-in-73
