@@ -456,7 +456,7 @@ PLANTS = [
     ("tools/calls.txt", GETPID_ROW, "4020 getpid\n", "{top}/tools/calls.txt: line {line} is none of the table"),
     ("crates/o32_model/specs/Small.antt", "    ∷ record { number = 4020;", "    ∷ record { number = 4021;",
      "call 4021 is in the definition, and tools/calls.txt has it not or as missing"),
-    ("crates/o32_turns/specs/Built.antt", "4009 ∷ 4010", "4010", "link (4009) is in tools/calls.txt, and the definition has it not"),
+    ("crates/o32_model/specs/Names.antt", "record { number = 4009;", "record { number = 4010;", "link (4009) is in tools/calls.txt, and the definition has it not"),
     ("docs/RULES.md", "| getppid | 4064 |", "| getparent | 4064 |", "call 4064 is getparent in docs/RULES.md, and getppid in tools/calls.txt"),
     ("docs/o32run.1", "such as exit, getpid", "such as fork, getpid", "docs/o32run.1 names fork, which tools/calls.txt has not as there"),
     ("README.md", "{count} system calls", "99 system calls", "README.md doesn't say that there are {count} system calls"),
