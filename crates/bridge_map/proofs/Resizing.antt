@@ -1,5 +1,5 @@
 -- A change of size as memory tells of it is the one of the table.
-use Rattle.std.proofs.Common.{◌≡◌, ◌<◌, ◌+◌, ◌-◌, ◌&&◌, ℕ, Bool, true, false, not, Some, None, refl, sym, ap, ◌∙◌, arith, inl, inr}
+use Rattle.std.proofs.Common.{◌≡◌, ◌≢◌, ◌<◌, ◌+◌, ◌-◌, ◌&&◌, ℕ, Bool, true, false, not, Option, Some, None, refl, sym, ap, ◌∙◌, arith, inl, inr}
 use Rattle.std.proofs.lemmas.Bool.Decides.{nat_tests}
 use Rattle.std.specs.Prelude.{nat_le, if◌then◌else◌}
 use Rattle.std.specs.Cmp.{nat_cmp_total}
@@ -7,11 +7,12 @@ use Rattle.std.specs.FinMap.{same_map, nat_cmp-IsAntisymmetric}
 use Rattle.guest_space.proofs.Ranges.{absent-free, free-absent}
 use Rattle.guest_space.specs.Mapping.{absent_count, mapped_run}
 use Rattle.guest_space.specs.Memory.{Pages}
+use Rattle.guest_space.specs.Places.{IsGreatestPlace}
 use Rattle.guest_space.specs.Remapping.{AreMoved, IsRemapped, Cut, Grown, Moved, MayGrow, PassesLimit, HasNoPlace, growth_end}
 use Rattle.kernel_core.specs.declared.error.Errno.TheVariants.{ENOMEM}
-use Rattle.kernel_model.specs.Came.{Did, done, refused, refused_if, with_some}
-use Rattle.o32_model.proofs.MapLaws.{moved_is}
-use Rattle.o32_model.specs.Ranges.{is_free, may_grow, moved, cut, grown, moved_and_grown, enlarged, resized, passes_limit, with_more_pages, last_protection}
+use Rattle.kernel_model.specs.Came.{Came, Did, Done, Refused, done, refused, refused_if, with_some}
+use Rattle.o32_model.proofs.MapLaws.{greatest_place_is, moved_is}
+use Rattle.o32_model.specs.Ranges.{greatest_place, is_free, may_grow, moved, cut, grown, moved_and_grown, enlarged, resized, passes_limit, with_more_pages, last_protection}
 use Rattle.bridge_map.proofs.Ranges.{place_tells}
 
 both_true : (a b : Bool) → a && b ≡ true → (a ≡ true) × (b ≡ true)
@@ -94,3 +95,34 @@ module _ (pages : Pages) (first old new : ℕ) (may_move : Bool) where
       ∙ ap (λ o. with_some pages ENOMEM o (λ to. done (with_more_pages (moved pages first to old) to old new (last_protection pages first old)) to)) (sym (place_tells pages new (Some at) place))
       ∙ ap (λ m. done (with_more_pages m at old new (last_protection pages first old)) at) (same_pages pages first old new other at whole are)
       ∙ ap (λ m. done m at) (sym now)
+
+  pub has_room : (PassesLimit pages old new → ⊥) → (HasNoPlace pages first old new may_move → ⊥) → (resized pages first old new may_move).came ≢ Refused ENOMEM
+  unfolding resized
+  has_room few placed none = by_size (nat_le new old) refl
+    where
+      is_done : {V : Type 0} (value : V) → Done value ≢ Refused ENOMEM
+      is_done value same = absurd cc
+
+      came : Bool → Came ℕ
+      came smaller = (if smaller then cut pages first old new else refused_if (passes_limit pages old new) ENOMEM pages (enlarged pages first old new may_move)).came
+
+      anywhere : old < new → (MayGrow pages first old new → ⊥) → (to : Option ℕ) → IsGreatestPlace pages new to
+          → (with_some pages ENOMEM to (λ to. done (with_more_pages (moved pages first to old) to old new (last_protection pages first old)) to)).came ≡ Refused ENOMEM → ⊥
+      anywhere more may_not None is same = placed (record { grows = more; stuck = may_not; nowhere = inr is })
+      anywhere more may_not (Some to) is same = is_done to same
+
+      moving : old < new → (MayGrow pages first old new → ⊥) → (move : Bool) → may_move ≡ move
+          → (refused_if (not move) ENOMEM pages (moved_and_grown pages first old new)).came ≡ Refused ENOMEM → ⊥
+      moving more may_not false stays same = placed (record { grows = more; stuck = may_not; nowhere = inl stays })
+      moving more may_not true moves same = anywhere more may_not (greatest_place pages new) (greatest_place_is pages new) same
+
+      growing : old < new → (grow : Bool) → may_grow pages first old new ≡ grow
+          → (if grow then grown pages first old new else refused_if (not may_move) ENOMEM pages (moved_and_grown pages first old new)).came ≡ Refused ENOMEM → ⊥
+      growing more true grow same = is_done first same
+      growing more false grow same = moving more (λ may. absurd (let wrong : false ≡ true = sym grow ∙ grows pages first old new may in cc)) may_move refl same
+
+      by_size : (smaller : Bool) → nat_le new old ≡ smaller → ⊥
+      by_size true less = is_done first (sym (ap came less) ∙ none)
+      by_size false more =
+          let larger : old < new = let e = more in grind (arith, nat_tests) in
+          growing larger (may_grow pages first old new) refl (ap (λ (d : Did Pages ℕ). d.came) (sym (within larger few)) ∙ none)

@@ -129,6 +129,10 @@ maps_no_file words = has (argument words 3) 0x800
 abbrev pub is_mmap : CallWords → Bool
 is_mmap words = words.nr == 4090 || words.nr == 4210
 
+-- whether a call asks for pages, and the kernel for nothing: mmap(2) and mmap2(2) of no file, mremap(2)
+abbrev pub asks_for_room : CallWords → Bool
+asks_for_room words = (is_mmap words && maps_no_file words) || words.nr == 4167
+
 -- whether a call on mappings asks the kernel for nothing: one that maps no file
 abbrev pub is_call_of_memory : CallWords → Bool
 is_call_of_memory words = is_map_call words.nr && (not (is_mmap words) || maps_no_file words)

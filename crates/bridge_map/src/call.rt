@@ -1,7 +1,7 @@
 //! A call on mappings by its number.
 ghost use Rattle.std.specs.Prelude.{◌≡◌, true, false, IfOk, IsTrue, OnErr, OnOk};
 ghost use Rattle.bridge_log.specs.Keeping.{KeepsCall};
-ghost use Rattle.bridge_map.specs.Rows.{HasRoom, IsCallOfMemory, Leads, guest_of, is_call_of_memory, is_mmap, maps_no_file};
+ghost use Rattle.bridge_map.specs.Rows.{HasRoom, IsCallOfMemory, Leads, asks_for_room, guest_of, is_call_of_memory, is_mmap, maps_no_file};
 ghost use Rattle.kernel_model.specs.Stops.{StopsOnlyIfRose};
 ghost use Rattle.o32_model.specs.Answered.{IsCall};
 ghost use Rattle.o32_model.specs.Table.{is_map_call, o32_call};
@@ -23,7 +23,7 @@ use outside::{Devices, Sink, Source};
 
 /// Makes a call on mappings, by its words: brk(2), mmap(2), mmap2(2), munmap(2), mprotect(2), msync(2),
 /// mremap(2), madvise(2). A file is asked for its bytes when it is mapped. It stops early for want of memory, or
-/// by a device; a new mapping of no file that is ENOMEM doesn't.
+/// by a device; a new mapping of no file, or another size of a range, that is ENOMEM doesn't.
 pub fn map_call<I: Source, O: Sink, E: Sink>(
     args: &CallWords,
     cpu: &mut Cpu,
@@ -35,7 +35,7 @@ pub fn map_call<I: Source, O: Sink, E: Sink>(
     seen: &Seen,
 ) -> Result<Outcome, Stop>
     requires { IsTrue (is_map_call args.now.nr) }
-    ensures no_memory { OnErr result (is_mmap args.now ≡ true → maps_no_file args.now ≡ true → HasRoom args.now space.old) }
+    ensures no_memory { OnErr result (asks_for_room args.now ≡ true → HasRoom args.now space.old) }
     ensures row { IsCall (o32_call k.old (guest_of args.now cpu.old space.old)) result k.new space.new cpu.new
         (contents I.left O.written E.written dev.old) (contents I.left O.written E.written dev.new) }
     ensures kept { KeepsCall (o32_call k.old (guest_of args.now cpu.old space.old)) result k.old
@@ -63,11 +63,11 @@ fn maps_no_file(args: &CallWords) -> bool
 
 /// Carries out a call on mappings that asks the kernel for nothing: brk(2), munmap(2), mprotect(2), msync(2),
 /// mremap(2), madvise(2), and mmap(2) and mmap2(2) with MAP_ANONYMOUS. It gives what the call comes to, and
-/// keeps its effects on pages where effects are kept. After NoMemory nothing is promised of memory; a new mapping
-/// that is ENOMEM never answers it.
+/// keeps its effects on pages where effects are kept. After NoMemory nothing is promised of memory; a new mapping,
+/// or another size of a range, that is ENOMEM never answers it.
 pub fn memory_call(args: &CallWords, space: &mut Space, log: &mut Log) -> Result<Outcome, NoMemory>
     requires { is_call_of_memory args.now ≡ true }
-    ensures no_memory { OnErr result (is_mmap args.now ≡ true → HasRoom args.now space.old) }
+    ensures no_memory { OnErr result (asks_for_room args.now ≡ true → HasRoom args.now space.old) }
     ensures row { IfOk result (λ outcome. IsCallOfMemory args.now outcome space.old space.new) }
     ensures effects { OnOk result (Leads log.old.effects log.new.effects space.old.pages space.new.pages) }
     ensures native { log.new.native ≡ log.old.native }

@@ -1,9 +1,11 @@
 //! A range of pages that gets another size: mremap(2).
-ghost use Rattle.std.specs.Prelude.{◌≡◌, ◌≤◌, ◌<◌, ◌+◌, ◌-◌, ℕ, Some, None, IfOk, IfSome, OnOk};
+ghost use Rattle.std.specs.Prelude.{◌≡◌, ◌≢◌, ◌≤◌, ◌<◌, ◌+◌, ◌-◌, ℕ, Some, None, IfOk, IfSome, OnErr, OnOk};
 ghost use Rattle.std.specs.FinMap.{get};
 ghost use Rattle.bridge_map.specs.Rows.{Leads, came_at};
 ghost use Rattle.guest_space.specs.Mapping.{mapped_run};
 ghost use Rattle.guest_space.specs.Remapping.{protection_of};
+ghost use Rattle.kernel_core.specs.declared.error.Errno.TheVariants.{ENOMEM};
+ghost use Rattle.kernel_model.specs.Came.{Refused};
 ghost use Rattle.o32_model.specs.Mappings as rows;
 ghost use Rattle.o32_model.specs.Ranges.{resized};
 ghost use Rattle.o32_model.specs.Step.{outcome_of, value};
@@ -16,7 +18,7 @@ use kernel_core::address_space::PAGE_SIZE;
 use kernel_core::{Errno, NoMemory};
 use o32_model::{CallWords, Log, Outcome};
 
-/// mremap(2): an address, a size, a new size and flags.
+/// mremap(2): an address, a size, a new size and flags. What is ENOMEM is never answered as want of memory.
 #[tactic(auto, unfolding(o32_model::specs::Mappings::mremap))]
 pub(crate) fn mremap(
     args: &CallWords,
@@ -24,6 +26,7 @@ pub(crate) fn mremap(
     log: &mut Log,
 ) -> Result<Outcome, NoMemory>
     ensures came { IfOk result (λ outcome. outcome ≡ outcome_of value args.now (rows.mremap space.old (argument args.now 0) (argument args.now 1) (argument args.now 2) (argument args.now 3)).came) }
+    ensures no_memory { OnErr result ((rows.mremap space.old (argument args.now 0) (argument args.now 1) (argument args.now 2) (argument args.now 3)).came ≢ Refused ENOMEM) }
     ensures stored { OnOk result (space.new ≡ (rows.mremap space.old (argument args.now 0) (argument args.now 1) (argument args.now 2) (argument args.now 3)).state) }
     ensures effects { OnOk result (Leads log.old.effects log.new.effects space.old.pages space.new.pages) }
     ensures native { log.new.native ≡ log.old.native }
@@ -59,6 +62,7 @@ fn resize(
     requires new { new ≤ 1048576 }
     requires mapped { mapped_run space.old.pages first old ≡ old }
     ensures answer { IfOk result (λ at. (resized space.old.pages first old new may_move).came ≡ came_at at) }
+    ensures no_memory { OnErr result ((resized space.old.pages first old new may_move).came ≢ Refused ENOMEM) }
     ensures inside { IfOk result (λ at. IfSome at (λ at. at < 524280)) }
     ensures stored { OnOk result (space.new ≡ record space.old { pages = (resized space.old.pages first old new may_move).state }) }
     ensures effects { OnOk result (Leads log.old.effects log.new.effects space.old.pages space.new.pages) }

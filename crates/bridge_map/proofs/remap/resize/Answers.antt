@@ -1,10 +1,11 @@
-use Rattle.std.proofs.Common.{◌+◌, ◌-◌, ℕ, refl, arith, ap, sym, subst, ◌∙◌}
-use Rattle.std.specs.Prelude.{Err}
+use Rattle.std.proofs.Common.{◌≡◌, ◌+◌, ◌-◌, ℕ, refl, arith, ap, sym, subst, ◌∙◌}
+use Rattle.std.specs.Prelude.{Result, Ok, Err, OnErr}
 use Rattle.guest_space.proofs.Ranges.{protection-bits}
 use Rattle.guest_space.specs.Memory.{Pages}
 use Rattle.guest_space.specs.Remapping.{IsRemapAnswer}
-use Rattle.kernel_model.specs.Came.{Did}
-use Rattle.bridge_map.proofs.Resizing.{remapped_is, full_is, nowhere_is}
+use Rattle.kernel_core.specs.declared.error.Errno.TheVariants.{ENOMEM}
+use Rattle.kernel_model.specs.Came.{Did, Done, Refused}
+use Rattle.bridge_map.proofs.Resizing.{full_is, has_room, nowhere_is, remapped_is}
 use Rattle.bridge_map.proofs.Sizes.{resize_leads}
 use Rattle.bridge_map.proofs.remap.resize.Goals as goal
 
@@ -50,3 +51,19 @@ returns-in-Err-NoPlace-clause-stored c =
     c.in-Err-NoPlace.ensures.others
     ∙ ap (λ (pages : Pages). record c.args.space.now { pages = pages })
     (answer.2 ∙ ap (λ (did : Did Pages ℕ). did.state) (sym (nowhere_is c.args.space.now.pages c.args.first c.args.old c.args.new c.args.may_move answer.0 answer.1)))
+
+pub returns-in-Err-NoMemory-clause-no_memory : goal.returns-in-Err-NoMemory-clause-no_memory
+returns-in-Err-NoMemory-clause-no_memory c =
+    let answer = subst (λ e. IsRemapAnswer (Err e) c.args.space.now.pages c.remap.new.self.pages c.args.first c.args.old c.args.new c.args.may_move) c.in-Err-NoMemory.field-0-is c.in-Err-NoMemory.ensures.answer in
+    has_room c.args.space.now.pages c.args.first c.args.old c.args.new c.args.may_move answer.0 answer.1
+
+-- what is so is so after any result
+on_err : {A E : Type 0} (result : Result A E) (Holds : Type 0) → Holds → OnErr result Holds
+on_err (Ok value) Holds holds = tt
+on_err (Err error) Holds holds = holds
+
+pub returns-in_err-keep_resized-in-Ok-clause-no_memory : goal.returns-in_err-keep_resized-in-Ok-clause-no_memory
+returns-in_err-keep_resized-in-Ok-clause-no_memory c =
+    let done_so = ap (λ (did : Did Pages ℕ). did.came)
+    (remapped_is c.args.space.now.pages c.args.first c.args.old c.args.new c.args.may_move c.remap.new.self.pages c.in-Ok.at c.requires.mapped c.in-Ok.ensures.answer.0 c.in-Ok.ensures.answer.1) in
+    on_err c.from_residual.result _ (λ none. absurd (let wrong : Done c.in-Ok.at ≡ Refused ENOMEM = sym done_so ∙ none in cc))
