@@ -1,18 +1,24 @@
 //! How the waits of ppoll(2), select(2) and pselect(2) end: the mask from before the call is put back, and the time that
 //! is left is stored.
-ghost use Rattle.std.specs.Prelude.{◌≡◌};
+ghost use Rattle.std.specs.Prelude.{◌≡◌, OnOk};
 ghost use Rattle.bridge_acceptance.specs.Ends.{Closes, KeepsEnd};
 ghost use Rattle.bridge_limits.specs.Limits.{StoresAlike, left_form, unmasked_kernel};
+ghost use Rattle.bridge_limits.specs.inside.Lefts as spec_lefts;
+ghost use Rattle.bridge_log.specs.Keeping.{reached};
+ghost use Rattle.bridge_signal_state.specs.Acts.{Acts};
 ghost use Rattle.guest_space.specs.Memory.{Memory};
 ghost use Rattle.kernel_model.specs.Clock.{left_until};
+ghost use Rattle.kernel_model.specs.Pipes.{Sent};
 ghost use Rattle.kernel_model.specs.Stops.{StopsOnlyIfRose};
+ghost use Rattle.mips_exec.specs.Processor.{Processor};
+ghost use Rattle.o32_model.specs.Effects.{Effected};
+ghost use Rattle.o32_model.specs.GuestBytes.{is_storable};
 ghost use Rattle.o32_model.specs.WaitEnds as spec;
 ghost use Rattle.o32_model.specs.WaitEnds.{ends_with, with_left};
 ghost use Rattle.outside.specs.Streams.{NoCountFell, contents};
 
-use crate::lefts::Left;
+use crate::lefts::{Left, put_left};
 use crate::times::TimePlace;
-use bridge_log::put;
 use bridge_signal_state::set_mask;
 use guest_space::Space;
 use host_mem::HostMem;
@@ -21,6 +27,7 @@ use native_kernel::NativeKernel;
 use o32_model::{Cause, Close, Log, Wait};
 use outside::{Devices, Sink, Source};
 
+/// How many bytes a time has in the program's memory.
 const TIME_SIZE: u32 = 8;
 
 /// How a wait ends after a stop: the call is carried out again, which takes the time that is left, and is EINTR where
@@ -28,11 +35,18 @@ const TIME_SIZE: u32 = 8;
 pub fn again_or_interrupted(at: TimePlace, space: &Space, wait: &Wait, clock: u64) -> Close
     ensures { result ≡ spec.again_or_interrupted (left_form at) wait.now clock space.now }
 {
-    if at.address != 0 && space.writable(at.address, TIME_SIZE) != TIME_SIZE {
+    if at.address != 0 && !has_room(space, at.address) {
         Close::Error(Errno::EINTR)
     } else {
         Close::Again
     }
+}
+
+/// Whether a time can be stored at an address.
+fn has_room(space: &Space, address: u32) -> bool
+    ensures { result ≡ is_storable space.now address 8 }
+{
+    space.writable(address, TIME_SIZE) == TIME_SIZE
 }
 
 /// Ends the wait of a call with a time, at the kernel's time `clock` in nanoseconds, with this close: the mask from before
@@ -52,32 +66,37 @@ pub fn end_limited<I: Source, O: Sink, E: Sink>(
 ) -> Result<Close, Stop>
     ensures ends { (before : Memory) → StoresAlike before space.old
         → Closes (with_left (left_form at) wait.now clock before
-            (ends_with close (unmasked_kernel wait.now cause k.old) space.old)) result k.new space.new
+        (ends_with close (unmasked_kernel wait.now cause k.old) space.old)) result k.new space.new
         (contents I.left O.written E.written dev.old) (contents I.left O.written E.written dev.new) }
     ensures kept { KeepsEnd result (I.left dev.old.input) k.old k.new space.old.pages space.new.pages log.old log.new }
     ensures cause { StopsOnlyIfRose I.faults O.faults E.faults result dev.old dev.new }
     ensures counts { NoCountFell I.faults O.faults E.faults dev.old dev.new }
     ensures clock { k.new.clock ≡ k.old.clock }
 {
-    store_remaining(at, wait, clock, space, log)?;
     put_back(wait, cause, k, mem, dev, log)?;
+    store_remaining(at, wait, clock, space, log)?;
     Ok(close)
 }
 
-/// Stores the time that is left until the wait's deadline, 0 where it has none, unless the call has no time.
+/// Stores the time that is left until the wait's deadline, 0 where it has none, unless the call has no time or there is
+/// no room for it.
 fn store_remaining(
     at: TimePlace,
     wait: &Wait,
     clock: u64,
     space: &mut Space,
     log: &mut Log,
-) -> Result<(), NoMemory> {
+) -> Result<(), NoMemory>
+    ensures stored { OnOk result (space.new ≡ spec_lefts.with_remaining (left_form at) wait.now clock space.old) }
+    ensures effects { OnOk result ((processor : Processor) (sent : Sent)
+        → Effected log.old.effects log.new.effects (reached processor space.old.pages sent) (reached processor space.new.pages sent)) }
+    ensures native { log.new.native ≡ log.old.native }
+{
     if at.address == 0 {
         return Ok(());
     }
     let left = Left::of(left_until(clock, wait.deadline));
-    put(space, at.address, &left.bytes(at.form), log)?;
-    Ok(())
+    put_left(at, left, space, log)
 }
 
 /// How long it is to a deadline, in nanoseconds, at least 0; 0 where there is none.
@@ -98,12 +117,30 @@ fn put_back<I: Source, O: Sink, E: Sink>(
     mem: &mut HostMem,
     dev: &mut Devices<I, O, E>,
     log: &mut Log,
-) -> Result<(), Stop> {
-    match (cause, wait.mask) {
-        (Cause::Handler, _) | (_, None) => Ok(()),
-        (_, Some(mask)) => {
+) -> Result<(), Stop>
+    ensures acts { Acts (λ _ became. became ≡ unmasked_kernel wait.now cause k.old) result k.old k.new
+        (contents I.left O.written E.written dev.old) (contents I.left O.written E.written dev.new) log.old log.new }
+    ensures cause { StopsOnlyIfRose I.faults O.faults E.faults result dev.old dev.new }
+    ensures counts { NoCountFell I.faults O.faults E.faults dev.old dev.new }
+    ensures clock { k.new.clock ≡ k.old.clock }
+{
+    match old_mask(wait, cause) {
+        None => Ok(()),
+        Some(mask) => {
             set_mask(mask, k, mem, dev, log)?;
             Ok(())
         }
+    }
+}
+
+/// The mask that is put back.
+fn old_mask(wait: &Wait, cause: Cause) -> Option<[u32; 4]>
+    ensures { result ≡ spec_lefts.old_mask wait.now cause }
+{
+    match cause {
+        Cause::Due => wait.mask,
+        Cause::Accepted => wait.mask,
+        Cause::Handler => None,
+        Cause::Stopped => wait.mask,
     }
 }

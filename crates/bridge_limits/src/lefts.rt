@@ -1,21 +1,29 @@
 //! The time that is left when a call ends.
-ghost use Rattle.std.specs.Prelude.{◌≡◌, ℕ, Option, OnOk};
-ghost use Rattle.bridge_limits.specs.Limits.{ShowsLeft, left_bytes, left_form};
+ghost use Rattle.std.specs.Prelude.{◌≡◌, ℕ, Option, OnOk, length};
+ghost use Rattle.bridge_limits.specs.Limits.{ShowsLeft, left_form};
+ghost use Rattle.bridge_limits.specs.inside.Lefts as spec;
 ghost use Rattle.bridge_log.specs.Keeping.{reached};
 ghost use Rattle.kernel_model.specs.Pipes.{Sent};
 ghost use Rattle.mips_exec.specs.Processor.{Processor};
 ghost use Rattle.o32_model.specs.Effects.{Effected};
+ghost use Rattle.o32_model.specs.GuestBytes.{with_stored};
 ghost use Rattle.o32_model.specs.TimeLeft.{with_left_of};
 
 use crate::times::{TimeForm, TimePlace};
+use crate::words::two_words;
 use bridge_log::put;
-use byteorder::{BigEndian, ByteOrder, LittleEndian};
+use byteorder::{ByteOrder, LittleEndian};
 use guest_space::Space;
 use host_mem::HostMem;
 use kernel_core::NoMemory;
 use o32_model::Log;
 
+/// How many bytes a time has in host memory.
 const NATIVE_SIZE: u64 = 16;
+
+const NANOSECONDS_PER_SECOND: u64 = 1_000_000_000;
+
+const NANOSECONDS_PER_MICROSECOND: u32 = 1000;
 
 /// A time as a program is shown it.
 #[derive(Clone, Copy)]
@@ -27,24 +35,31 @@ pub(crate) struct Left {
 
 impl Left {
     /// Of a time in nanoseconds.
-    pub(crate) fn of(time: u64) -> Left {
+    pub(crate) fn of(time: u64) -> Left
+        ensures { result ≡ spec.left_of time }
+    {
         Left {
-            seconds: (time / 1_000_000_000 % (1 << 32)) as u32,
-            nanoseconds: (time % 1_000_000_000) as u32,
+            seconds: (time / NANOSECONDS_PER_SECOND % (1 << 32)) as u32,
+            nanoseconds: (time % NANOSECONDS_PER_SECOND) as u32,
         }
     }
 
     /// Its bytes in the program's memory; microseconds are rounded down.
-    pub(crate) fn bytes(self, form: TimeForm) -> [u8; 8] {
+    fn bytes(self, form: TimeForm) -> [u8; 8]
+        ensures { result ≡ spec.bytes_of form self }
+    {
         match form {
             TimeForm::Nanoseconds => two_words(self.seconds, self.nanoseconds),
-            TimeForm::Microseconds => two_words(self.seconds, self.nanoseconds / 1000),
+            TimeForm::Microseconds => two_words(
+                self.seconds,
+                self.nanoseconds / NANOSECONDS_PER_MICROSECOND,
+            ),
         }
     }
 }
 
 /// Stores in the program's memory the time that the native call has left in host memory at `place`, where that is not 0
-/// and there is room for all of it.
+/// and there is room for all of it; what it writes is kept where effects are kept. It fails for want of memory alone.
 pub fn store_left(
     at: TimePlace,
     place: u64,
@@ -58,31 +73,48 @@ pub fn store_left(
         → Effected log.old.effects log.new.effects (reached processor space.old.pages sent) (reached processor space.new.pages sent)) }
     ensures native { log.new.native ≡ log.old.native }
 {
-    if place == 0 {
-        return Ok(());
-    }
     match left_at(mem, place) {
         None => Ok(()),
-        Some(left) => {
-            put(space, at.address, &left.bytes(at.form), log)?;
-            Ok(())
-        }
+        Some(left) => put_left(at, left, space, log),
     }
 }
 
-/// The time at a place in host memory.
-fn left_at(mem: &HostMem, place: u64) -> Option<Left> {
-    let bytes = mem.read(place, NATIVE_SIZE)?;
-    Some(Left {
-        seconds: LittleEndian::read_u32(bytes),
-        nanoseconds: LittleEndian::read_u32(&bytes[8..]),
-    })
+/// Stores a time where there is room for all of it.
+pub(crate) fn put_left(
+    at: TimePlace,
+    left: Left,
+    space: &mut Space,
+    log: &mut Log,
+) -> Result<(), NoMemory>
+    ensures stored { OnOk result (space.new ≡ with_stored space.old at.address (spec.bytes_of at.form left)) }
+    ensures effects { OnOk result ((processor : Processor) (sent : Sent)
+        → Effected log.old.effects log.new.effects (reached processor space.old.pages sent) (reached processor space.new.pages sent)) }
+    ensures native { log.new.native ≡ log.old.native }
+{
+    put(space, at.address, &left.bytes(at.form), log)?;
+    Ok(())
 }
 
-/// Two numbers, the first byte of each counting most.
-fn two_words(first: u32, second: u32) -> [u8; 8] {
-    let mut bytes = [0; 8];
-    BigEndian::write_u32(&mut bytes, first);
-    BigEndian::write_u32(&mut bytes[4..], second);
-    bytes
+/// The time at a place in host memory, none where that is 0.
+fn left_at(mem: &HostMem, place: u64) -> Option<Left>
+    ensures { result ≡ spec.left_at mem.now place }
+{
+    if place == 0 {
+        return None;
+    }
+    match mem.read(place, NATIVE_SIZE) {
+        None => None,
+        Some(bytes) => Some(left_in(bytes)),
+    }
+}
+
+/// The time that some bytes of host memory are.
+fn left_in(bytes: &[u8]) -> Left
+    requires { length bytes.now ≡ 16 }
+    ensures { result ≡ spec.left_in bytes.now }
+{
+    Left {
+        seconds: LittleEndian::read_u32(bytes),
+        nanoseconds: LittleEndian::read_u32(&bytes[8..]),
+    }
 }

@@ -8,6 +8,7 @@ mod masks;
 mod rooms;
 mod sleeping;
 mod times;
+mod words;
 
 pub use ends::{again_or_interrupted, end_limited};
 pub use lefts::store_left;

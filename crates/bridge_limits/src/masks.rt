@@ -1,12 +1,12 @@
 //! The mask of its own that a call may have (ppoll(2), pselect(2)).
-ghost use Rattle.std.specs.Prelude.{◌≡◌, ◌+◌, ◌≤◌, drop, length, true};
+ghost use Rattle.std.specs.Prelude.{◌≡◌, length};
 ghost use Rattle.bridge_limits.specs.Limits.{given_mask};
-ghost use Rattle.layouts.specs.Number.{unsigned};
 ghost use Rattle.o32_model.specs.GuestBytes.{unless_null};
+ghost use Rattle.o32_model.specs.Masks as spec;
 ghost use Rattle.o32_model.specs.Masks.{set_at};
 
+use crate::words::word_at;
 use bridge_mem::load_structure;
-use byteorder::{BigEndian, ByteOrder};
 use guest_space::Space;
 
 const SET_SIZE: usize = 16;
@@ -29,22 +29,29 @@ pub fn mask_at(space: &Space, address: u32) -> OwnMask
     if address == 0 {
         return OwnMask::None;
     }
+    mask_there(space, address)
+}
+
+/// The mask that is there.
+fn mask_there(space: &Space, address: u32) -> OwnMask
+    ensures { given_mask result ≡ Some (set_at space.now address) }
+{
     let mut bytes = [0; SET_SIZE];
     match load_structure(space, address, &mut bytes) {
         Err(_) => OwnMask::Unreadable,
-        Ok(()) => OwnMask::Set([
-            word_at(&bytes, 0),
-            word_at(&bytes, 4),
-            word_at(&bytes, 8),
-            word_at(&bytes, 12),
-        ]),
+        Ok(()) => OwnMask::Set(set_in(&bytes)),
     }
 }
 
-/// The word at a place in a set, the first byte counting most.
-fn word_at(bytes: &[u8], place: usize) -> u32
-    requires { place + 4 ≤ length bytes.now }
-    ensures { result ≡ unsigned true 4 (drop place bytes.now) }
+/// The set of signals that some bytes are.
+fn set_in(bytes: &[u8]) -> [u32; 4]
+    requires { length bytes.now ≡ 16 }
+    ensures { result ≡ spec.set_in bytes.now }
 {
-    BigEndian::read_u32(&bytes[place..])
+    [
+        word_at(bytes, 0),
+        word_at(bytes, 4),
+        word_at(bytes, 8),
+        word_at(bytes, 12),
+    ]
 }

@@ -1,12 +1,12 @@
 //! How long a program's call may wait: times in the program's memory (timespec(3), timeval(3)).
-ghost use Rattle.std.specs.Prelude.{◌≡◌, ◌+◌, ◌≤◌, drop, length, true};
-ghost use Rattle.bridge_limits.specs.Limits.{length_at, left_bytes};
+ghost use Rattle.std.specs.Prelude.{◌≡◌, length};
+ghost use Rattle.bridge_limits.specs.Limits.{length_at};
+ghost use Rattle.bridge_limits.specs.inside.Lengths as spec;
 ghost use Rattle.kernel_model.specs.Clock.{length_of};
 ghost use Rattle.kernel_model.specs.Readiness.{select_length};
-ghost use Rattle.layouts.specs.Number.{unsigned, value_of};
 
+use crate::words::signed_word_at;
 use bridge_mem::load_structure;
-use byteorder::{BigEndian, ByteOrder};
 use guest_space::Space;
 use kernel_core::Errno;
 
@@ -14,6 +14,11 @@ use kernel_core::Errno;
 const TIME_SIZE: usize = 8;
 
 const NANOSECONDS_PER_SECOND: u64 = 1_000_000_000;
+
+const NANOSECONDS_PER_MICROSECOND: u64 = 1000;
+
+/// The nanoseconds of a time are below this.
+const NANOSECONDS_END: i32 = 1_000_000_000;
 
 /// What a time has beside its seconds.
 #[derive(Clone, Copy)]
@@ -27,6 +32,7 @@ pub enum TimeForm {
 /// Where a time is in the program's memory.
 #[derive(Clone, Copy)]
 pub struct TimePlace {
+    /// What it has beside its seconds.
     pub form: TimeForm,
     /// 0 where there is no time.
     pub address: u32,
@@ -41,39 +47,52 @@ pub fn wait_at(space: &Space, place: TimePlace) -> Result<Option<u64>, Errno>
     if place.address == 0 {
         return Ok(None);
     }
+    match length_there(space, place) {
+        Err(error) => Err(error),
+        Ok(length) => Ok(Some(length)),
+    }
+}
+
+/// The length of the time that is there.
+fn length_there(space: &Space, place: TimePlace) -> Result<u64, Errno>
+    ensures { result ≡ spec.length_there space.now place }
+{
     let mut bytes = [0; TIME_SIZE];
-    load_structure(space, place.address, &mut bytes)?;
-    let seconds = word_at(&bytes, 0);
-    let parts = word_at(&bytes, 4);
-    let length = match place.form {
+    match load_structure(space, place.address, &mut bytes) {
+        Err(error) => Err(error),
+        Ok(()) => length_in(&bytes, place.form),
+    }
+}
+
+/// The length of the time that some bytes are.
+fn length_in(bytes: &[u8], form: TimeForm) -> Result<u64, Errno>
+    requires { length bytes.now ≡ 8 }
+    ensures { result ≡ spec.length_in form bytes.now }
+{
+    let seconds = signed_word_at(bytes, 0);
+    let parts = signed_word_at(bytes, 4);
+    match form {
         TimeForm::Nanoseconds => spec_length(seconds, parts),
         TimeForm::Microseconds => val_length(seconds, parts),
-    }?;
-    Ok(Some(length))
+    }
 }
 
-fn spec_length(seconds: i64, nanoseconds: i64) -> Result<u64, Errno>
+fn spec_length(seconds: i32, nanoseconds: i32) -> Result<u64, Errno>
     ensures { result ≡ length_of (record { seconds = seconds; nanoseconds = nanoseconds }) }
 {
-    if seconds < 0 || nanoseconds < 0 || nanoseconds >= 1_000_000_000 {
+    if seconds < 0 || nanoseconds < 0 || nanoseconds >= NANOSECONDS_END {
         return Err(Errno::EINVAL);
     }
-    Ok(seconds as u64 * NANOSECONDS_PER_SECOND + nanoseconds as u64)
+    let whole = u64::from(seconds.unsigned_abs()) * NANOSECONDS_PER_SECOND;
+    Ok(whole + u64::from(nanoseconds.unsigned_abs()))
 }
 
-fn val_length(seconds: i64, microseconds: i64) -> Result<u64, Errno>
+fn val_length(seconds: i32, microseconds: i32) -> Result<u64, Errno>
     ensures { result ≡ select_length (record { seconds = seconds; microseconds = microseconds }) }
 {
     if seconds < 0 || microseconds < 0 {
         return Err(Errno::EINVAL);
     }
-    Ok(seconds as u64 * NANOSECONDS_PER_SECOND + microseconds as u64 * 1000)
-}
-
-/// A number of four bytes, the first counting most, that may be below 0.
-fn word_at(bytes: &[u8], place: usize) -> i64
-    requires { place + 4 ≤ length bytes.now }
-    ensures { result ≡ value_of true 4 (unsigned true 4 (drop place bytes.now)) }
-{
-    i64::from(BigEndian::read_u32(&bytes[place..]).cast_signed())
+    let whole = u64::from(seconds.unsigned_abs()) * NANOSECONDS_PER_SECOND;
+    Ok(whole + u64::from(microseconds.unsigned_abs()) * NANOSECONDS_PER_MICROSECOND)
 }

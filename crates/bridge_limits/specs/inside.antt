@@ -1,0 +1,4 @@
+pub mod Lefts
+pub mod Lengths
+pub mod Rooms
+pub mod Waiting
