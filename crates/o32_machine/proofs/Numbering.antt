@@ -54,8 +54,8 @@ behind : (calls : List O32Call) (rest : Option O32Call) (number : ℕ) → is_so
 behind [] rest number there = there
 behind (call ∷ calls) rest number there = found_first_or call (call_in calls rest number) (number == call.number) (behind calls rest number there)
 
-nowhere : (other : Option O32Call) → is_some {A = O32Call} None ≡ true → is_some other ≡ true
-nowhere other there = absurd cc
+nowhere : (other : Option O32Call) → false ≡ true → is_some other ≡ true
+nowhere other wrong = absurd cc
 
 -- what is so of each number of a list
 
