@@ -1,5 +1,6 @@
 //! The ends of the waits of poll(2), ppoll(2), select(2) and pselect(2), cell by cell of their table: by a handler with and without
-//! SA_RESTART, which is EINTR, 4, by either; by a stop and SIGCONT without one; and by the deadline.
+//! SA_RESTART, which is EINTR, 4, by either; by a stop and SIGCONT without one; by the deadline; and by a handler behind a stop, and one
+//! whose signal came while the process was stopped.
 //!
 //! Each waits a second for an empty pipe. The clock jumps to the signal's time and to the deadline in turns of their own, and so it does
 //! while the process is stopped. A handler returns in its fourth turn. The clock is told four turns behind the end of a wait.
@@ -85,6 +86,56 @@ const POLLS: &str = r"
     trace 22 call 4004 00000001 7ffeff20 00000008 00000000 = 00000008 0
     trace 25 exit 0
     o32run run --trace trace p = exited 0 0 25
+
+    beq $zero $zero 3; nop
+    jr $ra; nop
+    lui $t0 0x1000; sw $t0 0xFFC0 $sp
+    lui $t0 0x40; ori $t0 $t0 8; sw $t0 0xFFC4 $sp
+    addiu $a0 $zero 16; addiu $a1 $sp 0xFFC0; addiu $a2 $zero 0; addiu $a3 $zero 16; addiu $v0 $zero rt_sigaction; syscall
+    addiu $v0 $zero pipe; syscall
+    addiu $t0 $zero 3; sw $t0 0xFF80 $sp; lui $t0 0x1; sw $t0 0xFF84 $sp
+    addiu $a0 $sp 0xFF80; addiu $a1 $zero 1; addiu $a2 $zero 1000; addiu $v0 $zero poll; syscall
+    addiu $a0 $v0 0; addiu $v0 $zero exit; syscall
+    file t at 300000000 kill 23\nat 500000000 kill 25\nat 700000000 kill 16\n
+    trace 13 call 4194 00000010 7ffeff00 00000000 00000010 = 00000000 0
+    trace 15 call 4042 00000010 7ffeff00 00000000 00000000 = 00000003 0
+    trace 24 wait 4188 7ffefec0 00000001 000003e8 00000000
+    trace 26 post 23
+    trace 26 signal 23 stop
+    trace 27 post 25
+    trace 27 cont
+    trace 27 restart 4253
+    trace 27 wait 4253 7ffefec0 00000001 000003e8 00000000
+    trace 29 post 16
+    trace 29 done 00000004 1
+    trace 29 signal 16 handler
+    trace 32 return
+    trace 35 exit 4
+    o32run run --schedule t --trace trace p = exited 4 4 35
+
+    beq $zero $zero 3; nop
+    jr $ra; nop
+    lui $t0 0x1000; sw $t0 0xFFC0 $sp
+    lui $t0 0x40; ori $t0 $t0 8; sw $t0 0xFFC4 $sp
+    addiu $a0 $zero 16; addiu $a1 $sp 0xFFC0; addiu $a2 $zero 0; addiu $a3 $zero 16; addiu $v0 $zero rt_sigaction; syscall
+    addiu $v0 $zero pipe; syscall
+    addiu $t0 $zero 3; sw $t0 0xFF80 $sp; lui $t0 0x1; sw $t0 0xFF84 $sp
+    addiu $a0 $sp 0xFF80; addiu $a1 $zero 1; addiu $a2 $zero 1000; addiu $v0 $zero poll; syscall
+    addiu $a0 $v0 0; addiu $v0 $zero exit; syscall
+    file t at 300000000 kill 23\nat 500000000 kill 16\nat 700000000 kill 25\n
+    trace 13 call 4194 00000010 7ffeff00 00000000 00000010 = 00000000 0
+    trace 15 call 4042 00000010 7ffeff00 00000000 00000000 = 00000003 0
+    trace 24 wait 4188 7ffefec0 00000001 000003e8 00000000
+    trace 26 post 23
+    trace 26 signal 23 stop
+    trace 27 post 16
+    trace 28 post 25
+    trace 28 cont
+    trace 28 done 00000004 1
+    trace 28 signal 16 handler
+    trace 31 return
+    trace 34 exit 4
+    o32run run --schedule t --trace trace p = exited 4 4 34
 ";
 
 /// ppoll(2) is carried out again behind a stop, with the time that it stored as left, so to the same deadline.
@@ -174,6 +225,60 @@ const PPOLLS: &str = r"
     trace 26 call 4004 00000001 7ffeff20 00000008 00000000 = 00000008 0
     trace 29 exit 0
     o32run run --trace trace p = exited 0 0 29
+
+    beq $zero $zero 3; nop
+    jr $ra; nop
+    lui $t0 0x1000; sw $t0 0xFFC0 $sp
+    lui $t0 0x40; ori $t0 $t0 8; sw $t0 0xFFC4 $sp
+    addiu $a0 $zero 16; addiu $a1 $sp 0xFFC0; addiu $a2 $zero 0; addiu $a3 $zero 16; addiu $v0 $zero rt_sigaction; syscall
+    addiu $v0 $zero pipe; syscall
+    addiu $t0 $zero 3; sw $t0 0xFF80 $sp; lui $t0 0x1; sw $t0 0xFF84 $sp
+    addiu $t0 $zero 1; sw $t0 0xFFF0 $sp
+    sw $zero 16 $sp
+    addiu $a0 $sp 0xFF80; addiu $a1 $zero 1; addiu $a2 $sp 0xFFF0; addiu $a3 $zero 0; addiu $v0 $zero ppoll; syscall
+    addiu $a0 $v0 0; addiu $v0 $zero exit; syscall
+    file t at 300000000 kill 23\nat 500000000 kill 25\nat 700000000 kill 16\n
+    trace 13 call 4194 00000010 7ffeff00 00000000 00000010 = 00000000 0
+    trace 15 call 4042 00000010 7ffeff00 00000000 00000000 = 00000003 0
+    trace 28 wait 4302 7ffefec0 00000001 7ffeff30 00000000
+    trace 30 post 23
+    trace 30 signal 23 stop
+    trace 31 post 25
+    trace 31 cont
+    trace 31 restart 4302
+    trace 31 wait 4302 7ffefec0 00000001 7ffeff30 00000000
+    trace 33 post 16
+    trace 33 done 00000004 1
+    trace 33 signal 16 handler
+    trace 36 return
+    trace 39 exit 4
+    o32run run --schedule t --trace trace p = exited 4 4 39
+
+    beq $zero $zero 3; nop
+    jr $ra; nop
+    lui $t0 0x1000; sw $t0 0xFFC0 $sp
+    lui $t0 0x40; ori $t0 $t0 8; sw $t0 0xFFC4 $sp
+    addiu $a0 $zero 16; addiu $a1 $sp 0xFFC0; addiu $a2 $zero 0; addiu $a3 $zero 16; addiu $v0 $zero rt_sigaction; syscall
+    addiu $v0 $zero pipe; syscall
+    addiu $t0 $zero 3; sw $t0 0xFF80 $sp; lui $t0 0x1; sw $t0 0xFF84 $sp
+    addiu $t0 $zero 1; sw $t0 0xFFF0 $sp
+    sw $zero 16 $sp
+    addiu $a0 $sp 0xFF80; addiu $a1 $zero 1; addiu $a2 $sp 0xFFF0; addiu $a3 $zero 0; addiu $v0 $zero ppoll; syscall
+    addiu $a0 $v0 0; addiu $v0 $zero exit; syscall
+    file t at 300000000 kill 23\nat 500000000 kill 16\nat 700000000 kill 25\n
+    trace 13 call 4194 00000010 7ffeff00 00000000 00000010 = 00000000 0
+    trace 15 call 4042 00000010 7ffeff00 00000000 00000000 = 00000003 0
+    trace 28 wait 4302 7ffefec0 00000001 7ffeff30 00000000
+    trace 30 post 23
+    trace 30 signal 23 stop
+    trace 31 post 16
+    trace 32 post 25
+    trace 32 cont
+    trace 32 done 00000004 1
+    trace 32 signal 16 handler
+    trace 35 return
+    trace 38 exit 4
+    o32run run --schedule t --trace trace p = exited 4 4 38
 ";
 
 /// So is _newselect, whose time left is cut to microseconds, so that its deadline is up to one earlier where an instruction takes 999
@@ -264,6 +369,60 @@ const SELECTS: &str = r"
     trace 25 call 4004 00000001 7ffeff20 00000008 00000000 = 00000008 0
     trace 28 exit 0
     o32run run --trace trace p = exited 0 0 28
+
+    beq $zero $zero 3; nop
+    jr $ra; nop
+    lui $t0 0x1000; sw $t0 0xFFC0 $sp
+    lui $t0 0x40; ori $t0 $t0 8; sw $t0 0xFFC4 $sp
+    addiu $a0 $zero 16; addiu $a1 $sp 0xFFC0; addiu $a2 $zero 0; addiu $a3 $zero 16; addiu $v0 $zero rt_sigaction; syscall
+    addiu $v0 $zero pipe; syscall
+    addiu $t0 $zero 8; sw $t0 0xFF80 $sp
+    addiu $t0 $zero 1; sw $t0 0xFFF0 $sp
+    addiu $t0 $sp 0xFFF0; sw $t0 16 $sp
+    addiu $a0 $zero 4; addiu $a1 $sp 0xFF80; addiu $a2 $zero 0; addiu $a3 $zero 0; addiu $v0 $zero _newselect; syscall
+    addiu $a0 $v0 0; addiu $v0 $zero exit; syscall
+    file t at 300000000 kill 23\nat 500000000 kill 25\nat 700000000 kill 16\n
+    trace 13 call 4194 00000010 7ffeff00 00000000 00000010 = 00000000 0
+    trace 15 call 4042 00000010 7ffeff00 00000000 00000000 = 00000003 0
+    trace 27 wait 4142 00000004 7ffefec0 00000000 00000000
+    trace 29 post 23
+    trace 29 signal 23 stop
+    trace 30 post 25
+    trace 30 cont
+    trace 30 restart 4142
+    trace 30 wait 4142 00000004 7ffefec0 00000000 00000000
+    trace 32 post 16
+    trace 32 done 00000004 1
+    trace 32 signal 16 handler
+    trace 35 return
+    trace 38 exit 4
+    o32run run --schedule t --trace trace p = exited 4 4 38
+
+    beq $zero $zero 3; nop
+    jr $ra; nop
+    lui $t0 0x1000; sw $t0 0xFFC0 $sp
+    lui $t0 0x40; ori $t0 $t0 8; sw $t0 0xFFC4 $sp
+    addiu $a0 $zero 16; addiu $a1 $sp 0xFFC0; addiu $a2 $zero 0; addiu $a3 $zero 16; addiu $v0 $zero rt_sigaction; syscall
+    addiu $v0 $zero pipe; syscall
+    addiu $t0 $zero 8; sw $t0 0xFF80 $sp
+    addiu $t0 $zero 1; sw $t0 0xFFF0 $sp
+    addiu $t0 $sp 0xFFF0; sw $t0 16 $sp
+    addiu $a0 $zero 4; addiu $a1 $sp 0xFF80; addiu $a2 $zero 0; addiu $a3 $zero 0; addiu $v0 $zero _newselect; syscall
+    addiu $a0 $v0 0; addiu $v0 $zero exit; syscall
+    file t at 300000000 kill 23\nat 500000000 kill 16\nat 700000000 kill 25\n
+    trace 13 call 4194 00000010 7ffeff00 00000000 00000010 = 00000000 0
+    trace 15 call 4042 00000010 7ffeff00 00000000 00000000 = 00000003 0
+    trace 27 wait 4142 00000004 7ffefec0 00000000 00000000
+    trace 29 post 23
+    trace 29 signal 23 stop
+    trace 30 post 16
+    trace 31 post 25
+    trace 31 cont
+    trace 31 done 00000004 1
+    trace 31 signal 16 handler
+    trace 34 return
+    trace 37 exit 4
+    o32run run --schedule t --trace trace p = exited 4 4 37
 ";
 
 /// And so is pselect6.
@@ -357,6 +516,62 @@ const PSELECTS: &str = r"
     trace 26 call 4004 00000001 7ffeff20 00000008 00000000 = 00000008 0
     trace 29 exit 0
     o32run run --trace trace p = exited 0 0 29
+
+    beq $zero $zero 3; nop
+    jr $ra; nop
+    lui $t0 0x1000; sw $t0 0xFFC0 $sp
+    lui $t0 0x40; ori $t0 $t0 8; sw $t0 0xFFC4 $sp
+    addiu $a0 $zero 16; addiu $a1 $sp 0xFFC0; addiu $a2 $zero 0; addiu $a3 $zero 16; addiu $v0 $zero rt_sigaction; syscall
+    addiu $v0 $zero pipe; syscall
+    addiu $t0 $zero 8; sw $t0 0xFF80 $sp
+    addiu $t0 $zero 1; sw $t0 0xFFF0 $sp
+    addiu $t0 $sp 0xFFF0; sw $t0 16 $sp
+    sw $zero 20 $sp
+    addiu $a0 $zero 4; addiu $a1 $sp 0xFF80; addiu $a2 $zero 0; addiu $a3 $zero 0; addiu $v0 $zero pselect6; syscall
+    addiu $a0 $v0 0; addiu $v0 $zero exit; syscall
+    file t at 300000000 kill 23\nat 500000000 kill 25\nat 700000000 kill 16\n
+    trace 13 call 4194 00000010 7ffeff00 00000000 00000010 = 00000000 0
+    trace 15 call 4042 00000010 7ffeff00 00000000 00000000 = 00000003 0
+    trace 28 wait 4301 00000004 7ffefec0 00000000 00000000
+    trace 30 post 23
+    trace 30 signal 23 stop
+    trace 31 post 25
+    trace 31 cont
+    trace 31 restart 4301
+    trace 31 wait 4301 00000004 7ffefec0 00000000 00000000
+    trace 33 post 16
+    trace 33 done 00000004 1
+    trace 33 signal 16 handler
+    trace 36 return
+    trace 39 exit 4
+    o32run run --schedule t --trace trace p = exited 4 4 39
+
+    beq $zero $zero 3; nop
+    jr $ra; nop
+    lui $t0 0x1000; sw $t0 0xFFC0 $sp
+    lui $t0 0x40; ori $t0 $t0 8; sw $t0 0xFFC4 $sp
+    addiu $a0 $zero 16; addiu $a1 $sp 0xFFC0; addiu $a2 $zero 0; addiu $a3 $zero 16; addiu $v0 $zero rt_sigaction; syscall
+    addiu $v0 $zero pipe; syscall
+    addiu $t0 $zero 8; sw $t0 0xFF80 $sp
+    addiu $t0 $zero 1; sw $t0 0xFFF0 $sp
+    addiu $t0 $sp 0xFFF0; sw $t0 16 $sp
+    sw $zero 20 $sp
+    addiu $a0 $zero 4; addiu $a1 $sp 0xFF80; addiu $a2 $zero 0; addiu $a3 $zero 0; addiu $v0 $zero pselect6; syscall
+    addiu $a0 $v0 0; addiu $v0 $zero exit; syscall
+    file t at 300000000 kill 23\nat 500000000 kill 16\nat 700000000 kill 25\n
+    trace 13 call 4194 00000010 7ffeff00 00000000 00000010 = 00000000 0
+    trace 15 call 4042 00000010 7ffeff00 00000000 00000000 = 00000003 0
+    trace 28 wait 4301 00000004 7ffefec0 00000000 00000000
+    trace 30 post 23
+    trace 30 signal 23 stop
+    trace 31 post 16
+    trace 32 post 25
+    trace 32 cont
+    trace 32 done 00000004 1
+    trace 32 signal 16 handler
+    trace 35 return
+    trace 38 exit 4
+    o32run run --schedule t --trace trace p = exited 4 4 38
 ";
 
 #[test]

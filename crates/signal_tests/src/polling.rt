@@ -401,8 +401,9 @@ const STORED: &str = r"
     o32run run --schedule t --trace trace p = exited 255 255 31
 ";
 
-/// What ppoll(2) leaves of its time: all of it at once, nothing when it is over, and the half of a second behind a handler; a time that is
-/// none stays. Where it can't be stored, the answer stands; but by a stop and SIGCONT, 25, it is EINTR then.
+/// What ppoll(2) leaves of its time: all of it at once, which is stored behind the entries, nothing when it is over, and the half of a second
+/// behind a handler; a time that is none stays. 2,147,483,647 seconds are over, and behind them twice as many, past 2^61 nanoseconds, never.
+/// Where it can't be stored, the answer stands; but by a stop and SIGCONT, 25, it is EINTR then.
 const LEFT: &str = r"
     addiu $t0 $zero 5; sw $t0 0xFFF0 $sp; addiu $t0 $zero 7; sw $t0 0xFFF4 $sp
     addiu $t0 $zero 1; sw $t0 0xFF80 $sp; lui $t0 0x4; sw $t0 0xFF84 $sp
@@ -416,6 +417,18 @@ const LEFT: &str = r"
     trace 23 exit 0
     o32run run --trace trace p = exited 0 0 23
 
+    addiu $t0 $zero 1; sw $t0 0xFFF0 $sp; lui $t0 0x4; sw $t0 0xFFF4 $sp
+    sw $zero 16 $sp
+    addiu $a0 $sp 0xFFF0; addiu $a1 $zero 1; addiu $a2 $sp 0xFFF0; addiu $a3 $zero 0; addiu $v0 $zero ppoll; syscall
+    addiu $t0 $v0 0
+    addiu $a0 $zero 1; addiu $a1 $sp 0xFFF0; addiu $a2 $zero 8; addiu $v0 $zero write; syscall
+    addiu $a0 $t0 0; addiu $v0 $zero exit; syscall
+    out \0\0\0\x01\0\x04\0\0
+    trace 11 call 4302 7ffeff30 00000001 7ffeff30 00000000 = 00000001 0
+    trace 17 call 4004 00000001 7ffeff30 00000008 00000000 = 00000008 0
+    trace 20 exit 1
+    o32run run --trace trace p = exited 1 1 20
+
     lui $t0 0xF; ori $t0 $t0 0x4240; sw $t0 0xFFF4 $sp
     sw $zero 16 $sp
     addiu $a0 $sp 0xFF80; addiu $a1 $zero 0; addiu $a2 $sp 0xFFF0; addiu $a3 $zero 0; addiu $v0 $zero ppoll; syscall
@@ -427,6 +440,17 @@ const LEFT: &str = r"
     trace 16 call 4004 00000001 7ffeff30 00000008 00000000 = 00000008 0
     trace 19 exit 0
     o32run run --trace trace p = exited 0 0 19
+
+    lui $t0 0x7FFF; ori $t0 $t0 0xFFFF; sw $t0 0xFFF0 $sp
+    sw $zero 16 $sp
+    addiu $a0 $sp 0xFF80; addiu $a1 $zero 0; addiu $a2 $sp 0xFFF0; addiu $a3 $zero 0; addiu $v0 $zero ppoll; syscall
+    lui $t0 0x7FFF; ori $t0 $t0 0xFFFF; sw $t0 0xFFF0 $sp
+    addiu $a0 $sp 0xFF80; addiu $v0 $zero ppoll; syscall
+    trace 10 wait 4302 7ffefec0 00000000 7ffeff30 00000000
+    trace 12 done 00000000 0
+    trace 17 wait 4302 7ffefec0 00000000 7ffeff30 00000000
+    trace 17 blocked
+    o32run run --trace trace p = blocked 123 17
 
     beq $zero $zero 3; nop
     jr $ra; nop

@@ -173,8 +173,8 @@ const PREFUSED: &str = r"
 /// The streams are 32, 63 and 70 too, and an empty pipe is 3, 40 and 95: three words of a set. Three sets at once, of which that of
 /// exceptions is emptied; a file to read and write, which counts twice; bits from the count on, which are cleared in the last word, and
 /// behind it stay, whatever is not open; and where nothing is ready. A count of 2,000 is one of 1,024, whose 128 bytes end with their page,
-/// in whose last bit 1,023 is; 64 descriptors have two words, and 65 three. A stream is not ready the other way. When the time is over the
-/// two words of 41 descriptors are empty.
+/// in whose last bit 1,023 is; 64 descriptors have two words, and 65 three. A stream is not ready the other way. Where two sets are one, that
+/// of writing is stored last. When the time is over the two words of 41 descriptors are empty.
 const SETS: &str = r"
     addiu $a0 $zero 0; addiu $a1 $zero 32; addiu $v0 $zero dup2; syscall
     addiu $a0 $zero 0; addiu $a1 $zero 63; addiu $v0 $zero dup2; syscall
@@ -302,6 +302,15 @@ const SETS: &str = r"
     trace 15 exit 0
     o32run run --trace trace p = exited 0 0 15
 
+    addiu $t0 $zero 3; sw $t0 0xFF80 $sp
+    addiu $t0 $sp 0xFFF0; sw $t0 16 $sp
+    addiu $a0 $zero 2; addiu $a1 $sp 0xFF80; addiu $a2 $sp 0xFF80; addiu $a3 $zero 0; addiu $v0 $zero _newselect; syscall
+    addiu $t0 $v0 0
+    addiu $a0 $zero 1; addiu $a1 $sp 0xFF80; addiu $a2 $zero 4; addiu $v0 $zero write; syscall
+    addiu $a0 $t0 0; addiu $v0 $zero exit; syscall
+    out \0\0\0\x02
+    o32run run p = exited 2 2 19
+
     addiu $v0 $zero pipe; syscall
     addiu $a0 $zero 3; addiu $a1 $zero 40; addiu $v0 $zero dup2; syscall
     addiu $t0 $zero 8; sw $t0 0xFF80 $sp
@@ -416,9 +425,10 @@ const READY: &str = r"
     o32run run --trace trace p = exited 2 2 28
 ";
 
-/// What is left of the time: all of it at once, where microseconds carry into the seconds, also where the count, a set or a descriptor is
-/// wrong; but a time that is none stays. Nothing is left when it is over. Behind a handler it is rounded down to microseconds, and of
-/// pselect6 it is in nanoseconds; an instruction takes 999 of them here.
+/// What is left of the time: all of it at once, where microseconds carry into the seconds, of which the low 32 bits are stored, behind the
+/// sets; also where a set can't be stored, or the count, a set or a descriptor is wrong; but a time that is none stays. Nothing is left when
+/// it is over. Behind a handler it is rounded down to microseconds, and of pselect6 it is in nanoseconds; an instruction takes 999 of them
+/// here.
 const LEFT: &str = r"
     sw $zero 0xFFF0 $sp
     lui $t0 0x7FFF; ori $t0 $t0 0xFFFF; sw $t0 0xFFF4 $sp
@@ -433,6 +443,40 @@ const LEFT: &str = r"
     trace 20 call 4004 00000001 7ffeff30 00000008 00000000 = 00000008 0
     trace 23 exit 1
     o32run run --trace trace p = exited 1 1 23
+
+    lui $t0 0x7FFF; ori $t0 $t0 0xFFFF; sw $t0 0xFFF0 $sp
+    lui $t0 0x7FFF; ori $t0 $t0 0xFFFF; sw $t0 0xFFF4 $sp
+    addiu $t0 $zero 1; sw $t0 0xFF80 $sp
+    addiu $t0 $sp 0xFFF0; sw $t0 16 $sp
+    addiu $a0 $zero 1; addiu $a1 $sp 0xFF80; addiu $a2 $zero 0; addiu $a3 $zero 0; addiu $v0 $zero _newselect; syscall
+    addiu $t0 $v0 0
+    addiu $a0 $zero 1; addiu $a1 $sp 0xFFF0; addiu $a2 $zero 8; addiu $v0 $zero write; syscall
+    addiu $a0 $t0 0; addiu $v0 $zero exit; syscall
+    out \x80\0\x08b\0\x07a?
+    o32run run p = exited 1 1 25
+
+    addiu $t0 $zero 1; sw $t0 0xFFF0 $sp
+    lui $t0 0x16; ori $t0 $t0 0xE360; sw $t0 0xFFF4 $sp
+    addiu $t0 $sp 0xFFF0; sw $t0 16 $sp
+    addiu $a0 $zero 1; addiu $a1 $sp 0xFFF0; addiu $a2 $zero 0; addiu $a3 $zero 0; addiu $v0 $zero _newselect; syscall
+    addiu $t0 $v0 0
+    addiu $a0 $zero 1; addiu $a1 $sp 0xFFF0; addiu $a2 $zero 8; addiu $v0 $zero write; syscall
+    addiu $a0 $t0 0; addiu $v0 $zero exit; syscall
+    out \0\0\0\x02\0\x07\xA1\x20
+    o32run run p = exited 1 1 22
+
+    sw $zero 0xFFF0 $sp
+    lui $t0 0x16; ori $t0 $t0 0xE360; sw $t0 0xFFF4 $sp
+    addiu $t0 $zero 1; sw $t0 0xFF80 $sp
+    addiu $t0 $sp 0xFFF0; sw $t0 16 $sp
+    addiu $a0 $zero 1; addiu $a1 $sp 0xFF80; lui $a2 0x40; ori $a2 $a2 0x800; addiu $a3 $zero 0; addiu $v0 $zero _newselect; syscall
+    addiu $a0 $zero 1; addiu $a1 $sp 0xFFF0; addiu $a2 $zero 8; addiu $v0 $zero write; syscall
+    addiu $a0 $zero 0; addiu $v0 $zero exit; syscall
+    out \0\0\0\x01\0\x07\xA1\x20
+    trace 15 call 4142 00000001 7ffefec0 00400800 00000000 = 0000000e 1
+    trace 20 call 4004 00000001 7ffeff30 00000008 00000001 = 00000008 0
+    trace 23 exit 0
+    o32run run --trace trace p = exited 0 0 23
 
     sw $zero 0xFFF0 $sp
     lui $t0 0x16; ori $t0 $t0 0xE360; sw $t0 0xFFF4 $sp
