@@ -1,13 +1,13 @@
 //! The ends of the waits of poll(2), ppoll(2), select(2) and pselect(2), cell by cell of their table: by a handler with and without
 //! SA_RESTART, which is EINTR, 4, by either; by a stop and SIGCONT without one; by the deadline; and by a handler behind a stop, and one
-//! whose signal came while the process was stopped.
+//! whose signal came while the process was stopped. Where a signal comes at the deadline, the call has ended before its handler.
 //!
 //! Each waits a second for an empty pipe. The clock jumps to the signal's time and to the deadline in turns of their own, and so it does
 //! while the process is stopped. A handler returns in its fourth turn. The clock is told four turns behind the end of a wait.
 use session_scripts::first_wrong;
 use std::test::Fail;
 
-/// poll(2) goes on by restart_syscall(2), 4253, behind a stop, to the same deadline.
+/// poll(2) goes on by restart_syscall(2), 4253, behind a stop, to the same deadline; and behind that there is nothing left to go on with.
 const POLLS: &str = r"
     beq $zero $zero 3; nop
     jr $ra; nop
@@ -136,6 +136,45 @@ const POLLS: &str = r"
     trace 31 return
     trace 34 exit 4
     o32run run --schedule t --trace trace p = exited 4 4 34
+
+    beq $zero $zero 3; nop
+    jr $ra; nop
+    lui $t0 0x1000; sw $t0 0xFFC0 $sp
+    lui $t0 0x40; ori $t0 $t0 8; sw $t0 0xFFC4 $sp
+    addiu $a0 $zero 16; addiu $a1 $sp 0xFFC0; addiu $a2 $zero 0; addiu $a3 $zero 16; addiu $v0 $zero rt_sigaction; syscall
+    addiu $v0 $zero pipe; syscall
+    addiu $t0 $zero 3; sw $t0 0xFF80 $sp; lui $t0 0x1; sw $t0 0xFF84 $sp
+    addiu $a0 $sp 0xFF80; addiu $a1 $zero 1; addiu $a2 $zero 1000; addiu $v0 $zero poll; syscall
+    addiu $a0 $v0 0; addiu $v0 $zero exit; syscall
+    file t at 1000023000 kill 16\n
+    trace 13 call 4194 00000010 7ffeff00 00000000 00000010 = 00000000 0
+    trace 15 call 4042 00000010 7ffeff00 00000000 00000000 = 00000003 0
+    trace 24 wait 4188 7ffefec0 00000001 000003e8 00000000
+    trace 26 post 16
+    trace 26 done 00000000 0
+    trace 26 signal 16 handler
+    trace 29 return
+    trace 32 exit 0
+    o32run run --schedule t --trace trace p = exited 0 0 32
+
+    addiu $v0 $zero pipe; syscall
+    addiu $t0 $zero 3; sw $t0 0xFF80 $sp; lui $t0 0x1; sw $t0 0xFF84 $sp
+    addiu $a0 $sp 0xFF80; addiu $a1 $zero 1; addiu $a2 $zero 1000; addiu $v0 $zero poll; syscall
+    addiu $v0 $zero 4253; syscall
+    addiu $a0 $v0 0; addiu $v0 $zero exit; syscall
+    file t at 300000000 kill 23\nat 800000000 kill 25\n
+    trace 2 call 4042 00000000 00000000 00000000 00000000 = 00000003 0
+    trace 11 wait 4188 7ffefec0 00000001 000003e8 00000000
+    trace 13 post 23
+    trace 13 signal 23 stop
+    trace 14 post 25
+    trace 14 cont
+    trace 14 restart 4253
+    trace 14 wait 4253 7ffefec0 00000001 000003e8 00000000
+    trace 16 done 00000000 0
+    trace 17 call 4253 7ffefec0 00000001 000003e8 00000000 = 00000004 1
+    trace 20 exit 4
+    o32run run --schedule t --trace trace p = exited 4 4 20
 ";
 
 /// ppoll(2) is carried out again behind a stop, with the time that it stored as left, so to the same deadline.
@@ -279,6 +318,28 @@ const PPOLLS: &str = r"
     trace 35 return
     trace 38 exit 4
     o32run run --schedule t --trace trace p = exited 4 4 38
+
+    beq $zero $zero 3; nop
+    jr $ra; nop
+    lui $t0 0x1000; sw $t0 0xFFC0 $sp
+    lui $t0 0x40; ori $t0 $t0 8; sw $t0 0xFFC4 $sp
+    addiu $a0 $zero 16; addiu $a1 $sp 0xFFC0; addiu $a2 $zero 0; addiu $a3 $zero 16; addiu $v0 $zero rt_sigaction; syscall
+    addiu $v0 $zero pipe; syscall
+    addiu $t0 $zero 3; sw $t0 0xFF80 $sp; lui $t0 0x1; sw $t0 0xFF84 $sp
+    addiu $t0 $zero 1; sw $t0 0xFFF0 $sp
+    sw $zero 16 $sp
+    addiu $a0 $sp 0xFF80; addiu $a1 $zero 1; addiu $a2 $sp 0xFFF0; addiu $a3 $zero 0; addiu $v0 $zero ppoll; syscall
+    addiu $a0 $v0 0; addiu $v0 $zero exit; syscall
+    file t at 1000027000 kill 16\n
+    trace 13 call 4194 00000010 7ffeff00 00000000 00000010 = 00000000 0
+    trace 15 call 4042 00000010 7ffeff00 00000000 00000000 = 00000003 0
+    trace 28 wait 4302 7ffefec0 00000001 7ffeff30 00000000
+    trace 30 post 16
+    trace 30 done 00000000 0
+    trace 30 signal 16 handler
+    trace 33 return
+    trace 36 exit 0
+    o32run run --schedule t --trace trace p = exited 0 0 36
 ";
 
 /// So is _newselect, whose time left is cut to microseconds, so that its deadline is up to one earlier where an instruction takes 999
@@ -423,6 +484,28 @@ const SELECTS: &str = r"
     trace 34 return
     trace 37 exit 4
     o32run run --schedule t --trace trace p = exited 4 4 37
+
+    beq $zero $zero 3; nop
+    jr $ra; nop
+    lui $t0 0x1000; sw $t0 0xFFC0 $sp
+    lui $t0 0x40; ori $t0 $t0 8; sw $t0 0xFFC4 $sp
+    addiu $a0 $zero 16; addiu $a1 $sp 0xFFC0; addiu $a2 $zero 0; addiu $a3 $zero 16; addiu $v0 $zero rt_sigaction; syscall
+    addiu $v0 $zero pipe; syscall
+    addiu $t0 $zero 8; sw $t0 0xFF80 $sp
+    addiu $t0 $zero 1; sw $t0 0xFFF0 $sp
+    addiu $t0 $sp 0xFFF0; sw $t0 16 $sp
+    addiu $a0 $zero 4; addiu $a1 $sp 0xFF80; addiu $a2 $zero 0; addiu $a3 $zero 0; addiu $v0 $zero _newselect; syscall
+    addiu $a0 $v0 0; addiu $v0 $zero exit; syscall
+    file t at 1000026000 kill 16\n
+    trace 13 call 4194 00000010 7ffeff00 00000000 00000010 = 00000000 0
+    trace 15 call 4042 00000010 7ffeff00 00000000 00000000 = 00000003 0
+    trace 27 wait 4142 00000004 7ffefec0 00000000 00000000
+    trace 29 post 16
+    trace 29 done 00000000 0
+    trace 29 signal 16 handler
+    trace 32 return
+    trace 35 exit 0
+    o32run run --schedule t --trace trace p = exited 0 0 35
 ";
 
 /// And so is pselect6.
@@ -572,6 +655,29 @@ const PSELECTS: &str = r"
     trace 35 return
     trace 38 exit 4
     o32run run --schedule t --trace trace p = exited 4 4 38
+
+    beq $zero $zero 3; nop
+    jr $ra; nop
+    lui $t0 0x1000; sw $t0 0xFFC0 $sp
+    lui $t0 0x40; ori $t0 $t0 8; sw $t0 0xFFC4 $sp
+    addiu $a0 $zero 16; addiu $a1 $sp 0xFFC0; addiu $a2 $zero 0; addiu $a3 $zero 16; addiu $v0 $zero rt_sigaction; syscall
+    addiu $v0 $zero pipe; syscall
+    addiu $t0 $zero 8; sw $t0 0xFF80 $sp
+    addiu $t0 $zero 1; sw $t0 0xFFF0 $sp
+    addiu $t0 $sp 0xFFF0; sw $t0 16 $sp
+    sw $zero 20 $sp
+    addiu $a0 $zero 4; addiu $a1 $sp 0xFF80; addiu $a2 $zero 0; addiu $a3 $zero 0; addiu $v0 $zero pselect6; syscall
+    addiu $a0 $v0 0; addiu $v0 $zero exit; syscall
+    file t at 1000027000 kill 16\n
+    trace 13 call 4194 00000010 7ffeff00 00000000 00000010 = 00000000 0
+    trace 15 call 4042 00000010 7ffeff00 00000000 00000000 = 00000003 0
+    trace 28 wait 4301 00000004 7ffefec0 00000000 00000000
+    trace 30 post 16
+    trace 30 done 00000000 0
+    trace 30 signal 16 handler
+    trace 33 return
+    trace 36 exit 0
+    o32run run --schedule t --trace trace p = exited 0 0 36
 ";
 
 #[test]

@@ -85,7 +85,7 @@ const WAITS: &str = r"
 ";
 
 /// EFAULT is 14, EINVAL 22: entries that can't be read, and one of which the last four bytes can't; 1,025 entries, before they are read; a
-/// count of -1, which is above that too; but not 1,024 entries, and none at an address where nothing is, which waits if there is a time.
+/// count of -1, which is above that too; but not 1,024 entries, and none at an address where nothing is, which wait if there is a time.
 const REFUSED: &str = r"
     lui $a0 0x50; addiu $a1 $zero 1; addiu $a2 $zero 0; addiu $v0 $zero poll; syscall
     addiu $a0 $v0 0; addiu $v0 $zero exit; syscall
@@ -103,9 +103,12 @@ const REFUSED: &str = r"
     addiu $a0 $v0 0; addiu $v0 $zero exit; syscall
     o32run run p = exited 22 22 8
 
-    lui $a0 0x7F80; addiu $a1 $zero 1024; addiu $a2 $zero 0; addiu $v0 $zero poll; syscall
+    lui $a0 0x7F80; addiu $a1 $zero 1024; addiu $a2 $zero 1; addiu $v0 $zero poll; syscall
     addiu $a0 $v0 0; addiu $v0 $zero exit; syscall
-    o32run run p = exited 0 0 8
+    trace 5 wait 4188 7f800000 00000400 00000001 00000000
+    trace 7 done 00000000 0
+    trace 9 exit 0
+    o32run run --trace trace p = exited 0 0 9
 
     lui $a0 0x50; addiu $a1 $zero 0; addiu $a2 $zero 0; addiu $v0 $zero poll; syscall
     addiu $a0 $v0 0; addiu $v0 $zero exit; syscall
@@ -193,10 +196,10 @@ const PREFUSED: &str = r"
     o32run run --trace trace p = exited 4 4 5
 ";
 
-/// All that can be asked, 0x1FF, of the three streams, of none, -1, and of one that is not open; of a file to read and write, one to write
-/// and a directory; then what is asked for alone, and bits that are not listed; of an empty pipe, one with a byte, one without writers, empty
-/// and with a byte, and one without readers, where being hung up and an error are told unasked. A pipe is ready for writing with room for
-/// 4,096 bytes, and not for 4,095.
+/// All that can be asked, 0x1FF, of the three streams, of none, -1, and of one that is not open; of two streams that are a terminal; of a
+/// file to read and write, one to write and a directory; then what is asked for alone, and bits that are not listed; of an empty pipe, one
+/// with a byte, one without writers, empty and with a byte, and one without readers, where being hung up and an error are told unasked. A
+/// pipe is ready for writing with room for 4,096 bytes, and not for 4,095.
 const READY: &str = r"
     addiu $t0 $zero 0; sw $t0 0xFF80 $sp; lui $t0 0x1FF; sw $t0 0xFF84 $sp
     addiu $t0 $zero 1; sw $t0 0xFF88 $sp; lui $t0 0x1FF; sw $t0 0xFF8C $sp
@@ -212,6 +215,16 @@ const READY: &str = r"
     trace 31 call 4004 00000001 7ffefec0 00000028 00000000 = 00000028 0
     trace 34 exit 4
     o32run run --trace trace p = exited 4 4 34
+
+    addiu $t0 $zero 0; sw $t0 0xFF80 $sp; lui $t0 0x5; sw $t0 0xFF84 $sp
+    addiu $t0 $zero 1; sw $t0 0xFF88 $sp; lui $t0 0x5; sw $t0 0xFF8C $sp
+    addiu $a0 $sp 0xFF80; addiu $a1 $zero 2; addiu $a2 $zero 0; addiu $v0 $zero poll; syscall
+    addiu $t0 $v0 0
+    addiu $a0 $zero 1; addiu $a1 $sp 0xFF80; addiu $a2 $zero 16; addiu $v0 $zero write; syscall
+    addiu $a0 $t0 0; addiu $v0 $zero exit; syscall
+    file t tty 25 80\n
+    out \0\0\0\0\0\x05\0\x01\0\0\0\x01\0\x05\0\x04
+    o32run run --schedule t p = exited 2 2 22
 
     lui $t0 0x2F66; sw $t0 0xFFF0 $sp
     addiu $a0 $sp 0xFFF0; addiu $a1 $zero 0x102; addiu $a2 $zero 0; addiu $v0 $zero open; syscall
@@ -403,7 +416,8 @@ const STORED: &str = r"
 
 /// What ppoll(2) leaves of its time: all of it at once, which is stored behind the entries, nothing when it is over, and the half of a second
 /// behind a handler; a time that is none stays. 2,147,483,647 seconds are over, and behind them twice as many, past 2^61 nanoseconds, never.
-/// Where it can't be stored, the answer stands; but by a stop and SIGCONT, 25, it is EINTR then.
+/// Where it can't be stored, the answer stands; but by a stop and SIGCONT, 25, it is EINTR then, and the mask is put back, so that one
+/// instruction later the handler of 16 begins.
 const LEFT: &str = r"
     addiu $t0 $zero 5; sw $t0 0xFFF0 $sp; addiu $t0 $zero 7; sw $t0 0xFFF4 $sp
     addiu $t0 $zero 1; sw $t0 0xFF80 $sp; lui $t0 0x4; sw $t0 0xFF84 $sp
@@ -527,6 +541,31 @@ const LEFT: &str = r"
     trace 35 exit 1
     o32run run --schedule t --trace trace p = exited 1 1 35
 
+    beq $zero $zero 3; nop
+    jr $ra; nop
+    lui $t0 0x40; ori $t0 $t0 8; sw $t0 0xFFC4 $sp
+    addiu $a0 $zero 16; addiu $a1 $sp 0xFFC0; addiu $a2 $zero 0; addiu $a3 $zero 16; addiu $v0 $zero rt_sigaction; syscall
+    lui $s0 0x7FFE; ori $s0 $s0 0xE000; addiu $t0 $zero 1; sw $t0 0 $s0
+    addiu $a0 $s0 0; addiu $a1 $zero 0x1000; addiu $a2 $zero 1; addiu $v0 $zero mprotect; syscall
+    ori $t0 $zero 0x8000; sw $t0 0xFFD0 $sp
+    addiu $t0 $zero 16; sw $t0 16 $sp
+    addiu $a0 $sp 0xFF80; addiu $a1 $zero 0; addiu $a2 $s0 0; addiu $a3 $sp 0xFFD0; addiu $v0 $zero ppoll; syscall
+    addiu $a0 $v0 0; addiu $v0 $zero exit; syscall
+    file t at 300000000 kill 23\nat 500000000 kill 16\nat 800000000 kill 25\n
+    trace 11 call 4194 00000010 7ffeff00 00000000 00000010 = 00000000 0
+    trace 20 call 4125 7ffee000 00001000 00000001 00000000 = 00000000 0
+    trace 30 wait 4302 7ffefec0 00000000 7ffee000 7ffeff10
+    trace 32 post 23
+    trace 32 signal 23 stop
+    trace 33 post 16
+    trace 34 post 25
+    trace 34 cont
+    trace 34 done 00000004 1
+    trace 35 signal 16 handler
+    trace 38 return
+    trace 40 exit 4
+    o32run run --schedule t --trace trace p = exited 4 4 40
+
     lui $s0 0x7FFE; ori $s0 $s0 0xE000; addiu $t0 $zero 1; sw $t0 0 $s0
     addiu $a0 $s0 0; addiu $a1 $zero 0x1000; addiu $a2 $zero 1; addiu $v0 $zero mprotect; syscall
     sw $zero 16 $sp
@@ -547,7 +586,9 @@ const LEFT: &str = r"
 /// ppoll(2) with a mask that has 16, which comes and waits for the end, at which the mask before is put back. In the handler of 16 its own
 /// mask, here with 14, stands beside 16, and the frame has the mask before. A call that does not wait leaves the mask, and so does one that
 /// is refused. SIGKILL, 9, and SIGSTOP, 23, can't be blocked; behind a stop and SIGCONT, 25, which pends too where it is blocked, the call is
-/// carried out again with its mask, by which 16 waits for the end though it came while the process was stopped.
+/// carried out again with its mask, by which 16 waits for the end though it came while the process was stopped. Of two signals that are let
+/// through, 14 and 16, the handler of 14 has the mask before the call in its frame, and that of 16, which begins first, the one of the other
+/// handler.
 const MASKS: &str = r"
     beq $zero $zero 3; nop
     jr $ra; nop
@@ -689,6 +730,35 @@ const MASKS: &str = r"
     trace 36 return
     trace 39 exit 0
     o32run run --schedule t --trace trace p = exited 0 0 39
+
+    beq $zero $zero 8; nop
+    addiu $a0 $zero 1; addiu $a1 $sp 616; addiu $a2 $zero 4; addiu $v0 $zero write; syscall; jr $ra; nop
+    lui $t0 0x40; ori $t0 $t0 8; sw $t0 0xFFC4 $sp
+    addiu $a0 $zero 16; addiu $a1 $sp 0xFFC0; addiu $a2 $zero 0; addiu $a3 $zero 16; addiu $v0 $zero rt_sigaction; syscall
+    addiu $a0 $zero 14; addiu $a3 $zero 16; addiu $v0 $zero rt_sigaction; syscall
+    ori $t0 $zero 0xA000; sw $t0 0xFFE0 $sp
+    addiu $a0 $zero 1; addiu $a1 $sp 0xFFE0; addiu $a2 $zero 0; addiu $a3 $zero 16; addiu $v0 $zero rt_sigprocmask; syscall
+    addiu $a0 $zero 100; addiu $a1 $zero 16; addiu $v0 $zero kill; syscall
+    addiu $a0 $zero 100; addiu $a1 $zero 14; addiu $v0 $zero kill; syscall
+    addiu $t0 $zero 16; sw $t0 16 $sp
+    addiu $a0 $sp 0xFF80; addiu $a1 $zero 0; addiu $a2 $zero 0; addiu $a3 $sp 0xFFD0; addiu $v0 $zero ppoll; syscall
+    addiu $a0 $v0 0; addiu $v0 $zero exit; syscall
+    out \0\0\x20\0\0\0\xA0\0
+    trace 11 call 4194 00000010 7ffeff00 00000000 00000010 = 00000000 0
+    trace 15 call 4194 0000000e 7ffeff00 00000000 00000010 = 00000000 0
+    trace 23 call 4195 00000001 7ffeff20 00000000 00000010 = 00000000 0
+    trace 27 call 4037 00000064 00000010 00000000 00000000 = 00000000 0
+    trace 31 call 4037 00000064 0000000e 00000000 00000000 = 00000000 0
+    trace 39 wait 4302 7ffefec0 00000000 00000000 7ffeff10
+    trace 40 done 00000004 1
+    trace 40 signal 14 handler
+    trace 40 signal 16 handler
+    trace 44 call 4004 00000001 7ffefc78 00000004 00000001 = 00000004 0
+    trace 48 return
+    trace 53 call 4004 00000001 7ffeff10 00000004 00000001 = 00000004 0
+    trace 57 return
+    trace 60 exit 4
+    o32run run --trace trace p = exited 4 4 60
 
     beq $zero $zero 3; nop
     jr $ra; nop

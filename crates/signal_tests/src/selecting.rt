@@ -173,8 +173,8 @@ const PREFUSED: &str = r"
 /// The streams are 32, 63 and 70 too, and an empty pipe is 3, 40 and 95: three words of a set. Three sets at once, of which that of
 /// exceptions is emptied; a file to read and write, which counts twice; bits from the count on, which are cleared in the last word, and
 /// behind it stay, whatever is not open; and where nothing is ready. A count of 2,000 is one of 1,024, whose 128 bytes end with their page,
-/// in whose last bit 1,023 is; 64 descriptors have two words, and 65 three. A stream is not ready the other way. Where two sets are one, that
-/// of writing is stored last. When the time is over the two words of 41 descriptors are empty.
+/// in whose last bit 1,023 is, and so is one of 1,025 that waits; 64 descriptors have two words, and 65 three. A stream is not ready the
+/// other way. Where two sets are one, that of writing is stored last. When the time is over the two words of 41 descriptors are empty.
 const SETS: &str = r"
     addiu $a0 $zero 0; addiu $a1 $zero 32; addiu $v0 $zero dup2; syscall
     addiu $a0 $zero 0; addiu $a1 $zero 63; addiu $v0 $zero dup2; syscall
@@ -272,6 +272,28 @@ const SETS: &str = r"
     addiu $a0 $t0 0; addiu $v0 $zero exit; syscall
     out \x80\0\0\0
     o32run run p = exited 1 1 34
+
+    addiu $v0 $zero pipe; syscall
+    addiu $a0 $zero 3; addiu $a1 $zero 1023; addiu $v0 $zero dup2; syscall
+    lui $a0 0x3000; addiu $a1 $zero 0x1000; addiu $a2 $zero 3; addiu $a3 $zero 0x812; addiu $v0 $zero mmap2; syscall
+    lui $t1 0x3000; lui $t0 0x8000; sw $t0 0xFFC $t1
+    sw $zero 0xFFF0 $sp
+    addiu $t0 $zero 0x3E8; sw $t0 0xFFF4 $sp
+    addiu $t0 $sp 0xFFF0; sw $t0 16 $sp
+    addiu $a0 $zero 1025; lui $a1 0x3000; ori $a1 $a1 0xF80; addiu $a2 $zero 0; addiu $a3 $zero 0; addiu $v0 $zero _newselect; syscall
+    addiu $t0 $v0 0
+    lui $t1 0x3000; lw $a0 0xFFC $t1; sw $a0 0xFF80 $sp
+    addiu $a0 $zero 1; addiu $a1 $sp 0xFF80; addiu $a2 $zero 4; addiu $v0 $zero write; syscall
+    addiu $a0 $t0 0; addiu $v0 $zero exit; syscall
+    out \0\0\0\0
+    trace 2 call 4042 00000000 00000000 00000000 00000000 = 00000003 0
+    trace 6 call 4063 00000003 000003ff 00000000 00000000 = 000003ff 0
+    trace 12 call 4210 30000000 00001000 00000003 00000812 = 30000000 0
+    trace 27 wait 4142 00000401 30000f80 00000000 00000000
+    trace 29 done 00000000 0
+    trace 37 call 4004 00000001 7ffefec0 00000004 00000000 = 00000004 0
+    trace 40 exit 0
+    o32run run --trace trace p = exited 0 0 40
 
     lui $a0 0x3000; addiu $a1 $zero 0x1000; addiu $a2 $zero 3; addiu $a3 $zero 0x812; addiu $v0 $zero mmap2; syscall
     addiu $t0 $sp 0xFFF0; sw $t0 16 $sp
@@ -729,7 +751,9 @@ const ROOM: &str = r"
 /// pselect6 with a mask that has 16, which comes and waits for the end, at which the mask before is put back. In the handler of 16 its own
 /// mask, here with 14, stands beside 16, and the frame has the mask before. A call that does not wait leaves the mask, and so does one that
 /// is refused. SIGKILL, 9, and SIGSTOP, 23, can't be blocked; behind a stop and SIGCONT, 25, which pends too where it is blocked, the call is
-/// carried out again with its mask, by which 16 waits for the end though it came while the process was stopped.
+/// carried out again with its mask, by which 16 waits for the end though it came while the process was stopped. Of two signals that are let
+/// through, 14 and 16, the handler of 14 has the mask before the call in its frame, and that of 16, which begins first, the one of the other
+/// handler.
 const MASKS: &str = r"
     beq $zero $zero 3; nop
     jr $ra; nop
@@ -883,6 +907,37 @@ const MASKS: &str = r"
     trace 42 return
     trace 45 exit 0
     o32run run --schedule t --trace trace p = exited 0 0 45
+
+    beq $zero $zero 8; nop
+    addiu $a0 $zero 1; addiu $a1 $sp 616; addiu $a2 $zero 4; addiu $v0 $zero write; syscall; jr $ra; nop
+    lui $t0 0x40; ori $t0 $t0 8; sw $t0 0xFFC4 $sp
+    addiu $a0 $zero 16; addiu $a1 $sp 0xFFC0; addiu $a2 $zero 0; addiu $a3 $zero 16; addiu $v0 $zero rt_sigaction; syscall
+    addiu $a0 $zero 14; addiu $a3 $zero 16; addiu $v0 $zero rt_sigaction; syscall
+    ori $t0 $zero 0xA000; sw $t0 0xFFE0 $sp
+    addiu $a0 $zero 1; addiu $a1 $sp 0xFFE0; addiu $a2 $zero 0; addiu $a3 $zero 16; addiu $v0 $zero rt_sigprocmask; syscall
+    addiu $a0 $zero 100; addiu $a1 $zero 16; addiu $v0 $zero kill; syscall
+    addiu $a0 $zero 100; addiu $a1 $zero 14; addiu $v0 $zero kill; syscall
+    addiu $t0 $sp 0xFFD0; sw $t0 0xFFE8 $sp; addiu $t0 $zero 16; sw $t0 0xFFEC $sp
+    sw $zero 16 $sp
+    addiu $t0 $sp 0xFFE8; sw $t0 20 $sp
+    addiu $a0 $zero 0; addiu $a1 $zero 0; addiu $a2 $zero 0; addiu $a3 $zero 0; addiu $v0 $zero pselect6; syscall
+    addiu $a0 $v0 0; addiu $v0 $zero exit; syscall
+    out \0\0\x20\0\0\0\xA0\0
+    trace 11 call 4194 00000010 7ffeff00 00000000 00000010 = 00000000 0
+    trace 15 call 4194 0000000e 7ffeff00 00000000 00000010 = 00000000 0
+    trace 23 call 4195 00000001 7ffeff20 00000000 00000010 = 00000000 0
+    trace 27 call 4037 00000064 00000010 00000000 00000000 = 00000000 0
+    trace 31 call 4037 00000064 0000000e 00000000 00000000 = 00000000 0
+    trace 44 wait 4301 00000000 00000000 00000000 00000000
+    trace 45 done 00000004 1
+    trace 45 signal 14 handler
+    trace 45 signal 16 handler
+    trace 49 call 4004 00000001 7ffefc78 00000004 00000001 = 00000004 0
+    trace 53 return
+    trace 58 call 4004 00000001 7ffeff10 00000004 00000001 = 00000004 0
+    trace 62 return
+    trace 65 exit 4
+    o32run run --trace trace p = exited 4 4 65
 
     beq $zero $zero 3; nop
     jr $ra; nop
