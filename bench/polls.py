@@ -65,7 +65,7 @@ COUNTED_CALLS = 100
 
 
 class Loop:
-    """A program that goes round a call: the lines of its trace before that, the call's number and arguments, and what it gives."""
+    """A program that goes round a call: the trace before that, the call's number and arguments, and what it gives."""
 
     def __init__(self, name, before, lines, setup, number, arguments, gives, data):
         self.lines = lines
