@@ -5,10 +5,11 @@
 const NAMES: &str = "
     $zero 0 $v0 2 $v1 3 $a0 4 $a1 5 $a2 6 $a3 7 $t0 8 $t1 9 $s0 16 $sp 29 $ra 31 $29 29 $fcc0 0
 
-    exit 4001 read 4003 write 4004 close 4006 alarm 4027 pause 4029 kill 4037 pipe 4042 ioctl 4054 getrlimit 4076 setitimer 4104
-    readv 4145 writev 4146 nanosleep 4166 rt_sigreturn 4193 rt_sigaction 4194 rt_sigprocmask 4195 rt_sigtimedwait 4197
-    rt_sigsuspend 4199 sigaltstack 4206 mmap2 4210 exit_group 4246 set_tid_address 4252 clock_gettime 4263 set_thread_area 4283
-    set_robust_list 4309 getrandom 4353
+    exit 4001 read 4003 write 4004 open 4005 close 4006 alarm 4027 pause 4029 kill 4037 pipe 4042 ioctl 4054 dup2 4063
+    getrlimit 4076 setitimer 4104 mprotect 4125 _newselect 4142 readv 4145 writev 4146 nanosleep 4166 poll 4188
+    rt_sigreturn 4193 rt_sigaction 4194 rt_sigprocmask 4195 rt_sigtimedwait 4197 rt_sigsuspend 4199 sigaltstack 4206 mmap2 4210
+    exit_group 4246 set_tid_address 4252 clock_gettime 4263 set_thread_area 4283 pselect6 4301 ppoll 4302 set_robust_list 4309
+    getrandom 4353
 ";
 
 /// What a digit stands for, up to 15.

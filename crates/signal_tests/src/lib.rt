@@ -8,9 +8,15 @@ mod arriving;
 #[cfg(test)]
 mod cells;
 #[cfg(test)]
+mod cells_of_polls;
+#[cfg(test)]
 mod frames;
 #[cfg(test)]
+mod polling;
+#[cfg(test)]
 mod refusals;
+#[cfg(test)]
+mod selecting;
 #[cfg(test)]
 mod timers;
 #[cfg(test)]
