@@ -1,4 +1,4 @@
-//! The calls by their words.
+//! The calls by their words: select(2) and pselect(2).
 ghost use Rattle.std.specs.Prelude.{◌≡◌, ◌==◌, ◌||◌, ◌⊎◌};
 ghost use Rattle.bridge_log.specs.Keeping.{KeepsCall};
 ghost use Rattle.bridge_select.specs.Found.{found};
@@ -7,9 +7,12 @@ ghost use Rattle.o32_model.specs.Answered.{IsCall};
 ghost use Rattle.o32_model.specs.Table.{machine_call};
 ghost use Rattle.outside.specs.Streams.{NoCountFell, contents};
 
+use crate::numbers::{NEWSELECT, PSELECT6};
+use crate::requests::read_request;
+use crate::selecting::select;
 use guest_space::Space;
 use host_mem::HostMem;
-use kernel_core::{Errno, Stop};
+use kernel_core::Stop;
 use mips_exec::Cpu;
 use native_kernel::NativeKernel;
 use o32_model::{CallWords, Log, Outcome, Seen};
@@ -19,10 +22,12 @@ use outside::{Devices, Sink, Source};
 pub fn is_select_call(number: u32) -> bool
     ensures { result ≡ ((number == 4142) || (number == 4301)) }
 {
-    matches!(number, 4142 | 4301)
+    number == NEWSELECT || number == PSELECT6
 }
 
-/// Makes the call of the program ... It stops early for want of memory, or by a device.
+/// Makes the call of the program, select(2) or pselect(2), by its words: EFAULT where a word on its stack can't be read;
+/// for pselect the pair of the mask; the time; the mask; and then what the native kernel says of the descriptors. It stops
+/// early for want of memory, or by a device.
 pub fn select_call<I: Source, O: Sink, E: Sink>(
     args: &CallWords,
     cpu: &mut Cpu,
@@ -42,5 +47,8 @@ pub fn select_call<I: Source, O: Sink, E: Sink>(
     ensures counts { NoCountFell I.faults O.faults E.faults dev.old dev.new }
     ensures clock { k.new.clock ≡ k.old.clock }
 {
-    Ok(Outcome::Error(Errno::ENOSYS))
+    match read_request(args, space) {
+        Err(error) => Ok(Outcome::Error(error)),
+        Ok(request) => select(args, &request, space, k, mem, dev, log),
+    }
 }

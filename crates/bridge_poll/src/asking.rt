@@ -1,0 +1,97 @@
+//! The native call, ppoll(2).
+ghost use Rattle.std.specs.Prelude.{◌≡◌};
+ghost use Rattle.bridge_log.specs.Looks.{LooksFor};
+ghost use Rattle.bridge_log.specs.Outcomes as outcomes;
+ghost use Rattle.bridge_poll.specs.inside.Asking as spec;
+ghost use Rattle.bridge_poll.specs.inside.Asking.{IsAnswer, polling};
+ghost use Rattle.kernel_model.specs.Stops.{StopsOnlyIfRose};
+ghost use Rattle.outside.specs.Streams.{NoCountFell, contents};
+
+use crate::entries::{Entries, put_entries};
+use crate::limited::Limits;
+use crate::numbers::PPOLL;
+use bridge_limits::put_limits;
+use bridge_log::look;
+use guest_space::Space;
+use host_mem::HostMem;
+use kernel_core::{Errno, Reply, Stop};
+use native_kernel::NativeKernel;
+use number_tables::NativeNumber;
+use o32_model::Log;
+use outside::{Devices, Sink, Source};
+
+/// What a call comes to.
+#[derive(Clone, Copy)]
+pub(crate) enum Came {
+    /// It ends: of so many entries any event is told, or there is an error.
+    Ended(Result<u32, Errno>),
+    /// It waits until this time of the clock, in nanoseconds, or without end.
+    Waits(Option<u64>),
+}
+
+/// What a call comes to, and where in host memory the entries and the time stand then, 0 where there is none.
+#[derive(Clone, Copy)]
+pub(crate) struct Answer {
+    pub(crate) came: Came,
+    pub(crate) entries: u64,
+    pub(crate) time: u64,
+}
+
+/// Makes the native call of what the program asks for, which finds each error in its order: EINVAL and EFAULT of the
+/// mask, EINVAL for more than 1,024 entries, EFAULT of the entries. It stops early for want of memory, or by a device.
+pub(crate) fn ask<I: Source, O: Sink, E: Sink>(
+    entries: Entries,
+    limits: Limits,
+    space: &Space,
+    k: &mut NativeKernel,
+    mem: &mut HostMem,
+    dev: &mut Devices<I, O, E>,
+    log: &mut Log,
+) -> Result<Answer, Stop>
+    ensures looks { LooksFor (λ answer. IsAnswer k.old limits.wait (polling k.old space.now entries limits)
+        entries.count answer mem.new) result k.old k.new
+        (contents I.left O.written E.written dev.old) (contents I.left O.written E.written dev.new) log.old log.new }
+    ensures cause { StopsOnlyIfRose I.faults O.faults E.faults result dev.old dev.new }
+    ensures counts { NoCountFell I.faults O.faults E.faults dev.old dev.new }
+    ensures clock { k.new.clock ≡ k.old.clock }
+{
+    space.whole();
+    let placed = put_limits(limits.wait, limits.own, mem)?;
+    let place = put_entries(space, entries, mem)?;
+    let count = u64::from(entries.count);
+    let size = u64::from(limits.size);
+    let args = [place, count, placed.time, placed.mask, size, 0];
+    let reply = look(k, PPOLL, args, mem, dev, log)?;
+    Ok(Answer {
+        came: came_of(reply),
+        entries: place,
+        time: placed.time,
+    })
+}
+
+/// What a reply comes to.
+fn came_of(reply: Reply) -> Came
+    ensures { result ≡ spec.came_of reply }
+{
+    match reply {
+        Reply::Done(number) => Came::Ended(count_of(number)),
+        Reply::Sleep(wake) => Came::Waits(wake.until),
+    }
+}
+
+/// The number of a reply, or the error that it stands for.
+fn count_of(number: i64) -> Result<u32, Errno>
+    ensures { result ≡ spec.count_of number }
+{
+    if number < 0 {
+        return Err(error_of(number.unsigned_abs()));
+    }
+    Ok((number as u64 % (1 << 32)) as u32)
+}
+
+/// The error of a native number; no call replies with a number that is none.
+fn error_of(number: u64) -> Errno
+    ensures { result ≡ outcomes.error_of number }
+{
+    Errno::of_native(number).unwrap_or(Errno::ENOSYS)
+}

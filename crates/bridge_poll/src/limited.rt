@@ -1,0 +1,134 @@
+//! Calls that wait for their entries, with a limit of time and a mask.
+ghost use Rattle.std.specs.Prelude.{◌≡◌, ℕ, Option, Result, IfOk, OnOk};
+ghost use Rattle.bridge_limits.specs.Limits.{ShowsLeft};
+ghost use Rattle.bridge_log.specs.Keeping.{KeepsCall, reached};
+ghost use Rattle.bridge_poll.specs.inside.Limited.{limited_row, outcome_by, told_memory, with_left_if};
+ghost use Rattle.bridge_poll.specs.inside.Telling.{pieces_told, told_bytes};
+ghost use Rattle.kernel_model.specs.Pipes.{Sent};
+ghost use Rattle.kernel_model.specs.Stops.{StopsOnlyIfRose};
+ghost use Rattle.mips_exec.specs.Processor.{Processor};
+ghost use Rattle.o32_model.specs.Answered.{IsCall};
+ghost use Rattle.o32_model.specs.Effects.{Effected};
+ghost use Rattle.o32_model.specs.Step.{Guest};
+ghost use Rattle.outside.specs.Streams.{NoCountFell, contents};
+
+use crate::asking::{Answer, Came, ask};
+use crate::entries::Entries;
+use crate::telling::{native_entries, number_if, store_told};
+use bridge_limits::{OwnMask, TimePlace, sleep, store_left};
+use guest_space::Space;
+use host_mem::HostMem;
+use kernel_core::{Errno, NoMemory, Stop};
+use native_kernel::NativeKernel;
+use o32_model::{CallWords, Log, Outcome};
+use outside::{Devices, Sink, Source};
+
+/// How long a call may wait, and the mask that stands meanwhile.
+#[derive(Clone, Copy)]
+pub(crate) struct Limits {
+    /// In nanoseconds; without end where it is None.
+    pub(crate) wait: Option<u64>,
+    pub(crate) own: OwnMask,
+    /// The size of the mask, in bytes, as the program gives it.
+    pub(crate) size: u32,
+    /// Where the time that is left is stored; nowhere where it is None.
+    pub(crate) left: Option<TimePlace>,
+}
+
+/// Makes a call on entries with these limits: it tells of each what is there, or waits.
+pub(crate) fn limited<I: Source, O: Sink, E: Sink>(
+    words: &CallWords,
+    entries: Entries,
+    limits: Limits,
+    space: &mut Space,
+    k: &mut NativeKernel,
+    mem: &mut HostMem,
+    dev: &mut Devices<I, O, E>,
+    log: &mut Log,
+) -> Result<Outcome, Stop>
+    ensures row { (guest : Guest) → guest.words ≡ words.now → guest.memory ≡ space.old
+        → IsCall (limited_row k.old guest entries limits) result k.new space.new guest.processor
+        (contents I.left O.written E.written dev.old) (contents I.left O.written E.written dev.new) }
+    ensures kept { (guest : Guest) → guest.words ≡ words.now → guest.memory ≡ space.old
+        → KeepsCall (limited_row k.old guest entries limits) result k.old guest (I.left dev.old.input) log.old log.new }
+    ensures cause { StopsOnlyIfRose I.faults O.faults E.faults result dev.old dev.new }
+    ensures counts { NoCountFell I.faults O.faults E.faults dev.old dev.new }
+    ensures clock { k.new.clock ≡ k.old.clock }
+{
+    let answer = ask(entries, limits, space, k, mem, dev, log)?;
+    match answer.came {
+        Came::Ended(ended) => {
+            let outcome = end(ended, answer, entries, limits.left, mem, space, log)?;
+            Ok(outcome)
+        }
+        Came::Waits(until) => sleep(words, until, limits.own, k, mem, dev, log),
+    }
+}
+
+/// The end of a call: what is told of its entries is stored, and then the time that is left.
+fn end(
+    ended: Result<u32, Errno>,
+    answer: Answer,
+    entries: Entries,
+    left: Option<TimePlace>,
+    mem: &HostMem,
+    space: &mut Space,
+    log: &mut Log,
+) -> Result<Outcome, NoMemory>
+    ensures answer { IfOk result (λ outcome. outcome ≡ outcome_by ended space.old
+        (pieces_told space.old entries (told_bytes mem.now answer.entries entries.count))) }
+    ensures stored { (time : Option ℕ) → ShowsLeft mem.now answer.time time
+        → OnOk result (space.new ≡ with_left_if left space.old time (told_memory ended space.old
+        (pieces_told space.old entries (told_bytes mem.now answer.entries entries.count)))) }
+    ensures effects { OnOk result ((processor : Processor) (sent : Sent)
+        → Effected log.old.effects log.new.effects (reached processor space.old.pages sent) (reached processor space.new.pages sent)) }
+    ensures native { log.new.native ≡ log.old.native }
+{
+    let told = native_entries(mem, answer.entries, entries.count);
+    let outcome = tell(ended, told, entries, space, log)?;
+    store_time(left, answer.time, mem, space, log)?;
+    Ok(outcome)
+}
+
+/// Stores what is told of the entries, and gives the number of those of which anything is told; or the error.
+fn tell(
+    ended: Result<u32, Errno>,
+    told: &[u8],
+    entries: Entries,
+    space: &mut Space,
+    log: &mut Log,
+) -> Result<Outcome, NoMemory>
+    ensures answer { IfOk result (λ outcome. outcome ≡ outcome_by ended space.old (pieces_told space.old entries told.now)) }
+    ensures stored { OnOk result (space.new ≡ told_memory ended space.old (pieces_told space.old entries told.now)) }
+    ensures effects { OnOk result ((processor : Processor) (sent : Sent)
+        → Effected log.old.effects log.new.effects (reached processor space.old.pages sent) (reached processor space.new.pages sent)) }
+    ensures native { log.new.native ≡ log.old.native }
+{
+    match ended {
+        Err(error) => Ok(Outcome::Error(error)),
+        Ok(number) => {
+            let stored = store_told(told, entries, space, log)?;
+            Ok(number_if(stored, number))
+        }
+    }
+}
+
+/// Stores the time that is left, from a place in host memory, if the call stores one.
+fn store_time(
+    left: Option<TimePlace>,
+    place: u64,
+    mem: &HostMem,
+    space: &mut Space,
+    log: &mut Log,
+) -> Result<(), NoMemory>
+    ensures stored { (time : Option ℕ) → ShowsLeft mem.now place time
+        → OnOk result (space.new ≡ with_left_if left space.old time space.old) }
+    ensures effects { OnOk result ((processor : Processor) (sent : Sent)
+        → Effected log.old.effects log.new.effects (reached processor space.old.pages sent) (reached processor space.new.pages sent)) }
+    ensures native { log.new.native ≡ log.old.native }
+{
+    match left {
+        None => Ok(()),
+        Some(at) => store_left(at, place, mem, space, log),
+    }
+}

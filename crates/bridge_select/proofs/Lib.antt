@@ -1,0 +1,13 @@
+pub mod Asking
+pub mod Ending
+pub mod Fds
+pub mod Handed
+pub mod HostSets
+pub mod Natives
+pub mod Pieces
+pub mod Requesting
+pub mod Rows
+pub mod Selected
+pub mod Selects
+pub mod Told
+pub mod Words
