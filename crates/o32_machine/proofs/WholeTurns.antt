@@ -135,15 +135,15 @@ lacks_first defined (Err stop) new at failed = stopped_before defined at
 
 module _ (emulated : Emulated) (clock quantum turns : ℕ) (over : Bool) (process : ProcessState)
     (is : record { machine = machine_at clock (machine_of process); quantum = quantum; turns = turns; over = over; events = process.going.events } ≡ emulated) where
-  abbrev whole : List ℕ → Turn
-  whole left = turn_of emulated.quantum emulated.machine left
+  abbrev its_turn : List ℕ → Turn
+  its_turn left = turn_of emulated.quantum emulated.machine left
 
   -- the first steps stopped early
   pub settle_fails : (result : Result code.Turn Stop) (became : Machine) (events : List Event) (before after : Contents) (left : List ℕ) → after ≡ before → IsErr result
-      → Answers (whole left) result became events before after
+      → Answers (its_turn left) result became events before after
   settle_fails result became events before after left same failed =
-      subst (λ (contents : Contents). Answers (whole left) result became events before contents) (sym same)
-      (fails_before (whole left) result became events before failed)
+      subst (λ (contents : Contents). Answers (its_turn left) result became events before contents) (sym same)
+      (fails_before (its_turn left) result became events before failed)
 
   module _ (middle : ProcessState) (before between : Contents)
       (settles : (left : List ℕ) → before.left ≡ Some left → (between ≡ before) × (within_now middle ≡ settled (machine_at clock (machine_of process)))) (left : List ℕ)
@@ -151,23 +151,23 @@ module _ (emulated : Emulated) (clock quantum turns : ℕ) (over : Bool) (proces
     pub told_between : between.left ≡ Some left
     told_between = ap (λ (contents : Contents). contents.left) (settles left told).0 ∙ told
 
-    last_is : last_steps quantum (within_now middle) left ≡ whole left
+    last_is : last_steps quantum (within_now middle) left ≡ its_turn left
     last_is =
         ap (λ (within : Within). last_steps quantum within left) (settles left told).1
         ∙ sym (turn_settled quantum left (machine_at clock (machine_of process)))
         ∙ ap (λ (e : Emulated). turn_of e.quantum e.machine left) is
 
     pub last_fails : (result : Result code.Turn Stop) (became : Machine) (events : List Event) (after : Contents) → IsErr result
-        → Stopped (last_steps quantum (within_now middle) left) between after → Answers (whole left) result became events before after
+        → Stopped (last_steps quantum (within_now middle) left) between after → Answers (its_turn left) result became events before after
     last_fails result became events after failed stopped =
-        stops (whole left) result became events before after failed
-        (subst (λ (contents : Contents). Stopped (whole left) contents after) (settles left told).0
+        stops (its_turn left) result became events before after failed
+        (subst (λ (contents : Contents). Stopped (its_turn left) contents after) (settles left told).0
         (subst (λ (t : Turn). Stopped t between after) last_is stopped))
 
     pub last_turns : (turn : code.Turn) (machine : Machine) (events : List Event) (after : Contents) → Turned (last_steps quantum (within_now middle) left) turn machine events between after
-        → Turned (whole left) turn machine events before after
+        → Turned (its_turn left) turn machine events before after
     last_turns turn machine events after turned =
-        subst (λ (contents : Contents). Turned (whole left) turn machine events contents after) (settles left told).0
+        subst (λ (contents : Contents). Turned (its_turn left) turn machine events contents after) (settles left told).0
         (subst (λ (t : Turn). Turned t turn machine events between after) last_is turned)
 
 -- Where nothing is to be done but instructions
