@@ -3,7 +3,7 @@
 ghost use Rattle.std.specs.Prelude.{◌≡◌, ℕ, ◌<◌, ◌^◌, List, Some, ⊤};
 ghost use Rattle.bridge_entries.specs.inside.Listed.{IsListedBy, did_of, place_in, place_there};
 ghost use Rattle.bridge_entries.specs.inside.Passing.{GoesTo, IsQuiet, Replied};
-ghost use Rattle.bridge_log.specs.Arguments.{AreUnusedZero};
+ghost use Rattle.bridge_log.specs.Arguments.{AreUnusedZero, IsPlaced};
 ghost use Rattle.kernel_core.specs.FileSystem.{IsFileSystem};
 ghost use Rattle.kernel_core.specs.declared.reply.Reply.{Reply};
 ghost use Rattle.kernel_model.specs.Descriptions.{node_of, opened};
@@ -36,6 +36,7 @@ fn quiet<I: Source, O: Sink, E: Sink>(
 ) -> Result<Reply, Stop>
     requires built { built_call nr ≡ native_call nr }
     requires unused { AreUnusedZero nr args }
+    requires placed { IsPlaced nr mem.old }
     ensures goes { (target : Kernel) (reply : Reply) (memory : List ℕ)
         → ((left : List ℕ) → IsQuiet target reply memory left (native_call nr args k.old mem.old left))
         → GoesTo (Replied reply memory mem.new) result k.old target k.new
@@ -61,6 +62,7 @@ pub(crate) fn position<I: Source, O: Sink, E: Sink>(
     ensures counts { NoCountFell I.faults O.faults E.faults dev.old dev.new }
     ensures clock { k.new.clock ≡ k.old.clock }
 {
+    mem.clear();
     let args = [u64::from(fd), 0, SEEK_CUR, 0, 0, 0];
     let reply = quiet(k, LSEEK, args, mem, dev, log)?;
     Ok(place_in(reply))
@@ -114,6 +116,7 @@ pub(crate) fn put_position<I: Source, O: Sink, E: Sink>(
     ensures counts { NoCountFell I.faults O.faults E.faults dev.old dev.new }
     ensures clock { k.new.clock ≡ k.old.clock }
 {
+    mem.clear();
     let args = [u64::from(fd), place, SEEK_SET, 0, 0, 0];
     quiet(k, LSEEK, args, mem, dev, log)?;
     Ok(())

@@ -1,6 +1,6 @@
 //! o32 calls with paths that are one native call.
-ghost use Rattle.std.specs.Prelude.{◌≡◌, ℕ, ◌<◌, List, None, Ok, length, position, slice_set};
-ghost use Rattle.bridge_log.specs.Arguments.{AreUnusedZero};
+ghost use Rattle.std.specs.Prelude.{◌≡◌, ℕ, ◌<◌, List, None, Ok, length, position, slice_set, true};
+ghost use Rattle.bridge_log.specs.Arguments.{AreUnusedZero, takes_address};
 ghost use Rattle.bridge_log.specs.Keeping.{KeepsCall};
 ghost use Rattle.kernel_model.specs.Stops.{StopsOnlyIfRose};
 ghost use Rattle.native_calls.specs.Table.{native_call};
@@ -38,6 +38,7 @@ pub(crate) fn path_call<I: Source, O: Sink, E: Sink>(
 ) -> Result<Outcome, Stop>
     requires built { built_call nr ≡ native_call nr }
     requires unused { AreUnusedZero nr args }
+    requires address { takes_address nr ≡ true }
     ensures row { (guest : Guest) (step : List ℕ → O32Step) → guest.words ≡ words.now → guest.memory ≡ space.now
         → MirrorsPath guest k.old address (native_call nr args k.old) step
         → IsCall step result k.new guest.memory guest.processor
@@ -76,6 +77,7 @@ pub(crate) fn paths_call<I: Source, O: Sink, E: Sink>(
 ) -> Result<Outcome, Stop>
     requires built { built_call nr ≡ native_call nr }
     requires unused { (at : ℕ) → AreUnusedZero nr (slice_set args place at) }
+    requires address { takes_address nr ≡ true }
     requires place { place < 6 }
     ensures row { (guest : Guest) (step : List ℕ → O32Step) → guest.words ≡ words.now → guest.memory ≡ space.now
         → MirrorsPaths guest k.old first second (λ at. native_call nr (slice_set args place at) k.old) step
@@ -114,6 +116,7 @@ fn second_call<I: Source, O: Sink, E: Sink>(
 ) -> Result<Outcome, Stop>
     requires built { built_call nr ≡ native_call nr }
     requires unused { (at : ℕ) → AreUnusedZero nr (slice_set args place at) }
+    requires address { takes_address nr ≡ true }
     requires place { place < 6 }
     requires found { path_at space.now first ≡ Ok one.now }
     requires short { length one.now < path_limit }

@@ -134,6 +134,7 @@ pub(crate) fn fchmod<I: Source, O: Sink, E: Sink>(
     ensures counts { NoCountFell I.faults O.faults E.faults dev.old dev.new }
     ensures clock { k.new.clock ≡ k.old.clock }
 {
+    mem.clear();
     let args = [u64::from(fd), u64::from(mode), 0, 0, 0, 0];
     number_call(words, k, FCHMOD, args, mem, dev, log)
 }
@@ -156,6 +157,7 @@ pub(crate) fn fchdir<I: Source, O: Sink, E: Sink>(
     ensures counts { NoCountFell I.faults O.faults E.faults dev.old dev.new }
     ensures clock { k.new.clock ≡ k.old.clock }
 {
+    mem.clear();
     let args = [u64::from(fd), 0, 0, 0, 0, 0];
     number_call(words, k, FCHDIR, args, mem, dev, log)
 }
@@ -178,6 +180,7 @@ pub(crate) fn fsync<I: Source, O: Sink, E: Sink>(
     ensures counts { NoCountFell I.faults O.faults E.faults dev.old dev.new }
     ensures clock { k.new.clock ≡ k.old.clock }
 {
+    mem.clear();
     let args = [u64::from(fd), 0, 0, 0, 0, 0];
     number_call(words, k, FSYNC, args, mem, dev, log)
 }
@@ -200,6 +203,7 @@ pub(crate) fn fdatasync<I: Source, O: Sink, E: Sink>(
     ensures counts { NoCountFell I.faults O.faults E.faults dev.old dev.new }
     ensures clock { k.new.clock ≡ k.old.clock }
 {
+    mem.clear();
     let args = [u64::from(fd), 0, 0, 0, 0, 0];
     number_call(words, k, FDATASYNC, args, mem, dev, log)
 }
@@ -223,6 +227,7 @@ pub(crate) fn umask<I: Source, O: Sink, E: Sink>(
     ensures clock { k.new.clock ≡ k.old.clock }
 {
     k.files_valid();
+    mem.clear();
     let args = [u64::from(mask), 0, 0, 0, 0, 0];
     number_call(words, k, UMASK, args, mem, dev, log)
 }

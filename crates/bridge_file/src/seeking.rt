@@ -1,7 +1,7 @@
 //! The calls that move a position: lseek(2), _llseek(2).
 ghost use Rattle.std.specs.Prelude.{◌≡◌, ℕ, List};
 ghost use Rattle.std.specs.Int.{cast_signed, w32};
-ghost use Rattle.bridge_log.specs.Arguments.{AreUnusedZero};
+ghost use Rattle.bridge_log.specs.Arguments.{AreUnusedZero, IsPlaced};
 ghost use Rattle.bridge_log.specs.Keeping.{KeepsCall};
 ghost use Rattle.bridge_log.specs.Mirrors.{Mirrors};
 ghost use Rattle.kernel_model.specs.Stops.{StopsOnlyIfRose};
@@ -49,6 +49,7 @@ pub(crate) fn lseek<I: Source, O: Sink, E: Sink>(
     ensures counts { NoCountFell I.faults O.faults E.faults dev.old dev.new }
     ensures clock { k.new.clock ≡ k.old.clock }
 {
+    mem.clear();
     let args = [u64::from(fd), widened(offset), u64::from(origin), 0, 0, 0];
     place_call(words, k, LSEEK, args, mem, dev, log)
 }
@@ -65,6 +66,7 @@ fn place_call<I: Source, O: Sink, E: Sink>(
 ) -> Result<Outcome, Stop>
     requires built { built_call nr ≡ native_call nr }
     requires unused { AreUnusedZero nr args }
+    requires placed { IsPlaced nr mem.old }
     ensures row { (guest : Guest) (step : List ℕ → O32Step) → guest.words ≡ words.now
         → ((left : List ℕ) → Mirrors guest (told_place guest.words) (native_call nr args k.old mem.old left) (step left))
         → IsCall step result k.new guest.memory guest.processor
@@ -116,6 +118,7 @@ pub(crate) fn llseek<I: Source, O: Sink, E: Sink>(
     match fifth(words) {
         None => Ok(Outcome::Error(Errno::EFAULT)),
         Some(origin) => {
+            mem.clear();
             let args = [u64::from(fd), pair(high, low), u64::from(origin), 0, 0, 0];
             tell_call(
                 words,

@@ -68,6 +68,7 @@ pub(crate) fn ftruncate<I: Source, O: Sink, E: Sink>(
     ensures counts { NoCountFell I.faults O.faults E.faults dev.old dev.new }
     ensures clock { k.new.clock ≡ k.old.clock }
 {
+    mem.clear();
     let args = [u64::from(fd), size, 0, 0, 0, 0];
     number_call(words, k, FTRUNCATE, args, mem, dev, log)
 }

@@ -1,7 +1,7 @@
 //! Calls that are one native call which tells a text or a place.
 ghost use Rattle.std.specs.Prelude.{◌≡◌, ◌-◌, ℕ, List, IfOk, OnOk, drop, take};
 ghost use Rattle.bridge_file.specs.inside.Tells.{Tells, bytes_told, memory_told, outcome_stored, outcome_told, value_told};
-ghost use Rattle.bridge_log.specs.Arguments.{AreUnusedZero};
+ghost use Rattle.bridge_log.specs.Arguments.{AreUnusedZero, IsPlaced};
 ghost use Rattle.bridge_log.specs.Keeping.{KeepsCall, reached};
 ghost use Rattle.host_mem.specs.Memory.{first_address};
 ghost use Rattle.kernel_model.specs.Pipes.{Sent};
@@ -50,6 +50,7 @@ pub(crate) fn tell_call<I: Source, O: Sink, E: Sink>(
 ) -> Result<Outcome, Stop>
     requires built { built_call nr ≡ native_call nr }
     requires unused { AreUnusedZero nr args }
+    requires placed { IsPlaced nr mem.old }
     ensures row { (guest : Guest) (step : List ℕ → O32Step) → guest.words ≡ words.now → guest.memory ≡ space.old
         → ((left : List ℕ) → Tells guest address told (native_call nr args k.old mem.old left) (step left))
         → IsCall step result k.new space.new guest.processor

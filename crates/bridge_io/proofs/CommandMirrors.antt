@@ -1,7 +1,7 @@
 -- fcntl(2) as a native call.
-use Rattle.std.proofs.Common.{◌≡◌, ◌≢◌, ℕ, ◌+◌, ◌*◌, ◌/◌, ◌<◌, ◌≤◌, ◌%◌, ◌^◌, List, [], ◌∷◌, length, Option, Some, None, refl, sym, ap, ◌∙◌, subst, arith, lit<, lit≤}
+use Rattle.std.proofs.Common.{◌≡◌, ◌≢◌, ℕ, ◌+◌, ◌*◌, ◌/◌, ◌<◌, ◌≤◌, ◌%◌, ◌^◌, ◌-◌, List, [], ◌∷◌, drop, length, replicate, Option, Some, None, refl, sym, ap, ◌∙◌, subst, arith, lit<, lit≤}
 use Rattle.std.proofs.lemmas.Bool.Decides.{nat_tests}
-use Rattle.std.specs.Prelude.{⊤, true, false, Bool, ◌==◌, if◌then◌else◌}
+use Rattle.std.specs.Prelude.{⊤, true, false, Bool, ◌==◌, ◌||◌, if◌then◌else◌}
 use Rattle.kernel_core.specs.Bits.{one_if, has}
 use Rattle.kernel_core.specs.declared.error.Errno.TheVariants.{EBADF}
 use Rattle.kernel_core.specs.declared.open_flags.Access.{Access}
@@ -22,12 +22,13 @@ use Rattle.o32_model.specs.Descriptors as o32
 use Rattle.o32_model.specs.Step as o32_step
 use Rattle.o32_model.specs.Step.{Guest}
 use Rattle.bridge_log.proofs.Replies.{Fits, word_stays}
+use Rattle.bridge_log.specs.Arguments.{AreUnusedZero, is_among, commands_with_argument}
 use Rattle.bridge_log.specs.Bounds.{Bounded}
 use Rattle.bridge_log.specs.Mirrors.{Mirrors}
 use Rattle.bridge_log.specs.Outcomes.{by_reply}
 use Rattle.bridge_io.proofs.DescriptorMirrors.{same_gives, duplicate_fits}
 use Rattle.bridge_io.proofs.Fitting.{bounded_some, fits_zero}
-use Rattle.bridge_io.specs.inside.Outcomes.{told_flags, native_status_flags}
+use Rattle.bridge_io.specs.inside.Outcomes.{handed, told_flags, native_status_flags}
 
 -- Flags are read back from their native number.
 
@@ -132,7 +133,7 @@ setfl_mirrors guest kernel memory left first third fd command argument first_is 
     subst (λ (n : ℕ). Mirrors guest (by_reply guest.words) (native_call 25 (first ∷ 4 ∷ third ∷ 0 ∷ 0 ∷ 0 ∷ []) kernel memory left) (o32.fcntl_row kernel guest fd n argument left)) (sym is)
     (setfl_same guest kernel memory left first third fd argument (omega arith) third_is)
 
--- Other commands have the same numbers, and so have their arguments.
+-- Other commands have the same numbers, and so have the arguments that they take.
 
 abbrev native_chosen : Bool → Bool → Bool → Bool → Bool → Bool → Option native.Command
 native_chosen b0 b1 b2 b3 b4 b5 =
@@ -152,8 +153,11 @@ o32_chosen b0 b1 b2 b3 b4 b5 =
     else (if b4 then Some (record { number = 4; row = o32.set_status_flags_to })
     else (if b5 then Some (record { number = 1030; row = o32.duplicate_from true }) else None)))))
 
+abbrev takes : Bool → Bool → Bool → Bool → Bool
+takes b0 b2 b4 b5 = b0 || (b2 || (b4 || (b5 || false)))
+
 chosen_same : (kernel : Kernel) (fd argument : ℕ) (b0 b1 b2 b3 b4 b5 : Bool) → argument < 2 ^ 32 → b3 ≡ false → b4 ≡ false
-    → native.commanded kernel fd argument (native_chosen b0 b1 b2 b3 b4 b5) ≡ o32.commanded kernel fd argument (o32_chosen b0 b1 b2 b3 b4 b5)
+    → native.commanded kernel fd (if takes b0 b2 b4 b5 then argument else 0) (native_chosen b0 b1 b2 b3 b4 b5) ≡ o32.commanded kernel fd argument (o32_chosen b0 b1 b2 b3 b4 b5)
 chosen_same kernel fd argument true b1 b2 b3 b4 b5 word no3 no4 = ap (λ (n : ℕ). on_files kernel (duplicate kernel.files fd (Some n) false)) (word_stays argument word)
 chosen_same kernel fd argument false true b2 b3 b4 b5 word no3 no4 = refl
 chosen_same kernel fd argument false false true b3 b4 b5 word no3 no4 = refl
@@ -188,11 +192,24 @@ chosen_fits kernel fd argument false false false false true b5 whole no3 no4 = a
 chosen_fits kernel fd argument false false false false false true whole no3 no4 = duplicate_fits kernel.files fd (Some argument) true whole
 chosen_fits kernel fd argument false false false false false false whole no3 no4 = fits_zero (unlisted_command kernel.files fd).came (unlisted_fits kernel.files fd)
 
+-- the argument that a command does not take is 0
+pub handed_unused : (takes : Bool) (first second third argument : ℕ) → third ≡ (if takes then argument else 0)
+    → drop (if takes then 3 else 2) (first ∷ second ∷ third ∷ 0 ∷ 0 ∷ 0 ∷ []) ≡ replicate (6 - (if takes then 3 else 2)) 0
+handed_unused true first second third argument is = refl
+handed_unused false first second third argument is = ap (λ (t : ℕ). t ∷ 0 ∷ 0 ∷ 0 ∷ []) is
+
+pub fcntl_unused : (first second third command argument : ℕ) → second ≡ command → command < 2 ^ 32 → third ≡ handed command argument
+    → AreUnusedZero 25 (first ∷ second ∷ third ∷ 0 ∷ 0 ∷ 0 ∷ [])
+fcntl_unused first second third command argument is word third_is =
+    let same : second % 2 ^ 32 ≡ command = omega arith in
+    subst (λ (n : ℕ). drop (if is_among n commands_with_argument then 3 else 2) (first ∷ second ∷ third ∷ 0 ∷ 0 ∷ 0 ∷ []) ≡ replicate (6 - (if is_among n commands_with_argument then 3 else 2)) 0) (sym same)
+    (handed_unused (is_among command commands_with_argument) first second third argument third_is)
+
 not_equal : (a b : ℕ) → a ≢ b → (a == b) ≡ false
 not_equal a b other = grind (arith, nat_tests)
 
 pub other_mirrors : (guest : Guest) (kernel : Kernel) (memory left : List ℕ) (first second third fd command argument : ℕ) → length kernel.files.table.fds ≡ 1024
-    → first ≡ fd → second ≡ command → third ≡ argument → fd < 2 ^ 32 → command < 2 ^ 32 → argument < 2 ^ 32 → command ≢ 3 → command ≢ 4
+    → first ≡ fd → second ≡ command → third ≡ handed command argument → fd < 2 ^ 32 → command < 2 ^ 32 → argument < 2 ^ 32 → command ≢ 3 → command ≢ 4
     → Mirrors guest (by_reply guest.words) (native_call 25 (first ∷ second ∷ third ∷ 0 ∷ 0 ∷ 0 ∷ []) kernel memory left) (o32.fcntl_row kernel guest fd command argument left)
 unfolding native.fcntl_row o32.fcntl_row
 other_mirrors guest kernel memory left first second third fd command argument whole first_is second_is third_is word command_word argument_word no3 no4 =

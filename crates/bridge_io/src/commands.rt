@@ -1,7 +1,7 @@
 //! fcntl(2).
 ghost use Rattle.std.specs.Prelude.{◌≡◌, ◌<◌, ◌≤◌, ℕ, List};
-ghost use Rattle.bridge_io.specs.inside.Outcomes.{native_status_flags, outcome_flags, told_flags};
-ghost use Rattle.bridge_log.specs.Arguments.{AreUnusedZero};
+ghost use Rattle.bridge_io.specs.inside.Outcomes.{handed, native_status_flags, outcome_flags, told_flags};
+ghost use Rattle.bridge_log.specs.Arguments.{AreUnusedZero, IsPlaced};
 ghost use Rattle.bridge_log.specs.Keeping.{KeepsCall};
 ghost use Rattle.bridge_log.specs.Mirrors.{Mirrors};
 ghost use Rattle.kernel_core.specs.Bits as bits;
@@ -45,6 +45,7 @@ pub(crate) fn fcntl<I: Source, O: Sink, E: Sink>(
     ensures clock { k.new.clock ≡ k.old.clock }
 {
     k.whole();
+    mem.clear();
     let fd = u64::from(fd);
     if command == 3 {
         return flags_call(words, k, FCNTL, [fd, F_GETFL, 0, 0, 0, 0], mem, dev, log);
@@ -53,8 +54,19 @@ pub(crate) fn fcntl<I: Source, O: Sink, E: Sink>(
         let args = [fd, F_SETFL, native_status_flags(argument), 0, 0, 0];
         return number_call(words, k, FCNTL, args, mem, dev, log);
     }
-    let args = [fd, u64::from(command), u64::from(argument), 0, 0, 0];
+    let args = [fd, u64::from(command), handed(command, argument), 0, 0, 0];
     number_call(words, k, FCNTL, args, mem, dev, log)
+}
+
+/// The last argument that the native call is handed: that of F_DUPFD, F_SETFD, F_SETFL and F_DUPFD_CLOEXEC, and 0 for a
+/// command that takes none (fcntl(2)).
+fn handed(command: u32, argument: u32) -> u64
+    ensures { result ≡ handed command argument }
+{
+    match command {
+        0 | 2 | 4 | 1030 => u64::from(argument),
+        _ => 0,
+    }
 }
 
 /// Makes a native call whose number is flags of open(2).
@@ -69,6 +81,7 @@ fn flags_call<I: Source, O: Sink, E: Sink>(
 ) -> Result<Outcome, Stop>
     requires built { built_call nr ≡ native_call nr }
     requires unused { AreUnusedZero nr args }
+    requires placed { IsPlaced nr mem.old }
     ensures row { (guest : Guest) (step : List ℕ → O32Step) → guest.words ≡ words.now
         → ((left : List ℕ) → Mirrors guest (told_flags guest.words) (native_call nr args k.old mem.old left) (step left))
         → IsCall step result k.new guest.memory guest.processor

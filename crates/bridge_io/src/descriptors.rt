@@ -1,7 +1,7 @@
 //! Closing and duplicating descriptors: close(2), dup(2).
 ghost use Rattle.std.specs.Prelude.{◌≡◌, ◌==◌, true, false, ℕ, List};
 ghost use Rattle.bridge_io.specs.inside.Outcomes.{outcome_with, told_value};
-ghost use Rattle.bridge_log.specs.Arguments.{AreUnusedZero};
+ghost use Rattle.bridge_log.specs.Arguments.{AreUnusedZero, IsPlaced};
 ghost use Rattle.bridge_log.specs.Keeping.{KeepsCall};
 ghost use Rattle.bridge_log.specs.Mirrors.{Mirrors};
 ghost use Rattle.kernel_model.specs.Stops.{StopsOnlyIfRose};
@@ -38,6 +38,7 @@ pub(crate) fn close<I: Source, O: Sink, E: Sink>(
     ensures counts { NoCountFell I.faults O.faults E.faults dev.old dev.new }
     ensures clock { k.new.clock ≡ k.old.clock }
 {
+    mem.clear();
     number_call(
         words,
         k,
@@ -68,6 +69,7 @@ pub(crate) fn dup<I: Source, O: Sink, E: Sink>(
     ensures clock { k.new.clock ≡ k.old.clock }
 {
     k.whole();
+    mem.clear();
     number_call(words, k, DUP, [u64::from(fd), 0, 0, 0, 0, 0], mem, dev, log)
 }
 
@@ -91,6 +93,7 @@ pub(crate) fn dup3<I: Source, O: Sink, E: Sink>(
     ensures counts { NoCountFell I.faults O.faults E.faults dev.old dev.new }
     ensures clock { k.new.clock ≡ k.old.clock }
 {
+    mem.clear();
     let args = [u64::from(fd), u64::from(onto), u64::from(flags), 0, 0, 0];
     number_call(words, k, DUP3, args, mem, dev, log)
 }
@@ -114,6 +117,7 @@ pub(crate) fn dup2<I: Source, O: Sink, E: Sink>(
     ensures counts { NoCountFell I.faults O.faults E.faults dev.old dev.new }
     ensures clock { k.new.clock ≡ k.old.clock }
 {
+    mem.clear();
     if fd == onto {
         let args = [u64::from(fd), F_GETFD, 0, 0, 0, 0];
         return told_call(words, onto, k, FCNTL, args, mem, dev, log);
@@ -135,6 +139,7 @@ fn told_call<I: Source, O: Sink, E: Sink>(
 ) -> Result<Outcome, Stop>
     requires built { built_call nr ≡ native_call nr }
     requires unused { AreUnusedZero nr args }
+    requires placed { IsPlaced nr mem.old }
     ensures row { (guest : Guest) (step : List ℕ → O32Step) → guest.words ≡ words.now
         → ((left : List ℕ) → Mirrors guest (told_value guest.words value) (native_call nr args k.old mem.old left) (step left))
         → IsCall step result k.new guest.memory guest.processor

@@ -45,6 +45,7 @@ pub(crate) fn write_flags<I: Source, O: Sink, E: Sink>(
     ensures counts { NoCountFell I.faults O.faults E.faults dev.old dev.new }
     ensures clock { k.new.clock ≡ k.old.clock }
 {
+    mem.clear();
     let args = [u64::from(fd), F_GETFL, 0, 0, 0, 0];
     let reply = look(k, FCNTL, args, mem, dev, log)?;
     Ok(flags_in(reply))
@@ -64,6 +65,7 @@ fn position<I: Source, O: Sink, E: Sink>(
     ensures counts { NoCountFell I.faults O.faults E.faults dev.old dev.new }
     ensures clock { k.new.clock ≡ k.old.clock }
 {
+    mem.clear();
     let args = [u64::from(fd), 0, SEEK_CUR, 0, 0, 0];
     let reply = look(k, LSEEK, args, mem, dev, log)?;
     Ok(number_in(reply))
@@ -125,6 +127,7 @@ pub(crate) fn is_ready<I: Source, O: Sink, E: Sink>(
     ensures counts { NoCountFell I.faults O.faults E.faults dev.old dev.new }
     ensures clock { k.new.clock ≡ k.old.clock }
 {
+    mem.clear();
     let args = [u64::from(fd), FIONREAD, 0, 0, 0, 0];
     let reply = look(k, IOCTL, args, mem, dev, log)?;
     Ok(is_fault(reply))

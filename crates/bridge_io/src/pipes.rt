@@ -1,7 +1,7 @@
 //! Making pipes: pipe(2), pipe2(2).
-ghost use Rattle.std.specs.Prelude.{◌≡◌, ◌<◌, ℕ, List, replicate};
+ghost use Rattle.std.specs.Prelude.{◌≡◌, ◌<◌, ℕ, List, replicate, true};
 ghost use Rattle.bridge_io.specs.inside.Outcomes.{outcome_pair, told_pair, native_pipe_flags, int_at, host_place};
-ghost use Rattle.bridge_log.specs.Arguments.{AreUnusedZero};
+ghost use Rattle.bridge_log.specs.Arguments.{AreUnusedZero, takes_address};
 ghost use Rattle.bridge_log.specs.Keeping.{KeepsCall};
 ghost use Rattle.bridge_log.specs.Mirrors.{Mirrors};
 ghost use Rattle.kernel_model.specs.Stops.{StopsOnlyIfRose};
@@ -61,6 +61,7 @@ fn pair_call<I: Source, O: Sink, E: Sink>(
 ) -> Result<Outcome, Stop>
     requires built { built_call nr ≡ native_call nr }
     requires unused { AreUnusedZero nr args }
+    requires address { takes_address nr ≡ true }
     ensures row { (guest : Guest) (step : List ℕ → O32Step) → guest.words ≡ words.now
         → ((left : List ℕ) → Mirrors guest (told_pair guest.words) (native_call nr args k.old (replicate 8 0) left) (step left))
         → IsCall step result k.new guest.memory guest.processor

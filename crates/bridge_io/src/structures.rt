@@ -1,9 +1,9 @@
 //! Structures, whose bytes have another order in the program's memory than in host memory, and calls that
 //! give one.
-ghost use Rattle.std.specs.Prelude.{◌≡◌, ◌≤◌, ℕ, List, length, map, replicate, slice_index, OnOk};
+ghost use Rattle.std.specs.Prelude.{◌≡◌, ◌≤◌, ℕ, List, length, map, replicate, slice_index, true, OnOk};
 ghost use Rattle.bridge_io.specs.inside.Stores.{Stores, bytes_told, byte_from, places, size};
 ghost use Rattle.bridge_io.specs.inside.Takes.{places_back};
-ghost use Rattle.bridge_log.specs.Arguments.{AreUnusedZero};
+ghost use Rattle.bridge_log.specs.Arguments.{AreUnusedZero, takes_address};
 ghost use Rattle.bridge_log.specs.Keeping.{KeepsCall, reached};
 ghost use Rattle.kernel_model.specs.Pipes.{Sent};
 ghost use Rattle.kernel_model.specs.Stops.{StopsOnlyIfRose};
@@ -219,6 +219,7 @@ pub(crate) fn store_call<I: Source, O: Sink, E: Sink>(
 ) -> Result<Outcome, Stop>
     requires built { built_call nr ≡ native_call nr }
     requires unused { AreUnusedZero nr args }
+    requires address { takes_address nr ≡ true }
     ensures row { (guest : Guest) (step : List ℕ → O32Step) → guest.words ≡ words.now → guest.memory ≡ space.old
         → ((left : List ℕ) → Stores guest address structure (native_call nr args k.old (replicate (size structure) 0) left) (step left))
         → IsCall step result k.new space.new guest.processor

@@ -1,9 +1,10 @@
 //! Requests on terminals and on descriptors: ioctl(2).
-ghost use Rattle.std.specs.Prelude.{◌≡◌, [], ◌∷◌, ℕ, List, Some, length, replicate, map, IfOk, OnOk};
+ghost use Rattle.std.specs.Prelude.{◌≡◌, [], ◌∷◌, ℕ, List, Some, length, replicate, map, true, IfOk, OnOk};
 ghost use Rattle.bridge_io.specs.inside.Outcomes.{host_place};
 ghost use Rattle.bridge_io.specs.inside.Stores.{Stores, byte_from, places, size};
 ghost use Rattle.bridge_io.specs.inside.Purposes.{purpose_of};
 ghost use Rattle.bridge_io.specs.inside.Takes.{IsTaken, places_back};
+ghost use Rattle.bridge_log.specs.Arguments.{takes_last};
 ghost use Rattle.bridge_log.specs.Keeping.{KeepsCall};
 ghost use Rattle.bridge_log.specs.Mirrors.{Mirrors};
 ghost use Rattle.bridge_log.specs.Outcomes.{by_reply};
@@ -132,16 +133,17 @@ fn plain<I: Source, O: Sink, E: Sink>(
     log: &mut Log,
 ) -> Result<Outcome, Stop>
     ensures row { (guest : Guest) (step : List ℕ → O32Step) → guest.words ≡ words.now
-        → ((left : List ℕ) → Mirrors guest (by_reply guest.words) (native_call 29 (fd ∷ number ∷ 0 ∷ 0 ∷ 0 ∷ 0 ∷ []) k.old mem.old left) (step left))
+        → ((left : List ℕ) → Mirrors guest (by_reply guest.words) (native_call 29 (fd ∷ number ∷ 0 ∷ 0 ∷ 0 ∷ 0 ∷ []) k.old [] left) (step left))
         → IsCall step result k.new guest.memory guest.processor
         (contents I.left O.written E.written dev.old) (contents I.left O.written E.written dev.new) }
     ensures kept { (guest : Guest) (step : List ℕ → O32Step) → guest.words ≡ words.now
-        → ((left : List ℕ) → Mirrors guest (by_reply guest.words) (native_call 29 (fd ∷ number ∷ 0 ∷ 0 ∷ 0 ∷ 0 ∷ []) k.old mem.old left) (step left))
+        → ((left : List ℕ) → Mirrors guest (by_reply guest.words) (native_call 29 (fd ∷ number ∷ 0 ∷ 0 ∷ 0 ∷ 0 ∷ []) k.old [] left) (step left))
         → KeepsCall step result k.old guest (I.left dev.old.input) log.old log.new }
     ensures cause { StopsOnlyIfRose I.faults O.faults E.faults result dev.old dev.new }
     ensures counts { NoCountFell I.faults O.faults E.faults dev.old dev.new }
     ensures clock { k.new.clock ≡ k.old.clock }
 {
+    mem.clear();
     number_call(
         words,
         k,
@@ -166,6 +168,7 @@ fn show<I: Source, O: Sink, E: Sink>(
     dev: &mut Devices<I, O, E>,
     log: &mut Log,
 ) -> Result<Outcome, Stop>
+    requires asked { takes_last 29 (fd ∷ number ∷ []) ≡ true }
     ensures row { (guest : Guest) (step : List ℕ → O32Step) → guest.words ≡ words.now → guest.memory ≡ space.old
         → ((left : List ℕ) → Stores guest address structure
         (native_call 29 (fd ∷ number ∷ host_place guest.memory address (length (places structure)) ∷ 0 ∷ 0 ∷ 0 ∷ []) k.old (replicate (size structure) 0) left) (step left))
@@ -199,6 +202,7 @@ fn take<I: Source, O: Sink, E: Sink>(
     dev: &mut Devices<I, O, E>,
     log: &mut Log,
 ) -> Result<Outcome, Stop>
+    requires asked { takes_last 29 (fd ∷ number ∷ []) ≡ true }
     ensures row { (guest : Guest) (step : List ℕ → O32Step) → guest.words ≡ words.now → guest.memory ≡ space.now
         → ((left room : List ℕ) (place : ℕ) → IsTaken guest.memory address structure room place
         → Mirrors guest (by_reply guest.words) (native_call 29 (fd ∷ number ∷ place ∷ 0 ∷ 0 ∷ 0 ∷ []) k.old room left) (step left))

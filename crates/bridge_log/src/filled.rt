@@ -1,6 +1,6 @@
 //! o32 calls that are one native call which fills a buffer.
-ghost use Rattle.std.specs.Prelude.{◌≡◌, ℕ, List, replicate, IfOk};
-ghost use Rattle.bridge_log.specs.Arguments.{AreUnusedZero};
+ghost use Rattle.std.specs.Prelude.{◌≡◌, ℕ, List, replicate, true, IfOk};
+ghost use Rattle.bridge_log.specs.Arguments.{AreUnusedZero, takes_address};
 ghost use Rattle.bridge_log.specs.Fills.{Fills};
 ghost use Rattle.bridge_log.specs.Keeping.{KeepsCall, with_call};
 ghost use Rattle.bridge_log.specs.Outcomes.{outcome_of};
@@ -42,6 +42,7 @@ pub fn fill_call<I: Source, O: Sink, E: Sink>(
 ) -> Result<Outcome, Stop>
     requires built { built_call nr ≡ native_call nr }
     requires unused { AreUnusedZero nr args }
+    requires address { takes_address nr ≡ true }
     ensures row { (guest : Guest) (step : List ℕ → O32Step) → guest.words ≡ words.now → guest.memory ≡ space.old
         → (let room = replicate (writable_prefix space.old.pages buffer count) 0 in
         (left : List ℕ) → Fills guest buffer room (native_call nr args k.old room left) (step left))

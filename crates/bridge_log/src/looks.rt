@@ -1,6 +1,6 @@
 //! Native calls that change nothing, by which a call finds out about the kernel.
 ghost use Rattle.std.specs.Prelude.{◌≡◌, ℕ, List, IfOk};
-ghost use Rattle.bridge_log.specs.Arguments.{AreUnusedZero};
+ghost use Rattle.bridge_log.specs.Arguments.{AreUnusedZero, IsPlaced};
 ghost use Rattle.bridge_log.specs.Keeping.{with_call};
 ghost use Rattle.bridge_log.specs.Looks.{IsLook, LooksFor, Replied};
 ghost use Rattle.kernel_core.specs.declared.reply.Reply.{Reply};
@@ -28,6 +28,7 @@ pub fn look<I: Source, O: Sink, E: Sink>(
 ) -> Result<Reply, Stop>
     requires built { built_call nr ≡ native_call nr }
     requires unused { AreUnusedZero nr args }
+    requires placed { IsPlaced nr mem.old }
     ensures looks { (reply : Reply) (memory : List ℕ)
         → ((left : List ℕ) → IsLook k.old reply memory left (native_call nr args k.old mem.old left))
         → LooksFor (Replied reply memory mem.new) result k.old k.new

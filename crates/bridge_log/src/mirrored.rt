@@ -1,6 +1,6 @@
 //! o32 calls that are one native call without memory.
 ghost use Rattle.std.specs.Prelude.{◌≡◌, ℕ, List, IfOk};
-ghost use Rattle.bridge_log.specs.Arguments.{AreUnusedZero};
+ghost use Rattle.bridge_log.specs.Arguments.{AreUnusedZero, IsPlaced};
 ghost use Rattle.bridge_log.specs.Keeping.{KeepsCall, with_call};
 ghost use Rattle.bridge_log.specs.Mirrors.{Mirrors};
 ghost use Rattle.bridge_log.specs.Outcomes.{by_reply, outcome_of};
@@ -34,6 +34,7 @@ pub fn number_call<I: Source, O: Sink, E: Sink>(
 ) -> Result<Outcome, Stop>
     requires built { built_call nr ≡ native_call nr }
     requires unused { AreUnusedZero nr args }
+    requires placed { IsPlaced nr mem.old }
     ensures row { (guest : Guest) (step : List ℕ → O32Step) → guest.words ≡ words.now
         → ((left : List ℕ) → Mirrors guest (by_reply guest.words) (native_call nr args k.old mem.old left) (step left))
         → IsCall step result k.new guest.memory guest.processor

@@ -61,6 +61,7 @@ fn access_refusal<I: Source, O: Sink, E: Sink>(
     ensures counts { NoCountFell I.faults O.faults E.faults dev.old dev.new }
     ensures clock { k.new.clock ≡ k.old.clock }
 {
+    mem.clear();
     let reply = native(
         k,
         FCNTL,

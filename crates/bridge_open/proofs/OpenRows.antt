@@ -1,10 +1,10 @@
 -- The opening of files: what limits it, and as native calls.
-use Rattle.std.proofs.Common.{◌≡◌, ℕ, ◌+◌, ◌≤◌, ◌<◌, ◌^◌, ◌%◌, ◌⊎◌, List, [], ◌∷◌, length, drop, Option, Some, None, Ok, Err, refl, sym, ap, subst, ◌∙◌, inl, inr, arith, length-drop, Result, IsErr}
+use Rattle.std.proofs.Common.{◌≡◌, ℕ, ◌+◌, ◌≤◌, ◌<◌, ◌^◌, ◌/◌, ◌%◌, ◌-◌, ◌⊎◌, List, [], ◌∷◌, length, drop, replicate, Option, Some, None, Ok, Err, refl, sym, ap, subst, ◌∙◌, inl, inr, arith, length-drop, Result, IsErr}
 use Rattle.std.proofs.lemmas.Bool.Decides.{nat_tests}
 use Rattle.std.proofs.lemmas.List.Quantifiers.{position-Some}
 use Rattle.std.specs.FinMap.{get}
-use Rattle.std.specs.Prelude.{ℤ, Bool, true, false, ◌&&◌, ◌||◌, IsTrue, is_none, nat_lt, ok_or, option_map, position, if◌then◌else◌}
-use Rattle.kernel_core.specs.Bits.{one_if}
+use Rattle.std.specs.Prelude.{ℤ, Bool, true, false, ◌==◌, ◌&&◌, ◌||◌, not, IsTrue, is_none, nat_lt, ok_or, option_map, position, if◌then◌else◌}
+use Rattle.kernel_core.specs.Bits.{has, one_if}
 use Rattle.kernel_core.specs.FileContent.{FileContent}
 use Rattle.kernel_core.specs.FileSystem.{IsFileSystem, IsLiveContent}
 use Rattle.kernel_core.specs.NodeCalls.{content_size}
@@ -12,6 +12,7 @@ use Rattle.kernel_core.specs.NameCalls.{make_refusal}
 use Rattle.kernel_core.specs.Nodes.{Inode, NodeContent, Nodes, File, Directory, Link}
 use Rattle.kernel_core.specs.OpenSet.{OpenSet}
 use Rattle.kernel_core.specs.PathWalk.{Place}
+use Rattle.kernel_core.specs.Queries.{new_number}
 use Rattle.guest_space.specs.Memory.{Memory}
 use Rattle.kernel_core.specs.declared.core_error.Stop.{Stop}
 use Rattle.kernel_core.specs.declared.error.Errno.{Errno}
@@ -20,7 +21,7 @@ use Rattle.kernel_core.specs.declared.open_flags.Access.{Access}
 use Rattle.kernel_core.specs.declared.open_flags.Access.TheVariants.{Read, Write, ReadWrite}
 use Rattle.kernel_model.specs.Came.{Did, Given, done, refused, refused_by, refused_if, with_given, with_some}
 use Rattle.kernel_model.specs.Clock.{now}
-use Rattle.kernel_model.specs.Opening.{after_open, follows, is_larger, kind_refusal, open_file, open_node, open_place, truncated}
+use Rattle.kernel_model.specs.Opening.{after_open, create, follows, is_larger, kind_refusal, open_file, open_node, open_place, truncated}
 use Rattle.kernel_model.specs.Paths.{Base, node_found, walk, is_missing_before_slash}
 use Rattle.kernel_model.specs.State.{Kernel, Files}
 use Rattle.kernel_model.specs.Table.{lowest_free}
@@ -42,6 +43,7 @@ use Rattle.o32_model.specs.Step.{Guest}
 use Rattle.o32_model.specs.Transfers.{small_file_limit}
 use Rattle.o32_model.specs.declared.outcome.Outcome.{Outcome}
 use Rattle.outside.specs.Streams.{Contents}
+use Rattle.bridge_log.specs.Arguments.{AreUnusedZero}
 use Rattle.bridge_log.specs.Bounds.{Bounded}
 use Rattle.bridge_log.specs.Mirrors.{Mirrors}
 use Rattle.bridge_log.specs.Outcomes.{by_reply}
@@ -255,22 +257,88 @@ flags_short flags =
       one_if-le flags.cloexec,
     )
 
+-- without CREAT a mode is not looked at
+
+handed_short : (creat : Bool) (mode : ℕ) → mode < 2 ^ 32 → (if creat then mode else 0) < 2 ^ 32
+handed_short true mode short = short
+handed_short false mode short = omega arith
+
+place_any : (files : Files) (limit : Option ℕ) (now : ℤ) (path : List ℕ) (flags : OpenSet) (mode fd : ℕ) (place : Place) (there : Option ℕ)
+    → open_place files limit now path flags (if flags.creat then mode else 0) fd place there ≡ open_place files limit now path flags mode fd place there
+place_any files limit now path flags mode fd place None =
+    by flags.creat (λ m.
+    refused_if (is_missing_before_slash path place) ENOENT files (
+    refused_by (make_refusal files.nodes place) files (
+    done (after_open (create files now m place) flags fd (new_number files.nodes)) fd))) where
+      by : (creat : Bool) (rest : ℕ → Did Files ℕ) → refused_if (not creat) ENOENT files (rest (if creat then mode else 0)) ≡ refused_if (not creat) ENOENT files (rest mode)
+      by true rest = refl
+      by false rest = refl
+place_any files limit now path flags mode fd place (Some node) = refl
+
+mode_unused : (files : Files) (limit : Option ℕ) (now : ℤ) (from : Base) (path : List ℕ) (flags : OpenSet) (mode : ℕ)
+    → open_file files limit now from (Ok path) (Some flags) (if flags.creat then mode else 0) ≡ open_file files limit now from (Ok path) (Some flags) mode
+unfolding open_file
+mode_unused files limit now from path flags mode =
+    λ i. refused_if (flags.creat && flags.directory) EINVAL files (
+    with_some files EMFILE (lowest_free files.table.fds 0) (λ fd.
+    with_given files (walk files from path (follows flags)) (λ place.
+    place_any files limit now path flags mode fd place place.node i)))
+
+-- and is handed on as 0
+
+create_again : (creat : Bool) (bit : ℕ) → bit ≡ one_if creat → (bit == 1) ≡ creat
+create_again true bit same = rw same
+create_again false bit same = rw same
+
+pub creat_is : (flags : OpenSet) → has (native_open flags) 0x40 ≡ flags.creat
+creat_is flags =
+    create_again flags.creat (native_open flags / 0x40 % 2)
+    (omega (
+      arith,
+      access-le flags.access,
+      one_if-le flags.append,
+      one_if-le flags.dsync,
+      one_if-le flags.nonblock,
+      one_if-le flags.creat,
+      one_if-le flags.trunc,
+      one_if-le flags.excl,
+      one_if-le flags.noctty,
+      one_if-le flags.largefile,
+      one_if-le flags.sync,
+      one_if-le flags.directory,
+      one_if-le flags.nofollow,
+      one_if-le flags.cloexec,
+    ))
+
+handed_unused : (creat : Bool) (first second third fourth mode : ℕ) → fourth ≡ (if creat then mode else 0)
+    → drop (if creat then 4 else 3) (first ∷ second ∷ third ∷ fourth ∷ 0 ∷ 0 ∷ []) ≡ replicate (6 - (if creat then 4 else 3)) 0
+handed_unused true first second third fourth mode is = refl
+handed_unused false first second third fourth mode is = ap (λ (n : ℕ). n ∷ 0 ∷ 0 ∷ []) is
+
+pub open_unused : (first second third fourth mode : ℕ) (flags : OpenSet) → third ≡ native_open flags → fourth ≡ (if flags.creat then mode else 0)
+    → AreUnusedZero 56 (first ∷ second ∷ third ∷ fourth ∷ 0 ∷ 0 ∷ [])
+open_unused first second third fourth mode flags third_is fourth_is =
+    let creat : has (third % 2 ^ 32) 0x40 ≡ flags.creat = ap (λ (n : ℕ). has n 0x40) (word third (native_open flags) third_is (flags_short flags)) ∙ creat_is flags in
+    subst (λ (b : Bool). drop (if b then 4 else 3) (first ∷ second ∷ third ∷ fourth ∷ 0 ∷ 0 ∷ []) ≡ replicate (6 - (if b then 4 else 3)) 0) (sym creat)
+    (handed_unused flags.creat first second third fourth mode fourth_is)
+
 abbrev open_as : Kernel → Option ℕ → ℕ → Given (List ℕ) → Option OpenSet → ℕ → Did Kernel ℕ
 open_as kernel limit from path flags mode = marked kernel (λ files now. open_file files limit now (base from) path flags mode)
 
 pub open_mirrors : (guest : Guest) (kernel : Kernel) (address given_from given_flags given_mode from mode : ℕ) (flags : OpenSet) (path memory left : List ℕ) → length kernel.files.table.fds ≡ 1024 → IsTrue (is_synced flags)
-    → given_from ≡ from → given_flags ≡ native_open flags → given_mode ≡ mode → from < 2 ^ 32 → mode < 2 ^ 32 → guest_paths.path_at guest.memory address ≡ Ok path → host.path_at memory 65536 ≡ Ok path → Unlimited kernel.files (base from) path flags
+    → given_from ≡ from → given_flags ≡ native_open flags → given_mode ≡ (if flags.creat then mode else 0) → from < 2 ^ 32 → mode < 2 ^ 32 → guest_paths.path_at guest.memory address ≡ Ok path → host.path_at memory 65536 ≡ Ok path → Unlimited kernel.files (base from) path flags
     → Mirrors guest (by_reply guest.words) (native_call 56 (given_from ∷ 65536 ∷ given_flags ∷ given_mode ∷ 0 ∷ 0 ∷ []) kernel memory left) (o32.open_row kernel guest (base from) address (Some flags) mode left)
 unfolding native.openat_row o32.open_row
 open_mirrors guest kernel address given_from given_flags given_mode from mode flags path memory left whole listed one two three first third there here free =
     let e1 = word given_from from one first in
     let e2 : open_of_native (given_flags % 2 ^ 32) ≡ Some flags = ap open_of_native (word given_flags (native_open flags) two (flags_short flags)) ∙ native_open_found flags listed in
-    let e3 = word given_mode mode three third in
+    let e3 = word given_mode (if flags.creat then mode else 0) three (handed_short flags.creat mode third) in
     same_gives guest memory left
     (open_as kernel None (given_from % 2 ^ 32) (host.path_at memory 65536) (open_of_native (given_flags % 2 ^ 32)) (given_mode % 2 ^ 32))
     (open_as kernel (Some small_file_limit) from (guest_paths.path_at guest.memory address) (Some flags) mode)
     (open_as kernel None from (Ok path) (Some flags) mode)
-    (λ i. open_as kernel None (e1 i) (here i) (e2 i) (e3 i))
+    ((λ i. open_as kernel None (e1 i) (here i) (e2 i) (e3 i))
+    ∙ ap (on_files kernel) (mode_unused kernel.files None (now kernel) (base from) path flags mode))
     (ap (λ (p : Given (List ℕ)). open_as kernel (Some small_file_limit) from p (Some flags) mode) there ∙ ap (on_files kernel) (free (now kernel) mode))
     (open_bounded kernel.files None (now kernel) (base from) path flags mode whole)
 

@@ -1,7 +1,7 @@
 //! The calls that open files: open(2), openat(2), creat(2). For a program a file of more than 2^31 - 1 bytes
 //! is opened with O_LARGEFILE alone, which the native kernel does not ask for. So its size is looked at
 //! first.
-ghost use Rattle.std.specs.Prelude.{◌≡◌, ◌<◌, ◌&&◌, IsTrue, None, Ok, Some, false, length, position};
+ghost use Rattle.std.specs.Prelude.{◌≡◌, ◌<◌, ◌&&◌, IsTrue, None, Ok, Some, false, length, position, if◌then◌else◌};
 ghost use Rattle.bridge_log.specs.Keeping.{KeepsCall};
 ghost use Rattle.bridge_open.specs.inside.Openings.{Unlimited, is_unlimited, size_led};
 ghost use Rattle.kernel_model.specs.Opening.{follows};
@@ -245,9 +245,16 @@ fn open_now<I: Source, O: Sink, E: Sink>(
         u64::from(directory),
         FIRST_ADDRESS,
         flags.to_native(),
-        u64::from(mode),
+        handed(flags, mode),
         0,
         0,
     ];
     number_call(words, k, OPENAT, args, mem, dev, log)
+}
+
+/// The mode that the native call is handed: 0 without O_CREAT, where there is none.
+fn handed(flags: OpenFlags, mode: u32) -> u64
+    ensures { result ≡ (if flags.creat then mode else 0) }
+{
+    if flags.creat() { u64::from(mode) } else { 0 }
 }

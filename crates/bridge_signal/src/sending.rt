@@ -39,6 +39,7 @@ pub(crate) fn kill<I: Source, O: Sink, E: Sink>(
     ensures counts { NoCountFell I.faults O.faults E.faults dev.old dev.new }
     ensures clock { k.new.clock ≡ k.old.clock }
 {
+    mem.clear();
     let args = [u64::from(pid), native_number(number), 0, 0, 0, 0];
     number_call(words, k, KILL, args, mem, dev, log)
 }
@@ -62,6 +63,7 @@ pub(crate) fn tkill<I: Source, O: Sink, E: Sink>(
     ensures counts { NoCountFell I.faults O.faults E.faults dev.old dev.new }
     ensures clock { k.new.clock ≡ k.old.clock }
 {
+    mem.clear();
     let args = [u64::from(tid), native_number(number), 0, 0, 0, 0];
     number_call(words, k, TKILL, args, mem, dev, log)
 }
@@ -87,6 +89,7 @@ pub(crate) fn tgkill<I: Source, O: Sink, E: Sink>(
     ensures counts { NoCountFell I.faults O.faults E.faults dev.old dev.new }
     ensures clock { k.new.clock ≡ k.old.clock }
 {
+    mem.clear();
     let args = [
         u64::from(pid),
         u64::from(tid),

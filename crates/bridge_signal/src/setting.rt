@@ -1,6 +1,6 @@
 //! New actions in host memory, and the native call that sets them.
 ghost use Rattle.std.specs.Prelude.{◌≡◌, ◌∷◌, ◌<◌, ◌^◌, [], ℕ, List, All, OnOk, false, map, pos};
-ghost use Rattle.bridge_log.specs.Arguments.{AreUnusedZero};
+ghost use Rattle.bridge_log.specs.Arguments.{AreUnusedZero, IsPlaced};
 ghost use Rattle.bridge_signal.specs.inside.Asked.{action_set_to};
 ghost use Rattle.bridge_signal_state.specs.Acts.{Acts};
 ghost use Rattle.bridge_signal_state.specs.inside.Acting.{Answers, IsAct};
@@ -84,6 +84,7 @@ fn act<I: Source, O: Sink, E: Sink>(
 ) -> Result<Reply, Stop>
     requires built { built_call nr ≡ native_call nr }
     requires unused { AreUnusedZero nr args }
+    requires placed { IsPlaced nr mem.old }
     ensures acts { (to : Kernel) (reply : Reply) (memory : List ℕ)
         → ((left : List ℕ) → IsAct to reply memory left (native_call nr args k.old mem.old left))
         → Acts (Answers to reply memory mem.new) result k.old k.new

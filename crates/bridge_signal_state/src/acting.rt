@@ -1,6 +1,6 @@
 //! Native calls that change the kernel, and neither take input nor send anything.
 ghost use Rattle.std.specs.Prelude.{◌≡◌, ℕ, List};
-ghost use Rattle.bridge_log.specs.Arguments.{AreUnusedZero};
+ghost use Rattle.bridge_log.specs.Arguments.{AreUnusedZero, IsPlaced};
 ghost use Rattle.bridge_signal_state.specs.Acts.{Acts};
 ghost use Rattle.bridge_signal_state.specs.inside.Acting.{Answers, IsAct};
 ghost use Rattle.kernel_core.specs.declared.reply.Reply.{Reply};
@@ -28,6 +28,7 @@ pub(crate) fn act<I: Source, O: Sink, E: Sink>(
 ) -> Result<Reply, Stop>
     requires built { built_call nr ≡ native_call nr }
     requires unused { AreUnusedZero nr args }
+    requires placed { IsPlaced nr mem.old }
     ensures acts { (to : Kernel) (reply : Reply) (memory : List ℕ)
         → ((left : List ℕ) → IsAct to reply memory left (native_call nr args k.old mem.old left))
         → Acts (Answers to reply memory mem.new) result k.old k.new

@@ -1,6 +1,6 @@
 //! Calls that are one native call which tells a status.
 ghost use Rattle.std.specs.Prelude.{◌≡◌, ℕ, List, IfOk, IfSome, OnOk, Some, length, option_map};
-ghost use Rattle.bridge_log.specs.Arguments.{AreUnusedZero};
+ghost use Rattle.bridge_log.specs.Arguments.{AreUnusedZero, IsPlaced};
 ghost use Rattle.bridge_log.specs.Keeping.{KeepsCall, reached};
 ghost use Rattle.bridge_status.specs.inside.Statuses.{shape_of, shown};
 ghost use Rattle.bridge_status.specs.inside.Tells.{Tells, memory_by, memory_told, outcome_by, outcome_told, status_there};
@@ -44,6 +44,7 @@ pub(crate) fn tell_call<I: Source, O: Sink, E: Sink>(
 ) -> Result<Outcome, Stop>
     requires built { built_call nr ≡ native_call nr }
     requires unused { AreUnusedZero nr args }
+    requires placed { IsPlaced nr mem.old }
     ensures row { (guest : Guest) (step : List ℕ → O32Step) → guest.words ≡ words.now → guest.memory ≡ space.old
         → ((left : List ℕ) → Tells guest address form (native_call nr args k.old mem.old left) (step left))
         → IsCall step result k.new space.new guest.processor

@@ -1,6 +1,6 @@
 //! What a call finds out about the native clocks, by native calls that change nothing.
 ghost use Rattle.std.specs.Prelude.{◌≡◌, ◌<◌, ℕ, List, option_map, if◌then◌else◌};
-ghost use Rattle.bridge_log.specs.Arguments.{AreUnusedZero};
+ghost use Rattle.bridge_log.specs.Arguments.{AreUnusedZero, IsPlaced};
 ghost use Rattle.bridge_wait.specs.inside.Looks.{IsLook, LooksFor, Replied};
 ghost use Rattle.bridge_wait.specs.inside.Shown.{clock_of, is_over, resolution_of, time_in, time_of, word_in};
 ghost use Rattle.kernel_core.specs.declared.reply.Reply.{Reply};
@@ -42,6 +42,7 @@ fn look<I: Source, O: Sink, E: Sink>(
 ) -> Result<Reply, Stop>
     requires built { built_call nr ≡ native_call nr }
     requires unused { AreUnusedZero nr args }
+    requires placed { IsPlaced nr mem.old }
     ensures looks { (reply : Reply) (memory : List ℕ)
         → ((left : List ℕ) → IsLook k.old reply memory left (native_call nr args k.old mem.old left))
         → LooksFor (Replied reply memory mem.new) result k.old k.new

@@ -15,6 +15,7 @@ use Rattle.o32_model.specs.GuestBytes.{is_storable}
 use Rattle.o32_model.specs.declared.call_words.CallWords.{CallWords}
 use Rattle.o32_model.specs.declared.outcome.Outcome.{Outcome}
 use Rattle.o32_model.specs.declared.outcome.Outcome.TheVariants as outcomes
+use Rattle.bridge_log.specs.Arguments.{is_among, commands_with_argument}
 use Rattle.bridge_log.specs.Outcomes.{outcome_of}
 
 -- this number in the place of the reply's
@@ -32,6 +33,10 @@ outcome_flags words (replies.Sleep wake) = outcome_of words (replies.Sleep wake)
 -- what F_SETFL sets of o32 flags, by native numbers
 abbrev pub native_status_flags : ℕ → ℕ
 native_status_flags flags = 0x400 * one_if (has flags 0x8) + 0x800 * one_if (has flags 0x80)
+
+-- the last argument that the native fcntl(2) is handed: 0 for a command that takes none
+abbrev pub handed : ℕ → ℕ → ℕ
+handed command argument = if is_among command commands_with_argument then argument else 0
 
 -- the little-endian number of four bytes from a place on
 abbrev pub int_at : List ℕ → ℕ → ℕ

@@ -13,6 +13,7 @@ pub second_call-requires : goal.second_call-requires
 second_call-requires g c = record {
   built = c.requires.built;
   unused = c.requires.unused;
+  address = c.requires.address;
   place = c.requires.place;
   found = c.in_ok-error.ensures.answer ∙ c.in-Ok.is;
   short = subst (λ (r : Result (List ℕ) Errno). IfOk r (λ p. length p < path_limit)) c.in-Ok.is c.in_ok-error.ensures.short;

@@ -6,9 +6,9 @@ use Rattle.bridge_file.proofs.nodes.fsync.Goals as goal
 pub returns-clause-row : goal.returns-clause-row
 returns-clause-row g c = λ guest same.
     c.number_call.ensures.row guest (sync_row c.args.k.now guest c.args.fd) same
-    (λ left. fsync_mirrors guest c.args.k.now c.args.mem.now left _ c.args.fd c.from.ensures c.ranges.fd.fits)
+    (λ left. fsync_mirrors guest c.args.k.now c.clear.new.self left _ c.args.fd c.from.ensures c.ranges.fd.fits)
 
 pub returns-clause-kept : goal.returns-clause-kept
 returns-clause-kept g c = λ guest same.
     c.number_call.ensures.kept guest (sync_row c.args.k.now guest c.args.fd) same
-    (λ left. fsync_mirrors guest c.args.k.now c.args.mem.now left _ c.args.fd c.from.ensures c.ranges.fd.fits)
+    (λ left. fsync_mirrors guest c.args.k.now c.clear.new.self left _ c.args.fd c.from.ensures c.ranges.fd.fits)

@@ -33,14 +33,14 @@ pub returns-in-Some-clause-row : goal.returns-in-Some-clause-row
 returns-in-Some-clause-row g c = λ guest same memory.
     let small : c.in-Some.origin < 2 ^ 32 = search rules in
     c.tell_call.ensures.row guest (llseek_row c.args.k.now guest c.args.fd (pair c.args.high c.args.low) c.args.address (stack_word c.args.words.now 0)) same memory
-    (λ left. subst (λ (o : Option ℕ). Tells guest c.args.address Place (native_call 62 (c.from.result ∷ c.pair.result ∷ c.from-in-Some.result ∷ 0 ∷ 0 ∷ 0 ∷ []) c.args.k.now c.args.mem.now left)
+    (λ left. subst (λ (o : Option ℕ). Tells guest c.args.address Place (native_call 62 (c.from.result ∷ c.pair.result ∷ c.from-in-Some.result ∷ 0 ∷ 0 ∷ 0 ∷ []) c.args.k.now c.clear.new.self left)
     (llseek_row c.args.k.now guest c.args.fd (pair c.args.high c.args.low) c.args.address o left)) (sym c.in-Some.is ∙ c.fifth.ensures)
-    (llseek_tells guest c.args.k.now c.args.address c.args.mem.now left _ _ _ c.args.fd c.in-Some.origin (pair c.args.high c.args.low) c.from.ensures c.from-in-Some.ensures c.pair.ensures c.ranges.fd.fits small))
+    (llseek_tells guest c.args.k.now c.args.address c.clear.new.self left _ _ _ c.args.fd c.in-Some.origin (pair c.args.high c.args.low) c.from.ensures c.from-in-Some.ensures c.pair.ensures c.ranges.fd.fits small))
 
 pub returns-in-Some-clause-kept : goal.returns-in-Some-clause-kept
 returns-in-Some-clause-kept g c = λ guest same memory.
     let small : c.in-Some.origin < 2 ^ 32 = search rules in
     c.tell_call.ensures.kept guest (llseek_row c.args.k.now guest c.args.fd (pair c.args.high c.args.low) c.args.address (stack_word c.args.words.now 0)) same memory
-    (λ left. subst (λ (o : Option ℕ). Tells guest c.args.address Place (native_call 62 (c.from.result ∷ c.pair.result ∷ c.from-in-Some.result ∷ 0 ∷ 0 ∷ 0 ∷ []) c.args.k.now c.args.mem.now left)
+    (λ left. subst (λ (o : Option ℕ). Tells guest c.args.address Place (native_call 62 (c.from.result ∷ c.pair.result ∷ c.from-in-Some.result ∷ 0 ∷ 0 ∷ 0 ∷ []) c.args.k.now c.clear.new.self left)
     (llseek_row c.args.k.now guest c.args.fd (pair c.args.high c.args.low) c.args.address o left)) (sym c.in-Some.is ∙ c.fifth.ensures)
-    (llseek_tells guest c.args.k.now c.args.address c.args.mem.now left _ _ _ c.args.fd c.in-Some.origin (pair c.args.high c.args.low) c.from.ensures c.from-in-Some.ensures c.pair.ensures c.ranges.fd.fits small))
+    (llseek_tells guest c.args.k.now c.args.address c.clear.new.self left _ _ _ c.args.fd c.in-Some.origin (pair c.args.high c.args.low) c.from.ensures c.from-in-Some.ensures c.pair.ensures c.ranges.fd.fits small))

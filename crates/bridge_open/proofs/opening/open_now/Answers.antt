@@ -6,7 +6,7 @@ use Rattle.o32_model.specs.PathArguments.{base}
 use Rattle.o32_model.specs.Paths.{path_at}
 use Rattle.std.proofs.Common.{Some}
 use Rattle.bridge_log.proofs.Ends.{fails_before}
-use Rattle.bridge_open.proofs.OpenRows.{open_mirrors}
+use Rattle.bridge_open.proofs.OpenRows.{open_mirrors, open_unused}
 use Rattle.bridge_open.proofs.opening.open_now.Goals as goal
 
 pub returns-in_err-put_one-clause-row : goal.returns-in_err-put_one-clause-row
@@ -17,10 +17,13 @@ pub returns-clause-row : goal.returns-clause-row
 returns-clause-row g c = λ guest same memory free.
     c.number_call.ensures.row guest (open_row c.args.k.now guest (base c.args.directory) c.args.address (Some c.args.flags) c.args.mode) same
     (λ left. open_mirrors guest c.args.k.now c.args.address _ _ _ c.args.directory c.args.mode c.args.flags c.args.path.now c.put_one.new.mem left c.whole.ensures c.requires.listed
-    c.from.ensures c.to_native.ensures c.from-2.ensures c.ranges.directory.fits c.ranges.mode.fits (ap (λ (m : Memory). path_at m c.args.address) memory ∙ c.requires.found) c.in_ok-put_one.ensures free)
+    c.from.ensures c.to_native.ensures c.handed.ensures c.ranges.directory.fits c.ranges.mode.fits (ap (λ (m : Memory). path_at m c.args.address) memory ∙ c.requires.found) c.in_ok-put_one.ensures free)
 
 pub returns-clause-kept : goal.returns-clause-kept
 returns-clause-kept g c = λ guest same memory free.
     c.number_call.ensures.kept guest (open_row c.args.k.now guest (base c.args.directory) c.args.address (Some c.args.flags) c.args.mode) same
     (λ left. open_mirrors guest c.args.k.now c.args.address _ _ _ c.args.directory c.args.mode c.args.flags c.args.path.now c.put_one.new.mem left c.whole.ensures c.requires.listed
-    c.from.ensures c.to_native.ensures c.from-2.ensures c.ranges.directory.fits c.ranges.mode.fits (ap (λ (m : Memory). path_at m c.args.address) memory ∙ c.requires.found) c.in_ok-put_one.ensures free)
+    c.from.ensures c.to_native.ensures c.handed.ensures c.ranges.directory.fits c.ranges.mode.fits (ap (λ (m : Memory). path_at m c.args.address) memory ∙ c.requires.found) c.in_ok-put_one.ensures free)
+
+pub number_call-requires-clause-unused : goal.number_call-requires-clause-unused
+number_call-requires-clause-unused g c = open_unused _ _ _ _ c.args.mode c.args.flags c.to_native.ensures c.handed.ensures
