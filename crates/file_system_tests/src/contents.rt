@@ -1,10 +1,10 @@
 //! The calls on one node: its bytes, its size, its mode and its times.
 
-use crate::files::Call::{self, Create, Mkdir, SetMode, SetSize, SetTimes, Symlink};
-use crate::files::Which::{self, At};
 use crate::steps::Look::{Facts, Read, Times};
 use crate::steps::Step::{self, Clock, Do, Refuse, See, Write, WriteSevens};
 use crate::steps::first_wrong_after;
+use file_system_scripts::files::Call::{self, Create, Mkdir, SetMode, SetSize, SetTimes, Symlink};
+use file_system_scripts::files::Which::{self, At};
 use std::test::Fail;
 
 /// The file of most tests.

@@ -2,13 +2,7 @@
 #![tactic(auto)]
 
 #[cfg(test)]
-mod checks;
-#[cfg(test)]
 mod contents;
-#[cfg(test)]
-mod files;
-#[cfg(test)]
-mod images;
 #[cfg(test)]
 mod limits;
 #[cfg(test)]
@@ -17,8 +11,6 @@ mod names;
 mod renames;
 #[cfg(test)]
 mod steps;
-#[cfg(test)]
-mod text;
 #[cfg(test)]
 mod trees;
 #[cfg(test)]

@@ -1,11 +1,13 @@
 //! The limits of a whole file system, which are this project's own.
 
-use crate::files::Call::{Create, Hold, Link, Mkdir, Release, Rename, SetSize, Symlink, Unlink};
-use crate::files::Which::{self, At, Named};
-use crate::files::{Answer, Files};
 use crate::steps::Look::{Facts, Next, Times, Tree};
 use crate::steps::Step::{Clock, Do, Name, Refuse, See, Write, WriteSevens};
 use crate::steps::{Step, first_wrong, first_wrong_of_file};
+use file_system_scripts::files::Call::{
+    Create, Hold, Link, Mkdir, Release, Rename, SetSize, Symlink, Unlink,
+};
+use file_system_scripts::files::Which::{self, At, Named};
+use file_system_scripts::files::{Answer, Files};
 use std::alloc::Global;
 use std::test::Fail;
 

@@ -1,12 +1,12 @@
 //! The calls that make a name and that take one away: what each leaves, and each of its errors.
 
-use crate::files::Call::{
-    self, Create, Hold, Link, Mkdir, Release, Rename, Rmdir, Symlink, Unlink,
-};
-use crate::files::Which::{At, Named};
 use crate::steps::Look::{Facts, Next, Parent, Read, Target, Times, Tree};
 use crate::steps::Step::{self, Clock, Do, Name, Refuse, See, Start, Write};
 use crate::steps::first_wrong_after;
+use file_system_scripts::files::Call::{
+    self, Create, Hold, Link, Mkdir, Release, Rename, Rmdir, Symlink, Unlink,
+};
+use file_system_scripts::files::Which::{At, Named};
 use std::test::Fail;
 
 /// The steps of [`makes_nodes`].

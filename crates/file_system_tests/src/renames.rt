@@ -1,10 +1,12 @@
 //! rename(2): what it leaves, and each of its errors.
 
-use crate::files::Call::{self, Create, Hold, Link, Mkdir, Release, Rename, Symlink, Unlink};
-use crate::files::Which::{At, Named};
 use crate::steps::Look::{Facts, Parent, Times, Tree};
 use crate::steps::Step::{self, Clock, Do, Name, Refuse, See, Start};
 use crate::steps::first_wrong_after;
+use file_system_scripts::files::Call::{
+    self, Create, Hold, Link, Mkdir, Release, Rename, Symlink, Unlink,
+};
+use file_system_scripts::files::Which::{At, Named};
 use std::test::Fail;
 
 /// Files, directories and a link, which have the numbers from 2 on in this order.

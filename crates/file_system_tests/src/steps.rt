@@ -1,6 +1,6 @@
 //! Tests as lists of steps.
 
-use crate::files::{Answer, Call, Files, Which};
+use file_system_scripts::files::{Answer, Call, Files, Which};
 use std::alloc::Global;
 
 /// A step of a test.

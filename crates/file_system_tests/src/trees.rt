@@ -1,12 +1,12 @@
 //! Trees that go in and come out.
 
-use crate::files::Call::{
-    self, Create, Hold, Link, Mkdir, Rmdir, SetMode, SetSize, SetTimes, Symlink, Unlink,
-};
-use crate::files::Which::At;
 use crate::steps::Look::{Facts, Next, Parent, Read, Times, Tree};
 use crate::steps::Step::{self, Clock, Do, See, Write};
 use crate::steps::{first_wrong_loaded, first_wrong_of_file, first_wrong_reloaded};
+use file_system_scripts::files::Call::{
+    self, Create, Hold, Link, Mkdir, Rmdir, SetMode, SetSize, SetTimes, Symlink, Unlink,
+};
+use file_system_scripts::files::Which::At;
 use std::test::Fail;
 
 /// A tree with each kind of node.

@@ -1,8 +1,8 @@
 //! Walks of paths, as path_resolution(7) and symlink(7) tell, and this project's own rules of their order.
 
-use crate::files::Call::{Create, Hold, Mkdir, Rmdir, Symlink};
-use crate::files::Which::{At, Named};
-use crate::files::{Answer, Files, Found};
+use file_system_scripts::files::Call::{Create, Hold, Mkdir, Rmdir, Symlink};
+use file_system_scripts::files::Which::{At, Named};
+use file_system_scripts::files::{Answer, Files, Found};
 use native_vfs::{NodeKind, ends_with_slash};
 use std::alloc::Global;
 use std::process::Abort;

@@ -3,12 +3,12 @@ ghost use Rattle.kernel_core.specs.ValidTree.{IsValidTree};
 ghost use Rattle.kernel_model.specs.Pending.{CanPend};
 
 use crate::filling::{fill_blocks, make_names};
-use crate::rows::Call;
 use crate::steps::{Step, read};
-use crate::trees::{EMPTY_TREE, tree_of};
 use host_mem::HostMem;
 use kernel_core::{Info, Reply, Sig, Stop, Tree};
 use native_kernel::{NativeKernel, Post};
+use native_scripts::rows::Call;
+use native_scripts::trees::{EMPTY_TREE, tree_of};
 use outside::{Devices, MemSink, MemSource};
 use schedule::parse;
 use std::alloc::{AllocError, Global};

@@ -2,8 +2,8 @@
 
 use crate::calls::{first_wrong, kernel_of};
 use crate::tree_texts::is_tree;
-use crate::trees::{EMPTY_TREE, tree_of};
 use native_kernel::NativeKernel;
+use native_scripts::trees::{EMPTY_TREE, tree_of};
 use std::alloc::Global;
 use std::test::Fail;
 

@@ -2,10 +2,10 @@
 ghost use Rattle.std.specs.Prelude.{◌≤◌};
 
 use crate::calls::{Streams, made};
-use crate::rows::Call;
 use host_mem::{FIRST_ADDRESS, HostMem};
 use kernel_core::{NoMemory, Reply};
 use native_kernel::NativeKernel;
+use native_scripts::rows::Call;
 use std::alloc::Global;
 
 /// One of the 26 small letters.

@@ -1,8 +1,8 @@
 //! What comes from outside: devices that fail, the clock and posted signals; and the tree at the end.
 
 use crate::calls::{first_wrong, first_wrong_of_streams, kernel_of};
-use crate::trees::{EMPTY_TREE, tree_of};
 use native_kernel::NativeKernel;
+use native_scripts::trees::{EMPTY_TREE, tree_of};
 use std::alloc::Global;
 use std::test::Fail;
 

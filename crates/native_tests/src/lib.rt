@@ -1,4 +1,4 @@
-//! The tests of `native_files` and `native_kernel`, and nothing else.
+//! The tests of `native_kernel`, and nothing else.
 #![tactic(auto)]
 
 #[cfg(test)]
@@ -16,13 +16,9 @@ mod contents;
 #[cfg(test)]
 mod descriptors;
 #[cfg(test)]
-mod files;
-#[cfg(test)]
 mod filling;
 #[cfg(test)]
 mod from_outside;
-#[cfg(test)]
-mod memory;
 #[cfg(test)]
 mod names;
 #[cfg(test)]
@@ -36,13 +32,9 @@ mod no_node;
 #[cfg(test)]
 mod nodes;
 #[cfg(test)]
-mod numbers;
-#[cfg(test)]
 mod opening;
 #[cfg(test)]
 mod posts;
-#[cfg(test)]
-mod rows;
 #[cfg(test)]
 mod sending;
 #[cfg(test)]
@@ -55,9 +47,5 @@ mod terminal;
 mod transfers;
 #[cfg(test)]
 mod tree_texts;
-#[cfg(test)]
-mod trees;
-#[cfg(test)]
-mod words;
 #[cfg(test)]
 mod working_directory;

@@ -9,11 +9,11 @@
 //!     names 9 mkdirat at_fdcwd at+2 0o700 = 9   of so many calls of this kind, each with another name, how many are carried out
 //!                                 until one is refused; host memory has `f` and a NUL, and at its third byte the name
 //!     blocks 9 pwrite64 3 = 9     the same, where each writes one byte to another block of an open file
-use crate::memory::Memory;
-use crate::rows::{Call, read_call};
-use crate::words::{Words, words_of};
 use kernel_core::{RealTime, Sig};
 use native_kernel::Post;
+use native_scripts::memory::Memory;
+use native_scripts::rows::{Call, read_call};
+use native_scripts::words::{Words, words_of};
 use std::alloc::Global;
 use std::test::Fail;
 

@@ -5,9 +5,9 @@
 //!     2 0o644 100 file 5 0 hello           a file of this size, with the index of each block and its first bytes, of which the
 //!                                          others are 0; `_` stands for a space
 //!     7 0o777 100 link d/b                 a link with its target
-use crate::memory::character;
-use crate::words::{Words, words_of};
 use kernel_core::{Block, DirEntry, Kind, Node, Tree};
+use native_scripts::memory::character;
+use native_scripts::words::{Words, words_of};
 use std::alloc::Global;
 use std::test::Fail;
 

@@ -6,25 +6,15 @@ mod clock;
 #[cfg(test)]
 mod entries;
 #[cfg(test)]
-mod guest;
-#[cfg(test)]
-mod image;
-#[cfg(test)]
 mod mapped;
 #[cfg(test)]
 mod names;
 #[cfg(test)]
 mod nodes;
 #[cfg(test)]
-mod numbers;
-#[cfg(test)]
 mod opening;
 #[cfg(test)]
 mod refusals;
-#[cfg(test)]
-mod script;
-#[cfg(test)]
-mod sessions;
 #[cfg(test)]
 mod start;
 #[cfg(test)]

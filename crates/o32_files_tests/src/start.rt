@@ -1,8 +1,8 @@
 //! The calls that a C library makes before and around a small `main`, one after the other.
-use crate::guest::{ROOM_ON_THE_STACK, STORE_T0_FIFTH, code_of, executable, straight_code};
-use crate::image::image_of;
-use crate::script::read;
-use crate::sessions::{Came, place_of, run};
+use call_scripts::guest::{ROOM_ON_THE_STACK, STORE_T0_FIFTH, code_of, executable, straight_code};
+use call_scripts::image::image_of;
+use call_scripts::script::read;
+use call_scripts::sessions::{Came, place_of, run};
 use o32_session::End;
 use std::alloc::{AllocError, Global};
 use std::test::Fail;

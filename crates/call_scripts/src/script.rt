@@ -11,7 +11,8 @@ use std::test::Fail;
 
 /// What a call gives.
 #[derive(Clone, Copy)]
-pub(crate) enum Gives {
+pub enum Gives {
+    /// A result.
     Value(u32),
     /// An error, by its number.
     Error(u32),
@@ -19,17 +20,17 @@ pub(crate) enum Gives {
 
 /// A call: its number, its arguments, and what it gives.
 #[derive(Clone, Copy)]
-pub(crate) struct Call {
-    pub(crate) number: u32,
-    pub(crate) words: [u32; 6],
-    pub(crate) gives: Gives,
+pub struct Call {
+    pub number: u32,
+    pub words: [u32; 6],
+    pub gives: Gives,
 }
 
 /// The calls of a script, and what they write to standard output.
 #[derive(Drop)]
-pub(crate) struct Script {
-    pub(crate) calls: Vec<Call>,
-    pub(crate) out: Vec<u8>,
+pub struct Script {
+    pub calls: Vec<Call>,
+    pub out: Vec<u8>,
 }
 
 /// What the next word of a script is.
@@ -169,7 +170,7 @@ impl Reader {
 }
 
 /// Reads a script.
-pub(crate) fn read(alloc: Global, text: &str) -> Result<Script, Fail> {
+pub fn read(alloc: Global, text: &str) -> Result<Script, Fail> {
     let mut reader = Reader {
         script: Script {
             calls: Vec::new(alloc),

@@ -3,7 +3,7 @@ ghost use Rattle.std.specs.Prelude.{◌≡◌, IfOk, IsSome, IfSome};
 ghost use Rattle.kernel_core.specs.ValidTree.{IsValidTree};
 ghost use Rattle.native_vfs.specs.Answers.{MayStart};
 ghost use Rattle.native_vfs.specs.Keyed.{AgreesAt, IsLiveKey};
-ghost use Rattle.file_system_tests.specs.Named.{AreHeld};
+ghost use Rattle.file_system_scripts.specs.Named.{AreHeld};
 
 use crate::checks::{is_directory, is_file, is_link, is_parent, may_start};
 use crate::images::{EMPTY_TREE, image_of_file};
@@ -14,14 +14,14 @@ use native_vfs::{NodeKind, Place, Status, Vfs};
 use std::alloc::{AllocError, Global};
 
 /// What a call answers, or the name of its error, or what it lacks.
-pub(crate) type Answer<T> = Result<T, &'static str>;
+pub type Answer<T> = Result<T, &'static str>;
 
 /// The most holds that a test has.
 const MOST_HOLDS: u32 = 9;
 
 /// A file system and what the calls on it stand on. Each call looks first at what the call under test requires.
 #[derive(Drop)]
-pub(crate) struct Files {
+pub struct Files {
     alloc: Global,
     vfs: Vfs,
     /// The node that paths without a slash at their beginning begin at.
@@ -39,7 +39,7 @@ pub(crate) struct Files {
 
 /// The node that a step of a test is about.
 #[derive(Clone, Copy)]
-pub(crate) enum Which {
+pub enum Which {
     /// The node of this path. A last link is not followed.
     At(&'static str),
     /// The node that was named.
@@ -48,7 +48,7 @@ pub(crate) enum Which {
 
 /// A call, by the paths of its nodes.
 #[derive(Clone, Copy)]
-pub(crate) enum Call {
+pub enum Call {
     /// The name of the file and its mode.
     Create(&'static str, u16),
     /// The name of the directory and its mode.
@@ -57,7 +57,9 @@ pub(crate) enum Call {
     Symlink(&'static str, &'static str),
     /// The old name and the new one.
     Link(&'static str, &'static str),
+    /// The name of the file or link.
     Unlink(&'static str),
+    /// The name of the directory.
     Rmdir(&'static str),
     /// The old name and the new one.
     Rename(&'static str, &'static str),
@@ -75,10 +77,10 @@ pub(crate) enum Call {
 
 /// What a walk finds: the number of the directory, the name, and the number of the node.
 #[derive(Drop)]
-pub(crate) struct Found {
-    pub(crate) dir: u64,
-    pub(crate) name: Bytes,
-    pub(crate) node: Option<u64>,
+pub struct Found {
+    pub dir: u64,
+    pub name: Bytes,
+    pub node: Option<u64>,
 }
 
 /// The tree of an image.
@@ -93,13 +95,13 @@ fn tree_of(alloc: Global, image: &[u8]) -> Answer<Tree>
 
 impl Files {
     /// The file system of one empty root directory, at the time 1.
-    pub(crate) fn new(alloc: Global) -> Answer<Files> {
+    pub fn new(alloc: Global) -> Answer<Files> {
         Files::of(alloc, tree_of(alloc, EMPTY_TREE)?)
     }
 
     /// The file system of a root directory whose entry `f` names an empty file: the cookie of the entry, the file's
     /// number and its time of modification in seconds.
-    pub(crate) fn of_file(alloc: Global, cookie: u32, number: u64, mtime: i64) -> Answer<Files> {
+    pub fn of_file(alloc: Global, cookie: u32, number: u64, mtime: i64) -> Answer<Files> {
         match image_of_file(alloc, cookie, number, mtime) {
             Ok(image) => Files::of(alloc, tree_of(alloc, image.as_slice())?),
             Err(_) => Err("no memory"),
@@ -125,7 +127,7 @@ impl Files {
     }
 
     /// The file system that these calls make of an empty root directory at the time 1.
-    pub(crate) fn with(alloc: Global, calls: &[Call]) -> Answer<Files> {
+    pub fn with(alloc: Global, calls: &[Call]) -> Answer<Files> {
         let mut files = Files::new(alloc)?;
         files.call_each(calls)?;
         Ok(files)
@@ -150,12 +152,12 @@ impl Files {
     }
 
     /// The file system of the tree that this one stands for.
-    pub(crate) fn loaded(&self) -> Answer<Files> {
+    pub fn loaded(&self) -> Answer<Files> {
         Files::of(self.alloc, self.tree()?)
     }
 
     /// The tree that the file system stands for, as text.
-    pub(crate) fn text(&self) -> Answer<String> {
+    pub fn text(&self) -> Answer<String> {
         match tree_text(self.alloc, &self.tree()?) {
             Ok(text) => Ok(text),
             Err(_) => Err("no memory"),
@@ -163,17 +165,17 @@ impl Files {
     }
 
     /// Lets the calls come at this time.
-    pub(crate) fn set_clock(&mut self, now: i64) {
+    pub fn set_clock(&mut self, now: i64) {
         self.clock = now;
     }
 
     /// Lets paths without a slash at their beginning begin at this node.
-    pub(crate) fn start_at(&mut self, node: Which) {
+    pub fn start_at(&mut self, node: Which) {
         self.start = node;
     }
 
     /// Holds the node of a path, and names it.
-    pub(crate) fn name(&mut self, path: &str) -> Answer<()> {
+    pub fn name(&mut self, path: &str) -> Answer<()> {
         let key = self.key_at(path)?;
         if self.named.is_some() || self.holds >= MOST_HOLDS {
             return Err("a first name and few holds");
@@ -219,7 +221,7 @@ impl Files {
     }
 
     /// What a walk finds.
-    pub(crate) fn walk(&self, path: &str, follow: bool) -> Answer<Found> {
+    pub fn walk(&self, path: &str, follow: bool) -> Answer<Found> {
         let place = self.place(path, follow)?;
         let dir = self.vfs.status(place.dir).number;
         let node = match place.node {
@@ -273,7 +275,7 @@ impl Files {
     }
 
     /// Carries out a call.
-    pub(crate) fn call(&mut self, call: Call) -> Answer<()> {
+    pub fn call(&mut self, call: Call) -> Answer<()> {
         match call {
             Call::Create(path, mode) => self.create(path, mode),
             Call::Mkdir(path, mode) => self.mkdir(path, mode),
@@ -290,8 +292,9 @@ impl Files {
         }
     }
 
+    /// Makes a file of this name and mode.
     #[tactic(auto, using(crate::proofs::HoldLemmas::held_still))]
-    pub(crate) fn create(&mut self, path: &str, mode: u16) -> Answer<()> {
+    pub fn create(&mut self, path: &str, mode: u16) -> Answer<()> {
         let place = self.place(path, false)?;
         if mode > 0o7777 {
             return Err("a mode");
@@ -310,8 +313,9 @@ impl Files {
         Ok(())
     }
 
+    /// Makes a symbolic link with this target and name.
     #[tactic(auto, using(crate::proofs::HoldLemmas::held_still))]
-    pub(crate) fn symlink(&mut self, target: &str, path: &str) -> Answer<()> {
+    pub fn symlink(&mut self, target: &str, path: &str) -> Answer<()> {
         let place = self.place(path, false)?;
         let target = target.as_bytes();
         if target.contains(&0) || target.len() > 4095 {
@@ -320,7 +324,8 @@ impl Files {
         told(self.vfs.symlink(&place, target, i128::from(self.clock)))
     }
 
-    pub(crate) fn link(&mut self, old: &str, new: &str) -> Answer<()> {
+    /// Gives the node of the old name the new name too.
+    pub fn link(&mut self, old: &str, new: &str) -> Answer<()> {
         let node = self.key_at(old)?;
         let place = self.place(new, false)?;
         told(self.vfs.link(node, &place, i128::from(self.clock)))
@@ -414,23 +419,23 @@ impl Files {
     }
 
     /// The number of the root.
-    pub(crate) fn root(&self) -> Answer<u64> {
+    pub fn root(&self) -> Answer<u64> {
         Ok(self.vfs.status(self.vfs.root_key()).number)
     }
 
     /// Whether a node is of this kind.
-    pub(crate) fn is_of_kind(&self, node: Which, kind: NodeKind) -> Answer<bool> {
+    pub fn is_of_kind(&self, node: Which, kind: NodeKind) -> Answer<bool> {
         let key = self.key(node)?;
         Ok(self.vfs.kind(key) == kind)
     }
 
     /// What stat(2) tells of a node.
-    pub(crate) fn status(&self, node: Which) -> Answer<Status> {
+    pub fn status(&self, node: Which) -> Answer<Status> {
         Ok(self.vfs.status(self.key(node)?))
     }
 
     /// Moves bytes into a buffer, and tells how many.
-    pub(crate) fn read(&self, node: Which, at: u64, buf: &mut [u8]) -> Answer<usize> {
+    pub fn read(&self, node: Which, at: u64, buf: &mut [u8]) -> Answer<usize> {
         let key = self.key(node)?;
         if !is_file(&self.vfs, key) {
             return Err("a file");
@@ -439,7 +444,7 @@ impl Files {
     }
 
     /// Writes bytes, and tells how many.
-    pub(crate) fn write(&mut self, node: Which, at: u64, bytes: &[u8]) -> Answer<usize> {
+    pub fn write(&mut self, node: Which, at: u64, bytes: &[u8]) -> Answer<usize> {
         let key = self.key(node)?;
         if !is_file(&self.vfs, key) {
             return Err("a file");
@@ -448,7 +453,7 @@ impl Files {
     }
 
     /// Writes as many bytes 7, and tells how many of them were written.
-    pub(crate) fn write_sevens(&mut self, node: Which, at: u64, count: usize) -> Answer<usize> {
+    pub fn write_sevens(&mut self, node: Which, at: u64, count: usize) -> Answer<usize> {
         match sevens(self.alloc, count) {
             Ok(bytes) => self.write(node, at, bytes.as_slice()),
             Err(_) => Err("no memory"),
@@ -456,7 +461,7 @@ impl Files {
     }
 
     /// Whether the target of a link is this one.
-    pub(crate) fn has_target(&self, node: Which, target: &str) -> Answer<bool> {
+    pub fn has_target(&self, node: Which, target: &str) -> Answer<bool> {
         let key = self.key(node)?;
         if !is_link(&self.vfs, key) {
             return Err("a link");
@@ -465,7 +470,7 @@ impl Files {
     }
 
     /// The number of the directory above a directory, by a path that ends in its `..`.
-    pub(crate) fn parent(&self, path: &str) -> Answer<u64> {
+    pub fn parent(&self, path: &str) -> Answer<u64> {
         let place = self.place(path, false)?;
         if !is_parent(&self.vfs, &place) {
             return Err("a directory with a parent");
@@ -474,7 +479,7 @@ impl Files {
     }
 
     /// Whether the entry after a cookie is this one, of a cookie, a name and a number.
-    pub(crate) fn is_next(
+    pub fn is_next(
         &self,
         dir: Which,
         after: u32,

@@ -28,7 +28,7 @@ enum Form {
 
 /// Bytes that are written up to a word.
 #[derive(Drop)]
-pub(crate) struct Memory {
+pub struct Memory {
     bytes: Vec<u8>,
     form: Option<Form>,
 }
@@ -52,7 +52,7 @@ fn form_of(word: &str) -> Option<Form> {
 }
 
 /// What a letter of a text stands for.
-pub(crate) fn character(letter: u8) -> u8 {
+pub fn character(letter: u8) -> u8 {
     match letter {
         b'_' => b' ',
         _ => letter,
@@ -65,39 +65,41 @@ fn in_brackets(word: &str) -> Option<&str> {
 }
 
 /// Whether a word is a text, of either kind.
-pub(crate) fn is_text(word: &str) -> bool {
+pub fn is_text(word: &str) -> bool {
     word.strip_prefix("'").is_some() || in_brackets(word).is_some()
 }
 
 impl Memory {
-    pub(crate) fn new(alloc: Global) -> Memory {
+    /// No bytes.
+    pub fn new(alloc: Global) -> Memory {
         Memory {
             bytes: Vec::new(alloc),
             form: None,
         }
     }
 
-    pub(crate) fn bytes(&self) -> &[u8] {
+    /// The bytes.
+    pub fn bytes(&self) -> &[u8] {
         self.bytes.as_slice()
     }
 
     /// How many bytes there are.
-    pub(crate) fn len(&self) -> usize {
+    pub fn len(&self) -> usize {
         self.bytes.len()
     }
 
     /// The address of the next byte.
-    pub(crate) fn address(&self) -> u64 {
+    pub fn address(&self) -> u64 {
         FIRST_ADDRESS.saturating_add(self.bytes.len() as u64)
     }
 
     /// Adds bytes.
-    pub(crate) fn push(&mut self, bytes: &[u8]) -> Result<(), AllocError> {
+    pub fn push(&mut self, bytes: &[u8]) -> Result<(), AllocError> {
         self.bytes.extend_from_slice(bytes)
     }
 
     /// Takes the bytes behind the first ones away.
-    pub(crate) fn truncate(&mut self, count: usize) {
+    pub fn truncate(&mut self, count: usize) {
         self.bytes.truncate(count);
         self.form = None;
     }
@@ -140,7 +142,7 @@ impl Memory {
     }
 
     /// Adds what a word says.
-    pub(crate) fn take(&mut self, word: &str) -> Result<(), Fail> {
+    pub fn take(&mut self, word: &str) -> Result<(), Fail> {
         if let Some(text) = word.strip_prefix("'") {
             self.push_text(text)?;
             self.bytes.push(0)?;

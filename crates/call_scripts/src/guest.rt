@@ -22,7 +22,7 @@ const SET_V0: u32 = 0x2402_0000;
 const SET_A0: u32 = 0x2404_0000;
 
 /// `addiu $sp, $sp, -32`.
-pub(crate) const ROOM_ON_THE_STACK: u32 = 0x27BD_FFE0;
+pub const ROOM_ON_THE_STACK: u32 = 0x27BD_FFE0;
 
 /// `nop`.
 const NOTHING: u32 = 0;
@@ -37,7 +37,7 @@ const NEXT_IF_A3_IS_T0: u32 = 0x10E8_0003;
 const AGAIN_IF_NO_ERROR: u32 = 0x10E0_FFFC;
 
 /// `sw $t0, 16($sp)`, where a call's fifth argument stands.
-pub(crate) const STORE_T0_FIFTH: u32 = 0xAFA8_0010;
+pub const STORE_T0_FIFTH: u32 = 0xAFA8_0010;
 
 /// `sw $t0, 20($sp)`, where its sixth argument stands.
 const STORE_T0_SIXTH: u32 = 0xAFA8_0014;
@@ -83,7 +83,7 @@ const TO_T0: ToRegister = ToRegister {
 };
 
 /// Opens copies of standard input until a descriptor can't be had.
-pub(crate) const TAKE_ALL_DESCRIPTORS: [u32; 5] = [
+pub const TAKE_ALL_DESCRIPTORS: [u32; 5] = [
     SET_A0,
     SET_V0 | DUP,
     SYSCALL,
@@ -139,11 +139,7 @@ fn push_call(code: &mut Vec<u32>, place: u32, call: &Call) -> Result<(), AllocEr
 
 /// The words of a program that makes these calls behind the first words, and exits with the place of the first that gives anything
 /// else, counted from 1, or with 0.
-pub(crate) fn code_of(
-    alloc: Global,
-    first: &[u32],
-    calls: &[Call],
-) -> Result<Vec<u32>, AllocError> {
+pub fn code_of(alloc: Global, first: &[u32], calls: &[Call]) -> Result<Vec<u32>, AllocError> {
     let mut code = Vec::from_slice(alloc, first)?;
     code.push(ROOM_ON_THE_STACK)?;
     let mut place: u32 = 0;
@@ -166,7 +162,7 @@ fn register(place: usize) -> ToRegister {
 }
 
 /// The words of a program that makes calls of four arguments behind the first words, in ten instructions each, and looks at nothing.
-pub(crate) fn straight_code(alloc: Global, first: &[u32], calls: &str) -> Result<Vec<u32>, Fail> {
+pub fn straight_code(alloc: Global, first: &[u32], calls: &str) -> Result<Vec<u32>, Fail> {
     let mut code = Vec::from_slice(alloc, first)?;
     let mut number = 0;
     let mut place: usize = 0;
@@ -188,7 +184,7 @@ pub(crate) fn straight_code(alloc: Global, first: &[u32], calls: &str) -> Result
 /// The data of most programs: the paths, each in its place; a name of 256 bytes, of which a directory takes 255; times; a page of
 /// zeros, and one without a NUL. Each time is its seconds and its nanoseconds: 5 and 6, 7 and 8; then `now` (UTIME_NOW) and `leave`
 /// (UTIME_OMIT); 5 and 10^9 nanoseconds, which are too many; and one second.
-pub(crate) fn data(alloc: Global) -> Result<Vec<u8>, AllocError> {
+pub fn data(alloc: Global) -> Result<Vec<u8>, AllocError> {
     let mut data = Vec::new(alloc);
     data.resize(0x20, 0)?;
     for path in PATHS.split_whitespace() {
@@ -223,7 +219,7 @@ pub(crate) fn data(alloc: Global) -> Result<Vec<u8>, AllocError> {
 
 /// An executable of one segment, which can be loaded from, stored to and executed: these words at 0x00400000, and the data at
 /// 0x00410000.
-pub(crate) fn executable(alloc: Global, code: &[u32], data: &[u8]) -> Result<Vec<u8>, AllocError> {
+pub fn executable(alloc: Global, code: &[u32], data: &[u8]) -> Result<Vec<u8>, AllocError> {
     let mut file = Vec::from_slice(alloc, b"\x7fELF\x01\x02\x01")?;
     file.resize(16, 0)?;
     file.extend_from_slice(&[0, 2, 0, 8])?;

@@ -9,12 +9,12 @@ use std::test::Fail;
 
 /// The end of a session, its turns, what it wrote to standard output, its trace, and what it saved.
 #[derive(Drop)]
-pub(crate) struct Came {
-    pub(crate) end: End,
-    pub(crate) turns: u64,
-    pub(crate) out: Vec<u8>,
-    pub(crate) trace: Vec<u8>,
-    pub(crate) saved: Vec<u8>,
+pub struct Came {
+    pub end: End,
+    pub turns: u64,
+    pub out: Vec<u8>,
+    pub trace: Vec<u8>,
+    pub saved: Vec<u8>,
 }
 
 /// A file of a store.
@@ -89,12 +89,7 @@ fn carry_out(
 }
 
 /// Runs the program of this file over a tree, under a schedule.
-pub(crate) fn run(
-    alloc: Global,
-    program: Vec<u8>,
-    tree: &str,
-    schedule: &str,
-) -> Result<Came, Fail> {
+pub fn run(alloc: Global, program: Vec<u8>, tree: &str, schedule: &str) -> Result<Came, Fail> {
     let image = image_of(alloc, tree)?;
     let words = words(alloc)?;
     let mut dev = streams(alloc)?;
@@ -115,7 +110,7 @@ pub(crate) fn run(
 
 /// The place of the first call that gives anything else, counted from 1, or 0; None where the program ends otherwise or writes
 /// anything else.
-pub(crate) fn place_of(came: &Came, out: &[u8]) -> Option<u8> {
+pub fn place_of(came: &Came, out: &[u8]) -> Option<u8> {
     match came.end {
         End::Exited(place) if place > 0 || came.out.as_slice() == out => Some(place),
         _ => None,
@@ -140,14 +135,14 @@ fn run_script(
 }
 
 /// The place of the first call of a script that gives anything else, over a tree.
-pub(crate) fn first_wrong(alloc: Global, text: &str, tree: &str) -> Result<Option<u8>, Fail> {
+pub fn first_wrong(alloc: Global, text: &str, tree: &str) -> Result<Option<u8>, Fail> {
     let script = read(alloc, text)?;
     let came = run_script(alloc, &[], &script, tree, "")?;
     Ok(place_of(&came, &script.out))
 }
 
 /// The same, and the tree that is left has to be another one, or None.
-pub(crate) fn first_wrong_saving(
+pub fn first_wrong_saving(
     alloc: Global,
     first: &[u32],
     text: &str,
@@ -164,7 +159,7 @@ pub(crate) fn first_wrong_saving(
 }
 
 /// The same under a schedule, whatever tree is left.
-pub(crate) fn first_wrong_under(
+pub fn first_wrong_under(
     alloc: Global,
     schedule: &str,
     text: &str,

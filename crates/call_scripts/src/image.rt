@@ -9,7 +9,7 @@ use std::test::Fail;
 
 /// The tree of most programs: two files and an empty one in a directory `d`, links, a file whose number takes more than 32 bits, and
 /// one of 2^31 bytes.
-pub(crate) const TREE: &str = "9
+pub const TREE: &str = "9
     1 directory 0o755 1 6 3 d 2 4 f 3 5 l 4 6 o 5 7 big 6 8 wide 0x100000001
     2 directory 0o755 1 2 3 a 7 4 bb 8
     3 file 0o644 1 5 hello
@@ -143,7 +143,7 @@ fn push_node(image: &mut Vec<u8>, words: &mut Words) -> Result<(), Fail> {
 }
 
 /// The image of a tree.
-pub(crate) fn image_of(alloc: Global, tree: &str) -> Result<Vec<u8>, Fail> {
+pub fn image_of(alloc: Global, tree: &str) -> Result<Vec<u8>, Fail> {
     let items: Vec<&str> = tree.split_whitespace().collect(alloc)?;
     let mut words = Words {
         words: items.as_slice(),

@@ -7,10 +7,10 @@
 //! A call that answers no number has the answer 0. An argument that could not be made out is `none`, and a switch that could not be
 //! read is `fault`.
 
-use crate::trees::{EMPTY_TREE, tree_of};
-use crate::words::{Words, words_of};
 use kernel_model::{TerminalSettings, Winsize};
 use native_files::{CoreError, Errno, Files, PipeFlags};
+use native_scripts::trees::{EMPTY_TREE, tree_of};
+use native_scripts::words::{Words, words_of};
 use std::alloc::Global;
 use std::test::Fail;
 

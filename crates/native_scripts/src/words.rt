@@ -4,30 +4,32 @@ use std::test::Fail;
 
 /// The words that are left.
 #[derive(Drop)]
-pub(crate) struct Words<'a> {
+pub struct Words<'a> {
     words: &'a [&'a str],
     place: usize,
 }
 
 /// All words.
-pub(crate) fn words_of<'a>(words: &'a [&'a str]) -> Words<'a> {
+pub fn words_of<'a>(words: &'a [&'a str]) -> Words<'a> {
     Words { words, place: 0 }
 }
 
 impl<'a> Words<'a> {
-    pub(crate) fn next(&mut self) -> Result<&'a str, Fail> {
+    /// The next word; a failure where none is left.
+    pub fn next(&mut self) -> Result<&'a str, Fail> {
         let word = *self.words.get(self.place).ok_or("a word is missing")?;
         self.place = self.place.saturating_add(1);
         Ok(word)
     }
 
-    pub(crate) fn number(&mut self) -> Result<u64, Fail> {
+    /// The number that the next word stands for; a failure where it stands for none.
+    pub fn number(&mut self) -> Result<u64, Fail> {
         let word = self.next()?;
         Ok(number_of(word).ok_or("no number")?)
     }
 
     /// Whether the next word is this one, which is then taken.
-    pub(crate) fn next_is(&mut self, word: &str) -> bool {
+    pub fn next_is(&mut self, word: &str) -> bool {
         match self.words.get(self.place) {
             Some(next) if *next == word => {
                 self.place = self.place.saturating_add(1);
@@ -38,7 +40,7 @@ impl<'a> Words<'a> {
     }
 
     /// Whether no word is left.
-    pub(crate) fn is_over(&self) -> bool {
+    pub fn is_over(&self) -> bool {
         self.place >= self.words.len()
     }
 }

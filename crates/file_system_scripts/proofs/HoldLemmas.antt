@@ -13,7 +13,7 @@ use Rattle.kernel_core.specs.declared.tree.Node.{Node}
 use Rattle.kernel_core.specs.declared.tree.Tree.{Tree}
 use Rattle.native_vfs.specs.Held.{KeepsHeld, ChangesHeld, StaysKey}
 use Rattle.native_vfs.specs.Keyed.{Keyed, IsLiveKey, number_at, inode_at}
-use Rattle.file_system_tests.specs.Named.{AreHeld}
+use Rattle.file_system_scripts.specs.Named.{AreHeld}
 
 -- no node of a tree is held
 

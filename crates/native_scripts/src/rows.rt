@@ -18,16 +18,16 @@ use std::alloc::Global;
 use std::test::Fail;
 
 /// What comes of a call.
-pub(crate) type Came = Result<Reply, Stop>;
+pub type Came = Result<Reply, Stop>;
 
 /// A call by its number; what host memory has before and after; and what comes of it.
 #[derive(Drop)]
-pub(crate) struct Call {
-    pub(crate) number: u64,
-    pub(crate) arguments: [u64; 6],
-    pub(crate) before: Memory,
-    pub(crate) after: Memory,
-    pub(crate) came: Came,
+pub struct Call {
+    pub number: u64,
+    pub arguments: [u64; 6],
+    pub before: Memory,
+    pub after: Memory,
+    pub came: Came,
 }
 
 /// What the next word of a line is.
@@ -216,7 +216,7 @@ fn new_reader(alloc: Global) -> Reader {
 }
 
 /// Reads a call.
-pub(crate) fn read_call(alloc: Global, words: &[&str]) -> Result<Call, Fail> {
+pub fn read_call(alloc: Global, words: &[&str]) -> Result<Call, Fail> {
     let mut reader = new_reader(alloc);
     for word in words {
         reader.take(word)?;

@@ -8,11 +8,11 @@ use std::alloc::Global;
 use std::test::Fail;
 
 /// The image of a tree of one empty directory, the root.
-pub(crate) const EMPTY_TREE: &[u8] =
+pub const EMPTY_TREE: &[u8] =
     b"O32IMG1\n\0\0\0\x01\0\0\0\0\0\0\0\x01\x02\x01\xED\0\0\0\0\0\0\0\0\0\0\0\0";
 
 /// The tree of an image.
-pub(crate) fn tree_of(alloc: Global, image: &[u8]) -> Result<Tree, Fail>
+pub fn tree_of(alloc: Global, image: &[u8]) -> Result<Tree, Fail>
     ensures { IfOk result IsValidTree }
 {
     match decode(alloc, image) {
