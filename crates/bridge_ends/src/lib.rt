@@ -6,4 +6,4 @@ mod ends;
 mod posting;
 
 pub use ends::end_wait;
-pub use posting::{post_event, post_timer};
+pub use posting::{event_info, post_event, post_timer};

@@ -80,9 +80,10 @@ fn waits_for(sig: Sig, going: &Going, space: &Space) -> bool
     }
 }
 
-/// What is known of the signal of an event: sent by kill(2), or queued with a value by sigqueue(3). An event has the
-/// number of a signal.
-fn event_info(due: Due) -> Info
+/// What is known of the signal of an event of the schedule: sent by kill(2) with the code SI_USER and the value 0, or,
+/// where the event has a value, queued with it by sigqueue(3) with the code SI_QUEUE; the sender is the process 1 of the
+/// user 0. The signal's number is an o32 one, 1 to 128, and any other is SIGHUP's.
+pub fn event_info(due: Due) -> Info
     ensures info { result ≡ event_info due }
     ensures can_pend { CanPend result }
 {
