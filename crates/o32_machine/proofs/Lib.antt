@@ -1,14 +1,9 @@
-pub mod ChanceFills
 pub mod Coming
 pub mod EventPosts
-pub mod LimitMirrors
 pub mod Numbering
-pub mod PlainCalls
-pub mod PlainRows
 pub mod Quieting
 pub mod Stepping
 pub mod Steps
-pub mod TellMirrors
 pub mod Turning
 pub mod Waking
 pub mod WholeTurns

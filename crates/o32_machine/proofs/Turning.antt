@@ -1,5 +1,6 @@
 -- Turns: what a call and an instruction leave, as the turn that is defined.
 use Rattle.std.proofs.Common.{◌≡◌, ℕ, inl, inr, Bool, false, List, ◌++◌, Option, Some, None, Result, Ok, Err, IsErr, refl, sym, ap, subst, ◌∙◌}
+use Rattle.bridge_system.specs.Found.{found}
 use Rattle.kernel_core.specs.declared.core_error.Stop.{Stop}
 use Rattle.kernel_core.specs.declared.event.Event.{Event}
 use Rattle.kernel_model.specs.Clock.{gone_off}
@@ -10,7 +11,6 @@ use Rattle.o32_machine.specs.Answered.{Answers, Stopped, Turned, over_of}
 use Rattle.o32_machine.specs.Emulator.{Emulated, ProcessState, at_clock, machine_at, machine_of}
 use Rattle.o32_machine.specs.declared.turn.Turn as code
 use Rattle.o32_machine.specs.inside.Finishing.{finished}
-use Rattle.o32_machine.specs.inside.Plain.{found}
 use Rattle.o32_machine.specs.inside.Steps.{begun}
 use Rattle.o32_model.specs.Answered as o32
 use Rattle.o32_model.specs.Step.{O32Step}

@@ -1,8 +1,8 @@
 //! A call of the program by its number.
 ghost use Rattle.std.specs.Prelude.{◌≡◌};
 ghost use Rattle.bridge_log.specs.Keeping.{KeepsCall};
+ghost use Rattle.bridge_system.specs.Found.{found};
 ghost use Rattle.kernel_model.specs.Stops.{StopsOnlyIfRose};
-ghost use Rattle.o32_machine.specs.inside.Plain.{found};
 ghost use Rattle.o32_model.specs.Answered.{IsCall};
 ghost use Rattle.o32_model.specs.Table.{machine_call};
 ghost use Rattle.outside.specs.Streams.{NoCountFell, contents};
@@ -11,13 +11,13 @@ use crate::files::call_on_files;
 use crate::numbers::{
     is_file_call, is_io_call, is_map_call, is_signal_call, is_time_call, is_timer_call,
 };
-use crate::small::small_call;
 use bridge_acceptance::{acceptance_call, is_acceptance_call};
 use bridge_io::io_call;
 use bridge_map::map_call;
 use bridge_poll::{is_poll_call, poll_call};
 use bridge_select::{is_select_call, select_call};
 use bridge_signal::signal_call;
+use bridge_system::system_call;
 use bridge_timer::timer_call;
 use bridge_wait::wait_call;
 use guest_space::Space;
@@ -77,5 +77,5 @@ pub(crate) fn make_call<I: Source, O: Sink, E: Sink>(
     if is_signal_call(args.nr) {
         return signal_call(args, cpu, space, k, mem, dev, log, seen);
     }
-    small_call(args, cpu, space, k, mem, dev, log)
+    system_call(args, cpu, space, k, mem, dev, log)
 }

@@ -1,8 +1,8 @@
 //! The calls on files.
 ghost use Rattle.std.specs.Prelude.{◌≡◌, true};
 ghost use Rattle.bridge_log.specs.Keeping.{KeepsCall};
+ghost use Rattle.bridge_system.specs.Found.{found};
 ghost use Rattle.kernel_model.specs.Stops.{StopsOnlyIfRose};
-ghost use Rattle.o32_machine.specs.inside.Plain.{found};
 ghost use Rattle.o32_model.specs.Answered.{IsCall};
 ghost use Rattle.o32_model.specs.Table.{is_file_call};
 ghost use Rattle.o32_model.specs.Table.{o32_call};

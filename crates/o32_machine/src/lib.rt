@@ -2,19 +2,12 @@
 #![tactic(auto)]
 
 mod calls;
-mod chance;
 mod emulator;
 mod files;
-mod limits;
-mod names;
 mod numbers;
-mod plain;
 mod posting;
 mod process;
-mod rlimit;
 mod running;
-mod small;
-mod telling;
 mod times;
 mod turn;
 

@@ -1,6 +1,4 @@
-//! The numbers of calls: those of the program that are made by native ones (Linux
-//! `arch/mips/include/uapi/asm/unistd.h`, the o32 table), and native ones (Linux
-//! `include/uapi/asm-generic/unistd.h`).
+//! The numbers of the program's calls (Linux `arch/mips/include/uapi/asm/unistd.h`, the o32 table).
 ghost use Rattle.std.specs.Prelude.{◌≡◌};
 ghost use Rattle.bridge_entries.specs.Numbers as entries;
 ghost use Rattle.bridge_open.specs.Numbers as opening;
@@ -9,12 +7,6 @@ ghost use Rattle.bridge_status.specs.Numbers as status;
 ghost use Rattle.bridge_timer.specs.Numbers as timer;
 ghost use Rattle.bridge_wait.specs.Numbers as wait;
 ghost use Rattle.o32_model.specs.Table as table;
-
-pub(crate) const UNAME: u64 = 160;
-
-pub(crate) const PRLIMIT64: u64 = 261;
-
-pub(crate) const GETRANDOM: u64 = 278;
 
 /// Whether a number is that of a call on descriptors and what they have open.
 pub(crate) fn is_io_call(nr: u32) -> bool

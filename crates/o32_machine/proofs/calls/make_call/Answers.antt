@@ -2,8 +2,8 @@
 use Rattle.std.proofs.Common.{OnOk, sym, subst, ◌∙◌}
 use Rattle.outside.specs.Streams.{contents}
 use Rattle.bridge_log.specs.Keeping.{Keeps}
+use Rattle.bridge_system.specs.Found.{found}
 use Rattle.o32_machine.proofs.Numbering.{IsOther, file_call_same, io_call_same, map_call_same, small_call_same}
-use Rattle.o32_machine.specs.inside.Plain.{found}
 use Rattle.o32_model.specs.Answered.{Answers}
 use Rattle.o32_model.specs.Step.{O32Step}
 use Rattle.o32_machine.proofs.calls.make_call.Goals as goal
@@ -50,12 +50,12 @@ returns-then-is_map_call-clause-kept g c = λ left told.
 pub returns-clause-row : goal.returns-clause-row
 returns-clause-row g c = λ left told.
     let guest = found c.args.args.now c.args.cpu.now c.args.space.now in
-    subst (λ (s : O32Step). Answers s c.small_call.result c.small_call.new.k c.small_call.new.space c.small_call.new.cpu
-    (contents g.I.Source.left g.O.Sink.written g.E.Sink.written c.args.dev.now) (contents g.I.Source.left g.O.Sink.written g.E.Sink.written c.small_call.new.dev))
-    (let other : IsOther c.args.args.now.nr = record { io = sym c.is_io_call.ensures ∙ c.if-is_io_call.false; file = sym c.is_file_call.ensures ∙ c.if-is_file_call.false; map = sym c.is_map_call.ensures ∙ c.if-is_map_call.false; time = sym c.is_time_call.ensures ∙ c.if-is_time_call.false; timer = sym c.is_timer_call.ensures ∙ c.if-is_timer_call.false; poll = sym c.is_poll_call.ensures ∙ c.if-is_poll_call.false; select = sym c.is_select_call.ensures ∙ c.if-is_select_call.false; accepted = sym c.is_acceptance_call.ensures ∙ c.if-is_acceptance_call.false; signal = sym c.is_signal_call.ensures ∙ c.if-is_signal_call.false } in small_call_same c.args.seen.now c.args.k.now guest left other) (c.small_call.ensures.row left told)
+    subst (λ (s : O32Step). Answers s c.system_call.result c.system_call.new.k c.system_call.new.space c.system_call.new.cpu
+    (contents g.I.Source.left g.O.Sink.written g.E.Sink.written c.args.dev.now) (contents g.I.Source.left g.O.Sink.written g.E.Sink.written c.system_call.new.dev))
+    (let other : IsOther c.args.args.now.nr = record { io = sym c.is_io_call.ensures ∙ c.if-is_io_call.false; file = sym c.is_file_call.ensures ∙ c.if-is_file_call.false; map = sym c.is_map_call.ensures ∙ c.if-is_map_call.false; time = sym c.is_time_call.ensures ∙ c.if-is_time_call.false; timer = sym c.is_timer_call.ensures ∙ c.if-is_timer_call.false; poll = sym c.is_poll_call.ensures ∙ c.if-is_poll_call.false; select = sym c.is_select_call.ensures ∙ c.if-is_select_call.false; accepted = sym c.is_acceptance_call.ensures ∙ c.if-is_acceptance_call.false; signal = sym c.is_signal_call.ensures ∙ c.if-is_signal_call.false } in small_call_same c.args.seen.now c.args.k.now guest left other) (c.system_call.ensures.row left told)
 
 pub returns-clause-kept : goal.returns-clause-kept
 returns-clause-kept g c = λ left told.
     let guest = found c.args.args.now c.args.cpu.now c.args.space.now in
-    subst (λ (s : O32Step). OnOk c.small_call.result (Keeps s c.args.k.now left guest c.args.log.now c.small_call.new.log))
-    (let other : IsOther c.args.args.now.nr = record { io = sym c.is_io_call.ensures ∙ c.if-is_io_call.false; file = sym c.is_file_call.ensures ∙ c.if-is_file_call.false; map = sym c.is_map_call.ensures ∙ c.if-is_map_call.false; time = sym c.is_time_call.ensures ∙ c.if-is_time_call.false; timer = sym c.is_timer_call.ensures ∙ c.if-is_timer_call.false; poll = sym c.is_poll_call.ensures ∙ c.if-is_poll_call.false; select = sym c.is_select_call.ensures ∙ c.if-is_select_call.false; accepted = sym c.is_acceptance_call.ensures ∙ c.if-is_acceptance_call.false; signal = sym c.is_signal_call.ensures ∙ c.if-is_signal_call.false } in small_call_same c.args.seen.now c.args.k.now guest left other) (c.small_call.ensures.kept left told)
+    subst (λ (s : O32Step). OnOk c.system_call.result (Keeps s c.args.k.now left guest c.args.log.now c.system_call.new.log))
+    (let other : IsOther c.args.args.now.nr = record { io = sym c.is_io_call.ensures ∙ c.if-is_io_call.false; file = sym c.is_file_call.ensures ∙ c.if-is_file_call.false; map = sym c.is_map_call.ensures ∙ c.if-is_map_call.false; time = sym c.is_time_call.ensures ∙ c.if-is_time_call.false; timer = sym c.is_timer_call.ensures ∙ c.if-is_timer_call.false; poll = sym c.is_poll_call.ensures ∙ c.if-is_poll_call.false; select = sym c.is_select_call.ensures ∙ c.if-is_select_call.false; accepted = sym c.is_acceptance_call.ensures ∙ c.if-is_acceptance_call.false; signal = sym c.is_signal_call.ensures ∙ c.if-is_signal_call.false } in small_call_same c.args.seen.now c.args.k.now guest left other) (c.system_call.ensures.kept left told)

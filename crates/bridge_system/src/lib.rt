@@ -1,0 +1,13 @@
+//! The small calls of an o32 program, on the process and the system, made by native calls where the kernel is asked.
+#![tactic(auto)]
+
+mod chance;
+mod limits;
+mod names;
+mod numbers;
+mod plain;
+mod rlimit;
+mod small;
+mod telling;
+
+pub use small::system_call;

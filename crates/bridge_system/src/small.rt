@@ -1,0 +1,50 @@
+//! A small call by its number.
+ghost use Rattle.std.specs.Prelude.{◌≡◌};
+ghost use Rattle.bridge_log.specs.Keeping.{KeepsCall};
+ghost use Rattle.bridge_system.specs.Found.{found};
+ghost use Rattle.bridge_system.specs.System.{small_call};
+ghost use Rattle.kernel_model.specs.Stops.{StopsOnlyIfRose};
+ghost use Rattle.o32_model.specs.Answered.{IsCall};
+ghost use Rattle.outside.specs.Streams.{NoCountFell, contents};
+
+use crate::chance::getrandom;
+use crate::limits::{getrlimit, prlimit};
+use crate::names::uname;
+use crate::plain::plain_call;
+use guest_space::Space;
+use host_mem::HostMem;
+use kernel_core::Stop;
+use mips_exec::Cpu;
+use native_kernel::NativeKernel;
+use o32_model::{CallWords, Log, Outcome};
+use outside::{Devices, Sink, Source};
+
+/// Makes a small call of the program, by its words: exit(2), exit_group(2), the ids, uname(2), getrlimit(2),
+/// prlimit(2), getrandom(2), cacheflush(2), sched_yield(2), set_tid_address(2), set_thread_area(2),
+/// set_robust_list(2). Any other number is ENOSYS. It stops early for want of memory, or by a device.
+pub fn system_call<I: Source, O: Sink, E: Sink>(
+    args: &CallWords,
+    cpu: &mut Cpu,
+    space: &mut Space,
+    k: &mut NativeKernel,
+    mem: &mut HostMem,
+    dev: &mut Devices<I, O, E>,
+    log: &mut Log,
+) -> Result<Outcome, Stop>
+    ensures row { IsCall (small_call (found args.now cpu.old space.old) k.old) result k.new space.new cpu.new
+        (contents I.left O.written E.written dev.old) (contents I.left O.written E.written dev.new) }
+    ensures kept { KeepsCall (small_call (found args.now cpu.old space.old) k.old) result k.old
+        (found args.now cpu.old space.old) (I.left dev.old.input) log.old log.new }
+    ensures clock { k.new.clock ≡ k.old.clock }
+    ensures cause { StopsOnlyIfRose I.faults O.faults E.faults result dev.old dev.new }
+    ensures counts { NoCountFell I.faults O.faults E.faults dev.old dev.new }
+{
+    let [a0, a1, a2, a3] = args.reg;
+    match args.nr {
+        4076 => getrlimit(args, a0, a1, space, k, mem, dev, log),
+        4122 => uname(args, a0, space, k, mem, dev, log),
+        4338 => prlimit(args, a0, a1, a2, a3, space, k, mem, dev, log),
+        4353 => getrandom(args, a0, a1, a2, space, k, mem, dev, log),
+        _ => Ok(plain_call(args, cpu)),
+    }
+}

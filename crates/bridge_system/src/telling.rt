@@ -1,0 +1,126 @@
+//! Calls that are one native call which gives names or a limit.
+ghost use Rattle.std.specs.Prelude.{◌≡◌, ℕ, List, IfOk, OnOk};
+ghost use Rattle.bridge_log.specs.Arguments.{AreUnusedZero, IsPlaced};
+ghost use Rattle.bridge_log.specs.Keeping.{KeepsCall, reached};
+ghost use Rattle.kernel_model.specs.Pipes.{Sent};
+ghost use Rattle.kernel_model.specs.Stops.{StopsOnlyIfRose};
+ghost use Rattle.mips_exec.specs.Processor.{Processor};
+ghost use Rattle.native_calls.specs.Table.{native_call};
+ghost use Rattle.native_kernel.specs.Built.{built_call};
+ghost use Rattle.bridge_system.specs.inside.Tells.{Tells, bytes_told, memory_told, outcome_told};
+ghost use Rattle.o32_model.specs.Answered.{IsCall};
+ghost use Rattle.o32_model.specs.Effects.{Effected};
+ghost use Rattle.o32_model.specs.GuestBytes.{with_stored};
+ghost use Rattle.o32_model.specs.Step.{Guest, O32Step, stored};
+ghost use Rattle.outside.specs.Streams.{NoCountFell, contents};
+
+use crate::rlimit::{limit_bytes, limit_there, shown_bytes};
+use bridge_log::{native, outcome_of, put};
+use guest_space::Space;
+use host_mem::HostMem;
+use kernel_core::{Errno, NoMemory, Reply, Stop};
+use native_kernel::NativeKernel;
+use o32_model::{CallWords, Log, Outcome};
+use outside::{Devices, Sink, Source};
+
+/// What a call tells of what the native kernel gave in host memory.
+#[derive(Clone, Copy)]
+pub(crate) enum Told {
+    /// All of it, as it stands: the names of the system.
+    Names,
+    /// A limit in two words.
+    Limits,
+    /// A limit in two numbers of eight bytes.
+    WideLimits,
+}
+
+/// Makes the native call that a call of the program is, where it gives names or a limit over host memory of their
+/// size, from where they then go to the program's memory, whole or with EFAULT. `row` and `kept` hold of every o32
+/// call that this native call tells for.
+pub(crate) fn tell_call<I: Source, O: Sink, E: Sink>(
+    words: &CallWords,
+    address: u32,
+    told: Told,
+    space: &mut Space,
+    k: &mut NativeKernel,
+    nr: u64,
+    args: [u64; 6],
+    mem: &mut HostMem,
+    dev: &mut Devices<I, O, E>,
+    log: &mut Log,
+) -> Result<Outcome, Stop>
+    requires built { built_call nr ≡ native_call nr }
+    requires unused { AreUnusedZero nr args }
+    requires placed { IsPlaced nr mem.old }
+    ensures row { (guest : Guest) (step : List ℕ → O32Step) → guest.words ≡ words.now → guest.memory ≡ space.old
+        → ((left : List ℕ) → Tells guest address told (native_call nr args k.old mem.old left) (step left))
+        → IsCall step result k.new space.new guest.processor
+        (contents I.left O.written E.written dev.old) (contents I.left O.written E.written dev.new) }
+    ensures kept { (guest : Guest) (step : List ℕ → O32Step) → guest.words ≡ words.now → guest.memory ≡ space.old
+        → ((left : List ℕ) → Tells guest address told (native_call nr args k.old mem.old left) (step left))
+        → KeepsCall step result k.old guest (I.left dev.old.input) log.old log.new }
+    ensures clock { k.new.clock ≡ k.old.clock }
+    ensures cause { StopsOnlyIfRose I.faults O.faults E.faults result dev.old dev.new }
+    ensures counts { NoCountFell I.faults O.faults E.faults dev.old dev.new }
+{
+    let reply = native(k, nr, args, mem, dev, log)?;
+    let outcome = tell(words, address, told, mem, reply, space, log)?;
+    Ok(outcome)
+}
+
+/// What the call comes to by a reply: what was given is stored, or nothing after an error.
+fn tell(
+    words: &CallWords,
+    address: u32,
+    told: Told,
+    mem: &HostMem,
+    reply: Reply,
+    space: &mut Space,
+    log: &mut Log,
+) -> Result<Outcome, NoMemory>
+    ensures outcome { IfOk result (λ outcome. outcome ≡ outcome_told words.now space.old address told mem.now reply) }
+    ensures stored { OnOk result (space.new ≡ memory_told space.old address told mem.now reply) }
+    ensures effects { OnOk result ((processor : Processor) (sent : Sent)
+        → Effected log.old.effects log.new.effects (reached processor space.old.pages sent) (reached processor space.new.pages sent)) }
+    ensures native { log.new.native ≡ log.old.native }
+{
+    match reply {
+        Reply::Done(number) if number >= 0 => tell_bytes(address, told, mem, space, log),
+        _ => Ok(outcome_of(words, reply)),
+    }
+}
+
+fn tell_bytes(
+    address: u32,
+    told: Told,
+    mem: &HostMem,
+    space: &mut Space,
+    log: &mut Log,
+) -> Result<Outcome, NoMemory>
+    ensures outcome { IfOk result (λ outcome. outcome ≡ stored space.old address (bytes_told told mem.now)) }
+    ensures stored { OnOk result (space.new ≡ with_stored space.old address (bytes_told told mem.now)) }
+    ensures effects { OnOk result ((processor : Processor) (sent : Sent)
+        → Effected log.old.effects log.new.effects (reached processor space.old.pages sent) (reached processor space.new.pages sent)) }
+    ensures native { log.new.native ≡ log.old.native }
+{
+    match told {
+        Told::Names => store(address, mem.as_slice(), space, log),
+        Told::Limits => store(address, &shown_bytes(limit_there(mem)), space, log),
+        Told::WideLimits => store(address, &limit_bytes(limit_there(mem)), space, log),
+    }
+}
+
+/// Stores bytes whole, or nothing, which is EFAULT.
+fn store(address: u32, bytes: &[u8], space: &mut Space, log: &mut Log) -> Result<Outcome, NoMemory>
+    ensures outcome { IfOk result (λ outcome. outcome ≡ stored space.old address bytes.now) }
+    ensures stored { OnOk result (space.new ≡ with_stored space.old address bytes.now) }
+    ensures effects { OnOk result ((processor : Processor) (sent : Sent)
+        → Effected log.old.effects log.new.effects (reached processor space.old.pages sent) (reached processor space.new.pages sent)) }
+    ensures native { log.new.native ≡ log.old.native }
+{
+    if put(space, address, bytes, log)? {
+        Ok(Outcome::Value(0))
+    } else {
+        Ok(Outcome::Error(Errno::EFAULT))
+    }
+}
