@@ -1,0 +1,2 @@
+pub mod NativeLog
+pub mod inside
