@@ -1,5 +1,5 @@
 -- fcntl(2) as a native call.
-use Rattle.std.proofs.Common.{◌≡◌, ◌≢◌, ℕ, ◌+◌, ◌*◌, ◌/◌, ◌<◌, ◌≤◌, ◌%◌, ◌^◌, ◌-◌, List, [], ◌∷◌, drop, length, replicate, Option, Some, None, refl, sym, ap, ◌∙◌, subst, arith, lit<, lit≤}
+use Rattle.std.proofs.Common.{◌≡◌, ◌≢◌, ℕ, ◌+◌, ◌*◌, ◌/◌, ◌<◌, ◌≤◌, ◌%◌, ◌^◌, List, [], ◌∷◌, length, Option, Some, None, refl, sym, ap, ◌∙◌, subst, arith, lit<, lit≤}
 use Rattle.std.proofs.lemmas.Bool.Decides.{nat_tests}
 use Rattle.std.specs.Prelude.{⊤, true, false, Bool, ◌==◌, ◌||◌, if◌then◌else◌}
 use Rattle.kernel_core.specs.Bits.{one_if, has}
@@ -22,7 +22,6 @@ use Rattle.o32_model.specs.Descriptors as o32
 use Rattle.o32_model.specs.Step as o32_step
 use Rattle.o32_model.specs.Step.{Guest}
 use Rattle.bridge_log.proofs.Replies.{Fits, word_stays}
-use Rattle.bridge_log.specs.Arguments.{AreUnusedZero, is_among, commands_with_argument}
 use Rattle.bridge_log.specs.Bounds.{Bounded}
 use Rattle.bridge_log.specs.Mirrors.{Mirrors}
 use Rattle.bridge_log.specs.Outcomes.{by_reply}
@@ -191,19 +190,6 @@ chosen_fits kernel fd argument false false false true b4 b5 whole no3 no4 = absu
 chosen_fits kernel fd argument false false false false true b5 whole no3 no4 = absurd cc
 chosen_fits kernel fd argument false false false false false true whole no3 no4 = duplicate_fits kernel.files fd (Some argument) true whole
 chosen_fits kernel fd argument false false false false false false whole no3 no4 = fits_zero (unlisted_command kernel.files fd).came (unlisted_fits kernel.files fd)
-
--- the argument that a command does not take is 0
-pub handed_unused : (takes : Bool) (first second third argument : ℕ) → third ≡ (if takes then argument else 0)
-    → drop (if takes then 3 else 2) (first ∷ second ∷ third ∷ 0 ∷ 0 ∷ 0 ∷ []) ≡ replicate (6 - (if takes then 3 else 2)) 0
-handed_unused true first second third argument is = refl
-handed_unused false first second third argument is = ap (λ (t : ℕ). t ∷ 0 ∷ 0 ∷ 0 ∷ []) is
-
-pub fcntl_unused : (first second third command argument : ℕ) → second ≡ command → command < 2 ^ 32 → third ≡ handed command argument
-    → AreUnusedZero 25 (first ∷ second ∷ third ∷ 0 ∷ 0 ∷ 0 ∷ [])
-fcntl_unused first second third command argument is word third_is =
-    let same : second % 2 ^ 32 ≡ command = omega arith in
-    subst (λ (n : ℕ). drop (if is_among n commands_with_argument then 3 else 2) (first ∷ second ∷ third ∷ 0 ∷ 0 ∷ 0 ∷ []) ≡ replicate (6 - (if is_among n commands_with_argument then 3 else 2)) 0) (sym same)
-    (handed_unused (is_among command commands_with_argument) first second third argument third_is)
 
 not_equal : (a b : ℕ) → a ≢ b → (a == b) ≡ false
 not_equal a b other = grind (arith, nat_tests)

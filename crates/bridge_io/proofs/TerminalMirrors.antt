@@ -1,5 +1,5 @@
 -- The requests of ioctl(2), as native calls.
-use Rattle.std.proofs.Common.{◌≡◌, ℕ, ◌+◌, ◌*◌, ◌<◌, ◌%◌, ◌^◌, ◌-◌, List, [], ◌∷◌, drop, length, map, replicate, Some, refl, sym, ap, ◌∙◌, subst, arith, Ok}
+use Rattle.std.proofs.Common.{◌≡◌, ℕ, ◌+◌, ◌*◌, ◌<◌, ◌%◌, ◌^◌, List, [], ◌∷◌, length, map, replicate, Some, refl, sym, ap, ◌∙◌, subst, arith, Ok}
 use Rattle.std.specs.Prelude.{⊤, slice_index, true, false, not, Bool, Option, None, ◌==◌, if◌then◌else◌}
 use Rattle.guest_space.specs.Access.{first_denied}
 use Rattle.guest_space.specs.Bytes.{bytes_at}
@@ -30,7 +30,6 @@ use Rattle.o32_model.specs.Step.{Guest, O32Step}
 use Rattle.o32_model.specs.Terminal as o32
 use Rattle.bridge_log.proofs.Filling.{stored_nothing}
 use Rattle.bridge_log.proofs.Replies.{outcome_of_failure, outcome_of_wake}
-use Rattle.bridge_log.specs.Arguments.{AreUnusedZero, takes_last}
 use Rattle.bridge_log.specs.Bounds.{Bounded}
 use Rattle.bridge_log.specs.Mirrors.{Mirrors}
 use Rattle.bridge_log.specs.Outcomes.{by_reply, outcome_of}
@@ -409,46 +408,3 @@ pub ioctl_unlisted : (guest : Guest) (kernel : Kernel) (left room : List ℕ) (f
 ioctl_unlisted guest kernel left room fd asked address word named =
     subst (LoadMirrors guest kernel left room fd 0 0) (row_is kernel guest fd asked address left None named)
     (unlisted_mirrors guest kernel left room fd address word)
-
--- Whether a request takes an argument
-
-abbrev takes : Request → Bool
-takes found = takes_last 29 (0 ∷ native_request found ∷ [])
-
-pub stores_take : (found : Request) (kind : Structure) → purpose_of found ≡ purposes.Stores kind → takes found ≡ true
-stores_take requests.Fioclex kind is = absurd cc
-stores_take requests.Fionclex kind is = absurd cc
-stores_take requests.Tcgets kind is = refl
-stores_take requests.Tcsets kind is = refl
-stores_take requests.Tcsetsw kind is = refl
-stores_take requests.Tcsetsf kind is = refl
-stores_take requests.Tiocgwinsz kind is = refl
-stores_take requests.Fionread kind is = refl
-stores_take requests.Fionbio kind is = refl
-
-pub loads_take : (found : Request) (kind : Structure) → purpose_of found ≡ purposes.Loads kind → takes found ≡ true
-loads_take requests.Fioclex kind is = absurd cc
-loads_take requests.Fionclex kind is = absurd cc
-loads_take requests.Tcgets kind is = refl
-loads_take requests.Tcsets kind is = refl
-loads_take requests.Tcsetsw kind is = refl
-loads_take requests.Tcsetsf kind is = refl
-loads_take requests.Tiocgwinsz kind is = refl
-loads_take requests.Fionread kind is = refl
-loads_take requests.Fionbio kind is = refl
-
-pub number_takes : (fd number : ℕ) (found : Request) → number ≡ native_request found → takes found ≡ true → takes_last 29 (fd ∷ number ∷ []) ≡ true
-number_takes fd number found is takes = ap (λ (n : ℕ). takes_last 29 (fd ∷ n ∷ [])) is ∙ takes
-
-argument_unused : (takes : Bool) (first second : ℕ) → drop (if takes then 3 else 2) (first ∷ second ∷ 0 ∷ 0 ∷ 0 ∷ 0 ∷ []) ≡ replicate (6 - (if takes then 3 else 2)) 0
-argument_unused true first second = refl
-argument_unused false first second = refl
-
--- no argument
-pub ioctl_plain : (first second : ℕ) → AreUnusedZero 29 (first ∷ second ∷ 0 ∷ 0 ∷ 0 ∷ 0 ∷ [])
-ioctl_plain first second = argument_unused (takes_last 29 (first ∷ second ∷ [])) first second
-
--- an argument
-pub ioctl_given : (first second third : ℕ) → takes_last 29 (first ∷ second ∷ []) ≡ true → AreUnusedZero 29 (first ∷ second ∷ third ∷ 0 ∷ 0 ∷ 0 ∷ [])
-ioctl_given first second third takes =
-    ap (λ (b : Bool). drop (if b then 3 else 2) (first ∷ second ∷ third ∷ 0 ∷ 0 ∷ 0 ∷ [])) takes ∙ ap (λ (b : Bool). replicate (6 - (if b then 3 else 2)) 0) (sym takes)

@@ -1,6 +1,6 @@
 -- The native call mirrors the row.
 use Rattle.o32_model.specs.Descriptors.{fcntl_row}
-use Rattle.bridge_io.proofs.CommandMirrors.{getfl_mirrors, setfl_mirrors, other_mirrors, fcntl_unused}
+use Rattle.bridge_io.proofs.CommandMirrors.{getfl_mirrors, setfl_mirrors, other_mirrors}
 use Rattle.bridge_io.proofs.commands.fcntl.Goals as goal
 
 pub returns-then-command-eq3-clause-row : goal.returns-then-command-eq3-clause-row
@@ -32,6 +32,3 @@ pub returns-clause-kept : goal.returns-clause-kept
 returns-clause-kept g c = λ guest same.
     c.number_call-2.ensures.kept guest (fcntl_row c.args.k.now guest c.args.fd c.args.command c.args.argument) same
     (λ left. other_mirrors guest c.args.k.now _ left _ _ _ c.args.fd c.args.command c.args.argument c.whole.ensures c.from-fd.ensures c.from.ensures c.handed.ensures c.ranges.fd.fits c.ranges.command.fits c.ranges.argument.fits c.if-command-eq3.false c.if-command-eq4.false)
-
-pub number_call-2-requires-clause-unused : goal.number_call-2-requires-clause-unused
-number_call-2-requires-clause-unused g c = fcntl_unused _ _ _ c.args.command c.args.argument c.from.ensures c.ranges.command.fits c.handed.ensures

@@ -4,7 +4,7 @@ use Rattle.guest_space.specs.Memory.{Memory}
 use Rattle.o32_model.specs.Answered.{Answers}
 use Rattle.o32_model.specs.Terminal.{ioctl_row}
 use Rattle.outside.specs.Streams.{contents}
-use Rattle.bridge_io.proofs.TerminalMirrors.{ioctl_stores, ioctl_loads, ioctl_unused, number_takes, stores_take, loads_take}
+use Rattle.bridge_io.proofs.TerminalMirrors.{ioctl_stores, ioctl_loads, ioctl_unused}
 use Rattle.bridge_io.proofs.terminal.listed.Goals as goal
 
 pub returns-in-Stores-clause-row : goal.returns-in-Stores-clause-row
@@ -38,9 +38,3 @@ pub returns-in-Unused-clause-kept : goal.returns-in-Unused-clause-kept
 returns-in-Unused-clause-kept g c = λ guest asked same memory named.
     c.plain.ensures.kept guest (ioctl_row c.args.k.now guest c.args.fd asked c.args.address) same
     (λ left. ioctl_unused guest c.args.k.now left [] c.args.fd _ asked c.args.address c.args.request c.ranges.fd.fits c.to_native-number.ensures (sym c.purpose_of.ensures ∙ c.in-Unused.is) named)
-
-pub show-requires-clause-asked : goal.show-requires-clause-asked
-show-requires-clause-asked g c = number_takes _ _ c.args.request c.to_native-number.ensures (stores_take c.args.request _ (sym c.purpose_of.ensures ∙ c.in-Stores.is))
-
-pub take-requires-clause-asked : goal.take-requires-clause-asked
-take-requires-clause-asked g c = number_takes _ _ c.args.request c.to_native-number.ensures (loads_take c.args.request _ (sym c.purpose_of.ensures ∙ c.in-Loads.is))

@@ -3,7 +3,6 @@ use Rattle.std.proofs.Common.{ℕ, List, [], ◌∷◌, subst, sym}
 use Rattle.native_calls.specs.Table.{native_call}
 use Rattle.bridge_log.specs.Mirrors.{Mirrors}
 use Rattle.bridge_log.specs.Outcomes.{by_reply}
-use Rattle.bridge_io.proofs.TerminalMirrors.{ioctl_plain}
 use Rattle.bridge_io.proofs.terminal.plain.Goals as goal
 
 pub returns-clause-row : goal.returns-clause-row
@@ -17,6 +16,3 @@ returns-clause-kept g c = λ guest step same mirrors.
     c.number_call.ensures.kept guest step same
     (λ left. subst (λ (n : ℕ). Mirrors guest (by_reply guest.words) (native_call 29 (n ∷ c.args.number ∷ 0 ∷ 0 ∷ 0 ∷ 0 ∷ []) c.args.k.now c.clear.new.self left) (step left)) (sym c.from.ensures)
     (subst (λ (m : List ℕ). Mirrors guest (by_reply guest.words) (native_call 29 (c.args.fd ∷ c.args.number ∷ 0 ∷ 0 ∷ 0 ∷ 0 ∷ []) c.args.k.now m left) (step left)) (sym c.clear.ensures.empty) (mirrors left)))
-
-pub number_call-requires-clause-unused : goal.number_call-requires-clause-unused
-number_call-requires-clause-unused g c = ioctl_plain _ _

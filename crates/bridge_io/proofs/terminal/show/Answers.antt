@@ -1,5 +1,5 @@
 -- The native call stores for the row.
-use Rattle.bridge_io.proofs.TerminalMirrors.{ioctl_given, stores_along}
+use Rattle.bridge_io.proofs.TerminalMirrors.{stores_along}
 use Rattle.bridge_io.proofs.terminal.show.Goals as goal
 
 pub returns-clause-row : goal.returns-clause-row
@@ -11,6 +11,3 @@ pub returns-clause-kept : goal.returns-clause-kept
 returns-clause-kept g c = λ guest step same memory stores.
     c.store_call.ensures.kept guest step same memory
     (λ left. stores_along guest c.args.k.now left c.args.address c.args.structure (step left) _ c.args.fd c.args.number _ _ c.args.space.now memory c.from.ensures c.size_for_program.ensures.value c.host_place-place.ensures (stores left))
-
-pub store_call-requires-clause-unused : goal.store_call-requires-clause-unused
-store_call-requires-clause-unused g c = ioctl_given _ _ _ c.requires.asked

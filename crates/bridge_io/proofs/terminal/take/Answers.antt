@@ -8,7 +8,6 @@ use Rattle.bridge_log.proofs.Ends.{fails_before}
 use Rattle.bridge_log.specs.Mirrors.{Mirrors}
 use Rattle.bridge_log.specs.Outcomes.{by_reply}
 use Rattle.bridge_io.specs.inside.Takes.{IsTaken}
-use Rattle.bridge_io.proofs.TerminalMirrors.{ioctl_given}
 use Rattle.bridge_io.proofs.terminal.take.Goals as goal
 
 pub returns-in_err-place-clause-row : goal.returns-in_err-place-clause-row
@@ -27,6 +26,3 @@ returns-clause-kept g c = λ guest step same memory mirrors.
     c.number_call.ensures.kept guest step same
     (λ left. subst (λ (n : ℕ). Mirrors guest (by_reply guest.words) (native_call 29 (n ∷ c.args.number ∷ c.in_ok-place.place ∷ 0 ∷ 0 ∷ 0 ∷ []) c.args.k.now c.take_structure.new.mem left) (step left)) (sym c.from.ensures)
     (mirrors left c.take_structure.new.mem c.in_ok-place.place (subst (λ (m : Memory). IsTaken m c.args.address c.args.structure c.take_structure.new.mem c.in_ok-place.place) (sym memory) c.in_ok-place.ensures)))
-
-pub number_call-requires-clause-unused : goal.number_call-requires-clause-unused
-number_call-requires-clause-unused g c = ioctl_given _ _ _ c.requires.asked

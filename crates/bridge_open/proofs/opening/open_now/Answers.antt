@@ -26,4 +26,4 @@ returns-clause-kept g c = λ guest same memory free.
     c.from.ensures c.to_native.ensures c.handed.ensures c.ranges.directory.fits c.ranges.mode.fits (ap (λ (m : Memory). path_at m c.args.address) memory ∙ c.requires.found) c.in_ok-put_one.ensures free)
 
 pub number_call-requires-clause-unused : goal.number_call-requires-clause-unused
-number_call-requires-clause-unused g c = open_unused _ _ _ _ c.args.mode c.args.flags c.to_native.ensures c.handed.ensures
+number_call-requires-clause-unused g c = open_unused c.from.result 65536 c.to_native.result c.handed.result c.args.mode c.args.flags c.to_native.ensures c.handed.ensures
