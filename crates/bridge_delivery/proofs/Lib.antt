@@ -1,9 +1,11 @@
 pub mod Carrying
+pub mod FrameEffects
 pub mod FrameSizes
 pub mod Framing
 pub mod Keeping
 pub mod Numbers
 pub mod Nothing
+pub mod ReadBack
 pub mod Rounds
 pub mod Takings
 pub mod Unions

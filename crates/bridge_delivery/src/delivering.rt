@@ -1,7 +1,8 @@
 //! The delivery of signals, round by round.
 ghost use Rattle.std.specs.Prelude.{◌≡◌, Some};
-ghost use Rattle.bridge_delivery.specs.Kept.{KeepsNative};
+ghost use Rattle.bridge_acceptance.specs.Ends.{KeepsEnd};
 ghost use Rattle.bridge_delivery.specs.inside.Standings.{Finds, is_over};
+ghost use Rattle.guest_space.specs.Memory.{Pages};
 ghost use Rattle.kernel_model.specs.Stops.{StopsOnlyIfRose};
 ghost use Rattle.o32_turns.specs.Closing.{whole_end};
 ghost use Rattle.o32_turns.specs.Delivering as spec;
@@ -30,9 +31,9 @@ const MOST_ROUNDS: u32 = 2 * (1024 + 31) + 2;
 
 /// Delivers signals at the kernel's time `clock`, in nanoseconds, until none is left, or the process was stopped or
 /// killed: first the fault that it met, then the unblocked ones that pend, by rising numbers of the program (signal(7)).
-/// A fault whose signal is blocked or ignored kills. What happens is added to the events, and the native calls that it
-/// takes to `log`, where they are kept. In a branch delay slot nothing is delivered. It stops early for want of memory,
-/// or by a device.
+/// A fault whose signal is blocked or ignored kills. What happens is added to the events, and to `log` the native calls
+/// that it takes and the effects on pages, where they are kept. In a branch delay slot nothing is delivered. It stops
+/// early for want of memory, or by a device.
 pub fn deliver<I: Source, O: Sink, E: Sink>(
     clock: u64,
     going: &mut Going,
@@ -47,7 +48,7 @@ pub fn deliver<I: Source, O: Sink, E: Sink>(
     ensures delivered { Carries (spec.deliver whole_end) result
         (within_of going.old cpu.old space.old k.old) (within_of going.new cpu.new space.new k.new)
         (contents I.left O.written E.written dev.old) (contents I.left O.written E.written dev.new) }
-    ensures kept { KeepsNative result (I.left dev.old.input) k.old k.new log.old.native log.new.native }
+    ensures kept { KeepsEnd result (I.left dev.old.input) k.old k.new space.old.pages space.new.pages log.old log.new }
     ensures cause { StopsOnlyIfRose I.faults O.faults E.faults result dev.old dev.new }
     ensures counts { NoCountFell I.faults O.faults E.faults dev.old dev.new }
     ensures clock { k.new.clock ≡ clock }
@@ -86,7 +87,7 @@ fn round<I: Source, O: Sink, E: Sink>(
     ensures delivered { Carries (λ within. spec.round_by whole_end within within.machine.fault) result
         (within_of going.old cpu.old space.old k.old) (within_of going.new cpu.new space.new k.new)
         (contents I.left O.written E.written dev.old) (contents I.left O.written E.written dev.new) }
-    ensures kept { KeepsNative result (I.left dev.old.input) k.old k.new log.old.native log.new.native }
+    ensures kept { KeepsEnd result (I.left dev.old.input) k.old k.new space.old.pages space.new.pages log.old log.new }
     ensures cause { StopsOnlyIfRose I.faults O.faults E.faults result dev.old dev.new }
     ensures counts { NoCountFell I.faults O.faults E.faults dev.old dev.new }
     ensures clock { k.new.clock ≡ clock }
@@ -113,7 +114,7 @@ fn take_fault<I: Source, O: Sink, E: Sink>(
     ensures delivered { Carries (λ within. spec.fault_taken whole_end within info.now) result
         (within_of going.old cpu.old space.old k.old) (within_of going.new cpu.new space.new k.new)
         (contents I.left O.written E.written dev.old) (contents I.left O.written E.written dev.new) }
-    ensures kept { KeepsNative result (I.left dev.old.input) k.old k.new log.old.native log.new.native }
+    ensures kept { KeepsEnd result (I.left dev.old.input) k.old k.new space.old.pages space.new.pages log.old log.new }
     ensures cause { StopsOnlyIfRose I.faults O.faults E.faults result dev.old dev.new }
     ensures counts { NoCountFell I.faults O.faults E.faults dev.old dev.new }
     ensures clock { k.new.clock ≡ clock }
@@ -145,7 +146,7 @@ fn deliver_fault<I: Source, O: Sink, E: Sink>(
         → Carries (λ within. fault_delivered whole_end within info.now action.now) result
         (within_of going.old cpu.old space.old k.old) (within_of going.new cpu.new space.new k.new)
         (contents I.left O.written E.written dev.old) (contents I.left O.written E.written dev.new) }
-    ensures kept { KeepsNative result (I.left dev.old.input) k.old k.new log.old.native log.new.native }
+    ensures kept { KeepsEnd result (I.left dev.old.input) k.old k.new space.old.pages space.new.pages log.old log.new }
     ensures cause { StopsOnlyIfRose I.faults O.faults E.faults result dev.old dev.new }
     ensures counts { NoCountFell I.faults O.faults E.faults dev.old dev.new }
     ensures clock { k.new.clock ≡ clock }
@@ -172,7 +173,7 @@ fn take_next<I: Source, O: Sink, E: Sink>(
     ensures delivered { Carries (λ within. next_taken whole_end within (next_signal within.machine.kernel.signals)) result
         (within_of going.old cpu.old space.old k.old) (within_of going.new cpu.new space.new k.new)
         (contents I.left O.written E.written dev.old) (contents I.left O.written E.written dev.new) }
-    ensures kept { KeepsNative result (I.left dev.old.input) k.old k.new log.old.native log.new.native }
+    ensures kept { KeepsEnd result (I.left dev.old.input) k.old k.new space.old.pages space.new.pages log.old log.new }
     ensures cause { StopsOnlyIfRose I.faults O.faults E.faults result dev.old dev.new }
     ensures counts { NoCountFell I.faults O.faults E.faults dev.old dev.new }
     ensures clock { k.new.clock ≡ clock }
@@ -192,7 +193,7 @@ fn next<I: Source, O: Sink, E: Sink>(
 ) -> Result<Option<Sig>, Stop>
     ensures looks { Finds (λ signal. signal ≡ next_signal k.old.signals) result k.old k.new
         (contents I.left O.written E.written dev.old) (contents I.left O.written E.written dev.new) }
-    ensures kept { KeepsNative result (I.left dev.old.input) k.old k.new log.old.native log.new.native }
+    ensures kept { (pages : Pages) → KeepsEnd result (I.left dev.old.input) k.old k.new pages pages log.old log.new }
     ensures cause { StopsOnlyIfRose I.faults O.faults E.faults result dev.old dev.new }
     ensures counts { NoCountFell I.faults O.faults E.faults dev.old dev.new }
     ensures clock { k.new.clock ≡ k.old.clock }
@@ -218,7 +219,7 @@ fn take_signal<I: Source, O: Sink, E: Sink>(
     ensures delivered { Carries (λ within. next_taken whole_end within (Some sig)) result
         (within_of going.old cpu.old space.old k.old) (within_of going.new cpu.new space.new k.new)
         (contents I.left O.written E.written dev.old) (contents I.left O.written E.written dev.new) }
-    ensures kept { KeepsNative result (I.left dev.old.input) k.old k.new log.old.native log.new.native }
+    ensures kept { KeepsEnd result (I.left dev.old.input) k.old k.new space.old.pages space.new.pages log.old log.new }
     ensures cause { StopsOnlyIfRose I.faults O.faults E.faults result dev.old dev.new }
     ensures counts { NoCountFell I.faults O.faults E.faults dev.old dev.new }
     ensures clock { k.new.clock ≡ clock }
@@ -247,7 +248,7 @@ fn deliver_sent<I: Source, O: Sink, E: Sink>(
     ensures delivered { Carries (λ within. spec.delivered whole_end within info.now action.now) result
         (within_of going.old cpu.old space.old k.old) (within_of going.new cpu.new space.new k.new)
         (contents I.left O.written E.written dev.old) (contents I.left O.written E.written dev.new) }
-    ensures kept { KeepsNative result (I.left dev.old.input) k.old k.new log.old.native log.new.native }
+    ensures kept { KeepsEnd result (I.left dev.old.input) k.old k.new space.old.pages space.new.pages log.old log.new }
     ensures cause { StopsOnlyIfRose I.faults O.faults E.faults result dev.old dev.new }
     ensures counts { NoCountFell I.faults O.faults E.faults dev.old dev.new }
     ensures clock { k.new.clock ≡ clock }

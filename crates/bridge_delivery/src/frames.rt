@@ -1,20 +1,37 @@
 //! The frame of a handler: where it lies, and that it is written.
-ghost use Rattle.std.specs.Prelude.{◌≡◌, ◌+◌, ◌%◌, ◌^◌, Some};
+ghost use Rattle.std.specs.Prelude.{◌≡◌, ◌≤◌, ◌+◌, ◌%◌, ◌^◌, length, None, OnOk, Some};
 ghost use Rattle.bridge_delivery.specs.inside.Frames as spec;
 ghost use Rattle.bridge_delivery.specs.inside.Frames.{Enters};
+ghost use Rattle.bridge_log.specs.Keeping.{reached};
+ghost use Rattle.bridge_log.specs.Moved as moved;
+ghost use Rattle.guest_space.specs.Access.{first_denied};
+ghost use Rattle.guest_space.specs.Bytes.{bytes_at};
 ghost use Rattle.guest_space.specs.Memory.{Memory};
+ghost use Rattle.guest_space.specs.declared.access.Access.TheVariants.{Load};
+ghost use Rattle.kernel_model.specs.Pipes.{Sent};
 ghost use Rattle.kernel_model.specs.SignalRows as rows;
 ghost use Rattle.mips_exec.specs.Processor.{Processor};
+ghost use Rattle.o32_model.specs.Effects.{Effected};
+ghost use Rattle.o32_model.specs.Logs.{with_more};
 ghost use Rattle.o32_turns.specs.Handling.{handler_address};
+ghost use Rattle.signal_frames.specs.Entering.{frame_address};
 
+use bridge_log::wrote;
 use guest_space::{Space, StoreError};
 use kernel_core::{Info, NoMemory};
 use kernel_model::{Action, SigStack};
 use mips_exec::Cpu;
+use o32_model::Log;
 use signal_frames::{AltStack, write_frame, write_rt_frame};
 
 /// The number of the stack pointer among the registers (System V ABI, MIPS supplement).
 const STACK_POINTER: u8 = 29;
+
+/// How many bytes a frame has without SA_SIGINFO (its layout is in `layouts`).
+const FRAME_SIZE: u32 = 632;
+
+/// The same under SA_SIGINFO.
+const RT_FRAME_SIZE: u32 = 784;
 
 /// How many bytes below the stack pointer a frame begins, which a program may use (this project's own).
 const BELOW_POINTER: u32 = 32;
@@ -28,7 +45,8 @@ const SS_DISABLE: u32 = 2;
 /// Writes the frame of a signal's handler and sets the processor to the handler's first instruction, or changes
 /// nothing and answers false, where the frame can't be written whole. The frame keeps the registers, `mask`, and, under
 /// SA_SIGINFO, what is known of the signal and the alternate stack. It lies on the alternate stack under SA_ONSTACK,
-/// unless that is disabled or in use (sigaltstack(2)). After NoMemory the memory is not used again.
+/// unless that is disabled or in use (sigaltstack(2)). Where effects are kept, its bytes are kept as one. After NoMemory
+/// the memory is not used again.
 pub(crate) fn enter(
     info: &Info,
     action: &Action,
@@ -36,15 +54,87 @@ pub(crate) fn enter(
     stack: SigStack,
     cpu: &mut Cpu,
     space: &mut Space,
+    log: &mut Log,
 ) -> Result<bool, NoMemory>
-    ensures { Enters (spec.framed stack cpu.old info.now action.now mask) result cpu.old cpu.new space.old space.new }
+    ensures entered { Enters (spec.framed stack cpu.old info.now action.now mask) result cpu.old cpu.new space.old space.new }
+    ensures effects { OnOk result ((processor : Processor) (sent : Sent)
+        → Effected log.old.effects log.new.effects (reached processor space.old.pages sent) (reached processor space.new.pages sent)) }
+    ensures native { log.new.native ≡ log.old.native }
 {
+    space.whole();
     let pointer = cpu.register(STACK_POINTER);
     let top = top_of(stack, pointer, action.flags.onstack());
+    let written = enter_below(info, action, mask, shown(stack, pointer), top, cpu, space)?;
+    if written {
+        keep_frame(top, frame_size(action), space, log)?;
+    }
+    Ok(written)
+}
+
+/// The same of a frame below `top`, with the alternate stack as it is shown; nothing is kept of it.
+fn enter_below(
+    info: &Info,
+    action: &Action,
+    mask: [u32; 4],
+    stack: SigStack,
+    top: u32,
+    cpu: &mut Cpu,
+    space: &mut Space,
+) -> Result<bool, NoMemory>
+    ensures { Enters (spec.framed_below top stack cpu.old info.now action.now mask) result cpu.old cpu.new space.old space.new }
+{
     if action.flags.siginfo() {
-        enter_with_info(info, action, mask, shown(stack, pointer), top, cpu, space)
+        enter_with_info(info, action, mask, stack, top, cpu, space)
     } else {
         enter_plain(info, action, mask, top, cpu, space)
+    }
+}
+
+/// How many bytes a handler's frame has: more under SA_SIGINFO.
+fn frame_size(action: &Action) -> u32
+    ensures { result ≡ spec.frame_size action.now }
+{
+    if action.flags.siginfo() {
+        RT_FRAME_SIZE
+    } else {
+        FRAME_SIZE
+    }
+}
+
+/// Where a frame of this size lies below an address: at a multiple of 8 (this project's own).
+fn frame_address(top: u32, size: u32) -> u32
+    ensures { result ≡ frame_address top size }
+{
+    top.wrapping_sub(size) / 8 * 8
+}
+
+/// Keeps, where effects are kept, the bytes of a frame that was written. They are read back only then.
+fn keep_frame(top: u32, size: u32, space: &Space, log: &mut Log) -> Result<(), NoMemory>
+    requires small { size ≤ 784 }
+    requires readable { first_denied Load space.now.pages (frame_address top size) size ≡ None }
+    ensures effects { OnOk result (log.new.effects ≡ with_more log.old.effects
+        (moved.written (frame_address top size) (bytes_at space.now.pages (frame_address top size) size))) }
+    ensures native { log.new.native ≡ log.old.native }
+{
+    if log.effects.is_none() {
+        return Ok(());
+    }
+    let address = frame_address(top, size);
+    let mut frame = [0; RT_FRAME_SIZE as usize];
+    let bytes = &mut frame[..size as usize];
+    read_loadable(space, address, bytes);
+    wrote(log, address, bytes)?;
+    Ok(())
+}
+
+/// Reads bytes of which each may be loaded.
+fn read_loadable(space: &Space, address: u32, bytes: &mut [u8])
+    requires { first_denied Load space.now.pages address (length bytes.old) ≡ None }
+    ensures { bytes.new ≡ bytes_at space.now.pages address (length bytes.old) }
+{
+    match space.copy_in(address, bytes) {
+        Ok(()) => {}
+        Err(_) => unreachable!(),
     }
 }
 

@@ -45,12 +45,19 @@ with_info processor info action mask shown top = record {
   bytes = rt_frame_bytes (information info) (stack_kept shown) (context_of_processor processor) mask;
 }
 
+-- below an address, with the alternate stack as it is shown
+abbrev pub framed_below : ℕ → SigStack → Processor → Info → Action → SignalSet → Framed
+framed_below top shown processor info action mask =
+    if action.flags.siginfo then with_info processor info action mask shown top else plain processor info action mask top
+
 abbrev pub framed : SigStack → Processor → Info → Action → SignalSet → Framed
 framed stack processor info action mask =
     let pointer = register processor sp in
-    let top = top_of stack pointer action.flags.onstack in
-    if action.flags.siginfo then with_info processor info action mask (shown_stack stack (Some pointer)) top
-    else plain processor info action mask top
+    framed_below (top_of stack pointer action.flags.onstack) (shown_stack stack (Some pointer)) processor info action mask
+
+-- how many bytes it has
+abbrev pub frame_size : Action → ℕ
+frame_size action = if action.flags.siginfo then (rt_frame_of siginfo).size else frame.size
 
 -- whether a frame can be written
 abbrev pub has_room : Framed → Memory → Bool

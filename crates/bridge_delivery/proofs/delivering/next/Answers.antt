@@ -8,7 +8,7 @@ use Rattle.kernel_model.specs.State.{Kernel}
 use Rattle.o32_model.specs.Suspending.{all_signals}
 use Rattle.outside.specs.Streams.{Contents}
 use Rattle.bridge_delivery.proofs.Nothing.{chosen}
-use Rattle.bridge_delivery.proofs.Keeping.{leads_look, leads_then, told_then}
+use Rattle.bridge_delivery.proofs.Keeping.{keeps_look, keeps_then, told_then}
 use Rattle.bridge_delivery.proofs.delivering.next.Goals as goal
 
 pub returns-clause-looks : goal.returns-clause-looks
@@ -26,7 +26,7 @@ returns-clause-looks g c = λ left told.
     )
 
 pub returns-clause-kept : goal.returns-clause-kept
-returns-clause-kept g c = λ left told.
+returns-clause-kept g c = λ pages left told.
     let first = c.in_ok-pending.ensures.looks left told in
     let second = c.in_ok-blocked.ensures.looks left (told_then first.1.rest told) in
-    leads_then (leads_look first.1) (leads_look second.1)
+    keeps_then (keeps_look pages first.1) (keeps_look pages second.1)

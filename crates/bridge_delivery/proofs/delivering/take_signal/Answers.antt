@@ -10,7 +10,7 @@ use Rattle.outside.specs.Streams.{Contents}
 use Rattle.schedule.specs.declared.events.Due.{Due}
 use Rattle.bridge_delivery.proofs.Carrying.{on_ok}
 use Rattle.bridge_delivery.proofs.Takings.{taken_none, taken_some}
-use Rattle.bridge_delivery.proofs.Keeping.{kept_then, leads_act, leads_look, leads_then, told_then}
+use Rattle.bridge_delivery.proofs.Keeping.{keeps_act, keeps_look, keeps_then, kept_then, told_then}
 use Rattle.bridge_delivery.proofs.delivering.take_signal.Goals as goal
 
 pub returns-in-None-clause-delivered : goal.returns-in-None-clause-delivered
@@ -49,11 +49,12 @@ pub returns-in-None-clause-kept : goal.returns-in-None-clause-kept
 returns-in-None-clause-kept g c = λ left told.
     let seen = c.in_ok-action.ensures.looks left told in
     let took = c.in_ok-take.ensures.acts left (told_then seen.1.rest told) in
-    leads_then (leads_look seen.1) (leads_act took.1)
+    keeps_then (keeps_look c.args.space.now.pages seen.1) (keeps_act c.args.space.now.pages took.1)
 
 pub returns-in-Some-clause-kept : goal.returns-in-Some-clause-kept
 returns-in-Some-clause-kept g c = λ left told.
     let seen = c.in_ok-action.ensures.looks left told in
     let took = c.in_ok-take.ensures.acts left (told_then seen.1.rest told) in
-    kept_then c.deliver_sent.result c.deliver_sent.new.k c.deliver_sent.new.log.native (leads_then (leads_look seen.1) (leads_act took.1))
+    kept_then c.deliver_sent.result c.deliver_sent.new.k c.deliver_sent.new.space.pages c.deliver_sent.new.log
+    (keeps_then (keeps_look c.args.space.now.pages seen.1) (keeps_act c.args.space.now.pages took.1))
     (c.deliver_sent.ensures.kept left (told_then took.1.rest (told_then seen.1.rest told)))

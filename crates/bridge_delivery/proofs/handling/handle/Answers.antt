@@ -37,4 +37,4 @@ returns-clause-handled g c = λ left told.
 pub returns-clause-kept : goal.returns-clause-kept
 returns-clause-kept g c = λ left told.
     let ended = c.in_ok-leave_wait.ensures.left left told in
-    kept_then c.begin.result c.begin.new.k c.begin.new.log.native (c.in_ok-leave_wait.ensures.kept left told) (c.begin.ensures.kept left (told_then ended.0 told))
+    kept_then c.begin.result c.begin.new.k c.begin.new.space.pages c.begin.new.log (c.in_ok-leave_wait.ensures.kept left told) (c.begin.ensures.kept left (told_then ended.0 told))

@@ -20,8 +20,8 @@ returns-clause-reset g c = λ left told.
     (done.0, on_ok c.set_default.result _ _ (λ (is : c.set_default.new.k ≡ set k). is ∙ apart) done.1)
 
 pub returns-clause-kept : goal.returns-clause-kept
-returns-clause-kept g c = λ left told.
+returns-clause-kept g c = λ pages left told.
     let set = λ (kernel : Kernel). with_signals kernel (after_action kernel.signals c.args.sig no_action) in
     kept_act (λ _ became. became ≡ set c.args.k.now) c.set_default.result c.args.k.now c.set_default.new.k
     (contents g.I.Source.left g.O.Sink.written g.E.Sink.written c.args.dev.now) (contents g.I.Source.left g.O.Sink.written g.E.Sink.written c.set_default.new.dev)
-    left c.args.log.now c.set_default.new.log (c.set_default.ensures.acts left told)
+    pages left c.args.log.now c.set_default.new.log (c.set_default.ensures.acts left told)
