@@ -1,5 +1,5 @@
 -- What the steps of a turn keep in the native log.
-use Rattle.std.proofs.Common.{◌≡◌, ◌∙◌, ℕ, Bool, true, false, List, [], Option, Some, None, Result, Ok, Err, OnOk, refl, sym, ap, subst}
+use Rattle.std.proofs.Common.{◌≡◌, ◌≤◌, ◌∙◌, ℕ, Bool, true, false, List, [], Option, Some, None, Result, Ok, Err, OnOk, refl, sym, ap, subst, inr}
 use Rattle.std.specs.Prelude.{◌&&◌, ◌||◌, if◌then◌else◌}
 use Rattle.bridge_acceptance.specs.Ends.{KeepsEnd}
 use Rattle.bridge_delivery.specs.Kept.{KeepsNative}
@@ -11,17 +11,23 @@ use Rattle.kernel_core.specs.declared.core_error.Stop.{Stop}
 use Rattle.kernel_core.specs.declared.event.Event.TheVariants as events
 use Rattle.kernel_core.specs.declared.log_entry.LogEntry.{LogEntry}
 use Rattle.kernel_core.specs.declared.signal.Sig.{Sig}
-use Rattle.kernel_model.specs.Pipes.{Sent}
+use Rattle.kernel_core.specs.declared.signal.Sig.TheVariants as sigs
+use Rattle.kernel_model.specs.Clock.{gone_off, next_time}
+use Rattle.kernel_model.specs.Pipes.{Sent, nothing}
 use Rattle.kernel_model.specs.Shared.{Info}
-use Rattle.kernel_model.specs.SignalRows.{is_continue, post, scheduled_info, with_signals}
+use Rattle.kernel_model.specs.SignalRows.{advance, is_continue, post, scheduled_info, with_signals}
 use Rattle.kernel_model.specs.State.{Kernel}
 use Rattle.mips_exec.specs.Processor.{Processor}
-use Rattle.native_calls.specs.History.{FollowsPost, moment}
-use Rattle.native_log.specs.NativeLog.{at_time}
+use Rattle.native_calls.specs.History.{FollowsPost, moment, opening}
+use Rattle.native_log.specs.NativeLog.{IsReady, NativeLog, as_told, at_time, emptied}
+use Rattle.o32_machine.specs.Emulator.{Emulated, ProcessState, at_clock, machine_at, machine_of}
+use Rattle.o32_machine.specs.Native.{TurnLogged}
+use Rattle.o32_machine.specs.inside.Logging.{LastLogged, LogsLast, PostsLogged, SettledLogged}
 use Rattle.o32_model.specs.Logs.{Kept}
+use Rattle.o32_model.specs.Step.{O32Step}
 use Rattle.o32_turns.specs.Going.{Standing, within_of}
 use Rattle.o32_turns.specs.Machine.{Within, happens, with_machine}
-use Rattle.o32_turns.specs.Posting.{after_post, event_info, is_kill, sent_to, signal_or_first, waits_for}
+use Rattle.o32_turns.specs.Posting.{after_post, event_info, is_kill, sent_to, timer_posted, waits_for}
 use Rattle.o32_turns.specs.Turn.{whole}
 use Rattle.outside.specs.Streams.{Contents}
 use Rattle.schedule.specs.declared.events.Due.{Due}
@@ -101,3 +107,127 @@ pub native_then : {A B : Type 0} (first : Result B Stop) (result : Result A Stop
 native_then first result kernel between became told told_then old middle new left done is rest =
     on_ok result ((sent : Sent) → Logged middle new (moment between left sent) (moment became left sent)) ((sent : Sent) → Logged old new (moment kernel left sent) (moment became left sent))
     (λ later sent. logged_then (done sent) (later sent)) (rest left is)
+
+-- The timer
+
+timer_row : (old new : Standing) (processor : Processor) (memory : Memory) (kernel became : Kernel) (clock : ℕ)
+    → ((coming : List Due) (idle : ℕ) → within_of new processor memory became coming idle ≡ timer_posted whole (within_of old processor memory (at_time clock kernel) coming idle))
+    → became ≡ advance kernel clock (waits_for whole (within_of old processor memory (at_time clock kernel) [] 0).machine sigs.Alrm)
+unfolding advance
+timer_row old new processor memory kernel became clock posts = ap (λ (w : Within). w.machine.kernel) (posts [] 0)
+
+pub any_ok : {A E : Type 0} (result : Result A E) (P : Type 0) → P → OnOk result P
+any_ok (Ok value) P p = p
+any_ok (Err error) P p = tt
+
+pub on_stored : {A E : Type 0} (result : Result A E) (P Q : Type 0) → (P → Q) → OnOk result P → OnOk result Q
+on_stored (Ok value) P Q so p = so p
+on_stored (Err error) P Q so p = p
+
+-- the events are posted, and then the timer's signal
+module _ (old between new : Standing) (processor : Processor) (memory : Memory) (kernel first middle became : Kernel) (clock : ℕ) (next : Option ℕ) (log told final : NativeLog)
+    (is : first ≡ kernel) (events : PostsLogged first middle log told) (next_is : next ≡ next_time middle.timer)
+    (timer : (coming : List Due) (idle : ℕ) → within_of new processor memory became coming idle ≡ timer_posted whole (within_of between processor memory (at_time clock middle) coming idle)) where
+  pub posts_logged : {E : Type 0} (result : Result (Unit {0}) E)
+      → OnOk result
+      ((from to : Kernel) (kept : Bool) (left : List ℕ) (sent : Sent) → next ≡ next_time from.timer → to ≡ advance from clock kept
+      → Logged told.entries final.entries (as_told told from left sent) (as_told final to left sent))
+      → OnOk result (PostsLogged kernel became log final)
+  posts_logged result leads =
+      on_stored result _ _ (λ (so : (from to : Kernel) (kept : Bool) (left : List ℕ) (sent : Sent) → next ≡ next_time from.timer → to ≡ advance from clock kept
+      → Logged told.entries final.entries (as_told told from left sent) (as_told final to left sent)). λ (left : List ℕ) (sent : Sent).
+          subst (λ (k : Kernel). Logged log.entries final.entries (as_told log k left sent) (as_told final became left sent)) is
+          (logged_then (events left sent)
+          (so middle became (waits_for whole (within_of between processor memory (at_time clock middle) [] 0).machine sigs.Alrm) left sent next_is
+          (timer_row between new processor memory middle became clock timer)))) leads
+
+-- The first four steps
+
+module _ (clock : ℕ) (kernel first posted became : Kernel) (left : List ℕ) (log told final : NativeLog) (part kept : Option (List LogEntry))
+    (is : first ≡ kernel) (posts : PostsLogged first posted log told) (empty : part ≡ emptied told.entries)
+    (calls : (sent : Sent) → Logged part kept (moment posted left sent) (moment became left sent)) where
+  from_none : (sent : Sent) → Logged (emptied told.entries) kept (moment posted left sent) (moment became left sent)
+  from_none sent = subst (λ (e : Option (List LogEntry)). Logged e kept (moment posted left sent) (moment became left sent)) empty (calls sent)
+
+  pub settled_logged : ((before after : Sent) → Logged (emptied told.entries) kept (moment posted left before) (moment became left after)
+      → Logged told.entries final.entries (as_told told posted left before) (as_told final became left after))
+      → (Logged (emptied told.entries) kept (moment posted left nothing) (moment became left nothing) → IsReady clock final became)
+      → SettledLogged clock kernel became left log final
+  settled_logged leads ready = record {
+    leads = λ (sent : Sent).
+        subst (λ (k : Kernel). Logged log.entries final.entries (as_told log k left sent) (as_told final became left sent)) is
+        (logged_then (posts left sent) (leads sent sent (from_none sent)));
+    ready = ready (from_none nothing);
+  }
+
+-- The last steps
+
+pub nothing_logged : (kernel became : Kernel) (left : List ℕ) (after : Contents) (log : NativeLog) → became ≡ kernel → after.left ≡ Some left → LastLogged kernel became left after log log
+nothing_logged kernel became left after log same told = record {
+  rest = left;
+  sent = nothing;
+  taken = told;
+  leads =
+      subst (λ (k : Kernel). Logged log.entries log.entries (as_told log kernel left nothing) (as_told log k left nothing)) (sym same)
+      (logged_none log.entries (as_told log kernel left nothing));
+}
+
+-- from the same kernel
+pub last_from : {A : Type 0} (result : Result A Stop) (clock : ℕ) (kernel first became : Kernel) (old new : NativeLog) (before after : Contents) → first ≡ kernel
+    → LogsLast clock result first became old new before after → LogsLast clock result kernel became old new before after
+last_from result clock kernel first became old new before after is = subst (λ (k : Kernel). LogsLast clock result k became old new before after) is
+
+-- A call
+
+module _ (clock : ℕ) (kernel first became final : Kernel) (left : List ℕ) (after : Contents) (log new : NativeLog) (step : O32Step) (part kept : Option (List LogEntry))
+    (is : first ≡ kernel) (stays : final ≡ became) (made : became ≡ step.kernel) (taken : after.left ≡ Some step.left) (empty : part ≡ emptied log.entries)
+    (calls : Logged part kept (opening first left) (moment step.kernel step.left step.sent)) where
+  calls_from_none : Logged (emptied log.entries) kept (moment first left nothing) (moment became step.left step.sent)
+  calls_from_none =
+      subst (λ (k : Kernel). Logged (emptied log.entries) kept (moment first left nothing) (moment k step.left step.sent)) (sym made)
+      (subst (λ (e : Option (List LogEntry)). Logged e kept (moment first left nothing) (moment step.kernel step.left step.sent)) empty calls)
+
+  pub call_logged : IsReady clock log kernel
+      → (IsReady clock log first → Logged (emptied log.entries) kept (moment first left nothing) (moment became step.left step.sent)
+      → Logged log.entries new.entries (as_told log first left nothing) (as_told new became step.left step.sent))
+      → LastLogged kernel final left after log new
+  call_logged ready leads = record {
+    rest = step.left;
+    sent = step.sent;
+    taken = taken;
+    leads =
+        subst (λ (k : Kernel). Logged log.entries new.entries (as_told log k left nothing) (as_told new final step.left step.sent)) is
+        (subst (λ (k : Kernel). Logged log.entries new.entries (as_told log first left nothing) (as_told new k step.left step.sent)) (sym stays)
+        (leads (subst (λ (k : Kernel). IsReady clock log k) (sym is) ready) calls_from_none));
+  }
+
+-- A whole turn
+
+module _ (emulated : Emulated) (clock quantum turns : ℕ) (over : Bool) (native : NativeLog) (process : ProcessState)
+    (is : record { machine = machine_at clock (machine_of process); quantum = quantum; turns = turns; over = over; events = process.going.events; native = native } ≡ emulated) where
+  -- a log that was cleared, and its turn
+  pub turn_logged : (cleared middle new : NativeLog) (first became : Kernel) (last : ℕ) (left : List ℕ) (after : Contents) → cleared.entries ≡ emptied native.entries → cleared.told ≡ native.told
+      → Logged cleared.entries middle.entries (as_told cleared process.kernel left nothing) (as_told middle first left nothing)
+      → LastLogged first became left after middle new → new.told ≤ last
+      → TurnLogged emulated.machine.kernel (at_clock last became) left after emulated.native new
+  turn_logged cleared middle new first became last left after empty same settled logged behind =
+      subst (λ (e : Emulated). TurnLogged e.machine.kernel (at_clock last became) left after e.native new) is (record {
+        rest = logged.rest;
+        sent = logged.sent;
+        taken = logged.taken;
+        leads =
+            subst (λ (e : Option (List LogEntry)). Logged e new.entries (moment (at_time native.told process.kernel) left nothing) (as_told new became logged.rest logged.sent)) empty
+            (subst (λ (t : ℕ). Logged cleared.entries new.entries (moment (at_time t process.kernel) left nothing) (as_told new became logged.rest logged.sent)) same
+            (logged_then settled logged.leads));
+        behind = behind;
+      })
+
+-- the clock was moved alone, by which no timer is due
+
+pub clocked_logged : (log : NativeLog) (kernel first : Kernel) (clock : ℕ) (left : List ℕ) → first ≡ at_clock clock kernel
+    → Logged log.entries log.entries (as_told log kernel left nothing) (as_told log first left nothing)
+clocked_logged log kernel first clock left is =
+    subst (λ (k : Kernel). Logged log.entries log.entries (as_told log kernel left nothing) (as_told log k left nothing)) (sym is) (logged_none log.entries (as_told log kernel left nothing))
+
+pub clocked_ready : (log : NativeLog) (kernel first : Kernel) (clock : ℕ) → first ≡ at_clock clock kernel → gone_off clock kernel.timer ≡ None → IsReady clock log first
+clocked_ready log kernel first clock is none = inr (ap (λ (k : Kernel). gone_off clock k.timer) is ∙ none)

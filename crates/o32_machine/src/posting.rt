@@ -34,7 +34,7 @@ pub(crate) fn post_due(
         ≡ within_of going.new processor space.now (at_clock clock k.new) (coming_of schedule.new) idle) }
     ensures given { IsGivenSchedule schedule.new }
     ensures clock { k.new.clock ≡ k.old.clock }
-    ensures native { OnOk result (PostsLogged k.old k.new native.old native.new) }
+    ensures native { OnOk result (Processor → PostsLogged k.old k.new native.old native.new) }
     ensures told { native.new.told ≤ k.new.clock }
 {
     while let Some(due) = schedule.due(clock) {

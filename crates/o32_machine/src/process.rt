@@ -533,6 +533,7 @@ impl Process {
         ensures bound { result.clock ≤ max clock (2 ^ 61) }
         ensures later { clock ≤ result.clock }
         ensures clock { self.new.kernel.clock ≡ clock }
+        ensures kernel { self.new.kernel ≡ self.old.kernel }
         ensures idle { self.new.idle ≤ result.clock }
     {
         match self.next_time() {

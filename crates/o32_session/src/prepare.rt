@@ -85,7 +85,7 @@ fn machine_of_plan(
     let chance = stack_chance(schedule.random.as_slice());
     let start = build(alloc, plan, args, environment, chance)?;
     Ok(Ready {
-        emulator: Emulator::new(alloc, start, tree, schedule)?,
+        emulator: Emulator::new(alloc, start, tree, schedule, false)?,
         budget: line.budget,
         trace: line.trace,
         save: line.save,

@@ -1,8 +1,10 @@
 -- One event after the other is posted.
-use Rattle.std.proofs.Common.{◌≡◌, ◌+◌, Option, None, sym, ap, ◌∙◌}
+use Rattle.std.proofs.Common.{◌≡◌, ◌+◌, Option, None, sym, ap, ◌∙◌, rules}
 use Rattle.std.specs.Prelude.{slice_get}
 use Rattle.o32_machine.proofs.Coming.{due_there}
+use Rattle.bridge_log.proofs.Histories.{logged_then}
 use Rattle.o32_machine.proofs.EventPosts.{all_posted, one_posted}
+use Rattle.o32_machine.proofs.Logging.{event_follows}
 use Rattle.o32_machine.specs.Emulator.{at_clock, coming_of}
 use Rattle.o32_turns.specs.Turn.{whole}
 use Rattle.o32_turns.specs.Going.{within_of}
@@ -25,6 +27,13 @@ loop-due-preserved c =
           ∙ one_posted c.args.clock processor c.args.space.now coming idle old.events old.at c.in-Some.due c.loop-due.going c.post_event.new.going c.loop-due.k c.post_event.new.k there.0 there.1
           (c.in_ok-post_event.ensures.posts processor coming idle)
           ∙ ap (λ (s : Schedule). events_posted whole (coming_of s) (within_of c.post_event.new.going processor c.args.space.now (at_clock c.args.clock c.post_event.new.k) coming idle)) (sym cursor);
+      logged = λ processor left sent.
+          logged_then (c.loop-due.invariant.logged processor left sent)
+          (logged_then (c.in_ok-tell_time.ensures.leads c.loop-due.k left sent (sym c.clock.ensures) c.next_time.ensures)
+          (c.in_ok-tell_post.ensures.leads c.loop-due.k c.post_event.new.k left sent
+          (event_follows c.tell_time.new.self.told c.loop-due.going c.post_event.new.going processor c.args.space.now c.loop-due.k c.post_event.new.k c.in-Some.due left sent
+          (c.in_ok-post_event.ensures.posts processor) c.event_info.result c.event_info.ensures.info)));
+      told = search rules;
     }
 
 pub returns-clause-posted : goal.returns-clause-posted

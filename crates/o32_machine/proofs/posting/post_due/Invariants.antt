@@ -1,6 +1,7 @@
-use Rattle.std.proofs.Common.{◌≡◌, ◌-◌, ℕ, List, length}
+use Rattle.std.proofs.Common.{◌≡◌, ◌≤◌, ◌-◌, ℕ, List, length}
 use Rattle.mips_exec.specs.Processor.{Processor}
 use Rattle.o32_machine.specs.Emulator.{at_clock, coming_of}
+use Rattle.o32_machine.specs.inside.Logging.{PostsLogged}
 use Rattle.o32_turns.specs.Turn.{whole}
 use Rattle.o32_turns.specs.Going.{within_of}
 use Rattle.o32_turns.specs.Posting.{events_posted}
@@ -15,6 +16,8 @@ invariant-loop-due l = record {
   so_far : (processor : Processor) (coming : List Due) (idle : ℕ)
       → events_posted whole (coming_of l.fn.schedule) (within_of l.fn.going processor l.space (at_clock l.clock l.fn.k) coming idle)
       ≡ events_posted whole (coming_of l.schedule) (within_of l.going processor l.space (at_clock l.clock l.k) coming idle);
+  logged : Processor → PostsLogged l.fn.k l.k l.fn.native l.native;
+  told : l.native.told ≤ l.k.clock;
 }
 
 abbrev pub decreases-loop-due : goal.decreases-loop-due

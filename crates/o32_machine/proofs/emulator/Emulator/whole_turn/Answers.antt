@@ -2,6 +2,9 @@
 use Rattle.outside.specs.Streams.{contents}
 use Rattle.o32_machine.proofs.WholeTurns.{last_fails, last_turns, settle_fails, told_between}
 use Rattle.o32_machine.specs.Emulator.{machine_at, machine_of}
+use Rattle.std.proofs.Common.{arith}
+use Rattle.o32_machine.proofs.Logging.{turn_logged}
+use Rattle.kernel_model.specs.Pipes.{nothing}
 use Rattle.o32_machine.proofs.emulator.Emulator.whole_turn.Goals as goal
 
 pub returns-in_err-settle-clause-turn : goal.returns-in_err-settle-clause-turn
@@ -31,3 +34,15 @@ returns-clause-turn g c = λ left told.
     (c.in_ok-last.ensures.last left
     (told_between c.args.self.now c.self.inside.clock c.self.inside.quantum c.self.inside.turns c.self.inside.over c.self.inside.native c.self.inside.process c.self.view_is
     c.settle.new.self before between c.in_ok-settle.ensures.settled left told))
+
+pub returns-clause-native : goal.returns-clause-native
+returns-clause-native g c = λ left told.
+    let before = contents g.I.Source.left g.O.Sink.written g.E.Sink.written c.args.dev.now in
+    let between = contents g.I.Source.left g.O.Sink.written g.E.Sink.written c.settle.new.dev in
+    let after = contents g.I.Source.left g.O.Sink.written g.E.Sink.written c.last_steps.new.dev in
+    let settled = c.in_ok-settle.ensures.native left told in
+    turn_logged c.args.self.now c.self.inside.clock c.self.inside.quantum c.self.inside.turns c.self.inside.over c.self.inside.native c.self.inside.process c.self.view_is
+    c.clear.new.self c.settle.new.native c.last_steps.new.native c.settle.new.self.kernel c.last_steps.new.self.kernel c.in_ok-last.last.clock left after c.clear.ensures.entries c.clear.ensures.told (settled.leads nothing)
+    (c.in_ok-last.ensures.native left
+    (told_between c.args.self.now c.self.inside.clock c.self.inside.quantum c.self.inside.turns c.self.inside.over c.self.inside.native c.self.inside.process c.self.view_is
+    c.settle.new.self before between c.in_ok-settle.ensures.settled left told) settled.ready) (omega (arith, c.last_steps.ensures.told, c.in_ok-last.ensures.later))

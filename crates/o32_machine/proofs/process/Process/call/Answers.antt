@@ -3,6 +3,9 @@ use Rattle.std.proofs.Common.{◌≡◌, ◌∙◌, ap, refl, sym}
 use Rattle.o32_machine.proofs.Turning.{call_goes, call_lacks, call_stops}
 use Rattle.o32_machine.specs.Emulator.{ProcessState, coming_of, machine_of}
 use Rattle.o32_turns.specs.Instruction.{seen_of}
+use Rattle.o32_machine.proofs.Logging.{call_logged}
+use Rattle.o32_model.specs.Table.{machine_call}
+use Rattle.bridge_system.specs.Found.{found}
 use Rattle.o32_machine.proofs.process.Process.call.Goals as goal
 
 pub returns-in_err-outcome-clause-turn : goal.returns-in_err-outcome-clause-turn
@@ -24,3 +27,20 @@ returns-clause-turn g c = λ left told.
     let sees : c.seen-seen.result ≡ seen_of (machine_of process) = c.seen-seen.ensures ∙ ap (λ (p : ProcessState). seen_of (machine_of p)) (sym c.self.view_is) in
     let left_by : ProcessState = record process { processor = c.make_call.new.cpu; memory = c.make_call.new.space; kernel = c.make_call.new.k } in
     call_goes c.args.self.now process c.seen-seen.result c.args-words.result left c.self.view_is sees c.args-words.ensures left_by c.in_ok-outcome.outcome _ _ refl (c.in_ok-outcome.ensures.row left told) c.in_ok-turn.turn (machine_of c.finish.new.self) c.finish.new.self.going.events c.in_ok-turn.ensures.over c.in_ok-turn.ensures.machine c.in_ok-turn.ensures.events
+
+pub returns-in_err-add-clause-turn : goal.returns-in_err-add-clause-turn
+returns-in_err-add-clause-turn g c = λ left told.
+    let process : ProcessState = record { processor = c.self.inside.cpu; memory = c.self.inside.space; kernel = c.self.inside.kernel; going = c.self.inside.going; coming = coming_of c.self.inside.schedule; idle = c.self.inside.idle } in
+    let sees : c.seen-seen.result ≡ seen_of (machine_of process) = c.seen-seen.ensures ∙ ap (λ (p : ProcessState). seen_of (machine_of p)) (sym c.self.view_is) in
+    let left_by : ProcessState = record process { processor = c.make_call.new.cpu; memory = c.make_call.new.space; kernel = c.make_call.new.k } in
+    call_lacks c.args.self.now process c.seen-seen.result c.args-words.result left c.self.view_is sees c.args-words.ensures left_by c.in_ok-outcome.outcome _ _ refl (c.in_ok-outcome.ensures.row left told) c.from_residual-in_err-add.result _ _ c.from_residual-in_err-add.ensures.0
+
+pub returns-clause-native : goal.returns-clause-native
+returns-clause-native g c = λ left told ready.
+    let row = c.in_ok-outcome.ensures.row left told in
+    call_logged c.args.clock c.args.self.now.kernel c.self.inside.kernel c.make_call.new.k c.finish.new.self.kernel left _ c.args.native.now c.add.new.self
+    (machine_call c.seen-seen.result c.self.inside.kernel (found c.args-words.result c.self.inside.cpu c.self.inside.space) left)
+    c.part-log.result.native c.make_call.new.log.native (ap (λ (p : ProcessState). p.kernel) c.self.view_is) c.finish.ensures.kernel row.became row.rest c.part-log.ensures.native
+    (c.in_ok-outcome.ensures.kept left told).native ready
+    (λ first logged. c.in_ok-add.ensures.leads c.self.inside.kernel c.make_call.new.k left _ _ _ (ap (λ (p : ProcessState). p.kernel.clock) c.self.view_is ∙ c.requires.clock)
+    (c.make_call.ensures.clock ∙ ap (λ (p : ProcessState). p.kernel.clock) c.self.view_is ∙ c.requires.clock) first logged)

@@ -1,11 +1,12 @@
 -- The turn of a SYSCALL is that of its call.
-use Rattle.std.proofs.Common.{subst, sym}
+use Rattle.std.proofs.Common.{subst, sym, refl}
 use Rattle.outside.specs.Streams.{contents}
 use Rattle.mips_exec.specs.declared.execution.Stepped.{Stepped}
 use Rattle.o32_machine.specs.Answered.{Answers}
 use Rattle.o32_machine.specs.Emulator.{machine_of}
 use Rattle.o32_turns.specs.Instruction.{after_step}
 use Rattle.o32_turns.specs.Turn.{after_events, whole}
+use Rattle.o32_machine.proofs.Logging.{nothing_logged}
 use Rattle.o32_machine.proofs.process.Process.end_turn.Goals as goal
 
 pub returns-in-Syscall-clause-turn : goal.returns-in-Syscall-clause-turn
@@ -13,3 +14,9 @@ returns-in-Syscall-clause-turn g c = λ left told.
     subst (λ (s : Stepped). Answers (after_events c.args.self.now.going.events (after_step whole (machine_of c.args.self.now) s left)) c.call.result (machine_of c.call.new.self) c.call.new.self.going.events
     (contents g.I.Source.left g.O.Sink.written g.E.Sink.written c.args.dev.now) (contents g.I.Source.left g.O.Sink.written g.E.Sink.written c.call.new.dev))
     (sym c.in-Syscall.is) (c.call.ensures.turn left told)
+
+pub returns-in-Next-clause-native : goal.returns-in-Next-clause-native
+returns-in-Next-clause-native g c = λ left told ready. nothing_logged c.args.self.now.kernel c.args.self.now.kernel left _ c.args.native.now refl told
+
+pub returns-in-Fault-clause-native : goal.returns-in-Fault-clause-native
+returns-in-Fault-clause-native g c = λ left told ready. nothing_logged c.args.self.now.kernel c.keep_fault.new.self.kernel left _ c.args.native.now c.keep_fault.ensures.kernel told

@@ -1,9 +1,12 @@
 -- One instruction, with its call.
-use Rattle.std.proofs.Common.{◌≡◌, ◌∙◌, ◌+◌, arith}
+use Rattle.std.proofs.Common.{◌≡◌, ◌∙◌, ◌+◌, arith, ap, subst, sym}
 use Rattle.o32_machine.proofs.WholeTurns.{executed_last, executed_stops, lacks_first, steps_once}
-use Rattle.o32_machine.specs.Emulator.{within_now}
+use Rattle.o32_machine.specs.Emulator.{within_now, ProcessState}
 use Rattle.o32_turns.specs.Turn.{whole}
 use Rattle.o32_turns.specs.Turn.{sixth_step}
+use Rattle.kernel_model.specs.State.{Kernel}
+use Rattle.o32_machine.specs.inside.Logging.{LastLogged}
+use Rattle.native_log.specs.NativeLog.{IsReady}
 use Rattle.o32_machine.proofs.process.Process.execute.Goals as goal
 
 pub returns-in_err-came-clause-last : goal.returns-in_err-came-clause-last
@@ -20,3 +23,9 @@ returns-clause-last g c = λ left told.
     let step = steps_once c.run.result.quiet c.args.self.now.processor c.args.self.now.memory c.run.result.came c.in_ok-came.came c.run.new.self.processor c.run.new.self.memory c.run.ensures.few c.in_ok-came.was c.run.ensures.last in
     let time : c.later.result ≡ c.args.clock + c.args.quantum = c.later.ensures.time ∙ omega arith in
     executed_last c.args.quantum c.args.clock c.args.self.now c.run.new.self c.in_ok-came.came c.requires.clock c.run.ensures.others step left (record { turn = c.in_ok-turn.turn; clock = c.later.result }) c.end_turn.new.self _ _ time (c.in_ok-turn.ensures.turn left told)
+
+pub returns-clause-native : goal.returns-clause-native
+returns-clause-native g c = λ left told ready.
+    let same = ap (λ (p : ProcessState). p.kernel) c.run.ensures.others in
+    subst (λ (k : Kernel). LastLogged k c.end_turn.new.self.kernel left _ c.args.native.now c.end_turn.new.native) same
+    (c.in_ok-turn.ensures.native left told (subst (λ (k : Kernel). IsReady c.args.clock c.args.native.now k) (sym same) ready))

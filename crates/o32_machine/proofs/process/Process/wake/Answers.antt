@@ -6,7 +6,8 @@ use Rattle.o32_machine.specs.Emulator.{machine_of, within_now}
 use Rattle.o32_machine.specs.inside.Steps.{wakes}
 use Rattle.o32_model.specs.declared.wait.Cause.TheVariants.{Accepted, Due}
 use Rattle.o32_turns.specs.Machine.{Within}
-use Rattle.outside.specs.Streams.{contents}
+use Rattle.outside.specs.Streams.{contents, Contents}
+use Rattle.o32_machine.proofs.Logging.{native_then}
 use Rattle.o32_machine.proofs.process.Process.wake.Goals as goal
 
 pub returns-then-accepted-clause-woken : goal.returns-then-accepted-clause-woken
@@ -36,3 +37,13 @@ returns-clause-woken g c = λ left told.
           (waits (within_now c.args.self.now) (sym seen.2 ∙ c.if-accepted.false)
           (ap (λ (n : ℕ). wakes n (machine_of c.args.self.now)) c.requires.clock ∙ ap (λ (w : Within). wakes c.args.clock w.machine) (sym seen.1) ∙ sym c.wakes.ensures ∙ c.if-wakes.false)),
     )
+
+pub returns-then-accepted-clause-native : goal.returns-then-accepted-clause-native
+returns-then-accepted-clause-native g c = λ left told.
+    native_then c.accepts.result c.end_wait.result c.args.self.now.kernel c.accepts.new.self.kernel c.end_wait.new.self.kernel _ _ c.args.log.now.native c.accepts.new.log.native c.end_wait.new.log.native left
+    (c.in_ok-accepted.ensures.native left told) (ap (λ (at : Contents). at.left) (c.in_ok-accepted.ensures.found left told).0 ∙ told) c.end_wait.ensures.native
+
+pub returns-then-wakes-clause-native : goal.returns-then-wakes-clause-native
+returns-then-wakes-clause-native g c = λ left told.
+    native_then c.accepts.result c.end_wait-then-wakes.result c.args.self.now.kernel c.accepts.new.self.kernel c.end_wait-then-wakes.new.self.kernel _ _ c.args.log.now.native c.accepts.new.log.native c.end_wait-then-wakes.new.log.native left
+    (c.in_ok-accepted.ensures.native left told) (ap (λ (at : Contents). at.left) (c.in_ok-accepted.ensures.found left told).0 ∙ told) c.end_wait-then-wakes.ensures.native

@@ -1,0 +1,11 @@
+-- What a delivery keeps.
+use Rattle.std.proofs.Common.{ap, subst}
+use Rattle.bridge_delivery.specs.Kept.{KeepsNative}
+use Rattle.kernel_model.specs.State.{Kernel}
+use Rattle.o32_machine.specs.Emulator.{ProcessState}
+use Rattle.o32_machine.proofs.process.Process.deliver.Goals as goal
+
+pub returns-clause-native : goal.returns-clause-native
+returns-clause-native g c =
+    subst (λ (k : Kernel). KeepsNative c.deliver.result (g.I.Source.left c.args.dev.now.input) k c.deliver.new.k c.args.log.now.native c.deliver.new.log.native)
+    (ap (λ (p : ProcessState). p.kernel) c.self.view_is) c.deliver.ensures.native
