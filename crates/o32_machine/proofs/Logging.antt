@@ -2,7 +2,6 @@
 use Rattle.std.proofs.Common.{◌≡◌, ◌≤◌, ◌∙◌, ℕ, Bool, true, false, List, [], Option, Some, None, Result, Ok, Err, OnOk, refl, sym, ap, subst, inr}
 use Rattle.std.specs.Prelude.{◌&&◌, ◌||◌, if◌then◌else◌}
 use Rattle.bridge_acceptance.specs.Ends.{KeepsEnd}
-use Rattle.bridge_delivery.specs.Kept.{KeepsNative}
 use Rattle.bridge_log.proofs.Histories.{logged_none, logged_then}
 use Rattle.bridge_log.specs.Keeping.{Logged}
 use Rattle.bridge_log.specs.Looks.{LooksFor, Looked}
@@ -22,7 +21,7 @@ use Rattle.native_calls.specs.History.{FollowsPost, moment, opening}
 use Rattle.native_log.specs.NativeLog.{IsReady, NativeLog, as_told, at_time, emptied}
 use Rattle.o32_machine.specs.Emulator.{Emulated, ProcessState, at_clock, machine_at, machine_of}
 use Rattle.o32_machine.specs.Native.{TurnLogged}
-use Rattle.o32_machine.specs.inside.Logging.{LastLogged, LogsLast, PostsLogged, SettledLogged}
+use Rattle.o32_machine.specs.inside.Logging.{KeepsNative, LastLogged, LogsLast, PostsLogged, SettledLogged}
 use Rattle.o32_model.specs.Logs.{Kept}
 use Rattle.o32_model.specs.Step.{O32Step}
 use Rattle.o32_turns.specs.Going.{Standing, within_of}
@@ -136,10 +135,10 @@ module _ (old between new : Standing) (processor : Processor) (memory : Memory) 
   posts_logged result leads =
       on_stored result _ _ (λ (so : (from to : Kernel) (kept : Bool) (left : List ℕ) (sent : Sent) → next ≡ next_time from.timer → to ≡ advance from clock kept
       → Logged told.entries final.entries (as_told told from left sent) (as_told final to left sent)). λ (left : List ℕ) (sent : Sent).
-          subst (λ (k : Kernel). Logged log.entries final.entries (as_told log k left sent) (as_told final became left sent)) is
-          (logged_then (events left sent)
-          (so middle became (waits_for whole (within_of between processor memory (at_time clock middle) [] 0).machine sigs.Alrm) left sent next_is
-          (timer_row between new processor memory middle became clock timer)))) leads
+      subst (λ (k : Kernel). Logged log.entries final.entries (as_told log k left sent) (as_told final became left sent)) is
+      (logged_then (events left sent)
+      (so middle became (waits_for whole (within_of between processor memory (at_time clock middle) [] 0).machine sigs.Alrm) left sent next_is
+      (timer_row between new processor memory middle became clock timer)))) leads
 
 -- The first four steps
 

@@ -1,6 +1,5 @@
 //! The process of an o32 program: its processor and memory, the kernel that it calls, and the steps of its turns.
 ghost use Rattle.std.specs.Prelude.{◌≡◌, ◌+◌, ◌*◌, ◌<◌, ◌^◌, ◌≤◌, ◌↔◌, ◌++◌, ◌||◌, [], ◌∷◌, max, ℕ, Contains, false, if◌then◌else◌, IfErr, IfOk, IfSome, None, OnOk, is_some};
-ghost use Rattle.bridge_delivery.specs.Kept.{KeepsNative};
 ghost use Rattle.bridge_ends.specs.Ended.{ended_wait};
 ghost use Rattle.kernel_core.specs.LoadedTree.{saved};
 ghost use Rattle.kernel_core.specs.ValidTree.{IsReached, IsValidTree, numbers};
@@ -12,7 +11,7 @@ ghost use Rattle.o32_machine.specs.Answered.{IsTurn, over_of, turns_of};
 ghost use Rattle.o32_machine.specs.Emulator.{at_clock, coming_of, first_process, first_standing, machine_at, machine_of, within_at, within_now};
 ghost use Rattle.native_log.specs.NativeLog.{IsReady};
 ghost use Rattle.o32_machine.specs.inside.Finishing.{finished};
-ghost use Rattle.o32_machine.specs.inside.Logging.{LogsLast, LogsSettled, PostsLogged};
+ghost use Rattle.o32_machine.specs.inside.Logging.{KeepsNative, LogsLast, LogsSettled, PostsLogged};
 ghost use Rattle.o32_machine.specs.inside.Quieting.{goes, next_due};
 ghost use Rattle.o32_machine.specs.inside.Stepping.{GoesThen};
 ghost use Rattle.o32_machine.specs.inside.Steps.{Finds, IsLast, Settles, Takes, begun, goes_on, jumped_within, last_steps, resumes, wakes, wakes_for};

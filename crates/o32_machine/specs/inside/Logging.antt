@@ -2,8 +2,10 @@
 use Rattle.std.specs.Prelude.{◌≡◌, ℕ, List, Option, Some, Result, OnOk}
 use Rattle.bridge_log.specs.Keeping.{Logged}
 use Rattle.kernel_core.specs.declared.core_error.Stop.{Stop}
+use Rattle.kernel_core.specs.declared.log_entry.LogEntry.{LogEntry}
 use Rattle.kernel_model.specs.Pipes.{Sent, nothing}
 use Rattle.kernel_model.specs.State.{Kernel}
+use Rattle.native_calls.specs.History.{moment}
 use Rattle.native_log.specs.NativeLog.{IsReady, NativeLog, as_told}
 use Rattle.outside.specs.Streams.{Contents}
 
@@ -12,7 +14,13 @@ abbrev pub PostsLogged : Kernel → Kernel → NativeLog → NativeLog → Type 
 PostsLogged kernel became old new =
     (left : List ℕ) (sent : Sent) → Logged old.entries new.entries (as_told old kernel left sent) (as_told new became left sent)
 
--- the same of the first four steps, behind which the time can be told before a call
+-- A part of a turn takes nothing of the input and sends nothing: the native calls that it kept lead from the kernel before it to the one after it.
+-- It is said where the input tells what is left of it, `told`, and of a part that stopped early nothing is said.
+abbrev pub KeepsNative : {A : Type 0} → Result A Stop → Option (List ℕ) → Kernel → Kernel → Option (List LogEntry) → Option (List LogEntry) → Type 0
+KeepsNative result told kernel became old new =
+    (left : List ℕ) → told ≡ Some left → OnOk result ((sent : Sent) → Logged old new (moment kernel left sent) (moment became left sent))
+
+-- what leads so from the time that was told last is said of the first four steps, behind which the time can be told before a call
 pub record SettledLogged (clock : ℕ) (kernel became : Kernel) (left : List ℕ) (old new : NativeLog) : Type 0 where
   pub leads : (sent : Sent) → Logged old.entries new.entries (as_told old kernel left sent) (as_told new became left sent)
   pub ready : IsReady clock new became

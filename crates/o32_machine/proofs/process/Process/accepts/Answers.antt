@@ -1,10 +1,10 @@
 -- The kernel is asked for the signals that the call names.
 use Rattle.std.proofs.Common.{◌∙◌, ap, subst}
 use Rattle.outside.specs.Streams.{contents}
+use Rattle.o32_machine.specs.inside.Logging.{KeepsNative}
 use Rattle.o32_machine.proofs.Waking.{finds_named}
 use Rattle.o32_machine.specs.Emulator.{ProcessState, coming_of}
 use Rattle.o32_machine.specs.declared.process.Process.TheInside.{Inside}
-use Rattle.bridge_delivery.specs.Kept.{KeepsNative}
 use Rattle.kernel_model.specs.State.{Kernel}
 use Rattle.o32_machine.proofs.Logging.{looks_native}
 use Rattle.o32_machine.proofs.process.Process.accepts.Goals as goal

@@ -1,11 +1,13 @@
 -- What a delivery keeps.
 use Rattle.std.proofs.Common.{ap, subst}
-use Rattle.bridge_delivery.specs.Kept.{KeepsNative}
 use Rattle.kernel_model.specs.State.{Kernel}
+use Rattle.o32_machine.proofs.Logging.{keeps_native}
 use Rattle.o32_machine.specs.Emulator.{ProcessState}
+use Rattle.o32_machine.specs.inside.Logging.{KeepsNative}
 use Rattle.o32_machine.proofs.process.Process.deliver.Goals as goal
 
 pub returns-clause-native : goal.returns-clause-native
 returns-clause-native g c =
     subst (λ (k : Kernel). KeepsNative c.deliver.result (g.I.Source.left c.args.dev.now.input) k c.deliver.new.k c.args.log.now.native c.deliver.new.log.native)
-    (ap (λ (p : ProcessState). p.kernel) c.self.view_is) c.deliver.ensures.native
+    (ap (λ (p : ProcessState). p.kernel) c.self.view_is)
+    (keeps_native c.deliver.result _ _ c.deliver.new.k _ _ c.args.log.now c.deliver.new.log c.deliver.ensures.kept)

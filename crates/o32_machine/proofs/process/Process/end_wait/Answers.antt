@@ -1,7 +1,7 @@
 -- What the end of a wait keeps.
 use Rattle.std.proofs.Common.{ap, subst}
-use Rattle.bridge_delivery.specs.Kept.{KeepsNative}
 use Rattle.kernel_model.specs.State.{Kernel}
+use Rattle.o32_machine.specs.inside.Logging.{KeepsNative}
 use Rattle.o32_machine.proofs.Logging.{keeps_native}
 use Rattle.o32_machine.specs.Emulator.{ProcessState}
 use Rattle.o32_machine.proofs.process.Process.end_wait.Goals as goal
