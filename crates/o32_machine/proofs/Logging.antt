@@ -99,11 +99,11 @@ none_native told kernel became log same left is sent =
     subst (λ (k : Kernel). Logged log log (moment kernel left sent) (moment k left sent)) (sym same) (logged_none log (moment kernel left sent))
 
 -- a part, and the rest behind it
-pub native_then : {A B : Type 0} (first : Result B Stop) (result : Result A Stop) (kernel between became : Kernel) (told told_then : Option (List ℕ)) (old middle new : Option (List LogEntry)) (left : List ℕ)
-    → ((sent : Sent) → Logged old middle (moment kernel left sent) (moment between left sent)) → told_then ≡ Some left
-    → KeepsNative result told_then between became middle new
+pub native_then : {A B : Type 0} (first : Result B Stop) (result : Result A Stop) (kernel between became : Kernel) (told : Option (List ℕ)) (old middle new : Option (List LogEntry)) (left : List ℕ)
+    → ((sent : Sent) → Logged old middle (moment kernel left sent) (moment between left sent)) → told ≡ Some left
+    → KeepsNative result told between became middle new
     → OnOk result ((sent : Sent) → Logged old new (moment kernel left sent) (moment became left sent))
-native_then first result kernel between became told told_then old middle new left done is rest =
+native_then first result kernel between became told old middle new left done is rest =
     on_ok result ((sent : Sent) → Logged middle new (moment between left sent) (moment became left sent)) ((sent : Sent) → Logged old new (moment kernel left sent) (moment became left sent))
     (λ later sent. logged_then (done sent) (later sent)) (rest left is)
 

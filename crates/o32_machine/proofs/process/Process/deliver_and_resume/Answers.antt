@@ -6,5 +6,5 @@ use Rattle.o32_machine.proofs.process.Process.deliver_and_resume.Goals as goal
 
 pub returns-clause-native : goal.returns-clause-native
 returns-clause-native g c = λ left told.
-    native_then c.deliver.result c.resume.result c.args.self.now.kernel c.deliver.new.self.kernel c.resume.new.self.kernel _ _ c.args.log.now.native c.deliver.new.log.native c.resume.new.log.native left
+    native_then c.deliver.result c.resume.result c.args.self.now.kernel c.deliver.new.self.kernel c.resume.new.self.kernel _ c.args.log.now.native c.deliver.new.log.native c.resume.new.log.native left
     (c.in_ok-deliver.ensures.native left told) (ap (λ (at : Contents). at.left) (c.in_ok-deliver.ensures.delivered left told).0 ∙ told) c.resume.ensures.native

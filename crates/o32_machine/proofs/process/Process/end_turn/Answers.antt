@@ -18,5 +18,5 @@ returns-in-Syscall-clause-turn g c = λ left told.
 pub returns-in-Next-clause-native : goal.returns-in-Next-clause-native
 returns-in-Next-clause-native g c = λ left told ready. nothing_logged c.args.self.now.kernel c.args.self.now.kernel left _ c.args.native.now refl told
 
-pub returns-in-Fault-clause-native : goal.returns-in-Fault-clause-native
-returns-in-Fault-clause-native g c = λ left told ready. nothing_logged c.args.self.now.kernel c.keep_fault.new.self.kernel left _ c.args.native.now c.keep_fault.ensures.kernel told
+pub returns-in_ok-keep_fault-in-Fault-clause-native : goal.returns-in_ok-keep_fault-in-Fault-clause-native
+returns-in_ok-keep_fault-in-Fault-clause-native g c = λ left told ready. nothing_logged c.args.self.now.kernel c.keep_fault.new.self.kernel left _ c.args.native.now c.keep_fault.ensures.kernel told

@@ -7,6 +7,7 @@ use Rattle.o32_turns.specs.Turn.{sixth_step}
 use Rattle.kernel_model.specs.State.{Kernel}
 use Rattle.o32_machine.specs.inside.Logging.{LastLogged}
 use Rattle.native_log.specs.NativeLog.{IsReady}
+use Rattle.outside.specs.Streams.{contents}
 use Rattle.o32_machine.proofs.process.Process.execute.Goals as goal
 
 pub returns-in_err-came-clause-last : goal.returns-in_err-came-clause-last
@@ -27,5 +28,5 @@ returns-clause-last g c = λ left told.
 pub returns-clause-native : goal.returns-clause-native
 returns-clause-native g c = λ left told ready.
     let same = ap (λ (p : ProcessState). p.kernel) c.run.ensures.others in
-    subst (λ (k : Kernel). LastLogged k c.end_turn.new.self.kernel left _ c.args.native.now c.end_turn.new.native) same
+    subst (λ (k : Kernel). LastLogged k c.end_turn.new.self.kernel left (contents g.I.Source.left g.O.Sink.written g.E.Sink.written c.end_turn.new.dev) c.args.native.now c.end_turn.new.native) same
     (c.in_ok-turn.ensures.native left told (subst (λ (k : Kernel). IsReady c.args.clock c.args.native.now k) (sym same) ready))

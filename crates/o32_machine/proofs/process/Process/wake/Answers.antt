@@ -40,10 +40,10 @@ returns-clause-woken g c = λ left told.
 
 pub returns-then-accepted-clause-native : goal.returns-then-accepted-clause-native
 returns-then-accepted-clause-native g c = λ left told.
-    native_then c.accepts.result c.end_wait.result c.args.self.now.kernel c.accepts.new.self.kernel c.end_wait.new.self.kernel _ _ c.args.log.now.native c.accepts.new.log.native c.end_wait.new.log.native left
+    native_then c.accepts.result c.end_wait.result c.args.self.now.kernel c.accepts.new.self.kernel c.end_wait.new.self.kernel _ c.args.log.now.native c.accepts.new.log.native c.end_wait.new.log.native left
     (c.in_ok-accepted.ensures.native left told) (ap (λ (at : Contents). at.left) (c.in_ok-accepted.ensures.found left told).0 ∙ told) c.end_wait.ensures.native
 
 pub returns-then-wakes-clause-native : goal.returns-then-wakes-clause-native
 returns-then-wakes-clause-native g c = λ left told.
-    native_then c.accepts.result c.end_wait-then-wakes.result c.args.self.now.kernel c.accepts.new.self.kernel c.end_wait-then-wakes.new.self.kernel _ _ c.args.log.now.native c.accepts.new.log.native c.end_wait-then-wakes.new.log.native left
+    native_then c.accepts.result c.end_wait-then-wakes.result c.args.self.now.kernel c.accepts.new.self.kernel c.end_wait-then-wakes.new.self.kernel _ c.args.log.now.native c.accepts.new.log.native c.end_wait-then-wakes.new.log.native left
     (c.in_ok-accepted.ensures.native left told) (ap (λ (at : Contents). at.left) (c.in_ok-accepted.ensures.found left told).0 ∙ told) c.end_wait-then-wakes.ensures.native

@@ -6,5 +6,5 @@ use Rattle.o32_machine.proofs.process.Process.wake_to_resume.Goals as goal
 
 pub returns-clause-native : goal.returns-clause-native
 returns-clause-native g c = λ left told.
-    native_then c.wake.result c.deliver_and_resume.result c.args.self.now.kernel c.wake.new.self.kernel c.deliver_and_resume.new.self.kernel _ _ c.args.log.now.native c.wake.new.log.native c.deliver_and_resume.new.log.native left
+    native_then c.wake.result c.deliver_and_resume.result c.args.self.now.kernel c.wake.new.self.kernel c.deliver_and_resume.new.self.kernel _ c.args.log.now.native c.wake.new.log.native c.deliver_and_resume.new.log.native left
     (c.in_ok-wake.ensures.native left told) (ap (λ (at : Contents). at.left) (c.in_ok-wake.ensures.woken left told).0 ∙ told) c.deliver_and_resume.ensures.native
