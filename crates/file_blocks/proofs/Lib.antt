@@ -1,8 +1,15 @@
 pub mod ByteLemmas
 pub mod Cuts
-pub mod Ends
+pub mod ExtentChanges
+pub mod ExtentEnds
+pub mod ExtentJoins
+pub mod ExtentLaws
+pub mod Growing
+pub mod ListLemmas
+pub mod Neighbours
 pub mod PieceLemmas
 pub mod Spare
-pub mod WriteSteps
+pub mod StoreLaws
 pub mod Uses
 pub mod Validity
+pub mod WriteSteps

@@ -1,32 +1,36 @@
-//! The kept blocks, in an ordered map.
-ghost use Rattle.std.specs.Prelude.{◌≡◌, ◌+◌, ◌<◌, ◌≤◌, ◌^◌, ℕ, length, OnOk, OnErr, IfSome, IfNone, IsSome, option_copied, is_some};
+//! The kept blocks of a file, in extents.
+ghost use Rattle.std.specs.Prelude.{◌≡◌, ◌+◌, ◌-◌, ◌<◌, ◌≤◌, OnOk, OnErr, IfSome, IfNone, IsSome, None, length, option_copied, is_some};
 ghost use Rattle.std.specs.FinMap as map;
 ghost use Rattle.kernel_core.specs.FileContent.{with_zero_tail};
 ghost use Rattle.file_blocks.specs.Kept.{IsFirstFrom, NoneFrom};
 ghost use Rattle.file_blocks.specs.inside.Pieces.{with_kept_piece};
 
+use crate::extent_list::ExtentList;
 use paged_bytes::PageBytes;
 use std::alloc::{AllocError, Global};
-use std::collections::BTreeMap;
 use std::marker::Model;
 
-/// The kept blocks by their indexes.
+/// The kept blocks by their indexes: extents, of which no two overlap or touch, and how many blocks those have.
 #[derive(Drop)]
 pub(crate) struct BlockStore {
-    blocks: BTreeMap<u32, PageBytes>,
+    extents: ExtentList,
+    count: usize,
 }
 
 impl Model for BlockStore {
-    ghost use Rattle.std.specs.Prelude.{ℕ, List};
+    ghost use Rattle.std.specs.Prelude.{◌≡◌, ℕ, List};
     ghost use Rattle.std.specs.FinMap as map;
     ghost use Rattle.std.specs.Coded.{coded_ℕ, coded_list};
     ghost use Rattle.kernel_core.specs.FileContent.{Blocks};
+    ghost use Rattle.file_blocks.specs.inside.Extents.{blocks_in, AreExtents};
 
     ghost Value = { Blocks };
 
     ghost coded = { map.code coded_ℕ (coded_list coded_ℕ) };
 
-    ghost view = { λ s. map.from_entries s.blocks.entries };
+    ghost view = { λ s. blocks_in s.extents };
+
+    ghost invariant = { λ s. AreExtents s.extents × (s.count ≡ map.len (blocks_in s.extents)) };
 }
 
 impl BlockStore {
@@ -34,20 +38,21 @@ impl BlockStore {
         ensures { result ≡ map.empty }
     {
         BlockStore {
-            blocks: BTreeMap::new(alloc),
+            extents: ExtentList::new(alloc),
+            count: 0,
         }
     }
 
     pub(crate) fn block(&self, index: u32) -> Option<&PageBytes>
         ensures { option_copied result ≡ map.get self.now index }
     {
-        self.blocks.get(&index)
+        self.extents.block(u64::from(index))
     }
 
     pub(crate) fn len(&self) -> usize
         ensures { result ≡ map.len self.now }
     {
-        self.blocks.len()
+        self.count
     }
 
     /// The greatest index of a block, where there is one.
@@ -56,8 +61,8 @@ impl BlockStore {
         ensures greatest { IfSome result (λ last. NoneFrom self.now (last + 1)) }
         ensures none { IfNone result (NoneFrom self.now 0) }
     {
-        let (&last, _) = self.blocks.last_key_value()?;
-        Some(last)
+        let (first, extent) = self.extents.up_to(u64::from(u32::MAX))?;
+        Some((first + extent.len() as u64 - 1) as u32)
     }
 
     /// The block of the least index that is not below `from`, where there is one.
@@ -65,24 +70,44 @@ impl BlockStore {
         ensures found { IfSome result (λ kept. IsFirstFrom self.now from kept.0 kept.1.now) }
         ensures none { IfNone result (NoneFrom self.now from) }
     {
-        let (&index, block) = self.blocks.range(from..).next()?;
-        Some((index, block))
+        if let Some(block) = self.block(from) {
+            return Some((from, block));
+        }
+        let (first, extent) = self.extents.from(u64::from(from))?;
+        let block = extent.block(0)?;
+        Some((first as u32, block))
     }
 
-    /// Puts the block at the index, in place of one that is there.
+    /// Puts a block at an index where none is.
     pub(crate) fn insert(&mut self, index: u32, block: PageBytes) -> Result<(), AllocError>
+        requires { map.get self.old index ≡ None }
         ensures ok { OnOk result (self.new ≡ map.insert self.old index block) }
         ensures err { OnErr result (self.new ≡ self.old) }
     {
-        self.blocks.insert(index, block)?;
+        let index = u64::from(index);
+        match self.extents.ending_before(index) {
+            Some(first) => self.extents.grow(first, block, index + 1)?,
+            None => self.extents.begin(index, block)?,
+        }
+        self.count += 1;
         Ok(())
     }
 
-    /// Takes away the block, where it is there.
-    pub(crate) fn remove(&mut self, index: u32)
-        ensures { self.new ≡ map.remove self.old index }
+    /// Takes away the block of the greatest index, where there is one.
+    pub(crate) fn remove_last(&mut self, last: u32)
+        requires kept { IsSome (map.get self.old last) }
+        requires greatest { NoneFrom self.old (last + 1) }
+        ensures { self.new ≡ map.remove self.old last }
     {
-        let _ = self.blocks.remove(&index);
+        let Some(spot) = self.extents.spot(u64::from(last)) else {
+            return;
+        };
+        if spot.number == 0 {
+            self.extents.remove(spot.first);
+        } else {
+            self.extents.shorten(spot.first);
+        }
+        self.count -= 1;
     }
 
     /// Writes the bytes into the block from the place on, where it is there, and tells whether it is.
@@ -91,9 +116,9 @@ impl BlockStore {
         ensures is_kept { result ≡ is_some (map.get self.old index) }
         ensures written { self.new ≡ with_kept_piece self.old index (map.get self.old index) place bytes.now }
     {
-        match self.blocks.get_mut(&index) {
-            Some(block) => {
-                block.write(place, bytes);
+        match self.extents.spot(u64::from(index)) {
+            Some(spot) => {
+                self.extents.write(spot.first, spot.number, place, bytes);
                 true
             }
             None => false,
@@ -105,8 +130,16 @@ impl BlockStore {
         requires { place ≤ 4096 }
         ensures { self.new ≡ with_zero_tail self.old index (map.get self.old index) place }
     {
-        if let Some(block) = self.blocks.get_mut(&index) {
-            block.clear_from(place);
+        if let Some(spot) = self.extents.spot(u64::from(index)) {
+            self.extents.clear_from(spot.first, spot.number, place);
         }
+    }
+}
+
+#[cfg(test)]
+impl BlockStore {
+    /// How many extents there are.
+    pub(crate) fn extents(&self) -> usize {
+        self.extents.count()
     }
 }

@@ -127,6 +127,9 @@ impl Content {
         ensures err { OnErr result (self.new ≡ self.old) }
         ensures valid { IsContent self.new }
     {
+        if self.blocks.write(index, 0, bytes) {
+            return Ok(());
+        }
         let mut block = PageBytes::zeros(self.alloc)?;
         block.write(0, bytes);
         self.blocks.insert(index, block)?;
@@ -155,6 +158,14 @@ impl Content {
         ensures { result ≡ readable self.now at count }
     {
         self.size.saturating_sub(at).min(count as u64) as usize
+    }
+}
+
+#[cfg(test)]
+impl Content {
+    /// How many extents there are.
+    pub(crate) fn extents(&self) -> usize {
+        self.blocks.extents()
     }
 }
 

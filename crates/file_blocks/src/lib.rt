@@ -3,6 +3,8 @@
 
 mod block_store;
 mod content;
+mod extent;
+mod extent_list;
 mod walk;
 
 pub use content::Content;

@@ -104,6 +104,33 @@ fn a_cut_leaves_zeros(rt: HostRuntime) -> Result<(), Fail> {
 }
 
 #[test]
+fn a_block_between_two_joins_them(rt: HostRuntime) -> Result<(), Fail> {
+    let mut content = with_writes(rt.alloc(), &[(0, &[1u8; 4096]), (8192, &[3u8; 4096])])?;
+    assert_eq!(rt; (content.blocks(), content.extents()), (2, 2));
+    assert_eq!(rt; write(&mut content, 4096, &[2u8; 4096], 1)?, 4096);
+    assert_eq!(rt; (content.blocks(), content.extents()), (3, 1));
+    for (at, text) in [(4095, [1u8, 2]), (8191, [2, 3])] {
+        let mut buffer = [0u8; 2];
+        assert_eq!(rt; content.read(at, &mut buffer), 2);
+        assert_eq!(rt; buffer, text);
+    }
+    Ok(())
+}
+
+#[test]
+fn a_file_cut_and_made_longer_is_zeros_there(rt: HostRuntime) -> Result<(), Fail> {
+    let mut content = with_writes(rt.alloc(), &[(0, &[7u8; 10_000])])?;
+    assert_eq!(rt; (content.blocks(), content.extents()), (3, 1));
+    content.set_size(5000);
+    content.set_size(10_000);
+    assert_eq!(rt; (content.size(), content.blocks()), (10_000, 2));
+    let mut buffer = [1u8; 5000];
+    assert_eq!(rt; content.read(5000, &mut buffer), 5000);
+    assert!(rt; buffer.iter().all(|byte| *byte == 0));
+    Ok(())
+}
+
+#[test]
 fn loads_and_walks(rt: HostRuntime) -> Result<(), Fail> {
     let mut content = Content::new(rt.alloc());
     content.set_size(5 * 4096);

@@ -127,7 +127,7 @@ fn remove_past(blocks: &mut BlockStore, size: u64)
         if u64::from(last) * (BLOCK_SIZE as u64) < size {
             return;
         }
-        blocks.remove(last);
+        blocks.remove_last(last);
     }
 }
 

@@ -1,7 +1,0 @@
-use Rattle.std.proofs.Common.{ap, ◌∙◌}
-use Rattle.std.specs.FinMap.{remove}
-use Rattle.paged_bytes.proofs.Entries.{put-remove}
-use Rattle.file_blocks.proofs.block_store.BlockStore.remove.Goals as goal
-
-pub returns : goal.returns
-returns c = put-remove _ _ _ c.remove.ensures.updates.0 ∙ ap (λ m. remove m c.args.index) c.self.view_is
