@@ -18,7 +18,7 @@ use Rattle.file_blocks.proofs.ExtentJoins.{Side, below, same, above, side, none_
 -- The extent that begins last of all
 
 -- each extent begins below 2^32
-begins_low : (m : Extents) (f : ℕ) (bs : Extent) → AreExtents m → get m f ≡ Some bs → f < 2 ^ 32
+pub begins_low : (m : Extents) (f : ℕ) (bs : Extent) → AreExtents m → get m f ≡ Some bs → f < 2 ^ 32
 begins_low m f bs are there = let h = are.filled f bs there in let k = are.small f bs there in omega arith
 
 none_high : (m : Extents) (f : ℕ) → AreExtents m → 2 ^ 32 ≤ f → get m f ≡ None
@@ -81,8 +81,8 @@ between m from q none h empty (last f bs is) =
         absurd (there_not_none x.1 (sym (at-last m from f bs is) ∙ none))
     go false past = let k = ltb-false _ _ past in omega arith
 
-pub first-here : (m : Extents) (from : ℕ) (block : List ℕ) → AreExtents m → get (blocks_in m) from ≡ Some block → IsFirstFrom (blocks_in m) from from block
-first-here m from block are there = record { from_there = omega arith; kept = there; none_before = λ other low high. absurd (omega arith) }
+pub first-here : (blocks : Blocks) (from : ℕ) (block : List ℕ) → get blocks from ≡ Some block → IsFirstFrom blocks from from block
+first-here blocks from block there = record { from_there = omega arith; kept = there; none_before = λ other low high. absurd (omega arith) }
 
 pub first-next : (m : Extents) (from first : ℕ) (bs : Extent) (block : List ℕ) → AreExtents m → get (blocks_in m) from ≡ None → IsNextFrom m from first bs → slice_get bs 0 ≡ Some block
     → IsFirstFrom (blocks_in m) from first block

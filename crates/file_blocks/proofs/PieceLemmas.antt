@@ -1,5 +1,5 @@
 -- A piece that is written into one block.
-use Rattle.std.proofs.Common.{◌≡◌, ◌+◌, ◌-◌, ℕ, true, false, cond, List, Option, Some, None, is_some, refl, sym, ap, ◌∙◌, arith}
+use Rattle.std.proofs.Common.{◌≡◌, ◌+◌, ◌-◌, suc, ℕ, true, false, cond, List, [], ◌∷◌, length, set, Option, Some, None, is_some, refl, sym, ap, ◌∙◌, arith}
 use Rattle.std.specs.Cmp.{nat_cmp_total}
 use Rattle.std.specs.FinMap.{get, insert, len, len-insert}
 use Rattle.kernel_core.specs.FileContent.{Blocks, block_or_zeros, zero_block}
@@ -51,3 +51,23 @@ module _ (blocks : Blocks) (index place : ℕ) (piece : List ℕ) where
       ∙ len-insert nat_cmp_total blocks index (put_at (block_or_zeros (get blocks index)) place piece)
       ∙ ap (λ b. cond b (len blocks) (len blocks + 1)) (sym kept) in
       (same, omega (arith, facts.2), omega (arith, grown))
+
+-- A whole block
+
+put_at-suc : (bs : List ℕ) (x : ℕ) (all : List ℕ) (place : ℕ) → put_at (x ∷ all) (suc place) bs ≡ x ∷ put_at all place bs
+put_at-suc [] x all place = refl
+put_at-suc (b ∷ bs) x all place = put_at-suc bs x (set all place b) (suc place)
+
+-- a piece as long as the block is the block from then on
+pub put_at-all : (bs all : List ℕ) → length bs ≡ length all → put_at all 0 bs ≡ bs
+put_at-all [] [] long = refl
+put_at-all [] (x ∷ all) long = absurd (omega arith)
+put_at-all (b ∷ bs) [] long = absurd (omega arith)
+put_at-all (b ∷ bs) (x ∷ all) long = put_at-suc bs b all 0 ∙ ap (λ s. b ∷ s) (put_at-all bs all (omega arith))
+
+-- a piece that is a whole block, where one block may be taken
+pub whole_piece : (before after : Blocks) (index : ℕ) (block : List ℕ) (left : Option ℕ) → length block ≡ 4096 → length (block_or_zeros (get before index)) ≡ 4096
+    → WritesPiece left before after index 0 block 1 → after ≡ insert before index block
+whole_piece before after index block None long whole is = absurd (let none = is.2 in omega arith)
+whole_piece before after index block (Some left) long whole is =
+    is.0 ∙ ap (insert before index) (put_at-all block (block_or_zeros (get before index)) (omega arith))

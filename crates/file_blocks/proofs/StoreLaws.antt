@@ -62,11 +62,14 @@ module _ (m : Extents) (index first number : ℕ) (are : AreExtents m) (spot : I
   number_is = let e = spot.place in omega arith
 
   -- the block that is kept there
-  pub kept_there : get (blocks_in m) index ≡ slice_get old number
-  kept_there = get-blocks_in m are index ∙ at-last m index first old spot.last ∙ ap (slice_get old) (sym number_is)
+  kept_there : block_at m index ≡ slice_get old number
+  kept_there = at-last m index first old spot.last ∙ ap (slice_get old) (sym number_is)
 
-  pub is_kept : IsSome (get (blocks_in m) index)
-  is_kept = let x = get-some old number spot.inside in subst IsSome (sym (kept_there ∙ x.1)) refl
+  pub is_there : IsSome (block_at m index)
+  is_there = let x = get-some old number spot.inside in subst IsSome (sym (kept_there ∙ x.1)) refl
+
+  is_kept : IsSome (get (blocks_in m) index)
+  is_kept = subst IsSome (sym (get-blocks_in m are index)) is_there
 
   set_go : (q : ℕ) (block : List ℕ) → first ≤ q → Side q index → slice_get (set old number block) (q - first) ≡ cond (eq_by_cmp nat_cmp q index) (Some block) (slice_get old (q - first))
   set_go q block h (below less) =
@@ -113,7 +116,7 @@ module _ (m : Extents) (index first number : ℕ) (are : AreExtents m) (spot : I
   piece_go place piece (Some block) there =
       (set-extents (put_at block place piece), set-blocks (put_at block place piece), set-count (put_at block place piece))
 
-  pub written : (place : ℕ) (piece : List ℕ) → Stands (insert m first (with_piece_at old number place piece)) (with_kept_piece (blocks_in m) index (get (blocks_in m) index) place piece)
+  pub written : (place : ℕ) (piece : List ℕ) → Stands (insert m first (with_piece_at old number place piece)) (with_kept_piece (blocks_in m) index (block_at m index) place piece)
   written place piece =
       subst (λ o. Stands (insert m first (with_piece_at old number place piece)) (with_kept_piece (blocks_in m) index o place piece)) (sym kept_there)
       (piece_go place piece _ refl)
@@ -125,7 +128,7 @@ module _ (m : Extents) (index first number : ℕ) (are : AreExtents m) (spot : I
       let zeroed = take place block ++ replicate (4096 - place) 0 in
       (set-extents zeroed, set-blocks zeroed, set-count zeroed)
 
-  pub cleared : (place : ℕ) → Stands (insert m first (with_zeros_at old number place)) (with_zero_tail (blocks_in m) index (get (blocks_in m) index) place)
+  pub cleared : (place : ℕ) → Stands (insert m first (with_zeros_at old number place)) (with_zero_tail (blocks_in m) index (block_at m index) place)
   cleared place =
       subst (λ o. Stands (insert m first (with_zeros_at old number place)) (with_zero_tail (blocks_in m) index o place)) (sym kept_there)
       (tail_go place _ refl)

@@ -74,6 +74,10 @@ padded size blocks index (Some block) valid found =
     let is = valid index block found in
     record { whole = is.whole; are_bytes = is.are_bytes; tail = is.tail }
 
+-- a block, kept or not, has 4096 bytes
+pub whole_or_zeros : (size : ℕ) (blocks : Blocks) (index : ℕ) → AreBlocks size blocks → length (block_or_zeros (get blocks index)) ≡ 4096
+whole_or_zeros size blocks index valid = (padded size blocks index _ valid refl).whole
+
 grown : (size to : ℕ) (blocks : Blocks) → size ≤ to → AreBlocks size blocks → AreBlocks to blocks
 grown size to blocks more valid index block found =
     let is = valid index block found in

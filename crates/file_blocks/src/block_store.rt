@@ -46,7 +46,7 @@ impl BlockStore {
     pub(crate) fn block(&self, index: u32) -> Option<&PageBytes>
         ensures { option_copied result ≡ map.get self.now index }
     {
-        self.extents.block(u64::from(index))
+        self.extents.block(index as u64)
     }
 
     pub(crate) fn len(&self) -> usize
@@ -61,8 +61,9 @@ impl BlockStore {
         ensures greatest { IfSome result (λ last. NoneFrom self.now (last + 1)) }
         ensures none { IfNone result (NoneFrom self.now 0) }
     {
-        let (first, extent) = self.extents.up_to(u64::from(u32::MAX))?;
-        Some((first + extent.len() as u64 - 1) as u32)
+        let (first, extent) = self.extents.up_to(u32::MAX as u64)?;
+        let past = first + extent.len() as u64;
+        Some((past - 1) as u32)
     }
 
     /// The block of the least index that is not below `from`, where there is one.
@@ -73,7 +74,7 @@ impl BlockStore {
         if let Some(block) = self.block(from) {
             return Some((from, block));
         }
-        let (first, extent) = self.extents.from(u64::from(from))?;
+        let (first, extent) = self.extents.from(from as u64)?;
         let block = extent.block(0)?;
         Some((first as u32, block))
     }
@@ -84,29 +85,18 @@ impl BlockStore {
         ensures ok { OnOk result (self.new ≡ map.insert self.old index block) }
         ensures err { OnErr result (self.new ≡ self.old) }
     {
-        let index = u64::from(index);
-        match self.extents.ending_before(index) {
-            Some(first) => self.extents.grow(first, block, index + 1)?,
-            None => self.extents.begin(index, block)?,
-        }
+        self.extents.add(index as u64, block)?;
         self.count += 1;
         Ok(())
     }
 
-    /// Takes away the block of the greatest index, where there is one.
+    /// Takes away the block of the greatest index.
     pub(crate) fn remove_last(&mut self, last: u32)
         requires kept { IsSome (map.get self.old last) }
         requires greatest { NoneFrom self.old (last + 1) }
         ensures { self.new ≡ map.remove self.old last }
     {
-        let Some(spot) = self.extents.spot(u64::from(last)) else {
-            return;
-        };
-        if spot.number == 0 {
-            self.extents.remove(spot.first);
-        } else {
-            self.extents.shorten(spot.first);
-        }
+        self.extents.remove_last(last as u64);
         self.count -= 1;
     }
 
@@ -116,13 +106,7 @@ impl BlockStore {
         ensures is_kept { result ≡ is_some (map.get self.old index) }
         ensures written { self.new ≡ with_kept_piece self.old index (map.get self.old index) place bytes.now }
     {
-        match self.extents.spot(u64::from(index)) {
-            Some(spot) => {
-                self.extents.write(spot.first, spot.number, place, bytes);
-                true
-            }
-            None => false,
-        }
+        self.extents.write(index as u64, place, bytes)
     }
 
     /// Makes the bytes of the block from the place on 0, where it is there.
@@ -130,9 +114,7 @@ impl BlockStore {
         requires { place ≤ 4096 }
         ensures { self.new ≡ with_zero_tail self.old index (map.get self.old index) place }
     {
-        if let Some(spot) = self.extents.spot(u64::from(index)) {
-            self.extents.clear_from(spot.first, spot.number, place);
-        }
+        self.extents.clear_from(index as u64, place);
     }
 }
 

@@ -5,9 +5,8 @@ ghost use Rattle.kernel_core.specs.FileContent.{no_content, IsContent, IsBlock, 
 ghost use Rattle.file_blocks.specs.Kept.{IsFirstFrom, NoneFrom};
 
 use crate::block_store::BlockStore;
-use crate::walk::{cut, read_bytes, write_bytes};
+use crate::walk::{cut, read_bytes, write_bytes, write_piece};
 use kernel_core::NoMemory;
-use paged_bytes::PageBytes;
 use std::alloc::Global;
 use std::marker::Model;
 
@@ -127,12 +126,7 @@ impl Content {
         ensures err { OnErr result (self.new ≡ self.old) }
         ensures valid { IsContent self.new }
     {
-        if self.blocks.write(index, 0, bytes) {
-            return Ok(());
-        }
-        let mut block = PageBytes::zeros(self.alloc)?;
-        block.write(0, bytes);
-        self.blocks.insert(index, block)?;
+        let _ = write_piece(&mut self.blocks, self.alloc, index, 0, bytes, 1)?;
         Ok(())
     }
 

@@ -1,7 +1,10 @@
 //! Extents by their first blocks.
-ghost use Rattle.std.specs.Prelude.{◌≡◌, ◌+◌, ◌<◌, ◌≤◌, ◌^◌, [], ◌∷◌, ◌++◌, length, OnOk, OnErr, IfSome, IfNone, IsSome, option_copied};
+ghost use Rattle.std.specs.Prelude.{◌≡◌, ◌+◌, ◌<◌, ◌≤◌, ◌^◌, [], ◌∷◌, ◌++◌, length, OnOk, OnErr, IfSome, IfNone, IsSome, is_some, option_copied};
 ghost use Rattle.std.specs.FinMap as map;
-ghost use Rattle.file_blocks.specs.inside.Extents.{IsLastUpTo, NoneUpTo, IsNextFrom, NoneNextFrom, IsSpot, EndsBefore, NoneEndsBefore, block_at, blocks_from, with_piece_at, with_zeros_at, without_last, replaced, joined};
+ghost use Rattle.kernel_core.specs.FileContent.{with_zero_tail};
+ghost use Rattle.file_blocks.specs.Kept.{NoneFrom};
+ghost use Rattle.file_blocks.specs.inside.Pieces.{with_kept_piece};
+ghost use Rattle.file_blocks.specs.inside.Extents.{IsLastUpTo, NoneUpTo, IsNextFrom, NoneNextFrom, IsSpot, EndsBefore, NoneEndsBefore, AreExtents, block_at, blocks_in, blocks_from, with_piece_at, with_zeros_at, without_last, replaced, joined};
 
 use crate::extent::Extent;
 use paged_bytes::PageBytes;
@@ -19,9 +22,9 @@ pub(crate) struct ExtentList {
 
 /// Where a block stands: the index of its extent's first block, and its number there.
 #[derive(Clone, Copy)]
-pub(crate) struct Spot {
-    pub(crate) first: u64,
-    pub(crate) number: usize,
+struct Spot {
+    first: u64,
+    number: usize,
 }
 
 impl Model for ExtentList {
@@ -73,8 +76,75 @@ impl ExtentList {
         extent.block((index - first) as usize)
     }
 
+    /// Writes the bytes into the block of the index from the place on, where it is kept, and tells whether it is.
+    pub(crate) fn write(&mut self, index: u64, place: usize, bytes: &[u8]) -> bool
+        requires valid { AreExtents self.old }
+        requires room { place + length bytes.now ≤ 4096 }
+        ensures is_kept { result ≡ is_some (block_at self.old index) }
+        ensures valid { AreExtents self.new }
+        ensures written { blocks_in self.new ≡ with_kept_piece (blocks_in self.old) index (block_at self.old index) place bytes.now }
+        ensures count { map.len (blocks_in self.new) ≡ map.len (blocks_in self.old) }
+    {
+        let Some(spot) = self.spot(index) else {
+            return false;
+        };
+        self.write_at(spot, place, bytes);
+        true
+    }
+
+    /// Makes the bytes of the block of the index from the place on 0, where it is kept.
+    pub(crate) fn clear_from(&mut self, index: u64, place: usize)
+        requires valid { AreExtents self.old }
+        requires room { place ≤ 4096 }
+        ensures valid { AreExtents self.new }
+        ensures cleared { blocks_in self.new ≡ with_zero_tail (blocks_in self.old) index (block_at self.old index) place }
+        ensures count { map.len (blocks_in self.new) ≡ map.len (blocks_in self.old) }
+    {
+        let Some(spot) = self.spot(index) else {
+            return;
+        };
+        self.clear_at(spot, place);
+    }
+
+    /// Adds a block that is not kept yet, and joins it with the extents that end before it and begin behind it. After want of
+    /// memory all is as it was.
+    pub(crate) fn add(&mut self, index: u64, block: PageBytes) -> Result<(), AllocError>
+        requires valid { AreExtents self.old }
+        requires absent { block_at self.old index ≡ None }
+        requires small { index < 2 ^ 32 }
+        ensures valid { OnOk result (AreExtents self.new) }
+        ensures ok { OnOk result (blocks_in self.new ≡ map.insert (blocks_in self.old) index block) }
+        ensures err { OnErr result (self.new ≡ self.old) }
+    {
+        if let Some(first) = self.ending_before(index) {
+            self.grow(first, block, index + 1)?;
+            return Ok(());
+        }
+        self.begin(index, block)?;
+        Ok(())
+    }
+
+    /// Takes away the block of the index, which is the last one.
+    pub(crate) fn remove_last(&mut self, index: u64)
+        requires valid { AreExtents self.old }
+        requires kept { IsSome (block_at self.old index) }
+        requires last { NoneFrom (blocks_in self.old) (index + 1) }
+        ensures valid { AreExtents self.new }
+        ensures removed { blocks_in self.new ≡ map.remove (blocks_in self.old) index }
+        ensures fewer { map.len (blocks_in self.new) + 1 ≡ map.len (blocks_in self.old) }
+    {
+        let Some(spot) = self.spot(index) else {
+            return;
+        };
+        if spot.number == 0 {
+            self.remove(spot.first);
+            return;
+        }
+        self.shorten(spot.first);
+    }
+
     /// Where the block of the index stands, where it is kept.
-    pub(crate) fn spot(&self, index: u64) -> Option<Spot>
+    fn spot(&self, index: u64) -> Option<Spot>
         ensures found { IfSome result (λ spot. IsSpot self.now index spot.first spot.number) }
         ensures none { IfNone result (block_at self.now index ≡ None) }
     {
@@ -88,7 +158,7 @@ impl ExtentList {
     }
 
     /// Where the extent begins that ends just before the index, where there is one.
-    pub(crate) fn ending_before(&self, index: u64) -> Option<u64>
+    fn ending_before(&self, index: u64) -> Option<u64>
         ensures found { IfSome result (λ first. EndsBefore self.now index first) }
         ensures none { IfNone result (NoneEndsBefore self.now index) }
     {
@@ -100,30 +170,30 @@ impl ExtentList {
         }
     }
 
-    /// Writes the bytes into a block of the extent from the place on, where the block is there.
-    pub(crate) fn write(&mut self, first: u64, number: usize, place: usize, bytes: &[u8])
-        requires there { IsSome (map.get self.old first) }
+    /// Writes the bytes into the block that stands there from the place on.
+    fn write_at(&mut self, spot: Spot, place: usize, bytes: &[u8])
+        requires there { IsSome (map.get self.old spot.first) }
         requires room { place + length bytes.now ≤ 4096 }
-        ensures { self.new ≡ map.insert self.old first (with_piece_at (blocks_from self.old first) number place bytes.now) }
+        ensures { self.new ≡ map.insert self.old spot.first (with_piece_at (blocks_from self.old spot.first) spot.number place bytes.now) }
     {
-        if let Some(extent) = self.extents.get_mut(&first) {
-            extent.write(number, place, bytes);
+        if let Some(extent) = self.extents.get_mut(&spot.first) {
+            extent.write(spot.number, place, bytes);
         }
     }
 
-    /// Makes the bytes of a block of the extent from the place on 0, where the block is there.
-    pub(crate) fn clear_from(&mut self, first: u64, number: usize, place: usize)
-        requires there { IsSome (map.get self.old first) }
+    /// Makes the bytes of the block that stands there from the place on 0.
+    fn clear_at(&mut self, spot: Spot, place: usize)
+        requires there { IsSome (map.get self.old spot.first) }
         requires room { place ≤ 4096 }
-        ensures { self.new ≡ map.insert self.old first (with_zeros_at (blocks_from self.old first) number place) }
+        ensures { self.new ≡ map.insert self.old spot.first (with_zeros_at (blocks_from self.old spot.first) spot.number place) }
     {
-        if let Some(extent) = self.extents.get_mut(&first) {
-            extent.clear_from(number, place);
+        if let Some(extent) = self.extents.get_mut(&spot.first) {
+            extent.clear_from(spot.number, place);
         }
     }
 
     /// Takes the last block of the extent away.
-    pub(crate) fn shorten(&mut self, first: u64)
+    fn shorten(&mut self, first: u64)
         requires { IsSome (map.get self.old first) }
         ensures { self.new ≡ map.insert self.old first (without_last (blocks_from self.old first)) }
     {
@@ -133,14 +203,14 @@ impl ExtentList {
     }
 
     /// Takes the extent away, where it is there.
-    pub(crate) fn remove(&mut self, first: u64)
+    fn remove(&mut self, first: u64)
         ensures { self.new ≡ map.remove self.old first }
     {
         let _ = self.extents.remove(&first);
     }
 
     /// Begins an extent with the block, and joins it with the one behind it, where that is there.
-    pub(crate) fn begin(&mut self, first: u64, block: PageBytes) -> Result<(), AllocError>
+    fn begin(&mut self, first: u64, block: PageBytes) -> Result<(), AllocError>
         requires absent { map.get self.old first ≡ None }
         requires small { first < 2 ^ 32 }
         ensures ok { OnOk result (self.new ≡ joined self.old first [] block (first + 1)) }
@@ -156,7 +226,7 @@ impl ExtentList {
 
     /// Adds the block to the extent that begins at `first`, and joins it with the one that begins at `next`, where that is
     /// there.
-    pub(crate) fn grow(&mut self, first: u64, block: PageBytes, next: u64) -> Result<(), AllocError>
+    fn grow(&mut self, first: u64, block: PageBytes, next: u64) -> Result<(), AllocError>
         requires there { IsSome (map.get self.old first) }
         requires apart { first < next }
         ensures ok { OnOk result (self.new ≡ joined self.old first (blocks_from self.old first) block next) }

@@ -51,7 +51,7 @@ pub(crate) fn read_bytes(blocks: &BlockStore, at: u64, buf: &mut [u8])
 
 /// Writes a piece into one block, which is taken anew where it is not kept and `spare` is not 0. It
 /// answers how many blocks may still be taken, or None where this one may not.
-fn write_piece(
+pub(crate) fn write_piece(
     blocks: &mut BlockStore,
     alloc: Global,
     index: u32,

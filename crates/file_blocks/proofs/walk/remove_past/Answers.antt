@@ -10,7 +10,7 @@ returns-then-from-size-clause-value c =
 pub loop-last-smaller : goal.loop-last-smaller
 loop-last-smaller c =
     let fewer = len-remove-fewer c.loop-last.blocks c.in-Some.last c.in-Some.ensures.kept in
-    omega (arith, ap len c.remove.ensures, fewer)
+    omega (arith, ap len c.remove_last.ensures, fewer)
 
 pub loop-last-preserved : goal.loop-last-preserved
 loop-last-preserved c =
@@ -18,8 +18,8 @@ loop-last-preserved c =
     record {
       same =
           c.loop-last.invariant.same
-          ∙ sym (ap (λ m. below m c.args.size) c.remove.ensures ∙ below-remove c.loop-last.blocks c.args.size c.in-Some.last (omega arith));
-      fewer = omega (arith, ap len c.remove.ensures, fewer, c.loop-last.invariant.fewer);
+          ∙ sym (ap (λ m. below m c.args.size) c.remove_last.ensures ∙ below-remove c.loop-last.blocks c.args.size c.in-Some.last (omega arith));
+      fewer = omega (arith, ap len c.remove_last.ensures, fewer, c.loop-last.invariant.fewer);
     }
 
 pub returns-clause-value : goal.returns-clause-value

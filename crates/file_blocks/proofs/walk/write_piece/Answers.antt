@@ -1,11 +1,16 @@
 use Rattle.std.proofs.Common.{ap, ◌∙◌}
-use Rattle.std.specs.FinMap.{insert}
+use Rattle.std.specs.FinMap.{get, insert}
 use Rattle.paged_bytes.specs.Pages.{put_at}
 use Rattle.file_blocks.proofs.PieceLemmas.{zero_page-block, writes_kept, writes_new, not_written}
 use Rattle.file_blocks.proofs.walk.write_piece.Goals as goal
 
 pub returns-then-write-clause-ok : goal.returns-then-write-clause-ok
 returns-then-write-clause-ok c = writes_kept _ _ _ _ _ _ c.if-write.ensures.is_kept c.write.ensures.written
+
+pub insert-requires : goal.insert-requires
+insert-requires c =
+    let before = not_written _ _ _ _ _ c.if-write.ensures.is_kept c.write.ensures.written in
+    ap (λ m. get m c.args.index) before.0 ∙ before.1
 
 pub returns-clause-ok : goal.returns-clause-ok
 returns-clause-ok c =

@@ -2,18 +2,16 @@ use Rattle.std.proofs.Common.{◌≡◌, ◌≤◌, ◌+◌, ap, sym, ◌∙◌,
 use Rattle.std.specs.Cmp.{nat_cmp_total}
 use Rattle.std.specs.FinMap.{get, insert, len, len-insert}
 use Rattle.kernel_core.specs.FileContent.{Blocks, FileContent, IsContent, IsBlock}
-use Rattle.paged_bytes.specs.Pages.{put_at}
-use Rattle.paged_bytes.proofs.Puts.{put_at-whole}
-use Rattle.file_blocks.proofs.Validity.{AreBlocks, insert-valid}
+use Rattle.file_blocks.proofs.PieceLemmas.{whole_piece}
+use Rattle.file_blocks.proofs.Validity.{AreBlocks, insert-valid, whole_or_zeros}
 use Rattle.file_blocks.proofs.content.Content.load_block.Goals as goal
 
-stored : (c : goal.In_ok-insert) → c.insert.new.self ≡ insert c.self.inside.blocks c.args.index c.args.bytes.now
+stored : (c : goal.In_ok-write_piece) → c.write_piece.new.blocks ≡ insert c.self.inside.blocks c.args.index c.args.bytes.now
 stored c =
-    c.in_ok-insert.ensures.ok
-    ∙ ap (insert c.self.inside.blocks c.args.index)
-    (c.write.ensures ∙ ap (λ b. put_at b 0 c.args.bytes.now) c.in_ok-block.ensures ∙ put_at-whole c.args.bytes.now c.requires.block.whole)
+    whole_piece c.self.inside.blocks c.write_piece.new.blocks c.args.index c.args.bytes.now _ c.requires.block.whole
+    (whole_or_zeros c.self.inside.size c.self.inside.blocks c.args.index c.self.invariant.0.blocks) c.in_ok-write_piece.ensures.ok
 
-valid : (c : goal.In_ok-insert) → IsContent (record { size = c.self.inside.size; blocks = c.insert.new.self })
+valid : (c : goal.In_ok-write_piece) → IsContent (record { size = c.self.inside.size; blocks = c.write_piece.new.blocks })
 valid c =
     let block = subst (λ n. IsBlock n c.args.index c.args.bytes.now) (sym (ap (λ (m : FileContent). m.size) c.self.view_is)) c.requires.block in
     record {

@@ -1,26 +1,22 @@
-use Rattle.std.proofs.Common.{ap, sym, ◌∙◌, subst, refl, Option, ℕ, List, nat_cmp}
-use Rattle.std.specs.Option.{option_copied_mut, IsSome}
-use Rattle.std.specs.FinMap.{get, insert, from_entries}
-use Rattle.file_blocks.specs.declared.extent_list.ExtentList.TheInside.{Inside}
-use Rattle.file_blocks.specs.inside.Extents.{blocks_or_none, with_zeros_at}
-use Rattle.paged_bytes.proofs.Entries.{lookup-get, put-insert}
-use Rattle.file_blocks.proofs.ExtentLaws.{some_not_none}
+use Rattle.std.proofs.Common.{sym, ap, ◌∙◌, subst, refl}
+use Rattle.std.specs.Option.{IsSome}
+use Rattle.std.specs.FinMap.{len}
+use Rattle.kernel_core.specs.FileContent.{with_zero_tail}
+use Rattle.file_blocks.specs.inside.Extents.{AreExtents, blocks_in}
+use Rattle.file_blocks.proofs.StoreLaws.{cleared}
 use Rattle.file_blocks.proofs.extent_list.ExtentList.clear_from.Goals as goal
-use Rattle.file_blocks.proofs.extent_list.ExtentList.clear_from.Goals.{in-Some, in_default}
 
-pub returns : goal.returns
-returns c =
-    let view = λ (s : Inside). from_entries {R = nat_cmp} s.extents.entries in
-    let start = ap (λ m. get m c.args.first) (sym c.self.view_is) ∙ sym (lookup-get _ _) ∙ sym c.get_mut.ensures.value in
-    let change = λ (o : Option (List (List ℕ))). insert c.args.self.now c.args.first (with_zeros_at (blocks_or_none o) c.args.number c.args.place) in
-    elim c.match-get_mut.branch [
-      | in-Some w ↦
-          let found = start ∙ ap option_copied_mut w.in-Some.is in
-          let there = subst IsSome (ap option_copied_mut (sym w.in-Some.is) ∙ c.get_mut.ensures.value) refl in
-          ap view w.self-inside-is
-          ∙ put-insert _ _ _ _ ((c.get_mut.follows.holds w.clear_from.new.self).3 there).0
-          ∙ ap (λ m. insert m c.args.first w.clear_from.new.self) c.self.view_is
-          ∙ ap (insert c.args.self.now c.args.first) w.clear_from.ensures
-          ∙ ap change (sym found)
-      | in_default w ↦ absurd (some_not_none c.requires.there (start ∙ ap option_copied_mut w.in_default.is))
-    ]
+pub returns-in_default-clause-cleared : goal.returns-in_default-clause-cleared
+returns-in_default-clause-cleared c = ap (λ o. with_zero_tail (blocks_in c.args.self.now) c.args.index o c.args.place) (sym c.in_default.ensures.none)
+
+pub clear_at-requires-clause-there : goal.clear_at-requires-clause-there
+clear_at-requires-clause-there c = subst IsSome (sym c.in-Some.ensures.found.last.there) refl
+
+pub returns-clause-valid : goal.returns-clause-valid
+returns-clause-valid c = subst AreExtents (sym c.clear_at.ensures) (cleared _ _ _ _ c.requires.valid c.in-Some.ensures.found c.args.place).0
+
+pub returns-clause-cleared : goal.returns-clause-cleared
+returns-clause-cleared c = ap blocks_in c.clear_at.ensures ∙ (cleared _ _ _ _ c.requires.valid c.in-Some.ensures.found c.args.place).1
+
+pub returns-clause-count : goal.returns-clause-count
+returns-clause-count c = ap (λ m. len (blocks_in m)) c.clear_at.ensures ∙ (cleared _ _ _ _ c.requires.valid c.in-Some.ensures.found c.args.place).2

@@ -1,26 +1,29 @@
-use Rattle.std.proofs.Common.{ap, sym, ◌∙◌, subst, refl, Option, ℕ, List, nat_cmp}
-use Rattle.std.specs.Option.{option_copied_mut, IsSome}
-use Rattle.std.specs.FinMap.{get, insert, from_entries}
-use Rattle.file_blocks.specs.declared.extent_list.ExtentList.TheInside.{Inside}
-use Rattle.file_blocks.specs.inside.Extents.{blocks_or_none, with_piece_at}
-use Rattle.paged_bytes.proofs.Entries.{lookup-get, put-insert}
-use Rattle.file_blocks.proofs.ExtentLaws.{some_not_none}
+use Rattle.std.proofs.Common.{sym, ap, ◌∙◌, subst, refl}
+use Rattle.std.specs.Option.{IsSome, is_some}
+use Rattle.std.specs.FinMap.{len}
+use Rattle.file_blocks.specs.inside.Pieces.{with_kept_piece}
+use Rattle.file_blocks.specs.inside.Extents.{AreExtents, blocks_in}
+use Rattle.file_blocks.proofs.StoreLaws.{is_there, written}
 use Rattle.file_blocks.proofs.extent_list.ExtentList.write.Goals as goal
-use Rattle.file_blocks.proofs.extent_list.ExtentList.write.Goals.{in-Some, in_default}
 
-pub returns : goal.returns
-returns c =
-    let view = λ (s : Inside). from_entries {R = nat_cmp} s.extents.entries in
-    let start = ap (λ m. get m c.args.first) (sym c.self.view_is) ∙ sym (lookup-get _ _) ∙ sym c.get_mut.ensures.value in
-    let change = λ (o : Option (List (List ℕ))). insert c.args.self.now c.args.first (with_piece_at (blocks_or_none o) c.args.number c.args.place c.args.bytes.now) in
-    elim c.match-get_mut.branch [
-      | in-Some w ↦
-          let found = start ∙ ap option_copied_mut w.in-Some.is in
-          let there = subst IsSome (ap option_copied_mut (sym w.in-Some.is) ∙ c.get_mut.ensures.value) refl in
-          ap view w.self-inside-is
-          ∙ put-insert _ _ _ _ ((c.get_mut.follows.holds w.write.new.self).3 there).0
-          ∙ ap (λ m. insert m c.args.first w.write.new.self) c.self.view_is
-          ∙ ap (insert c.args.self.now c.args.first) w.write.ensures
-          ∙ ap change (sym found)
-      | in_default w ↦ absurd (some_not_none c.requires.there (start ∙ ap option_copied_mut w.in_default.is))
-    ]
+pub returns-in_default-clause-is_kept : goal.returns-in_default-clause-is_kept
+returns-in_default-clause-is_kept c = sym (ap is_some c.in_default.ensures.none)
+
+pub returns-in_default-clause-written : goal.returns-in_default-clause-written
+returns-in_default-clause-written c = ap (λ o. with_kept_piece (blocks_in c.args.self.now) c.args.index o c.args.place c.args.bytes.now) (sym c.in_default.ensures.none)
+
+pub write_at-requires-clause-there : goal.write_at-requires-clause-there
+write_at-requires-clause-there c = subst IsSome (sym c.in-Some.ensures.found.last.there) refl
+
+pub returns-clause-is_kept : goal.returns-clause-is_kept
+returns-clause-is_kept c = sym (is_there _ _ _ _ c.requires.valid c.in-Some.ensures.found)
+
+pub returns-clause-valid : goal.returns-clause-valid
+returns-clause-valid c = subst AreExtents (sym c.write_at.ensures) (written _ _ _ _ c.requires.valid c.in-Some.ensures.found c.args.place c.args.bytes.now).0
+
+pub returns-clause-written : goal.returns-clause-written
+returns-clause-written c = ap blocks_in c.write_at.ensures ∙ (written _ _ _ _ c.requires.valid c.in-Some.ensures.found c.args.place c.args.bytes.now).1
+
+pub returns-clause-count : goal.returns-clause-count
+returns-clause-count c =
+    ap (λ m. len (blocks_in m)) c.write_at.ensures ∙ (written _ _ _ _ c.requires.valid c.in-Some.ensures.found c.args.place c.args.bytes.now).2
