@@ -1,16 +1,21 @@
 #!/usr/bin/env python3
 """Measures what the content of a regular file costs.
 
-usage: files.py [PROGRAM]
+usage: files.py [--valgrind] [PROGRAM]
 
 The program crates/files_bench is built, or the one that is named is taken, and run for each kind of work and three counts, of
 which each is twice the one before, three times each. The best time of each is given, in the processor's seconds. Where a file is
 made first, the time for that is taken away. At most 2.1 times as long for twice as much to do, or the status is 1. Last, 640 MiB
 are loaded by blocks, as an image is, beside a plain copy of as many bytes.
+
+With --valgrind the host's instructions are counted in place of the time, whatever else the machine does, and no image is loaded.
 """
+import argparse
 import os
 import pathlib
+import subprocess
 import sys
+import tempfile
 
 sys.path.insert(0, str(pathlib.Path(__file__).resolve().parent))
 
@@ -66,31 +71,53 @@ WORKS = [
 ]
 
 
-def measure(program, title, word, counts, printed, made_first):
-    """Prints what each count takes, and tells whether one takes more than LIMIT times as long as half as many."""
+def instructions(command, printed):
+    """The host's instructions of one run, which has to print this, by valgrind."""
+    with tempfile.TemporaryDirectory() as folder:
+        counts = pathlib.Path(folder) / "counts"
+        words = ["valgrind", "--tool=callgrind", f"--callgrind-out-file={counts}", *(str(word) for word in command)]
+        done = subprocess.run(words, stdin=subprocess.DEVNULL, capture_output=True, text=True)
+        totals = [line for line in counts.read_text().splitlines() if line.startswith("totals:")] if counts.exists() else []
+    if done.returncode != 0 or done.stdout != printed or len(totals) != 1:
+        sys.exit(f"{' '.join(words)}: status {done.returncode}, {done.stdout!r}")
+    return int(totals[0].split()[1])
+
+
+def seconds_in_words(taken, count):
+    return f"{taken:.4f} seconds, {taken / count * 1e6:.3f} microseconds each"
+
+
+def instructions_in_words(taken, count):
+    return f"{taken / count:.0f} instructions each"
+
+
+def measure(program, taken_by, in_words, title, word, counts, printed, made_first):
+    """Prints what each count takes, and tells whether one takes more than LIMIT times as much as half as many."""
     print(f"{title}:")
-    before = best([program, word, 0], printed(0)) if made_first else 0.0
+    before = taken_by([program, word, 0], printed(0)) if made_first else 0
     last, grows = None, False
     for count in counts:
-        time = best([program, word, count], printed(count)) - before
-        ratio = "" if last is None else f", {time / last:.2f} times as long as for half as many"
-        grows = grows or (last is not None and time / last > LIMIT)
-        print(f"{count:11,} {time:.4f} seconds, {time / count * 1e6:.3f} microseconds each{ratio}", flush=True)
-        last = time
+        taken = taken_by([program, word, count], printed(count)) - before
+        ratio = "" if last is None else f", {taken / last:.2f} times as much as for half as many"
+        grows = grows or (last is not None and taken / last > LIMIT)
+        print(f"{count:11,} {in_words(taken, count)}{ratio}", flush=True)
+        last = taken
     return grows
 
 
 def main():
-    words = sys.argv[1:]
-    if len(words) > 1 or words[:1] == ["--help"]:
-        print(__doc__.strip())
-        return 0 if words[:1] == ["--help"] else 2
-    program = pathlib.Path(words[0]) if words else built_program("files_bench", ["--", "append", "1000"])
+    parser = argparse.ArgumentParser(description=__doc__, formatter_class=argparse.RawDescriptionHelpFormatter)
+    parser.add_argument("program", nargs="?")
+    parser.add_argument("--valgrind", action="store_true")
+    words = parser.parse_args()
+    program = words.program or built_program("files_bench", ["--", "append", "1000"])
     print(f"{processor_name()}, {os.cpu_count()} processors, load {os.getloadavg()[0]:.1f}")
-    grows = [measure(program, *work) for work in WORKS]
-    loaded = best([program, "load", IMAGE_BLOCKS], whole(IMAGE_BLOCKS))
-    copied = best([program, "copy", IMAGE_BLOCKS], told(0, 0))
-    print(f"640 MiB loaded by blocks: {loaded:.4f} seconds; copied: {copied:.4f}; {loaded / copied:.2f} times as long")
+    taken_by, in_words = (instructions, instructions_in_words) if words.valgrind else (best, seconds_in_words)
+    grows = [measure(program, taken_by, in_words, *work) for work in WORKS]
+    if not words.valgrind:
+        loaded = best([program, "load", IMAGE_BLOCKS], whole(IMAGE_BLOCKS))
+        copied = best([program, "copy", IMAGE_BLOCKS], told(0, 0))
+        print(f"640 MiB loaded by blocks: {loaded:.4f} seconds; copied: {copied:.4f}; {loaded / copied:.2f} times as long")
     print(f"load at the end {os.getloadavg()[0]:.1f}")
     return 1 if any(grows) else 0
 

@@ -33,6 +33,10 @@ no_blocks =
     same_map nat_cmp_total nat_cmp-IsAntisymmetric _ _ (λ q.
     get-blocks_in empty no_extents q ∙ at-none empty q (λ other h. get-empty nat_cmp other) ∙ sym (get-empty nat_cmp q))
 
+-- what is seen at an index
+pub seen_at : (m : Extents) (blocks : Blocks) (index : ℕ) → AreExtents m → blocks_in m ≡ blocks → block_at m index ≡ get blocks index
+seen_at m blocks index are seen = sym (get-blocks_in m are index) ∙ ap (λ b. get b index) seen
+
 -- A new block
 
 module _ (m : Extents) (index first : ℕ) (blocks : Extent) (block : List ℕ) (are : AreExtents m) (low : index < 2 ^ 32) (room : HasRoom m index first blocks) where
