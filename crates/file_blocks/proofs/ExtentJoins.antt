@@ -182,7 +182,7 @@ module _ (m : Extents) (index first : ℕ) (blocks : Extent) (block : List ℕ) 
       go (above more) = sym (at_other f apart (λ s. omega arith)) ∙ is
 
   is_all : (f : ℕ) (bs : Extent) → f ≡ first → get J f ≡ Some bs → all ≡ bs
-  is_all f bs same is = let e : Some all ≡ Some bs = sym (ap (get J) same ∙ at_first) ∙ is in cc
+  is_all f bs here is = let e : Some all ≡ Some bs = sym (ap (get J) here ∙ at_first) ∙ is in cc
 
   rest_small : (o : Option Extent) → get m next ≡ o → next + length (blocks_or_none o) ≤ 2 ^ 32
   rest_small None e = omega arith
