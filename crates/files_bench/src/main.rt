@@ -1,8 +1,6 @@
 //! Writes, rewrites, reads and loads one file's content, for `bench/files.py`. The words are what is done, and how often.
 #![tactic(auto)]
 
-ghost use Rattle.std.specs.Prelude.{◌≤◌, ◌+◌, ◌<◌, length};
-
 use anyhow::{Result, bail};
 use file_blocks::Content;
 use std::alloc::Global;
@@ -100,9 +98,7 @@ fn read(content: &Content, piece: &mut [u8], count: u32) -> Result<()> {
 }
 
 /// Loads so many blocks, as an image has them.
-fn load(content: &mut Content, block: &[u8], count: u32) -> Result<()>
-    requires { length block.now < 5000 }
-{
+fn load(content: &mut Content, block: &[u8], count: u32) -> Result<()> {
     content.set_size(u64::from(count) * BLOCK);
     for index in 0..count {
         let inside = content.size() / BLOCK > u64::from(index);
