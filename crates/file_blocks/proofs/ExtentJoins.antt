@@ -10,7 +10,7 @@ use Rattle.std.specs.FinMap.{get, insert, remove}
 use Rattle.paged_bytes.proofs.Puts.{get-insert_same}
 use Rattle.file_blocks.specs.inside.Extents.{Extents, IsLastUpTo, NoneUpTo, AreExtents, EndsBefore, NoneEndsBefore, block_at, blocks_or_none, blocks_from, joined}
 use Rattle.file_blocks.proofs.ListLemmas.{get-append_left, get-append_right, get-cons, get-some}
-use Rattle.file_blocks.proofs.ExtentLaws.{Extent, Found, nowhere, last, found, last_once, at-none, at-last, there_not_none, some_not_none}
+use Rattle.file_blocks.proofs.ExtentLaws.{Extent, Found, nowhere, last, found, last_once, at-none, at-last, there_not_none, some_not_none, strictly}
 use Rattle.file_blocks.proofs.ExtentChanges.{get-insert_other, get-remove_same, get-remove_other}
 
 pub data Side (a b : ℕ) : Type 0 where
@@ -287,10 +287,7 @@ room_alone m index are none touch = record {
             let l : length bs ≡ length others = ap length g in
             let most = ends_by m index f bs none is in
             let far = touch f bs is in
-            strict (other + length others) (omega arith) (λ s. far (omega arith))
-
-    strict : (n : ℕ) → n ≤ index → (n ≡ index → ⊥) → n < index
-    strict n most apart = grind arith
+            strictly (other + length others) index (omega arith) (λ s. far (omega arith))
 
 -- no extent begins where no block is
 pub none_begins : (m : Extents) (index : ℕ) → AreExtents m → block_at m index ≡ None → get m index ≡ None

@@ -112,7 +112,7 @@ at-last m index first blocks is = up_to-last m index index first blocks is
 
 -- The blocks
 
-strictly : (n q : ℕ) → n ≤ q → (q ≡ n → ⊥) → n < q
+pub strictly : (n q : ℕ) → n ≤ q → (q ≡ n → ⊥) → n < q
 strictly n q low apart = grind arith
 
 more : (n q : ℕ) (within : Bool) → ltb q n ≡ within → eq_by_cmp nat_cmp q n ≡ false → within ≡ ltb q (suc n)

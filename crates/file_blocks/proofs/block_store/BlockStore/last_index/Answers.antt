@@ -1,4 +1,4 @@
-use Rattle.std.proofs.Common.{◌≡◌, ◌+◌, ◌-◌, ap, subst, arith, length}
+use Rattle.std.proofs.Common.{◌≡◌, ◌+◌, ◌-◌, ap, subst, arith}
 use Rattle.std.specs.Option.{IsSome}
 use Rattle.std.specs.FinMap.{get}
 use Rattle.file_blocks.specs.Kept.{NoneFrom}
@@ -12,9 +12,9 @@ returns-in_err-first-clause-none c = in_none _ (subst (λ m. NoneFrom m 0) c.sel
 pub returns-clause-kept : goal.returns-clause-kept
 returns-clause-kept c =
     let is = c.in_ok-first.ensures.found in
-    subst (λ m. IsSome (get m (c.in_ok-first.first + length c.in_ok-first.extent.now - 1))) c.self.view_is (last-kept _ _ _ _ c.self.invariant.0 is (omega arith))
+    subst (λ m. IsSome (get m (c.in_ok-first.first + c.len.result - 1))) c.self.view_is (last-kept _ _ _ _ c.self.invariant.0 is (omega (arith, c.len.ensures)))
 
 pub returns-clause-greatest : goal.returns-clause-greatest
 returns-clause-greatest c =
     let is = c.in_ok-first.ensures.found in
-    subst (λ m. NoneFrom m (c.in_ok-first.first + length c.in_ok-first.extent.now - 1 + 1)) c.self.view_is (last-greatest _ _ _ _ c.self.invariant.0 is (omega arith))
+    subst (λ m. NoneFrom m (c.in_ok-first.first + c.len.result - 1 + 1)) c.self.view_is (last-greatest _ _ _ _ c.self.invariant.0 is (omega (arith, c.len.ensures)))
