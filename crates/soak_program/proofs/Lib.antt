@@ -1,0 +1,4 @@
+pub mod Counting
+pub mod Meaning
+pub mod Rounds
+pub mod rows

@@ -1,0 +1,4 @@
+pub mod Numbers
+pub mod Instructions
+pub mod Executable
+pub mod Line
