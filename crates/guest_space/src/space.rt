@@ -91,6 +91,7 @@ impl Space {
 
     /// The big-endian number of the `n` bytes from `address` on, `n` from 1 to 4, or the first of them
     /// that may not be loaded. It takes no memory.
+    #[inline(always)]
     pub fn load(&self, address: u32, n: u32) -> Result<u32, Denied>
         requires low { 1 ≤ n }
         requires high { n ≤ 4 }
@@ -120,6 +121,7 @@ impl Space {
 
     /// The big-endian word of the four bytes from `address` on, or the first of them that may not be
     /// fetched. That an address is a multiple of 4 is the caller's matter. It takes no memory.
+    #[inline(always)]
     pub fn fetch(&self, address: u32) -> Result<u32, Denied>
         ensures { result ≡ read self.now address 4 }
     {
@@ -129,6 +131,7 @@ impl Space {
     /// Writes the lowest `n` bytes of `value`, `n` from 1 to 4, big-endian from `address` on: all of them,
     /// or none with the first byte that may not be stored to. It asks for memory only where a byte's
     /// page was not written since it was mapped, and a refusal then changes nothing.
+    #[inline(always)]
     pub fn store(&mut self, address: u32, n: u32, value: u32) -> Result<(), StoreError>
         requires low { 1 ≤ n }
         requires high { n ≤ 4 }

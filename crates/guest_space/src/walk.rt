@@ -15,6 +15,7 @@ use kernel_core::NoMemory;
 use kernel_core::address_space::{PAGE_SIZE, USER_END};
 use raw_pages::{Page, PageStore, WriteError};
 
+#[inline(always)]
 fn allows(access: Access, protection: u8) -> bool
     ensures { result ≡ allows access protection }
 {
@@ -25,6 +26,7 @@ fn allows(access: Access, protection: u8) -> bool
 }
 
 /// The page of the byte, where the byte may be used so, and else why it may not.
+#[inline(always)]
 fn usable_page(pages: &PageStore, access: Access, address: u32) -> Result<&Page, Why>
     ensures allowed { IfOk result (λ page. (refusal access pages.now address ≡ None)
         × (map.get pages.now (address / 4096) ≡ Some page.now)) }
@@ -95,6 +97,7 @@ pub(crate) fn number(bytes: &[u8]) -> u32
 }
 
 /// The big-endian number of one to four bytes that lie in one page, by one look-up.
+#[inline(always)]
 pub(crate) fn load_in_page(pages: &PageStore, address: u32, n: u32) -> Result<u32, Denied>
     requires low { 1 ≤ n }
     requires high { n ≤ 4 }
@@ -110,6 +113,7 @@ pub(crate) fn load_in_page(pages: &PageStore, address: u32, n: u32) -> Result<u3
 }
 
 /// The big-endian number of one to four bytes of a page.
+#[inline(always)]
 fn number_in_page(page: &Page, place: usize, n: u32) -> u32
     requires low { 1 ≤ n }
     requires high { n ≤ 4 }
@@ -180,6 +184,7 @@ pub(crate) fn write_bytes(pages: &mut PageStore, address: u32, bytes: &[u8]) -> 
 }
 
 /// Writes one to four bytes: all of them, or none.
+#[inline(always)]
 pub(crate) fn store_bytes(
     pages: &mut PageStore,
     address: u32,
@@ -200,6 +205,7 @@ pub(crate) fn store_bytes(
 }
 
 /// Writes one to four bytes that lie in one page, by one look-up: all of them, or none.
+#[inline(always)]
 fn store_in_page(pages: &mut PageStore, address: u32, bytes: &[u8]) -> Result<(), StoreError>
     requires some { 0 < length bytes.now }
     requires room { address % 4096 + length bytes.now ≤ 4096 }

@@ -53,7 +53,7 @@ fn deny(cpu: &mut Cpu, denied: Denied) -> Stepped
 }
 
 /// The number that a load reads, or the first byte that may not be loaded.
-#[inline]
+#[inline(always)]
 fn read(space: &Space, span: Span, address: u32) -> Result<u32, Denied>
     ensures { result ≡ read space.now (load_address span address) (load_width span) }
 {
@@ -108,7 +108,7 @@ fn loaded_value(span: Span, signed: bool, address: u32, old: u32, number: u32) -
 }
 
 /// A load: LB, LBU, LH, LHU, LW, LWL or LWR. It takes no memory.
-#[inline]
+#[inline(always)]
 pub fn load(
     cpu: &mut Cpu,
     space: &Space,
@@ -150,7 +150,7 @@ pub fn load_linked(cpu: &mut Cpu, space: &Space, address: u32, register: u8) -> 
 }
 
 /// Writes what a store writes: all its bytes, or none with the first that may not be stored to.
-#[inline]
+#[inline(always)]
 fn write(space: &mut Space, span: Span, address: u32, value: u32) -> Result<(), StoreError>
     ensures ok { OnOk result (space.new
         ≡ written space.old (store_address span address) (store_width span address) (stored_value span address value)) }
@@ -170,7 +170,7 @@ fn write(space: &mut Space, span: Span, address: u32, value: u32) -> Result<(), 
 }
 
 /// A store: SB, SH, SW, SWL or SWR. It writes all its bytes or none.
-#[inline]
+#[inline(always)]
 pub fn store(
     cpu: &mut Cpu,
     space: &mut Space,

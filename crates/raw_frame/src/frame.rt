@@ -38,6 +38,7 @@ impl<T> Frame<T> {
     }
 
     /// The value of the block, where there is one.
+    #[inline(always)]
     pub fn get(&self) -> Option<&T>
         ensures { option_copied result ≡ self.now.value }
     {
@@ -49,6 +50,7 @@ impl<T> Frame<T> {
     }
 
     /// Whether there is a block.
+    #[inline(always)]
     pub fn is_full(&self) -> bool
         ensures { result ≡ is_some self.now.value }
     {
@@ -87,6 +89,7 @@ impl<T> Frame<T> {
     ghost use Rattle.raw_frame.specs.Lends.{lends_value};
 
     /// The value of the block, to be written.
+    #[inline(always)]
     pub fn get_mut(&mut self) -> &mut T
         requires { IsSome self.old.value }
         ensures* writes_back { sem 𝓛 (lends_value T.row self.entry result) }

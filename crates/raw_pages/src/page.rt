@@ -92,6 +92,7 @@ impl Page {
     }
 
     /// The byte at the place.
+    #[inline(always)]
     pub fn byte(&self, at: usize) -> u8
         requires { at < 4096 }
         ensures value { result ≡ slice_index self.now.bytes at }
@@ -104,6 +105,7 @@ impl Page {
     }
 
     /// The two bytes from the place on.
+    #[inline(always)]
     pub fn half(&self, at: usize) -> [u8; 2]
         requires { at + 2 ≤ 4096 }
         ensures value { result ≡ slice_range self.now.bytes at (at + 2) }
@@ -116,6 +118,7 @@ impl Page {
     }
 
     /// The four bytes from the place on.
+    #[inline(always)]
     pub fn word(&self, at: usize) -> [u8; 4]
         requires { at + 4 ≤ 4096 }
         ensures value { result ≡ slice_range self.now.bytes at (at + 4) }
@@ -128,6 +131,7 @@ impl Page {
     }
 
     /// Writes the bytes from the place on.
+    #[inline(always)]
     pub(crate) fn write(&mut self, alloc: Global, at: usize, bytes: &[u8]) -> Result<(), AllocError>
         requires { at + length bytes.now ≤ 4096 }
         ensures ok { OnOk result (self.new ≡ with_piece self.old at bytes.now) }
@@ -156,6 +160,7 @@ impl Page {
     }
 
     /// The same where the protection allows it.
+    #[inline(always)]
     pub(crate) fn write_if_allowed(
         &mut self,
         alloc: Global,
@@ -175,6 +180,7 @@ impl Page {
     }
 }
 
+#[inline(always)]
 fn put_in_frame(frame: &mut [u8; PAGE_SIZE], at: usize, bytes: &[u8])
     requires { at + length bytes.now ≤ 4096 }
     ensures { frame.new ≡ put_at frame.old at bytes.now }
