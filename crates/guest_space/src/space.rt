@@ -1,8 +1,8 @@
 //! The guest's memory as the calls of the machine see it.
-ghost use Rattle.std.specs.Prelude.{◌≡◌, ◌+◌, ◌*◌, ◌%◌, ◌<◌, ◌≤◌, ◌^◌, ◌↔◌, IsTrue, None, ℕ, length, IfOk, OnOk, OnErr, IfErr, IsErrOf};
+ghost use Rattle.std.specs.Prelude.{◌≡◌, ◌+◌, ◌*◌, ◌/◌, ◌%◌, ◌<◌, ◌≤◌, ◌^◌, ◌↔◌, IsTrue, None, ℕ, length, IfOk, OnOk, OnErr, IfErr, IsErrOf, IfSome, IfNone, Some, Ok, is_some, true};
 ghost use Rattle.std.specs.FinMap as map;
 ghost use Rattle.std.specs.Option.{option_copied};
-ghost use Rattle.guest_space.specs.Access.{first_denied, bytes_before, readable_prefix, writable_prefix, unless_denied, user_end};
+ghost use Rattle.guest_space.specs.Access.{first_denied, refusal, bytes_before, readable_prefix, writable_prefix, unless_denied, user_end};
 ghost use Rattle.guest_space.specs.Answers.{IsStoreAnswer, LeavesPrefix, LeavesMapped};
 ghost use Rattle.guest_space.specs.Bytes.{bytes_at, read, written, copied_out, are_ready};
 ghost use Rattle.guest_space.specs.Memory.{IsValid};
@@ -16,7 +16,10 @@ use crate::range::{
     absent_pages, greatest_place, is_free, map_zeros, mapped_pages, protect_pages, unmap_pages,
 };
 use crate::resize::{new_break, resize};
-use crate::walk::{first_denied, load_in_page, number, read_bytes, store_bytes, write_bytes};
+use crate::walk::{
+    code_page, first_denied, load_in_page, number, read_bytes, store_bytes, word_in_page,
+    write_bytes,
+};
 use kernel_core::NoMemory;
 use kernel_core::address_space::{PAGE_LIMIT, PAGE_SIZE};
 use raw_pages::{Page, PageStore};
@@ -126,6 +129,29 @@ impl Space {
         ensures { result ≡ read self.now address 4 }
     {
         self.load(address, 4)
+    }
+
+    /// The page of the address, where its bytes may be fetched, and None exactly where they may not. It takes no memory.
+    #[inline(always)]
+    pub fn code_page(&self, address: u32) -> Option<&Page>
+        ensures usable { IfSome result (λ page. (refusal Access.Load self.now.pages address ≡ None)
+            × (map.get self.now.pages (address / 4096) ≡ Some page.now)) }
+        ensures refused { IfNone result (is_some (refusal Access.Load self.now.pages address) ≡ true) }
+    {
+        code_page(&self.pages, address)
+    }
+
+    /// The word at an address of this page, whose bytes may be fetched, with no look-up: what `fetch` gives
+    /// there. It takes no memory.
+    #[inline(always)]
+    #[tactic(auto, unfolding(crate::specs::Bytes::read))]
+    pub fn word_in_page(&self, page: &Page, address: u32) -> u32
+        requires usable { refusal Access.Load self.now.pages address ≡ None }
+        requires there { map.get self.now.pages (address / 4096) ≡ Some page.now }
+        requires room { address % 4096 + 4 ≤ 4096 }
+        ensures { read self.now address 4 ≡ Ok result }
+    {
+        word_in_page(&self.pages, page, address)
     }
 
     /// Writes the lowest `n` bytes of `value`, `n` from 1 to 4, big-endian from `address` on: all of them,

@@ -1,5 +1,5 @@
 //! Bytes of a page store: which may be used, and reads and writes of them, a page at a time.
-ghost use Rattle.std.specs.Prelude.{◌≡◌, ◌+◌, ◌*◌, ◌<◌, ◌≤◌, ◌/◌, ◌%◌, ◌^◌, ℕ, length, take, slice_range, true, false, OnOk, OnErr, IfOk, IfErr, IfNone};
+ghost use Rattle.std.specs.Prelude.{◌≡◌, ◌+◌, ◌*◌, ◌<◌, ◌≤◌, ◌/◌, ◌%◌, ◌^◌, ℕ, length, take, slice_range, true, false, OnOk, OnErr, IfOk, IfErr, IfNone, IfSome, Some, None, Ok, is_some};
 ghost use Rattle.std.specs.FinMap as map;
 ghost use Rattle.raw_pages.specs.Pages.{is_ready, shown_bytes, zero_bytes};
 ghost use Rattle.guest_space.specs.Memory.{IsValid};
@@ -110,6 +110,30 @@ pub(crate) fn load_in_page(pages: &PageStore, address: u32, n: u32) -> Result<u3
         Ok(page) => Ok(number_in_page(page, (address % PAGE_SIZE) as usize, n)),
         Err(why) => Err(Denied { addr: address, why }),
     }
+}
+
+/// The page of the address, where its bytes may be fetched.
+#[inline(always)]
+pub(crate) fn code_page(pages: &PageStore, address: u32) -> Option<&Page>
+    ensures usable { IfSome result (λ page. (refusal Access.Load pages.now address ≡ None)
+        × (map.get pages.now (address / 4096) ≡ Some page.now)) }
+    ensures refused { IfNone result (is_some (refusal Access.Load pages.now address) ≡ true) }
+{
+    match usable_page(pages, Access::Load, address) {
+        Ok(page) => Some(page),
+        Err(_why) => None,
+    }
+}
+
+/// The big-endian word at an address of a page that may be fetched, with no look-up.
+#[inline(always)]
+pub(crate) fn word_in_page(pages: &PageStore, page: &Page, address: u32) -> u32
+    requires usable { refusal Access.Load pages.now address ≡ None }
+    requires there { map.get pages.now (address / 4096) ≡ Some page.now }
+    requires room { address % 4096 + 4 ≤ 4096 }
+    ensures { unless_denied (first_denied Access.Load pages.now address 4) (big_number 4 (bytes_at pages.now address 4)) ≡ Ok result }
+{
+    number_in_page(page, (address % PAGE_SIZE) as usize, 4)
 }
 
 /// The big-endian number of one to four bytes of a page.

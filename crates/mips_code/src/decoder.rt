@@ -9,6 +9,7 @@ use crate::insn::Insn;
 use crate::mnemonic::{Mnemonic, with_fields};
 
 /// The instruction of a word, if it is in a row.
+#[inline(always)]
 pub fn look_up(word: u32) -> Option<Insn>
     ensures { result ≡ instruction_of word }
 {
@@ -21,6 +22,7 @@ pub fn look_up(word: u32) -> Option<Insn>
 /// The name of the row that a word of this opcode is in: that of the opcode, or one of the rows of SPECIAL, REGIMM,
 /// SPECIAL2 and SPECIAL3.
 #[tactic(auto, unfolding(crate::specs::Instructions::plain_rows, crate::specs::Instructions::memory_rows, crate::specs::Instructions::immediate_form))]
+#[inline(always)]
 fn mnemonic_at(opcode: u8, word: u32) -> Option<Mnemonic>
     ensures { read_as result word ≡ row_of_opcode opcode word }
 {
@@ -67,6 +69,7 @@ fn mnemonic_at(opcode: u8, word: u32) -> Option<Mnemonic>
 }
 
 /// The rows of SPECIAL.
+#[inline(always)]
 fn find_special_row(function: u8, word: u32) -> Option<Mnemonic>
     ensures { read_as result word ≡ find_special function word }
 {
@@ -79,6 +82,7 @@ fn find_special_row(function: u8, word: u32) -> Option<Mnemonic>
 
 /// SPECIAL, by functions below 24.
 #[tactic(auto, unfolding(crate::specs::Instructions::special_rows))]
+#[inline(always)]
 fn special(function: u8, word: u32) -> Option<Mnemonic>
     ensures { read_as result word ≡ find_row special_rows function word }
 {
@@ -108,6 +112,7 @@ fn special(function: u8, word: u32) -> Option<Mnemonic>
 
 /// SPECIAL, by functions from 24.
 #[tactic(auto, unfolding(crate::specs::Instructions::arithmetic_rows))]
+#[inline(always)]
 fn arithmetic(function: u8, word: u32) -> Option<Mnemonic>
     ensures { read_as result word ≡ find_row arithmetic_rows function word }
 {
@@ -138,6 +143,7 @@ fn arithmetic(function: u8, word: u32) -> Option<Mnemonic>
 
 /// REGIMM, by the field rt.
 #[tactic(auto, unfolding(crate::specs::Instructions::regimm_rows, crate::specs::Instructions::register_immediate))]
+#[inline(always)]
 fn regimm(row: u8, word: u32) -> Option<Mnemonic>
     ensures { read_as result word ≡ find_row regimm_rows row word }
 {
@@ -163,6 +169,7 @@ fn regimm(row: u8, word: u32) -> Option<Mnemonic>
 
 /// SPECIAL2, by function.
 #[tactic(auto, unfolding(crate::specs::Instructions::special2_rows))]
+#[inline(always)]
 fn special2(function: u8, word: u32) -> Option<Mnemonic>
     ensures { read_as result word ≡ find_row special2_rows function word }
 {
@@ -180,6 +187,7 @@ fn special2(function: u8, word: u32) -> Option<Mnemonic>
 
 /// SPECIAL3, by function.
 #[tactic(auto, unfolding(crate::specs::Instructions::special3_rows))]
+#[inline(always)]
 fn special3(function: u8, word: u32) -> Option<Mnemonic>
     ensures { read_as result word ≡ find_row special3_rows function word }
 {
