@@ -1,5 +1,5 @@
 //! One page: its protection, and its bytes in a frame that is taken at the first write.
-ghost use Rattle.std.specs.Prelude.{◌≡◌, ◌+◌, ◌≤◌, ◌<◌, length, IfOk, OnOk, OnErr, IsOk, slice_index, slice_range, true, false, Some};
+ghost use Rattle.std.specs.Prelude.{◌≡◌, ◌+◌, ◌≤◌, ◌<◌, length, IfOk, IfSome, IfNone, OnOk, OnErr, IsOk, slice_index, slice_range, true, false, Some};
 ghost use Rattle.raw_pages.specs.Pages.{zero_page, zero_bytes, with_piece, cleared_page, put_at, IsWriteAnswer};
 
 use crate::piece::put;
@@ -89,6 +89,15 @@ impl Page {
             Some(frame) => buf.copy_from_slice(&frame[at..at + buf.len()]),
             None => buf.fill(0),
         }
+    }
+
+    /// The bytes, where the page was written, and None exactly where it was not.
+    #[inline(always)]
+    pub fn bytes(&self) -> Option<&[u8; PAGE_SIZE]>
+        ensures written { IfSome result (λ bytes. (self.now.ready ≡ true) × (bytes.now ≡ self.now.bytes)) }
+        ensures unwritten { IfNone result (self.now.ready ≡ false) }
+    {
+        self.frame.get()
     }
 
     /// The byte at the place.
