@@ -1,7 +1,8 @@
 //! The guest's memory as the calls of the machine see it.
-ghost use Rattle.std.specs.Prelude.{◌≡◌, ◌+◌, ◌*◌, ◌/◌, ◌%◌, ◌<◌, ◌≤◌, ◌^◌, ◌↔◌, IsTrue, None, ℕ, length, IfOk, OnOk, OnErr, IfErr, IsErrOf, IfSome, IfNone, Some, Ok, is_some, true};
+ghost use Rattle.std.specs.Prelude.{◌≡◌, ◌+◌, ◌*◌, ◌/◌, ◌%◌, ◌<◌, ◌≤◌, ◌^◌, ◌↔◌, IsTrue, None, ℕ, length, IfOk, OnOk, OnErr, IfErr, IsErrOf, IfSome, IfNone, Ok, false};
 ghost use Rattle.std.specs.FinMap as map;
 ghost use Rattle.std.specs.Option.{option_copied};
+ghost use Rattle.raw_pages.specs.Pages.{is_ready, shown_bytes};
 ghost use Rattle.guest_space.specs.Access.{first_denied, refusal, bytes_before, readable_prefix, writable_prefix, unless_denied, user_end};
 ghost use Rattle.guest_space.specs.Answers.{IsStoreAnswer, LeavesPrefix, LeavesMapped};
 ghost use Rattle.guest_space.specs.Bytes.{bytes_at, read, written, copied_out, are_ready};
@@ -92,6 +93,13 @@ impl Space {
         self.pages.page(number)
     }
 
+    /// The number of pages that are mapped. Nothing is counted for it, and it takes no memory.
+    pub fn page_count(&self) -> u32
+        ensures { result ≡ map.len self.now.pages }
+    {
+        self.pages.len()
+    }
+
     /// The big-endian number of the `n` bytes from `address` on, `n` from 1 to 4, or the first of them
     /// that may not be loaded. It takes no memory.
     #[inline(always)]
@@ -131,27 +139,29 @@ impl Space {
         self.load(address, 4)
     }
 
-    /// The page of the address, where its bytes may be fetched, and None exactly where they may not. It takes no memory.
+    /// The bytes of the address's page, where they may be fetched and the page was written since it was mapped, and
+    /// None exactly where not. It takes no memory.
     #[inline(always)]
-    pub fn code_page(&self, address: u32) -> Option<&Page>
-        ensures usable { IfSome result (λ page. (refusal Access.Load self.now.pages address ≡ None)
-            × (map.get self.now.pages (address / 4096) ≡ Some page.now)) }
-        ensures refused { IfNone result (is_some (refusal Access.Load self.now.pages address) ≡ true) }
+    pub fn code_page(&self, address: u32) -> Option<&[u8; 4096]>
+        ensures usable { IfSome result (λ bytes. (refusal Access.Load self.now.pages address ≡ None)
+            × (shown_bytes (map.get self.now.pages (address / 4096)) ≡ bytes.now)) }
+        ensures refused { IfNone result (refusal Access.Load self.now.pages address ≡ None
+            → is_ready (map.get self.now.pages (address / 4096)) ≡ false) }
     {
         code_page(&self.pages, address)
     }
 
-    /// The word at an address of this page, whose bytes may be fetched, with no look-up: what `fetch` gives
-    /// there. It takes no memory.
+    /// The word at an address of a page that has these bytes and may be fetched, with no look-up: what `fetch`
+    /// gives there. It takes no memory.
     #[inline(always)]
     #[tactic(auto, unfolding(crate::specs::Bytes::read))]
-    pub fn word_in_page(&self, page: &Page, address: u32) -> u32
+    pub fn word_in_page(&self, bytes: &[u8; 4096], address: u32) -> u32
         requires usable { refusal Access.Load self.now.pages address ≡ None }
-        requires there { map.get self.now.pages (address / 4096) ≡ Some page.now }
+        requires there { shown_bytes (map.get self.now.pages (address / 4096)) ≡ bytes.now }
         requires room { address % 4096 + 4 ≤ 4096 }
         ensures { read self.now address 4 ≡ Ok result }
     {
-        word_in_page(&self.pages, page, address)
+        word_in_page(&self.pages, bytes, address)
     }
 
     /// Writes the lowest `n` bytes of `value`, `n` from 1 to 4, big-endian from `address` on: all of them,

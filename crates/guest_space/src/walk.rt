@@ -1,5 +1,5 @@
 //! Bytes of a page store: which may be used, and reads and writes of them, a page at a time.
-ghost use Rattle.std.specs.Prelude.{◌≡◌, ◌+◌, ◌*◌, ◌<◌, ◌≤◌, ◌/◌, ◌%◌, ◌^◌, ℕ, length, take, slice_range, true, false, OnOk, OnErr, IfOk, IfErr, IfNone, IfSome, Some, None, Ok, is_some};
+ghost use Rattle.std.specs.Prelude.{◌≡◌, ◌+◌, ◌*◌, ◌<◌, ◌≤◌, ◌/◌, ◌%◌, ◌^◌, ℕ, length, take, slice_range, true, false, OnOk, OnErr, IfOk, IfErr, IfNone, IfSome, Some, None, Ok};
 ghost use Rattle.std.specs.FinMap as map;
 ghost use Rattle.raw_pages.specs.Pages.{is_ready, shown_bytes, zero_bytes};
 ghost use Rattle.guest_space.specs.Memory.{IsValid};
@@ -112,28 +112,54 @@ pub(crate) fn load_in_page(pages: &PageStore, address: u32, n: u32) -> Result<u3
     }
 }
 
-/// The page of the address, where its bytes may be fetched.
+/// The bytes of the address's page, where they may be fetched and the page was written.
 #[inline(always)]
-pub(crate) fn code_page(pages: &PageStore, address: u32) -> Option<&Page>
-    ensures usable { IfSome result (λ page. (refusal Access.Load pages.now address ≡ None)
-        × (map.get pages.now (address / 4096) ≡ Some page.now)) }
-    ensures refused { IfNone result (is_some (refusal Access.Load pages.now address) ≡ true) }
+pub(crate) fn code_page(pages: &PageStore, address: u32) -> Option<&[u8; 4096]>
+    ensures usable { IfSome result (λ bytes. (refusal Access.Load pages.now address ≡ None)
+        × (shown_bytes (map.get pages.now (address / 4096)) ≡ bytes.now)) }
+    ensures refused { IfNone result (refusal Access.Load pages.now address ≡ None
+        → is_ready (map.get pages.now (address / 4096)) ≡ false) }
 {
     match usable_page(pages, Access::Load, address) {
-        Ok(page) => Some(page),
+        Ok(page) => page.bytes(),
         Err(_why) => None,
     }
 }
 
-/// The big-endian word at an address of a page that may be fetched, with no look-up.
+/// The big-endian word at an address of a page that may be fetched and has these bytes, with no look-up.
 #[inline(always)]
-pub(crate) fn word_in_page(pages: &PageStore, page: &Page, address: u32) -> u32
+pub(crate) fn word_in_page(pages: &PageStore, bytes: &[u8; 4096], address: u32) -> u32
     requires usable { refusal Access.Load pages.now address ≡ None }
-    requires there { map.get pages.now (address / 4096) ≡ Some page.now }
+    requires there { shown_bytes (map.get pages.now (address / 4096)) ≡ bytes.now }
     requires room { address % 4096 + 4 ≤ 4096 }
     ensures { unless_denied (first_denied Access.Load pages.now address 4) (big_number 4 (bytes_at pages.now address 4)) ≡ Ok result }
 {
-    number_in_page(page, (address % PAGE_SIZE) as usize, 4)
+    word_at(bytes, (address % PAGE_SIZE) as usize)
+}
+
+/// The big-endian word at a place of a page's bytes.
+#[inline(always)]
+fn word_at(bytes: &[u8; 4096], place: usize) -> u32
+    requires room { place + 4 ≤ 4096 }
+    ensures value { result ≡ big_number 4 (slice_range bytes.now place (place + 4)) }
+    ensures whole { length bytes.now ≡ 4096 }
+{
+    BigEndian::read_u32(&four_bytes(bytes, place))
+}
+
+/// The four bytes from a place of a page's bytes on.
+#[inline(always)]
+fn four_bytes(bytes: &[u8; 4096], place: usize) -> [u8; 4]
+    requires room { place + 4 ≤ 4096 }
+    ensures value { result ≡ slice_range bytes.now place (place + 4) }
+    ensures whole { length bytes.now ≡ 4096 }
+{
+    [
+        bytes[place],
+        bytes[place + 1],
+        bytes[place + 2],
+        bytes[place + 3],
+    ]
 }
 
 /// The big-endian number of one to four bytes of a page.
