@@ -1,4 +1,5 @@
 pub mod ByteLemmas
+pub mod CodePages
 pub mod MappingLemmas
 pub mod Numbers
 pub mod Prefixes

@@ -1,8 +1,9 @@
 //! The guest's memory as the calls of the machine see it.
-ghost use Rattle.std.specs.Prelude.{◌≡◌, ◌+◌, ◌*◌, ◌%◌, ◌<◌, ◌≤◌, ◌^◌, ◌↔◌, IsTrue, None, ℕ, length, IfOk, OnOk, OnErr, IfErr, IsErrOf};
+ghost use Rattle.std.specs.Prelude.{◌≡◌, ◌+◌, ◌*◌, ◌/◌, ◌%◌, ◌<◌, ◌≤◌, ◌^◌, ◌↔◌, IsTrue, None, ℕ, length, IfOk, OnOk, OnErr, IfErr, IsErrOf, IfSome, IfNone, Ok, false};
 ghost use Rattle.std.specs.FinMap as map;
 ghost use Rattle.std.specs.Option.{option_copied};
-ghost use Rattle.guest_space.specs.Access.{first_denied, bytes_before, readable_prefix, writable_prefix, unless_denied, user_end};
+ghost use Rattle.raw_pages.specs.Pages.{is_ready, shown_bytes};
+ghost use Rattle.guest_space.specs.Access.{first_denied, refusal, bytes_before, readable_prefix, writable_prefix, unless_denied, user_end};
 ghost use Rattle.guest_space.specs.Answers.{IsStoreAnswer, LeavesPrefix, LeavesMapped};
 ghost use Rattle.guest_space.specs.Bytes.{bytes_at, read, written, copied_out, are_ready};
 ghost use Rattle.guest_space.specs.Memory.{IsValid};
@@ -16,7 +17,10 @@ use crate::range::{
     absent_pages, greatest_place, is_free, map_zeros, mapped_pages, protect_pages, unmap_pages,
 };
 use crate::resize::{new_break, resize};
-use crate::walk::{first_denied, load_in_page, number, read_bytes, store_bytes, write_bytes};
+use crate::walk::{
+    code_page, first_denied, load_in_page, number, read_bytes, store_bytes, word_in_page,
+    write_bytes,
+};
 use kernel_core::NoMemory;
 use kernel_core::address_space::{PAGE_LIMIT, PAGE_SIZE};
 use raw_pages::{Page, PageStore};
@@ -89,8 +93,16 @@ impl Space {
         self.pages.page(number)
     }
 
+    /// The number of pages that are mapped. Nothing is counted for it, and it takes no memory.
+    pub fn page_count(&self) -> u32
+        ensures { result ≡ map.len self.now.pages }
+    {
+        self.pages.len()
+    }
+
     /// The big-endian number of the `n` bytes from `address` on, `n` from 1 to 4, or the first of them
     /// that may not be loaded. It takes no memory.
+    #[inline(always)]
     pub fn load(&self, address: u32, n: u32) -> Result<u32, Denied>
         requires low { 1 ≤ n }
         requires high { n ≤ 4 }
@@ -120,15 +132,42 @@ impl Space {
 
     /// The big-endian word of the four bytes from `address` on, or the first of them that may not be
     /// fetched. That an address is a multiple of 4 is the caller's matter. It takes no memory.
+    #[inline(always)]
     pub fn fetch(&self, address: u32) -> Result<u32, Denied>
         ensures { result ≡ read self.now address 4 }
     {
         self.load(address, 4)
     }
 
+    /// The bytes of the address's page, where they may be fetched and the page was written since it was mapped, and
+    /// None exactly where not. It takes no memory.
+    #[inline(always)]
+    pub fn code_page(&self, address: u32) -> Option<&[u8; 4096]>
+        ensures usable { IfSome result (λ bytes. (refusal Access.Load self.now.pages address ≡ None)
+            × (shown_bytes (map.get self.now.pages (address / 4096)) ≡ bytes.now)) }
+        ensures refused { IfNone result (refusal Access.Load self.now.pages address ≡ None
+            → is_ready (map.get self.now.pages (address / 4096)) ≡ false) }
+    {
+        code_page(&self.pages, address)
+    }
+
+    /// The word at an address of a page that has these bytes and may be fetched, with no look-up: what `fetch`
+    /// gives there. It takes no memory.
+    #[inline(always)]
+    #[tactic(auto, unfolding(crate::specs::Bytes::read))]
+    pub fn word_in_page(&self, bytes: &[u8; 4096], address: u32) -> u32
+        requires usable { refusal Access.Load self.now.pages address ≡ None }
+        requires there { shown_bytes (map.get self.now.pages (address / 4096)) ≡ bytes.now }
+        requires room { address % 4096 + 4 ≤ 4096 }
+        ensures { read self.now address 4 ≡ Ok result }
+    {
+        word_in_page(&self.pages, bytes, address)
+    }
+
     /// Writes the lowest `n` bytes of `value`, `n` from 1 to 4, big-endian from `address` on: all of them,
     /// or none with the first byte that may not be stored to. It asks for memory only where a byte's
     /// page was not written since it was mapped, and a refusal then changes nothing.
+    #[inline(always)]
     pub fn store(&mut self, address: u32, n: u32, value: u32) -> Result<(), StoreError>
         requires low { 1 ≤ n }
         requires high { n ≤ 4 }

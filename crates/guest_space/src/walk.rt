@@ -1,5 +1,5 @@
 //! Bytes of a page store: which may be used, and reads and writes of them, a page at a time.
-ghost use Rattle.std.specs.Prelude.{◌≡◌, ◌+◌, ◌*◌, ◌<◌, ◌≤◌, ◌/◌, ◌%◌, ◌^◌, ℕ, length, take, slice_range, true, false, OnOk, OnErr, IfOk, IfErr, IfNone};
+ghost use Rattle.std.specs.Prelude.{◌≡◌, ◌+◌, ◌*◌, ◌<◌, ◌≤◌, ◌/◌, ◌%◌, ◌^◌, ℕ, length, take, slice_range, true, false, OnOk, OnErr, IfOk, IfErr, IfNone, IfSome, Some, None, Ok};
 ghost use Rattle.std.specs.FinMap as map;
 ghost use Rattle.raw_pages.specs.Pages.{is_ready, shown_bytes, zero_bytes};
 ghost use Rattle.guest_space.specs.Memory.{IsValid};
@@ -15,6 +15,7 @@ use kernel_core::NoMemory;
 use kernel_core::address_space::{PAGE_SIZE, USER_END};
 use raw_pages::{Page, PageStore, WriteError};
 
+#[inline(always)]
 fn allows(access: Access, protection: u8) -> bool
     ensures { result ≡ allows access protection }
 {
@@ -25,6 +26,7 @@ fn allows(access: Access, protection: u8) -> bool
 }
 
 /// The page of the byte, where the byte may be used so, and else why it may not.
+#[inline(always)]
 fn usable_page(pages: &PageStore, access: Access, address: u32) -> Result<&Page, Why>
     ensures allowed { IfOk result (λ page. (refusal access pages.now address ≡ None)
         × (map.get pages.now (address / 4096) ≡ Some page.now)) }
@@ -95,6 +97,7 @@ pub(crate) fn number(bytes: &[u8]) -> u32
 }
 
 /// The big-endian number of one to four bytes that lie in one page, by one look-up.
+#[inline(always)]
 pub(crate) fn load_in_page(pages: &PageStore, address: u32, n: u32) -> Result<u32, Denied>
     requires low { 1 ≤ n }
     requires high { n ≤ 4 }
@@ -109,7 +112,58 @@ pub(crate) fn load_in_page(pages: &PageStore, address: u32, n: u32) -> Result<u3
     }
 }
 
+/// The bytes of the address's page, where they may be fetched and the page was written.
+#[inline(always)]
+pub(crate) fn code_page(pages: &PageStore, address: u32) -> Option<&[u8; 4096]>
+    ensures usable { IfSome result (λ bytes. (refusal Access.Load pages.now address ≡ None)
+        × (shown_bytes (map.get pages.now (address / 4096)) ≡ bytes.now)) }
+    ensures refused { IfNone result (refusal Access.Load pages.now address ≡ None
+        → is_ready (map.get pages.now (address / 4096)) ≡ false) }
+{
+    match usable_page(pages, Access::Load, address) {
+        Ok(page) => page.bytes(),
+        Err(_why) => None,
+    }
+}
+
+/// The big-endian word at an address of a page that may be fetched and has these bytes, with no look-up.
+#[inline(always)]
+pub(crate) fn word_in_page(pages: &PageStore, bytes: &[u8; 4096], address: u32) -> u32
+    requires usable { refusal Access.Load pages.now address ≡ None }
+    requires there { shown_bytes (map.get pages.now (address / 4096)) ≡ bytes.now }
+    requires room { address % 4096 + 4 ≤ 4096 }
+    ensures { unless_denied (first_denied Access.Load pages.now address 4) (big_number 4 (bytes_at pages.now address 4)) ≡ Ok result }
+{
+    word_at(bytes, (address % PAGE_SIZE) as usize)
+}
+
+/// The big-endian word at a place of a page's bytes.
+#[inline(always)]
+fn word_at(bytes: &[u8; 4096], place: usize) -> u32
+    requires room { place + 4 ≤ 4096 }
+    ensures value { result ≡ big_number 4 (slice_range bytes.now place (place + 4)) }
+    ensures whole { length bytes.now ≡ 4096 }
+{
+    BigEndian::read_u32(&four_bytes(bytes, place))
+}
+
+/// The four bytes from a place of a page's bytes on.
+#[inline(always)]
+fn four_bytes(bytes: &[u8; 4096], place: usize) -> [u8; 4]
+    requires room { place + 4 ≤ 4096 }
+    ensures value { result ≡ slice_range bytes.now place (place + 4) }
+    ensures whole { length bytes.now ≡ 4096 }
+{
+    [
+        bytes[place],
+        bytes[place + 1],
+        bytes[place + 2],
+        bytes[place + 3],
+    ]
+}
+
 /// The big-endian number of one to four bytes of a page.
+#[inline(always)]
 fn number_in_page(page: &Page, place: usize, n: u32) -> u32
     requires low { 1 ≤ n }
     requires high { n ≤ 4 }
@@ -180,6 +234,7 @@ pub(crate) fn write_bytes(pages: &mut PageStore, address: u32, bytes: &[u8]) -> 
 }
 
 /// Writes one to four bytes: all of them, or none.
+#[inline(always)]
 pub(crate) fn store_bytes(
     pages: &mut PageStore,
     address: u32,
@@ -200,6 +255,7 @@ pub(crate) fn store_bytes(
 }
 
 /// Writes one to four bytes that lie in one page, by one look-up: all of them, or none.
+#[inline(always)]
 fn store_in_page(pages: &mut PageStore, address: u32, bytes: &[u8]) -> Result<(), StoreError>
     requires some { 0 < length bytes.now }
     requires room { address % 4096 + length bytes.now ≤ 4096 }

@@ -90,6 +90,45 @@ fn loads_and_stores_in(rt: &impl Abort, space: &mut Space) -> Result<(), Fail> {
     Ok(())
 }
 
+/// The word at an address of a page whose bytes are lent, and none where they are not or the word leaves the page.
+fn lent_word(space: &Space, address: u32) -> Option<u32> {
+    let bytes = space.code_page(address)?;
+    if address % 4096 > 4092 {
+        return None;
+    }
+    Some(space.word_in_page(bytes, address))
+}
+
+#[test]
+fn lends_pages_that_were_written(rt: HostRuntime) -> Result<(), Fail> {
+    let mut space = sample(rt.alloc())?;
+    lends_pages_that_were_written_in(&rt, &mut space)
+}
+
+fn lends_pages_that_were_written_in(rt: &impl Abort, space: &mut Space) -> Result<(), Fail> {
+    assert_eq!(rt; lent_word(space, 0x1_0000), None);
+    assert_eq!(rt;
+        store_answer(space.store(0x1_0FFC, 4, 0x1122_3344)),
+        ("written", 0)
+    );
+    for (address, word) in [
+        (0x1_0FFC, Some(0x1122_3344)),
+        (0x1_0FFA, Some(0x1122)),
+        (0x1_0FFD, None),
+        (0x1_1000, None),
+        (0x1_5000, None),
+        (0x7FFF_8000, None),
+    ] {
+        assert_eq!(rt; lent_word(space, address), word);
+    }
+    assert_eq!(rt; space.protect(0x10, 1, 0), 1);
+    assert_eq!(rt; lent_word(space, 0x1_0FFC), None);
+    assert_eq!(rt; space.page_count(), 6);
+    space.unmap(0x10, 1);
+    assert_eq!(rt; space.page_count(), 5);
+    Ok(())
+}
+
 #[test]
 fn names_the_first_denied_byte(rt: HostRuntime) -> Result<(), Fail> {
     let mut space = sample(rt.alloc())?;

@@ -131,7 +131,9 @@ fn a_write_may_test_the_page_first_in(rt: &impl Abort, store: &mut PageStore) ->
         (page.byte(4095), page.half(4094), page.word(4092)),
         (b'd', *b"rd", *b"word")
     );
+    assert_eq!(rt; page.bytes().map(|bytes| bytes[4093]), Some(b'o'));
     let page = store.page(1024).ok_or("not found")?;
+    assert!(rt; page.bytes().is_none());
     assert_eq!(rt;
         (page.byte(4095), page.half(4094), page.word(0)),
         (0, [0; 2], [0; 4])

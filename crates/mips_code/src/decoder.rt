@@ -9,6 +9,7 @@ use crate::insn::Insn;
 use crate::mnemonic::{Mnemonic, with_fields};
 
 /// The instruction of a word, if it is in a row.
+#[inline(always)]
 pub fn look_up(word: u32) -> Option<Insn>
     ensures { result ≡ instruction_of word }
 {
@@ -21,6 +22,7 @@ pub fn look_up(word: u32) -> Option<Insn>
 /// The name of the row that a word of this opcode is in: that of the opcode, or one of the rows of SPECIAL, REGIMM,
 /// SPECIAL2 and SPECIAL3.
 #[tactic(auto, unfolding(crate::specs::Instructions::plain_rows, crate::specs::Instructions::memory_rows, crate::specs::Instructions::immediate_form))]
+#[inline(always)]
 fn mnemonic_at(opcode: u8, word: u32) -> Option<Mnemonic>
     ensures { read_as result word ≡ row_of_opcode opcode word }
 {
@@ -67,6 +69,7 @@ fn mnemonic_at(opcode: u8, word: u32) -> Option<Mnemonic>
 }
 
 /// The rows of SPECIAL.
+#[inline(always)]
 fn find_special_row(function: u8, word: u32) -> Option<Mnemonic>
     ensures { read_as result word ≡ find_special function word }
 {
@@ -79,55 +82,55 @@ fn find_special_row(function: u8, word: u32) -> Option<Mnemonic>
 
 /// SPECIAL, by functions below 24.
 #[tactic(auto, unfolding(crate::specs::Instructions::special_rows))]
+#[inline(always)]
 fn special(function: u8, word: u32) -> Option<Mnemonic>
     ensures { read_as result word ≡ find_row special_rows function word }
 {
-    let (rs, rt, rd, sa) = (rs_of(word), rt_of(word), rd_of(word), sa_of(word));
     match function {
-        0 if rs == 0 => Some(Mnemonic::Sll),
-        2 if rs == 0 => Some(Mnemonic::Srl),
-        2 if rs == 1 => Some(Mnemonic::Rotr),
-        3 if rs == 0 => Some(Mnemonic::Sra),
-        4 if sa == 0 => Some(Mnemonic::Sllv),
-        6 if sa == 0 => Some(Mnemonic::Srlv),
-        6 if sa == 1 => Some(Mnemonic::Rotrv),
-        7 if sa == 0 => Some(Mnemonic::Srav),
-        8 if rt == 0 && rd == 0 => Some(Mnemonic::Jr),
-        9 if rt == 0 => Some(Mnemonic::Jalr),
-        10 if sa == 0 => Some(Mnemonic::Movz),
-        11 if sa == 0 => Some(Mnemonic::Movn),
+        0 if rs_of(word) == 0 => Some(Mnemonic::Sll),
+        2 if rs_of(word) == 0 => Some(Mnemonic::Srl),
+        2 if rs_of(word) == 1 => Some(Mnemonic::Rotr),
+        3 if rs_of(word) == 0 => Some(Mnemonic::Sra),
+        4 if sa_of(word) == 0 => Some(Mnemonic::Sllv),
+        6 if sa_of(word) == 0 => Some(Mnemonic::Srlv),
+        6 if sa_of(word) == 1 => Some(Mnemonic::Rotrv),
+        7 if sa_of(word) == 0 => Some(Mnemonic::Srav),
+        8 if rt_of(word) == 0 && rd_of(word) == 0 => Some(Mnemonic::Jr),
+        9 if rt_of(word) == 0 => Some(Mnemonic::Jalr),
+        10 if sa_of(word) == 0 => Some(Mnemonic::Movz),
+        11 if sa_of(word) == 0 => Some(Mnemonic::Movn),
         12 => Some(Mnemonic::Syscall),
         13 => Some(Mnemonic::Break),
-        15 if rs == 0 && rt == 0 && rd == 0 => Some(Mnemonic::Sync),
-        16 if rs == 0 && rt == 0 && sa == 0 => Some(Mnemonic::Mfhi),
-        17 if rt == 0 && rd == 0 && sa == 0 => Some(Mnemonic::Mthi),
-        18 if rs == 0 && rt == 0 && sa == 0 => Some(Mnemonic::Mflo),
-        19 if rt == 0 && rd == 0 && sa == 0 => Some(Mnemonic::Mtlo),
+        15 if rs_of(word) == 0 && rt_of(word) == 0 && rd_of(word) == 0 => Some(Mnemonic::Sync),
+        16 if rs_of(word) == 0 && rt_of(word) == 0 && sa_of(word) == 0 => Some(Mnemonic::Mfhi),
+        17 if rt_of(word) == 0 && rd_of(word) == 0 && sa_of(word) == 0 => Some(Mnemonic::Mthi),
+        18 if rs_of(word) == 0 && rt_of(word) == 0 && sa_of(word) == 0 => Some(Mnemonic::Mflo),
+        19 if rt_of(word) == 0 && rd_of(word) == 0 && sa_of(word) == 0 => Some(Mnemonic::Mtlo),
         _ => None,
     }
 }
 
 /// SPECIAL, by functions from 24.
 #[tactic(auto, unfolding(crate::specs::Instructions::arithmetic_rows))]
+#[inline(always)]
 fn arithmetic(function: u8, word: u32) -> Option<Mnemonic>
     ensures { read_as result word ≡ find_row arithmetic_rows function word }
 {
-    let (rd, sa) = (rd_of(word), sa_of(word));
     match function {
-        24 if rd == 0 && sa == 0 => Some(Mnemonic::Mult),
-        25 if rd == 0 && sa == 0 => Some(Mnemonic::Multu),
-        26 if rd == 0 && sa == 0 => Some(Mnemonic::Div),
-        27 if rd == 0 && sa == 0 => Some(Mnemonic::Divu),
-        32 if sa == 0 => Some(Mnemonic::Add),
-        33 if sa == 0 => Some(Mnemonic::Addu),
-        34 if sa == 0 => Some(Mnemonic::Sub),
-        35 if sa == 0 => Some(Mnemonic::Subu),
-        36 if sa == 0 => Some(Mnemonic::And),
-        37 if sa == 0 => Some(Mnemonic::Or),
-        38 if sa == 0 => Some(Mnemonic::Xor),
-        39 if sa == 0 => Some(Mnemonic::Nor),
-        42 if sa == 0 => Some(Mnemonic::Slt),
-        43 if sa == 0 => Some(Mnemonic::Sltu),
+        24 if rd_of(word) == 0 && sa_of(word) == 0 => Some(Mnemonic::Mult),
+        25 if rd_of(word) == 0 && sa_of(word) == 0 => Some(Mnemonic::Multu),
+        26 if rd_of(word) == 0 && sa_of(word) == 0 => Some(Mnemonic::Div),
+        27 if rd_of(word) == 0 && sa_of(word) == 0 => Some(Mnemonic::Divu),
+        32 if sa_of(word) == 0 => Some(Mnemonic::Add),
+        33 if sa_of(word) == 0 => Some(Mnemonic::Addu),
+        34 if sa_of(word) == 0 => Some(Mnemonic::Sub),
+        35 if sa_of(word) == 0 => Some(Mnemonic::Subu),
+        36 if sa_of(word) == 0 => Some(Mnemonic::And),
+        37 if sa_of(word) == 0 => Some(Mnemonic::Or),
+        38 if sa_of(word) == 0 => Some(Mnemonic::Xor),
+        39 if sa_of(word) == 0 => Some(Mnemonic::Nor),
+        42 if sa_of(word) == 0 => Some(Mnemonic::Slt),
+        43 if sa_of(word) == 0 => Some(Mnemonic::Sltu),
         48 => Some(Mnemonic::Tge),
         49 => Some(Mnemonic::Tgeu),
         50 => Some(Mnemonic::Tlt),
@@ -140,6 +143,7 @@ fn arithmetic(function: u8, word: u32) -> Option<Mnemonic>
 
 /// REGIMM, by the field rt.
 #[tactic(auto, unfolding(crate::specs::Instructions::regimm_rows, crate::specs::Instructions::register_immediate))]
+#[inline(always)]
 fn regimm(row: u8, word: u32) -> Option<Mnemonic>
     ensures { read_as result word ≡ find_row regimm_rows row word }
 {
@@ -165,35 +169,35 @@ fn regimm(row: u8, word: u32) -> Option<Mnemonic>
 
 /// SPECIAL2, by function.
 #[tactic(auto, unfolding(crate::specs::Instructions::special2_rows))]
+#[inline(always)]
 fn special2(function: u8, word: u32) -> Option<Mnemonic>
     ensures { read_as result word ≡ find_row special2_rows function word }
 {
-    let (rt, rd, sa) = (rt_of(word), rd_of(word), sa_of(word));
     match function {
-        0 if rd == 0 && sa == 0 => Some(Mnemonic::Madd),
-        1 if rd == 0 && sa == 0 => Some(Mnemonic::Maddu),
-        2 if sa == 0 => Some(Mnemonic::Mul),
-        4 if rd == 0 && sa == 0 => Some(Mnemonic::Msub),
-        5 if rd == 0 && sa == 0 => Some(Mnemonic::Msubu),
-        32 if sa == 0 && rt == rd => Some(Mnemonic::Clz),
-        33 if sa == 0 && rt == rd => Some(Mnemonic::Clo),
+        0 if rd_of(word) == 0 && sa_of(word) == 0 => Some(Mnemonic::Madd),
+        1 if rd_of(word) == 0 && sa_of(word) == 0 => Some(Mnemonic::Maddu),
+        2 if sa_of(word) == 0 => Some(Mnemonic::Mul),
+        4 if rd_of(word) == 0 && sa_of(word) == 0 => Some(Mnemonic::Msub),
+        5 if rd_of(word) == 0 && sa_of(word) == 0 => Some(Mnemonic::Msubu),
+        32 if sa_of(word) == 0 && rt_of(word) == rd_of(word) => Some(Mnemonic::Clz),
+        33 if sa_of(word) == 0 && rt_of(word) == rd_of(word) => Some(Mnemonic::Clo),
         _ => None,
     }
 }
 
 /// SPECIAL3, by function.
 #[tactic(auto, unfolding(crate::specs::Instructions::special3_rows))]
+#[inline(always)]
 fn special3(function: u8, word: u32) -> Option<Mnemonic>
     ensures { read_as result word ≡ find_row special3_rows function word }
 {
-    let (rs, rd, sa) = (rs_of(word), rd_of(word), sa_of(word));
     match function {
-        0 if rd + sa <= 31 => Some(Mnemonic::Ext),
-        4 if sa <= rd => Some(Mnemonic::Ins),
-        32 if rs == 0 && sa == 2 => Some(Mnemonic::Wsbh),
-        32 if rs == 0 && sa == 16 => Some(Mnemonic::Seb),
-        32 if rs == 0 && sa == 24 => Some(Mnemonic::Seh),
-        59 if rs == 0 && sa == 0 => Some(Mnemonic::Rdhwr),
+        0 if rd_of(word) + sa_of(word) <= 31 => Some(Mnemonic::Ext),
+        4 if sa_of(word) <= rd_of(word) => Some(Mnemonic::Ins),
+        32 if rs_of(word) == 0 && sa_of(word) == 2 => Some(Mnemonic::Wsbh),
+        32 if rs_of(word) == 0 && sa_of(word) == 16 => Some(Mnemonic::Seb),
+        32 if rs_of(word) == 0 && sa_of(word) == 24 => Some(Mnemonic::Seh),
+        59 if rs_of(word) == 0 && sa_of(word) == 0 => Some(Mnemonic::Rdhwr),
         _ => None,
     }
 }

@@ -4,6 +4,7 @@ ghost use Rattle.std.specs.Prelude.{◌≡◌};
 ghost use Rattle.mips_code.specs.Instructions.{opcode, rs, rt, rd, sa, function, target, immediate, signed_immediate, long_code, short_code};
 
 /// Bits 31 to 26.
+#[inline(always)]
 pub fn opcode_of(word: u32) -> u8
     ensures { result ≡ opcode word }
 {
@@ -11,6 +12,7 @@ pub fn opcode_of(word: u32) -> u8
 }
 
 /// Bits 25 to 21.
+#[inline(always)]
 pub fn rs_of(word: u32) -> u8
     ensures { result ≡ rs word }
 {
@@ -18,6 +20,7 @@ pub fn rs_of(word: u32) -> u8
 }
 
 /// Bits 20 to 16.
+#[inline(always)]
 pub fn rt_of(word: u32) -> u8
     ensures { result ≡ rt word }
 {
@@ -25,6 +28,7 @@ pub fn rt_of(word: u32) -> u8
 }
 
 /// Bits 15 to 11.
+#[inline(always)]
 pub fn rd_of(word: u32) -> u8
     ensures { result ≡ rd word }
 {
@@ -32,6 +36,7 @@ pub fn rd_of(word: u32) -> u8
 }
 
 /// Bits 10 to 6.
+#[inline(always)]
 pub fn sa_of(word: u32) -> u8
     ensures { result ≡ sa word }
 {
@@ -39,6 +44,7 @@ pub fn sa_of(word: u32) -> u8
 }
 
 /// Bits 5 to 0.
+#[inline(always)]
 pub fn function_of(word: u32) -> u8
     ensures { result ≡ function word }
 {
@@ -46,6 +52,7 @@ pub fn function_of(word: u32) -> u8
 }
 
 /// Bits 25 to 0.
+#[inline(always)]
 pub fn target_of(word: u32) -> u32
     ensures { result ≡ target word }
 {
@@ -53,6 +60,7 @@ pub fn target_of(word: u32) -> u32
 }
 
 /// Bits 15 to 0.
+#[inline(always)]
 pub fn immediate_of(word: u32) -> u16
     ensures { result ≡ immediate word }
 {
@@ -61,6 +69,7 @@ pub fn immediate_of(word: u32) -> u16
 
 #[tactic(auto, unfolding(crate::specs::Instructions::signed_immediate))]
 /// Bits 15 to 0, in two's complement.
+#[inline(always)]
 pub fn signed_immediate_of(word: u32) -> i16
     ensures { result ≡ signed_immediate word }
 {
@@ -68,6 +77,7 @@ pub fn signed_immediate_of(word: u32) -> i16
 }
 
 /// Bits 25 to 6.
+#[inline(always)]
 pub fn long_code_of(word: u32) -> u32
     ensures { result ≡ long_code word }
 {
@@ -75,6 +85,7 @@ pub fn long_code_of(word: u32) -> u32
 }
 
 /// Bits 15 to 6.
+#[inline(always)]
 pub fn short_code_of(word: u32) -> u16
     ensures { result ≡ short_code word }
 {

@@ -18,6 +18,7 @@ use parts::{do_fit, keeps_bounds, parts_of_insn, word_of_parts};
 /// The instruction of a word, by the instruction table of MIPS32 Release 2 (MIPS32 Architecture for
 /// Programmers, Volume II); None exactly where the word is in no row, as where a field that its row
 /// does not use is not 0. What comes is in range, so that it can be encoded. Takes no memory.
+#[inline(always)]
 pub fn decode(word: u32) -> Option<Insn>
     ensures meaning { result ≡ instruction_of word }
     ensures in_range { IfSome result (λ insn. IsTrue (is_in_range insn)) }

@@ -125,6 +125,7 @@ macro_rules! insn {
 
 /// The instruction of this name with the fields of a word.
 #[tactic(auto, using(crate::proofs::Decoding::stored))]
+#[inline(always)]
 pub fn with_fields(mnemonic: Mnemonic, word: u32) -> Insn
     ensures { result ≡ with_fields mnemonic word }
 {

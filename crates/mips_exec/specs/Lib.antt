@@ -2,8 +2,10 @@ pub mod Accumulator
 pub mod Arithmetic
 pub mod Computing
 pub mod Effect
+pub mod Going
 pub mod Jumps
 pub mod Operands
 pub mod Processor
 pub mod Step
 pub mod Traps
+pub mod inside

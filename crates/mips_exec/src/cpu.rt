@@ -79,9 +79,8 @@ impl Cpu {
         ensures set { self.new ≡ with_register self.old number value }
         ensures valid { IsValidProcessor self.new }
     {
-        if number != 0 {
-            self.regs[number as usize] = value;
-        }
+        self.regs[number as usize] = value;
+        self.regs[0] = 0;
     }
 
     /// The register that a field of 5 bits names.

@@ -45,6 +45,7 @@ pub enum Stepped {
 ///
 /// `NoMemory` comes only where the instruction stores to a page that was not written since it was
 /// mapped, and changes nothing, so that the call can be made again.
+#[inline(never)]
 #[tactic(auto, unfolding(crate::specs::Step::step_of))]
 pub fn step(cpu: &mut Cpu, space: &mut Space) -> Result<Stepped, NoMemory>
     ensures ok { IfOk result (λ came. step_of cpu.old space.old ≡ record { processor = cpu.new; memory = space.new; came = came }) }

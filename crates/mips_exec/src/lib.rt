@@ -1,4 +1,4 @@
-//! One instruction of a MIPS32 processor over guest memory.
+//! Instructions of a MIPS32 processor over guest memory.
 #![tactic(auto)]
 
 mod accumulator;
@@ -11,6 +11,7 @@ mod effect;
 mod execution;
 mod jumps;
 mod memory;
+mod running;
 mod table;
 mod transfers;
 mod traps;
@@ -18,3 +19,4 @@ mod traps;
 pub use cpu::{Cpu, Slot};
 pub use execution::{Stepped, step};
 pub use kernel_core::NoMemory;
+pub use running::{Ran, run};

@@ -1,5 +1,5 @@
 //! Loads and stores over guest memory, and the signals of their refusals.
-ghost use Rattle.std.specs.Prelude.{◌≡◌, ◌%◌, ◌<◌, ◌||◌, not, if◌then◌else◌, IfOk, OnOk, OnErr, IsTrue};
+ghost use Rattle.std.specs.Prelude.{◌≡◌, ◌%◌, ◌<◌, ◌||◌, not, if◌then◌else◌, IfOk, OnOk, OnErr, IsTrue, true, false};
 ghost use Rattle.guest_space.specs.Access.{first_denied};
 ghost use Rattle.guest_space.specs.Answers.{IsStoreAnswer};
 ghost use Rattle.guest_space.specs.Bytes.{read, written, are_ready};
@@ -53,7 +53,7 @@ fn deny(cpu: &mut Cpu, denied: Denied) -> Stepped
 }
 
 /// The number that a load reads, or the first byte that may not be loaded.
-#[inline]
+#[inline(always)]
 fn read(space: &Space, span: Span, address: u32) -> Result<u32, Denied>
     ensures { result ≡ read space.now (load_address span address) (load_width span) }
 {
@@ -108,7 +108,7 @@ fn loaded_value(span: Span, signed: bool, address: u32, old: u32, number: u32) -
 }
 
 /// A load: LB, LBU, LH, LHU, LW, LWL or LWR. It takes no memory.
-#[inline]
+#[inline(always)]
 pub fn load(
     cpu: &mut Cpu,
     space: &Space,
@@ -128,6 +128,53 @@ pub fn load(
         }
         Err(denied) => deny(cpu, denied),
     }
+}
+
+/// A load whose bytes may be loaded. Where one may not, nothing changes. It takes no memory.
+#[inline(always)]
+pub fn load_quietly(
+    cpu: &mut Cpu,
+    space: &Space,
+    span: Span,
+    signed: bool,
+    address: u32,
+    register: u8,
+) -> bool
+    ensures went { result ≡ true → carried_out cpu.old space.now (Effect.Load span signed address register)
+        ≡ record { processor = cpu.new; memory = space.now; came = Stepped.Next } }
+    ensures stays { result ≡ false → cpu.new ≡ cpu.old }
+{
+    match span {
+        Span::Byte if signed => load_span(cpu, space, Span::Byte, true, address, register),
+        Span::Byte => load_span(cpu, space, Span::Byte, false, address, register),
+        Span::Half if signed => load_span(cpu, space, Span::Half, true, address, register),
+        Span::Half => load_span(cpu, space, Span::Half, false, address, register),
+        Span::Word => load_span(cpu, space, Span::Word, signed, address, register),
+        Span::Left | Span::Right => load_span(cpu, space, span, signed, address, register),
+    }
+}
+
+/// The same, put in line with a span that is known there, so that the load's width is known too.
+#[inline(always)]
+fn load_span(
+    cpu: &mut Cpu,
+    space: &Space,
+    span: Span,
+    signed: bool,
+    address: u32,
+    register: u8,
+) -> bool
+    ensures went { result ≡ true → carried_out cpu.old space.now (Effect.Load span signed address register)
+        ≡ record { processor = cpu.new; memory = space.now; came = Stepped.Next } }
+    ensures stays { result ≡ false → cpu.new ≡ cpu.old }
+{
+    let Ok(number) = read(space, span, address) else {
+        return false;
+    };
+    let old = cpu.operand(register);
+    cpu.set_operand(register, loaded_value(span, signed, address, old, number));
+    let _ = go_on(cpu);
+    true
 }
 
 /// LL, which links its address. It takes no memory.
@@ -150,7 +197,7 @@ pub fn load_linked(cpu: &mut Cpu, space: &Space, address: u32, register: u8) -> 
 }
 
 /// Writes what a store writes: all its bytes, or none with the first that may not be stored to.
-#[inline]
+#[inline(always)]
 fn write(space: &mut Space, span: Span, address: u32, value: u32) -> Result<(), StoreError>
     ensures ok { OnOk result (space.new
         ≡ written space.old (store_address span address) (store_width span address) (stored_value span address value)) }
@@ -170,7 +217,7 @@ fn write(space: &mut Space, span: Span, address: u32, value: u32) -> Result<(), 
 }
 
 /// A store: SB, SH, SW, SWL or SWR. It writes all its bytes or none.
-#[inline]
+#[inline(always)]
 pub fn store(
     cpu: &mut Cpu,
     space: &mut Space,
@@ -188,6 +235,23 @@ pub fn store(
         Ok(()) => Ok(go_on(cpu)),
         Err(StoreError::Denied(denied)) => Ok(deny(cpu, denied)),
         Err(StoreError::NoMemory) => Err(NoMemory),
+    }
+}
+
+/// A store whose bytes may be stored to and that does not want for memory. Else nothing changes.
+#[inline(always)]
+pub fn store_quietly(cpu: &mut Cpu, space: &mut Space, span: Span, address: u32, value: u32) -> bool
+    ensures went { result ≡ true → carried_out cpu.old space.old (Effect.Store span address value)
+        ≡ record { processor = cpu.new; memory = space.new; came = Stepped.Next } }
+    ensures stays_cpu { result ≡ false → cpu.new ≡ cpu.old }
+    ensures stays_space { result ≡ false → space.new ≡ space.old }
+{
+    match write(space, span, address, value) {
+        Ok(()) => {
+            let _ = go_on(cpu);
+            true
+        }
+        Err(_error) => false,
     }
 }
 

@@ -21,7 +21,7 @@ use crate::traps::{break_number, trap_by, trap_if};
 use mips_code::Insn;
 
 /// The effect of an instruction on a processor.
-#[inline]
+#[inline(always)]
 pub fn effect_of(insn: Insn, cpu: &Cpu) -> Effect
     ensures { result ≡ effect_of insn cpu.now }
 {

@@ -3,7 +3,6 @@ pub mod EventPosts
 pub mod Numbering
 pub mod Logging
 pub mod Quieting
-pub mod Stepping
 pub mod Steps
 pub mod Turning
 pub mod Waking

@@ -12,6 +12,7 @@ use Rattle.kernel_model.specs.Pipes.{nothing}
 use Rattle.kernel_model.specs.SignalRows.{advance, after_expiry}
 use Rattle.kernel_model.specs.State.{Timer}
 use Rattle.mips_exec.specs.Processor.{Processor}
+use Rattle.mips_exec.specs.Going.{Goes, GoesThen, Steps}
 use Rattle.mips_exec.specs.Step.{Step}
 use Rattle.mips_exec.specs.declared.execution.Stepped.{Stepped}
 use Rattle.mips_exec.specs.declared.execution.Stepped.TheVariants.{Next}
@@ -22,7 +23,6 @@ use Rattle.o32_machine.specs.Emulator.{Emulated, ProcessState, at_clock, machine
 use Rattle.o32_machine.specs.Quiet.{IsQuiet, IsStill, IsTurnAfter}
 use Rattle.o32_machine.specs.declared.turn.Turn as code
 use Rattle.o32_machine.specs.inside.Quieting.{IsBefore, OnlyExecutes, goes, next_due}
-use Rattle.o32_machine.specs.inside.Stepping.{Goes, GoesThen, Steps}
 use Rattle.o32_machine.specs.inside.Steps.{begun}
 use Rattle.o32_model.specs.declared.wait.Wait.{Wait}
 use Rattle.kernel_core.specs.declared.info.Info.{Info}

@@ -10,6 +10,7 @@ use Rattle.kernel_core.specs.declared.info.Info.{Info}
 use Rattle.kernel_core.specs.declared.signal.Sig.{Sig}
 use Rattle.kernel_model.specs.Pipes.{nothing}
 use Rattle.mips_exec.specs.Processor.{Processor}
+use Rattle.mips_exec.specs.Going.{Goes, GoesThen, Steps}
 use Rattle.mips_exec.specs.Step.{Step}
 use Rattle.mips_exec.specs.declared.execution.Stepped.{Stepped}
 use Rattle.o32_machine.proofs.Steps.{turn_settled}
@@ -21,7 +22,6 @@ use Rattle.o32_machine.specs.declared.process.Last.{Last}
 use Rattle.o32_machine.specs.declared.turn.Turn as code
 use Rattle.o32_machine.specs.declared.turn.Turn.TheVariants.{Ended}
 use Rattle.o32_machine.specs.inside.Quieting.{IsBefore, OnlyExecutes, goes, next_due}
-use Rattle.o32_machine.specs.inside.Stepping.{Goes, GoesThen, Steps}
 use Rattle.o32_machine.specs.inside.Steps.{LastAnswers, jumped_within, last_steps, settled}
 use Rattle.o32_model.specs.declared.wait.Wait.{Wait}
 use Rattle.o32_turns.specs.Delivering.{next_signal}

@@ -7,7 +7,6 @@ mod files;
 mod numbers;
 mod posting;
 mod process;
-mod running;
 mod times;
 mod turn;
 

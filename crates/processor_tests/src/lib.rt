@@ -11,3 +11,5 @@ mod computing;
 mod machine;
 #[cfg(test)]
 mod steps;
+#[cfg(test)]
+mod stretches;

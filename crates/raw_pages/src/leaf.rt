@@ -41,6 +41,7 @@ impl Leaf {
         Ok(Leaf { entries })
     }
 
+    #[inline(always)]
     pub(crate) fn page(&self, place: usize) -> Option<&Page>
         requires { place < 1024 }
         ensures { option_copied result ≡ slice_index_or self.now place None }
@@ -90,6 +91,7 @@ impl Leaf {
     }
 
     /// The same where the page is mapped with leave to write.
+    #[inline(always)]
     pub(crate) fn write_if_allowed(
         &mut self,
         alloc: Global,

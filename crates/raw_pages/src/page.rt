@@ -1,5 +1,5 @@
 //! One page: its protection, and its bytes in a frame that is taken at the first write.
-ghost use Rattle.std.specs.Prelude.{◌≡◌, ◌+◌, ◌≤◌, ◌<◌, length, IfOk, OnOk, OnErr, IsOk, slice_index, slice_range, true, false, Some};
+ghost use Rattle.std.specs.Prelude.{◌≡◌, ◌+◌, ◌≤◌, ◌<◌, length, IfOk, IfSome, IfNone, OnOk, OnErr, IsOk, slice_index, slice_range, true, false, Some};
 ghost use Rattle.raw_pages.specs.Pages.{zero_page, zero_bytes, with_piece, cleared_page, put_at, IsWriteAnswer};
 
 use crate::piece::put;
@@ -91,7 +91,17 @@ impl Page {
         }
     }
 
+    /// The bytes, where the page was written, and None exactly where it was not.
+    #[inline(always)]
+    pub fn bytes(&self) -> Option<&[u8; PAGE_SIZE]>
+        ensures written { IfSome result (λ bytes. (self.now.ready ≡ true) × (bytes.now ≡ self.now.bytes)) }
+        ensures unwritten { IfNone result (self.now.ready ≡ false) }
+    {
+        self.frame.get()
+    }
+
     /// The byte at the place.
+    #[inline(always)]
     pub fn byte(&self, at: usize) -> u8
         requires { at < 4096 }
         ensures value { result ≡ slice_index self.now.bytes at }
@@ -104,6 +114,7 @@ impl Page {
     }
 
     /// The two bytes from the place on.
+    #[inline(always)]
     pub fn half(&self, at: usize) -> [u8; 2]
         requires { at + 2 ≤ 4096 }
         ensures value { result ≡ slice_range self.now.bytes at (at + 2) }
@@ -116,6 +127,7 @@ impl Page {
     }
 
     /// The four bytes from the place on.
+    #[inline(always)]
     pub fn word(&self, at: usize) -> [u8; 4]
         requires { at + 4 ≤ 4096 }
         ensures value { result ≡ slice_range self.now.bytes at (at + 4) }
@@ -128,6 +140,7 @@ impl Page {
     }
 
     /// Writes the bytes from the place on.
+    #[inline(always)]
     pub(crate) fn write(&mut self, alloc: Global, at: usize, bytes: &[u8]) -> Result<(), AllocError>
         requires { at + length bytes.now ≤ 4096 }
         ensures ok { OnOk result (self.new ≡ with_piece self.old at bytes.now) }
@@ -156,6 +169,7 @@ impl Page {
     }
 
     /// The same where the protection allows it.
+    #[inline(always)]
     pub(crate) fn write_if_allowed(
         &mut self,
         alloc: Global,
@@ -175,6 +189,7 @@ impl Page {
     }
 }
 
+#[inline(always)]
 fn put_in_frame(frame: &mut [u8; PAGE_SIZE], at: usize, bytes: &[u8])
     requires { at + length bytes.now ≤ 4096 }
     ensures { frame.new ≡ put_at frame.old at bytes.now }

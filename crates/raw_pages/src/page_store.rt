@@ -60,6 +60,7 @@ impl PageStore {
     }
 
     /// The page of this number, where it is mapped.
+    #[inline(always)]
     pub fn page(&self, page: u32) -> Option<&Page>
         ensures { option_copied result ≡ map.get self.now page }
     {
@@ -174,6 +175,7 @@ impl PageStore {
     }
 
     /// The same where the page is mapped with leave to write, by one look-up.
+    #[inline(always)]
     pub fn write_if_allowed(&mut self, page: u32, at: u32, bytes: &[u8]) -> Result<(), WriteError>
         requires number { page < 1048576 }
         requires inside { at + length bytes.now ≤ 4096 }

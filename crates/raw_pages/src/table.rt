@@ -9,6 +9,7 @@ use crate::write_error::WriteError;
 use std::alloc::{AllocError, Global};
 
 /// The place of the table that has the entry of the number.
+#[inline(always)]
 fn leaf_of(number: u32) -> usize
     ensures { result ≡ number / 1024 }
 {
@@ -16,6 +17,7 @@ fn leaf_of(number: u32) -> usize
 }
 
 /// The place of the number's entry in that table.
+#[inline(always)]
 fn place_of(number: u32) -> usize
     ensures place { result ≡ number % 1024 }
     ensures inside { result < 1024 }
@@ -24,6 +26,7 @@ fn place_of(number: u32) -> usize
 }
 
 /// The page of the number.
+#[inline(always)]
 pub(crate) fn page(leaves: &[Option<Leaf>], number: u32) -> Option<&Page>
     requires { number / 1024 < length leaves.now }
     ensures { option_copied result ≡ entry_of leaves.now number }
@@ -113,6 +116,7 @@ pub(crate) fn write(
 }
 
 /// The same where the page is mapped with leave to write.
+#[inline(always)]
 pub(crate) fn write_if_allowed(
     leaves: &mut [Option<Leaf>],
     alloc: Global,

@@ -4,8 +4,8 @@ use Rattle.guest_space.specs.Memory.{Memory}
 use Rattle.kernel_core.specs.declared.core_error.NoMemory.{NoMemory}
 use Rattle.mips_exec.specs.Processor.{Processor}
 use Rattle.mips_exec.specs.Step.{step_of}
-use Rattle.mips_exec.specs.declared.Stepped.{Stepped}
-use Rattle.mips_exec.specs.declared.Stepped.TheVariants.{Next}
+use Rattle.mips_exec.specs.declared.execution.Stepped.{Stepped}
+use Rattle.mips_exec.specs.declared.execution.Stepped.TheVariants.{Next}
 
 -- an instruction leads from one processor and memory to others, and came to this
 abbrev pub Steps : Processor → Memory → Stepped → Processor → Memory → Type 0

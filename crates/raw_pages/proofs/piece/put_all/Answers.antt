@@ -1,6 +1,0 @@
-use Rattle.std.proofs.Common.{arith}
-use Rattle.raw_pages.proofs.Puts.{put_mid-put_at}
-use Rattle.raw_pages.proofs.piece.put_all.Goals as goal
-
-pub returns : goal.returns
-returns c = put_mid-put_at _ _ _ _ _ c.requires c.copy_from_slice.ensures.after (omega arith)
