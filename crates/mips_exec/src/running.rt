@@ -4,6 +4,7 @@
 //! no store, no call and no fault comes between: a stretch ends there, and where the program counter leaves the page.
 ghost use Rattle.std.specs.Prelude.{◌≡◌, ◌%◌, ◌/◌, ◌-◌, ◌≤◌, ◌<◌, IfSome, None, Some, true, false};
 ghost use Rattle.std.specs.FinMap as map;
+ghost use Rattle.raw_pages.specs.Pages.{shown_bytes};
 ghost use Rattle.guest_space.specs.Access.{refusal};
 ghost use Rattle.guest_space.specs.declared.access.Access.TheVariants as Access;
 ghost use Rattle.mips_exec.specs.Step.{step_of, carried_out, effect_at};
@@ -16,7 +17,7 @@ use crate::effect::{Effect, Span};
 use crate::execution::{Stepped, step};
 use crate::memory::{load_quietly, store_quietly};
 use crate::table::effect_of;
-use guest_space::{Page, Space};
+use guest_space::Space;
 use kernel_core::NoMemory;
 use kernel_core::address_space::PAGE_SIZE;
 use mips_code::decode;
@@ -114,14 +115,14 @@ fn jump_quietly(cpu: &mut Cpu, space: &Space, link: Option<u8>, target: Option<u
     true
 }
 
-/// Carries out the instruction at the program counter, in this page, which may be fetched, where it stores nothing, makes
-/// no call and meets no fault. Else nothing changes.
+/// Carries out the instruction at the program counter, in the page of these bytes, which may be fetched, where it stores
+/// nothing, makes no call and meets no fault. Else nothing changes.
 #[inline(always)]
 #[tactic(auto, unfolding(crate::specs::Step::step_of, crate::specs::Step::effect_at))]
-fn step_in_page(cpu: &mut Cpu, space: &Space, page: &Page) -> Quiet
+fn step_in_page(cpu: &mut Cpu, space: &Space, page: &[u8; 4096]) -> Quiet
     requires aligned { cpu.old.pc % 4 ≡ 0 }
     requires usable { refusal Access.Load space.now.pages cpu.old.pc ≡ None }
-    requires there { map.get space.now.pages (cpu.old.pc / 4096) ≡ Some page.now }
+    requires there { shown_bytes (map.get space.now.pages (cpu.old.pc / 4096)) ≡ page.now }
     ensures told { IsQuiet cpu.old space.now result cpu.new }
 {
     match decode(space.word_in_page(page, cpu.pc)) {
@@ -159,12 +160,12 @@ fn lies_in_page(address: u32, number: u32) -> bool
     place / 4 + place % 4 * 0x4000_0000 < PAGE_SIZE / 4
 }
 
-/// Carries out instructions of this page, which may be fetched: at most `most`, up to one that stores, makes a call,
-/// meets a fault or lies elsewhere.
+/// Carries out instructions of the page of these bytes, which may be fetched: at most `most`, up to one that stores, makes
+/// a call, meets a fault or lies elsewhere.
 #[inline(always)]
-fn run_in_page(cpu: &mut Cpu, space: &Space, page: &Page, most: u64) -> Rest
+fn run_in_page(cpu: &mut Cpu, space: &Space, page: &[u8; 4096], most: u64) -> Rest
     requires usable { refusal Access.Load space.now.pages cpu.old.pc ≡ None }
-    requires there { map.get space.now.pages (cpu.old.pc / 4096) ≡ Some page.now }
+    requires there { shown_bytes (map.get space.now.pages (cpu.old.pc / 4096)) ≡ page.now }
     ensures went { Goes (most - result.left) cpu.old space.now cpu.new space.now }
     ensures few { result.left ≤ most }
     ensures next { IfSome result.store (λ store. (0 < result.left) × (effect_at cpu.new space.now ≡ Effect.Store store.span store.address store.value)) }
@@ -186,7 +187,7 @@ fn run_in_page(cpu: &mut Cpu, space: &Space, page: &Page, most: u64) -> Rest
     Rest { left, store: None }
 }
 
-/// The same in the page of the program counter, with no instruction where that may not be fetched.
+/// The same in the page of the program counter, with no instruction where that may not be fetched or was never written.
 #[inline(always)]
 fn run_here(cpu: &mut Cpu, space: &Space, most: u64) -> Rest
     ensures went { Goes (most - result.left) cpu.old space.now cpu.new space.now }
