@@ -1,4 +1,4 @@
-use Rattle.std.proofs.Common.{◌≡◌, ◌/◌, ◌%◌, ◌-◌, ◌+◌, ℕ, rules, arith, refl, sym, ap, subst, ◌∙◌}
+use Rattle.std.proofs.Common.{◌≡◌, ◌/◌, ◌%◌, ◌-◌, ◌+◌, ℕ, arith, refl, sym, ap, subst, ◌∙◌}
 use Rattle.std.specs.FinMap as map
 use Rattle.raw_pages.specs.Pages.{shown_bytes}
 use Rattle.mips_exec.specs.Going.{Goes}
@@ -18,12 +18,12 @@ step_in_page-requires-clause-aligned c = ap (λ p. p.pc % 4) (sym c.cpu-in-loop-
 pub step_in_page-requires-clause-usable : goal.step_in_page-requires-clause-usable
 step_in_page-requires-clause-usable c =
     usable_in_page c.args.space.now.pages c.args.cpu.now.pc c.loop-left.cpu.pc
-        (ap (λ p. p.pc / 4096) (sym c.cpu.view_is) ∙ sym (c.if-lies_in_page.ensures.page refl) ∙ ap (λ p. p.pc / 4096) c.cpu-in-loop-left.view_is) c.requires.usable
+    (ap (λ p. p.pc / 4096) (sym c.cpu.view_is) ∙ sym (c.if-lies_in_page.ensures.page refl) ∙ ap (λ p. p.pc / 4096) c.cpu-in-loop-left.view_is) c.requires.usable
 
 pub step_in_page-requires-clause-there : goal.step_in_page-requires-clause-there
 step_in_page-requires-clause-there c =
     subst (λ (n : ℕ). shown_bytes (map.get c.args.space.now.pages n) ≡ c.args.page.now)
-        (ap (λ p. p.pc / 4096) (sym c.cpu.view_is) ∙ sym (c.if-lies_in_page.ensures.page refl) ∙ ap (λ p. p.pc / 4096) c.cpu-in-loop-left.view_is) c.requires.there
+    (ap (λ p. p.pc / 4096) (sym c.cpu.view_is) ∙ sym (c.if-lies_in_page.ensures.page refl) ∙ ap (λ p. p.pc / 4096) c.cpu-in-loop-left.view_is) c.requires.there
 
 pub loop-left-preserved : goal.loop-left-preserved
 loop-left-preserved c = record {
