@@ -1,6 +1,7 @@
 pub mod Carrying
 pub mod FrameSizes
 pub mod Framing
+pub mod Keeping
 pub mod Numbers
 pub mod Nothing
 pub mod Rounds

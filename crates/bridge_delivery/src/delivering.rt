@@ -1,5 +1,6 @@
 //! The delivery of signals, round by round.
 ghost use Rattle.std.specs.Prelude.{◌≡◌, Some};
+ghost use Rattle.bridge_delivery.specs.Kept.{KeepsNative};
 ghost use Rattle.bridge_delivery.specs.inside.Standings.{Finds, is_over};
 ghost use Rattle.kernel_model.specs.Stops.{StopsOnlyIfRose};
 ghost use Rattle.o32_turns.specs.Closing.{whole_end};
@@ -45,6 +46,7 @@ pub fn deliver<I: Source, O: Sink, E: Sink>(
     ensures delivered { Carries (spec.deliver whole_end) result
         (within_of going.old cpu.old space.old k.old) (within_of going.new cpu.new space.new k.new)
         (contents I.left O.written E.written dev.old) (contents I.left O.written E.written dev.new) }
+    ensures kept { KeepsNative result (I.left dev.old.input) k.old k.new log.old.native log.new.native }
     ensures cause { StopsOnlyIfRose I.faults O.faults E.faults result dev.old dev.new }
     ensures counts { NoCountFell I.faults O.faults E.faults dev.old dev.new }
     ensures clock { k.new.clock ≡ clock }
@@ -83,6 +85,7 @@ fn round<I: Source, O: Sink, E: Sink>(
     ensures delivered { Carries (λ within. spec.round_by whole_end within within.machine.fault) result
         (within_of going.old cpu.old space.old k.old) (within_of going.new cpu.new space.new k.new)
         (contents I.left O.written E.written dev.old) (contents I.left O.written E.written dev.new) }
+    ensures kept { KeepsNative result (I.left dev.old.input) k.old k.new log.old.native log.new.native }
     ensures cause { StopsOnlyIfRose I.faults O.faults E.faults result dev.old dev.new }
     ensures counts { NoCountFell I.faults O.faults E.faults dev.old dev.new }
     ensures clock { k.new.clock ≡ clock }
@@ -109,6 +112,7 @@ fn take_fault<I: Source, O: Sink, E: Sink>(
     ensures delivered { Carries (λ within. spec.fault_taken whole_end within info.now) result
         (within_of going.old cpu.old space.old k.old) (within_of going.new cpu.new space.new k.new)
         (contents I.left O.written E.written dev.old) (contents I.left O.written E.written dev.new) }
+    ensures kept { KeepsNative result (I.left dev.old.input) k.old k.new log.old.native log.new.native }
     ensures cause { StopsOnlyIfRose I.faults O.faults E.faults result dev.old dev.new }
     ensures counts { NoCountFell I.faults O.faults E.faults dev.old dev.new }
     ensures clock { k.new.clock ≡ clock }
@@ -140,6 +144,7 @@ fn deliver_fault<I: Source, O: Sink, E: Sink>(
         → Carries (λ within. fault_delivered whole_end within info.now action.now) result
         (within_of going.old cpu.old space.old k.old) (within_of going.new cpu.new space.new k.new)
         (contents I.left O.written E.written dev.old) (contents I.left O.written E.written dev.new) }
+    ensures kept { KeepsNative result (I.left dev.old.input) k.old k.new log.old.native log.new.native }
     ensures cause { StopsOnlyIfRose I.faults O.faults E.faults result dev.old dev.new }
     ensures counts { NoCountFell I.faults O.faults E.faults dev.old dev.new }
     ensures clock { k.new.clock ≡ clock }
@@ -166,6 +171,7 @@ fn take_next<I: Source, O: Sink, E: Sink>(
     ensures delivered { Carries (λ within. next_taken whole_end within (next_signal within.machine.kernel.signals)) result
         (within_of going.old cpu.old space.old k.old) (within_of going.new cpu.new space.new k.new)
         (contents I.left O.written E.written dev.old) (contents I.left O.written E.written dev.new) }
+    ensures kept { KeepsNative result (I.left dev.old.input) k.old k.new log.old.native log.new.native }
     ensures cause { StopsOnlyIfRose I.faults O.faults E.faults result dev.old dev.new }
     ensures counts { NoCountFell I.faults O.faults E.faults dev.old dev.new }
     ensures clock { k.new.clock ≡ clock }
@@ -185,6 +191,7 @@ fn next<I: Source, O: Sink, E: Sink>(
 ) -> Result<Option<Sig>, Stop>
     ensures looks { Finds (λ signal. signal ≡ next_signal k.old.signals) result k.old k.new
         (contents I.left O.written E.written dev.old) (contents I.left O.written E.written dev.new) }
+    ensures kept { KeepsNative result (I.left dev.old.input) k.old k.new log.old.native log.new.native }
     ensures cause { StopsOnlyIfRose I.faults O.faults E.faults result dev.old dev.new }
     ensures counts { NoCountFell I.faults O.faults E.faults dev.old dev.new }
     ensures clock { k.new.clock ≡ k.old.clock }
@@ -210,6 +217,7 @@ fn take_signal<I: Source, O: Sink, E: Sink>(
     ensures delivered { Carries (λ within. next_taken whole_end within (Some sig)) result
         (within_of going.old cpu.old space.old k.old) (within_of going.new cpu.new space.new k.new)
         (contents I.left O.written E.written dev.old) (contents I.left O.written E.written dev.new) }
+    ensures kept { KeepsNative result (I.left dev.old.input) k.old k.new log.old.native log.new.native }
     ensures cause { StopsOnlyIfRose I.faults O.faults E.faults result dev.old dev.new }
     ensures counts { NoCountFell I.faults O.faults E.faults dev.old dev.new }
     ensures clock { k.new.clock ≡ clock }
@@ -238,6 +246,7 @@ fn deliver_sent<I: Source, O: Sink, E: Sink>(
     ensures delivered { Carries (λ within. spec.delivered whole_end within info.now action.now) result
         (within_of going.old cpu.old space.old k.old) (within_of going.new cpu.new space.new k.new)
         (contents I.left O.written E.written dev.old) (contents I.left O.written E.written dev.new) }
+    ensures kept { KeepsNative result (I.left dev.old.input) k.old k.new log.old.native log.new.native }
     ensures cause { StopsOnlyIfRose I.faults O.faults E.faults result dev.old dev.new }
     ensures counts { NoCountFell I.faults O.faults E.faults dev.old dev.new }
     ensures clock { k.new.clock ≡ clock }

@@ -1,5 +1,6 @@
 //! A handler begins.
 ghost use Rattle.std.specs.Prelude.{◌≡◌};
+ghost use Rattle.bridge_delivery.specs.Kept.{KeepsNative};
 ghost use Rattle.bridge_delivery.specs.inside.Standings.{Becomes};
 ghost use Rattle.kernel_model.specs.Stops.{StopsOnlyIfRose};
 ghost use Rattle.o32_turns.specs.Closing.{whole_end};
@@ -43,6 +44,7 @@ pub(crate) fn handle<I: Source, O: Sink, E: Sink>(
     ensures handled { Carries (λ within. spec.handled whole_end within info.now action.now) result
         (within_of going.old cpu.old space.old k.old) (within_of going.new cpu.new space.new k.new)
         (contents I.left O.written E.written dev.old) (contents I.left O.written E.written dev.new) }
+    ensures kept { KeepsNative result (I.left dev.old.input) k.old k.new log.old.native log.new.native }
     ensures cause { StopsOnlyIfRose I.faults O.faults E.faults result dev.old dev.new }
     ensures counts { NoCountFell I.faults O.faults E.faults dev.old dev.new }
     ensures clock { k.new.clock ≡ clock }
@@ -68,6 +70,7 @@ fn leave_wait<I: Source, O: Sink, E: Sink>(
     ensures left { Carries (λ within. wait_left_by whole_end action.now within.machine.wait within) result
         (within_of going.old cpu.old space.old k.old) (within_of going.new cpu.new space.new k.new)
         (contents I.left O.written E.written dev.old) (contents I.left O.written E.written dev.new) }
+    ensures kept { KeepsNative result (I.left dev.old.input) k.old k.new log.old.native log.new.native }
     ensures cause { StopsOnlyIfRose I.faults O.faults E.faults result dev.old dev.new }
     ensures counts { NoCountFell I.faults O.faults E.faults dev.old dev.new }
     ensures clock { k.new.clock ≡ clock }
@@ -103,6 +106,7 @@ fn begin<I: Source, O: Sink, E: Sink>(
     ensures begun { Carries (λ within. begun within info.now action.now) result
         (within_of going.old cpu.old space.old k.old) (within_of going.new cpu.new space.new k.new)
         (contents I.left O.written E.written dev.old) (contents I.left O.written E.written dev.new) }
+    ensures kept { KeepsNative result (I.left dev.old.input) k.old k.new log.old.native log.new.native }
     ensures cause { StopsOnlyIfRose I.faults O.faults E.faults result dev.old dev.new }
     ensures counts { NoCountFell I.faults O.faults E.faults dev.old dev.new }
     ensures clock { k.new.clock ≡ k.old.clock }
@@ -132,6 +136,7 @@ fn begin_on<I: Source, O: Sink, E: Sink>(
         → Carries (λ within. begun within info.now action.now) result
         (within_of going.old cpu.old space.old k.old) (within_of going.new cpu.new space.new k.new)
         (contents I.left O.written E.written dev.old) (contents I.left O.written E.written dev.new) }
+    ensures kept { KeepsNative result (I.left dev.old.input) k.old k.new log.old.native log.new.native }
     ensures cause { StopsOnlyIfRose I.faults O.faults E.faults result dev.old dev.new }
     ensures counts { NoCountFell I.faults O.faults E.faults dev.old dev.new }
     ensures clock { k.new.clock ≡ k.old.clock }
@@ -158,6 +163,7 @@ fn run_handler<I: Source, O: Sink, E: Sink>(
 ) -> Result<(), Stop>
     ensures handling { blocked ≡ k.old.signals.mask → Becomes (λ kernel. spec.handling kernel sig action.now) result k.old k.new
         (contents I.left O.written E.written dev.old) (contents I.left O.written E.written dev.new) }
+    ensures kept { KeepsNative result (I.left dev.old.input) k.old k.new log.old.native log.new.native }
     ensures cause { StopsOnlyIfRose I.faults O.faults E.faults result dev.old dev.new }
     ensures counts { NoCountFell I.faults O.faults E.faults dev.old dev.new }
     ensures clock { k.new.clock ≡ k.old.clock }
@@ -179,6 +185,7 @@ fn reset<I: Source, O: Sink, E: Sink>(
 ) -> Result<(), Stop>
     ensures reset { Becomes (without_action sig) result k.old k.new
         (contents I.left O.written E.written dev.old) (contents I.left O.written E.written dev.new) }
+    ensures kept { KeepsNative result (I.left dev.old.input) k.old k.new log.old.native log.new.native }
     ensures cause { StopsOnlyIfRose I.faults O.faults E.faults result dev.old dev.new }
     ensures counts { NoCountFell I.faults O.faults E.faults dev.old dev.new }
     ensures clock { k.new.clock ≡ k.old.clock }

@@ -1,8 +1,9 @@
 //! Signals that come from outside, and the timer's.
-ghost use Rattle.std.specs.Prelude.{◌≡◌, ◌≤◌, ◌==◌, ℕ, List, OnOk};
+ghost use Rattle.std.specs.Prelude.{◌≡◌, ◌≤◌, ◌==◌, ℕ, List, None, OnOk};
 ghost use Rattle.std.specs.List.{list_any};
 ghost use Rattle.bridge_ends.specs.inside.Endings.{happened, has_come, names, timer_told};
 ghost use Rattle.guest_space.specs.Memory.{Memory};
+ghost use Rattle.kernel_model.specs.Clock.{gone_off};
 ghost use Rattle.kernel_model.specs.Pending.{CanPend};
 ghost use Rattle.kernel_model.specs.SignalRows.{info_of, parent_id};
 ghost use Rattle.kernel_model.specs.SignalSets.{place};
@@ -49,7 +50,7 @@ pub fn post_event(
 }
 
 /// Moves the kernel's clock to a time, in nanoseconds, which is not before its own, and tells of the timer's signal,
-/// where the timer was due by then (setitimer(2)). Where it is ignored it is kept as in [`post_event`]. After NoMemory
+/// where the timer was due by then (setitimer(2)), and is not then. Where it is ignored it is kept as in [`post_event`]. After NoMemory
 /// process and kernel are not used again.
 pub fn post_timer(
     clock: u64,
@@ -62,6 +63,7 @@ pub fn post_timer(
         → within_of going.new processor space.now k.new coming idle
         ≡ timer_posted whole (within_of going.old processor space.now (record k.old { clock = clock }) coming idle)) }
     ensures clock { k.new.clock ≡ clock }
+    ensures waits { OnOk result (gone_off clock k.new.timer ≡ None) }
 {
     let next = k.next_time();
     let awaited = waits_for(Sig::Alrm, going, space);

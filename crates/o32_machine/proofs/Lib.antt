@@ -1,6 +1,7 @@
 pub mod Coming
 pub mod EventPosts
 pub mod Numbering
+pub mod Logging
 pub mod Quieting
 pub mod Stepping
 pub mod Steps

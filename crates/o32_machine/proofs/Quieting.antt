@@ -17,6 +17,7 @@ use Rattle.mips_exec.specs.declared.execution.Stepped.{Stepped}
 use Rattle.mips_exec.specs.declared.execution.Stepped.TheVariants.{Next}
 use Rattle.o32_machine.proofs.Turning.{at_time_answers, at_time_stopped, fails_before, stops}
 use Rattle.o32_machine.specs.Answered.{IsTurn, Stopped, Turned, turns_done, turns_of}
+use Rattle.native_log.specs.NativeLog.{NativeLog}
 use Rattle.o32_machine.specs.Emulator.{Emulated, ProcessState, at_clock, machine_at, machine_of}
 use Rattle.o32_machine.specs.Quiet.{IsQuiet, IsTurnAfter}
 use Rattle.o32_machine.specs.declared.turn.Turn as code
@@ -332,8 +333,8 @@ module _ (quantum limit : ℕ) (machine : Machine) (turns most k : ℕ) (only : 
 
 -- The same of an emulator, whose process begins a turn, runs and has its clock moved
 
-module _ (emulated : Emulated) (clock quantum turns : ℕ) (over : Bool) (process : ProcessState)
-    (is : record { machine = machine_at clock (machine_of process); quantum = quantum; turns = turns; over = over; events = process.going.events } ≡ emulated)
+module _ (emulated : Emulated) (clock quantum turns : ℕ) (over : Bool) (native : NativeLog) (process : ProcessState)
+    (is : record { machine = machine_at clock (machine_of process); quantum = quantum; turns = turns; over = over; events = process.going.events; native = native } ≡ emulated)
     (limit most k : ℕ) (only : OnlyExecutes emulated.quantum emulated.machine most) (few : k ≤ most) (within : most < limit) (begun_by ran : ProcessState)
     (begun_is : begun_by ≡ record process { going = begun process.going }) (others : ran ≡ record begun_by { processor = ran.processor; memory = ran.memory }) where
   abbrev inside : Machine

@@ -8,6 +8,7 @@ use Rattle.kernel_model.specs.Pipes.{Sent, nothing}
 use Rattle.kernel_model.specs.SignalRows.{advance, after_expiry}
 use Rattle.kernel_model.specs.State.{Kernel, Timer}
 use Rattle.o32_machine.specs.Answered.{Answers, Stopped, Turned, over_of}
+use Rattle.native_log.specs.NativeLog.{NativeLog}
 use Rattle.o32_machine.specs.Emulator.{Emulated, ProcessState, at_clock, machine_at, machine_of}
 use Rattle.o32_machine.specs.declared.turn.Turn as code
 use Rattle.o32_machine.specs.inside.Finishing.{finished}
@@ -163,8 +164,8 @@ not_due kernel clock none = ap (λ (gone : Option Timer). after_expiry (record k
 
 -- A call alone, where no timer is due
 
-module _ (emulated : Emulated) (clock quantum turns : ℕ) (over : Bool) (process before_call : ProcessState)
-    (is : record { machine = machine_at clock (machine_of process); quantum = quantum; turns = turns; over = over; events = process.going.events } ≡ emulated)
+module _ (emulated : Emulated) (clock quantum turns : ℕ) (over : Bool) (native : NativeLog) (process before_call : ProcessState)
+    (is : record { machine = machine_at clock (machine_of process); quantum = quantum; turns = turns; over = over; events = process.going.events; native = native } ≡ emulated)
     (before_is : before_call ≡ record process { kernel = at_clock clock process.kernel; going = begun process.going }) (left : List ℕ) where
   call_is : at_time clock (after_events before_call.going.events (called whole (machine_of before_call) left)) ≡ at_time emulated.machine.kernel.clock (called whole emulated.machine left)
   call_is =

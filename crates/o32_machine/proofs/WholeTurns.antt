@@ -15,6 +15,7 @@ use Rattle.mips_exec.specs.declared.execution.Stepped.{Stepped}
 use Rattle.o32_machine.proofs.Steps.{turn_settled}
 use Rattle.o32_machine.proofs.Turning.{at_time_answers, at_time_stopped, fails_before, quiet_turn, stopped_before, stops}
 use Rattle.o32_machine.specs.Answered.{Answers, Stopped, Turned, over_of}
+use Rattle.native_log.specs.NativeLog.{NativeLog}
 use Rattle.o32_machine.specs.Emulator.{Emulated, ProcessState, machine_at, machine_of, within_now}
 use Rattle.o32_machine.specs.declared.process.Last.{Last}
 use Rattle.o32_machine.specs.declared.turn.Turn as code
@@ -133,8 +134,8 @@ lacks_first defined (Err stop) new at failed = stopped_before defined at
 
 -- The whole
 
-module _ (emulated : Emulated) (clock quantum turns : ℕ) (over : Bool) (process : ProcessState)
-    (is : record { machine = machine_at clock (machine_of process); quantum = quantum; turns = turns; over = over; events = process.going.events } ≡ emulated) where
+module _ (emulated : Emulated) (clock quantum turns : ℕ) (over : Bool) (native : NativeLog) (process : ProcessState)
+    (is : record { machine = machine_at clock (machine_of process); quantum = quantum; turns = turns; over = over; events = process.going.events; native = native } ≡ emulated) where
   abbrev its_turn : List ℕ → Turn
   its_turn left = turn_of emulated.quantum emulated.machine left
 
@@ -185,8 +186,8 @@ only_so quantum machine most up early =
     let so = goes_so machine.wait machine.fault machine.stopped (next_signal machine.kernel.signals) up in
     record { waits = so.0; faults = so.1; stops = so.2; delivers = so.3; early = early }
 
-module _ (emulated : Emulated) (clock quantum turns : ℕ) (over : Bool) (process : ProcessState)
-    (is : record { machine = machine_at clock (machine_of process); quantum = quantum; turns = turns; over = over; events = process.going.events } ≡ emulated)
+module _ (emulated : Emulated) (clock quantum turns : ℕ) (over : Bool) (native : NativeLog) (process : ProcessState)
+    (is : record { machine = machine_at clock (machine_of process); quantum = quantum; turns = turns; over = over; events = process.going.events; native = native } ≡ emulated)
     (due : Option ℕ) (due_is : due ≡ next_due (machine_of process)) (up : goes (machine_of process) ≡ true) where
   only_here : (most : ℕ) → IsBefore (clock + most * quantum) due → OnlyExecutes emulated.quantum emulated.machine most
   only_here most early =

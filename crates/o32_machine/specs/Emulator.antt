@@ -4,19 +4,21 @@ use Rattle.guest_space.specs.Memory.{Memory}
 use Rattle.kernel_core.specs.declared.event.Event.{Event}
 use Rattle.kernel_model.specs.State.{Kernel}
 use Rattle.mips_exec.specs.Processor.{Processor}
+use Rattle.native_log.specs.NativeLog.{NativeLog}
 use Rattle.o32_turns.specs.Going.{Standing, within_of}
 use Rattle.o32_turns.specs.Machine.{Machine, Within}
 use Rattle.schedule.specs.declared.Schedule.{Schedule}
 use Rattle.schedule.specs.declared.events.Due.{Due}
 
 -- The machine; how many nanoseconds of its clock a turn with an instruction takes; how many turns there were; whether there is no further
--- one, because the process has ended or is blocked, or a turn stopped early; and what happened in the last turn, in order
+-- one, because the process has ended or is blocked, or a turn stopped early; what happened in the last turn, in order; and the native log
 pub record Emulated : Type 0 where
   pub machine : Machine
   pub quantum : ℕ
   pub turns : ℕ
   pub over : Bool
   pub events : List Event
+  pub native : NativeLog
 
 -- The machine's clock is ahead of the native kernel's, which is moved when a turn has posted what is due: the machine's kernel is the native one
 -- at the machine's time.
@@ -72,8 +74,8 @@ first_process processor memory kernel coming =
 abbrev pub first_machine : Processor → Memory → Kernel → List Due → Machine
 first_machine processor memory kernel coming = machine_of (first_process processor memory kernel coming)
 
-abbrev pub first_emulated : ℕ → Machine → Emulated
-first_emulated quantum machine = record { machine = machine; quantum = quantum; turns = 0; over = false; events = [] }
+abbrev pub first_emulated : ℕ → Machine → NativeLog → Emulated
+first_emulated quantum machine native = record { machine = machine; quantum = quantum; turns = 0; over = false; events = []; native = native }
 
 -- the process runs: it is not over, no call waits, and no signal has stopped it
 abbrev pub runs : Emulated → Bool

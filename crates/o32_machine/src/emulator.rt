@@ -1,5 +1,5 @@
 //! An emulator: a process, its clock and the turns that it took.
-ghost use Rattle.std.specs.Prelude.{◌≡◌, ◌↔◌, ◌+◌, ◌*◌, ◌<◌, ◌≤◌, ℕ, Contains, false, true, IfOk, IfSome, None};
+ghost use Rattle.std.specs.Prelude.{◌≡◌, ◌↔◌, ◌+◌, ◌*◌, ◌<◌, ◌≤◌, [], ℕ, Contains, false, true, IfOk, IfSome, None, unwrap_or};
 ghost use Rattle.kernel_core.specs.LoadedTree.{saved};
 ghost use Rattle.kernel_core.specs.ValidTree.{IsReached, IsValidTree, numbers};
 ghost use Rattle.kernel_model.specs.Begin.{first_state};
@@ -7,7 +7,9 @@ ghost use Rattle.kernel_model.specs.Clock.{gone_off};
 ghost use Rattle.kernel_model.specs.Stops.{StopsOnlyIfRose};
 ghost use Rattle.native_kernel.specs.Settings.{settings_of};
 ghost use Rattle.o32_machine.specs.Answered.{IsTurn, is_last, turns_done};
+ghost use Rattle.native_log.specs.NativeLog.{first_log};
 ghost use Rattle.o32_machine.specs.Emulator.{coming_of, first_emulated, first_machine, runs};
+ghost use Rattle.o32_machine.specs.Native.{LogsTurn};
 ghost use Rattle.o32_machine.specs.Quiet.{IsTurnAfter};
 ghost use Rattle.o32_machine.specs.inside.Quieting.{OnlyExecutes};
 ghost use Rattle.o32_turns.specs.Instruction.{at_time, called};
@@ -18,8 +20,9 @@ ghost use Rattle.schedule.specs.Ranges.{IsGivenSchedule};
 use crate::process::Process;
 use crate::times::{later, most_quiet};
 use crate::turn::Turn;
-use kernel_core::{Event, NoMemory, Stop, Tree};
+use kernel_core::{Event, LogEntry, NoMemory, Stop, Tree};
 use native_kernel::NativeKernel;
+use native_log::NativeLog;
 use outside::{Devices, Sink, Source};
 use schedule::Schedule;
 use start_stack::Start;
@@ -40,6 +43,8 @@ pub struct Emulator {
     quantum: u64,
     turns: u64,
     over: bool,
+    /// What the kernel was told and asked in the last turns that were taken at once.
+    native: NativeLog,
 }
 
 impl Model for Emulator {
@@ -53,26 +58,28 @@ impl Model for Emulator {
 
     ghost coded = { Prim.hlevel (codes, memory_code, nodes_code) };
 
-    ghost view = { λ e. record { machine = machine_at e.clock (machine_of e.process); quantum = e.quantum; turns = e.turns; over = e.over; events = e.process.going.events } };
+    ghost view = { λ e. record { machine = machine_at e.clock (machine_of e.process); quantum = e.quantum; turns = e.turns; over = e.over; events = e.process.going.events; native = e.native } };
 
     ghost invariant = { λ e. (1 ≤ e.quantum) × (e.quantum ≤ 1_000_000) × (e.clock ≤ 2 ^ 61 + 1_000_000 * e.turns) × (e.process.idle ≤ e.clock)
-        × (e.process.kernel.clock ≤ e.clock) };
+        × (e.process.kernel.clock ≤ e.clock) × (e.native.told ≤ e.process.kernel.clock) };
 }
 
 impl Emulator {
     /// The emulator of a program at its first instruction, over the nodes of a file tree, with what a schedule
-    /// says of the clock, the terminal and chance, and before its events. It takes its memory from `alloc`.
+    /// says of the clock, the terminal and chance, and before its events. A native log is kept where `log` says so. It takes
+    /// its memory from `alloc`.
     #[tactic(auto, unfolding(kernel_model::specs::Begin::first_state))]
     pub fn new(
         alloc: Global,
         start: Start,
         tree: Tree,
         schedule: Schedule,
+        log: bool,
     ) -> Result<Emulator, NoMemory>
         requires tree { IsValidTree tree }
         requires schedule { IsGivenSchedule schedule }
         ensures first { IfOk result (λ emulator. emulator
-            ≡ first_emulated schedule.quantum (first_machine start.cpu start.space (first_state tree (settings_of schedule)) (coming_of schedule))) }
+            ≡ first_emulated schedule.quantum (first_machine start.cpu start.space (first_state tree (settings_of schedule)) (coming_of schedule)) (first_log log)) }
     {
         let kernel = NativeKernel::new(alloc, tree, &schedule)?;
         let quantum = schedule.quantum;
@@ -82,6 +89,7 @@ impl Emulator {
             quantum,
             turns: 0,
             over: false,
+            native: NativeLog::new(alloc, log),
         })
     }
 
@@ -101,6 +109,8 @@ impl Emulator {
         requires on { self.old.over ≡ false }
         requires few { self.old.turns < 1_000_000_000_000 }
         ensures turn { IsTurn (turn_of self.old.quantum self.old.machine) result self.new.machine self.new.events
+            (contents I.left O.written E.written dev.old) (contents I.left O.written E.written dev.new) }
+        ensures native { LogsTurn result self.old.machine.kernel self.new.machine.kernel self.old.native self.new.native
             (contents I.left O.written E.written dev.old) (contents I.left O.written E.written dev.new) }
         ensures quantum { self.new.quantum ≡ self.old.quantum }
         ensures turns { self.new.turns ≡ self.old.turns + turns_done result }
@@ -128,6 +138,8 @@ impl Emulator {
         requires few { self.old.turns + limit ≤ 1_000_000_000_000 }
         ensures turns { IsTurnAfter self.old.quantum limit self.old.machine self.old.turns result self.new.machine self.new.turns self.new.events
             (contents I.left O.written E.written dev.old) (contents I.left O.written E.written dev.new) }
+        ensures native { LogsTurn result self.old.machine.kernel self.new.machine.kernel self.old.native self.new.native
+            (contents I.left O.written E.written dev.old) (contents I.left O.written E.written dev.new) }
         ensures quantum { self.new.quantum ≡ self.old.quantum }
         ensures over { self.new.over ≡ is_last result }
         ensures cause { StopsOnlyIfRose I.faults O.faults E.faults result dev.old dev.new }
@@ -149,6 +161,8 @@ impl Emulator {
         requires some { 0 < limit }
         requires few { self.old.turns + limit ≤ 1_000_000_000_000 }
         ensures turns { IsTurnAfter self.old.quantum limit self.old.machine self.old.turns result self.new.machine self.new.turns self.new.events
+            (contents I.left O.written E.written dev.old) (contents I.left O.written E.written dev.new) }
+        ensures native { LogsTurn result self.old.machine.kernel self.new.machine.kernel self.old.native self.new.native
             (contents I.left O.written E.written dev.old) (contents I.left O.written E.written dev.new) }
         ensures quantum { self.new.quantum ≡ self.old.quantum }
         ensures over { self.new.over ≡ self.old.over }
@@ -186,18 +200,23 @@ impl Emulator {
         requires quiet { OnlyExecutes self.old.quantum self.old.machine most }
         ensures turns { IsTurnAfter self.old.quantum limit self.old.machine self.old.turns result self.new.machine self.new.turns self.new.events
             (contents I.left O.written E.written dev.old) (contents I.left O.written E.written dev.new) }
+        ensures native { LogsTurn result self.old.machine.kernel self.new.machine.kernel self.old.native self.new.native
+            (contents I.left O.written E.written dev.old) (contents I.left O.written E.written dev.new) }
         ensures quantum { self.new.quantum ≡ self.old.quantum }
         ensures over { self.new.over ≡ self.old.over }
         ensures cause { StopsOnlyIfRose I.faults O.faults E.faults result dev.old dev.new }
         ensures counts { NoCountFell I.faults O.faults E.faults dev.old dev.new }
     {
         self.process.begin();
+        self.native.clear();
         let ran = self.process.run(most);
         self.clock = later(self.clock, self.quantum, ran.quiet);
         self.turns += ran.quiet;
         let came = ran.came?;
         self.process.set_clock(self.clock)?;
-        let turn = self.process.end_turn(came, self.clock, dev)?;
+        let turn = self
+            .process
+            .end_turn(came, self.clock, &mut self.native, dev)?;
         self.clock += self.quantum;
         self.turns += 1;
         Ok(turn)
@@ -211,14 +230,19 @@ impl Emulator {
         requires few { self.old.turns < 1_000_000_000_000 }
         ensures turn { IsTurn (turn_of self.old.quantum self.old.machine) result self.new.machine self.new.events
             (contents I.left O.written E.written dev.old) (contents I.left O.written E.written dev.new) }
+        ensures native { LogsTurn result self.old.machine.kernel self.new.machine.kernel self.old.native self.new.native
+            (contents I.left O.written E.written dev.old) (contents I.left O.written E.written dev.new) }
         ensures quantum { self.new.quantum ≡ self.old.quantum }
         ensures turns { self.new.turns ≡ self.old.turns + turns_done result }
         ensures over { self.new.over ≡ self.old.over }
         ensures cause { StopsOnlyIfRose I.faults O.faults E.faults result dev.old dev.new }
         ensures counts { NoCountFell I.faults O.faults E.faults dev.old dev.new }
     {
-        self.process.settle(self.clock, dev)?;
-        let last = self.process.last_steps(self.clock, self.quantum, dev)?;
+        self.native.clear();
+        self.process.settle(self.clock, &mut self.native, dev)?;
+        let last = self
+            .process
+            .last_steps(self.clock, self.quantum, &mut self.native, dev)?;
         self.clock = last.clock;
         self.turns += last.turn.count();
         Ok(last.turn)
@@ -238,6 +262,8 @@ impl Emulator {
         requires timer { gone_off self.old.machine.kernel.clock self.old.machine.kernel.timer ≡ None }
         ensures turn { IsTurn (λ left. at_time self.old.machine.kernel.clock (called whole self.old.machine left)) result self.new.machine self.new.events
             (contents I.left O.written E.written dev.old) (contents I.left O.written E.written dev.new) }
+        ensures native { LogsTurn result self.old.machine.kernel self.new.machine.kernel self.old.native self.new.native
+            (contents I.left O.written E.written dev.old) (contents I.left O.written E.written dev.new) }
         ensures quantum { self.new.quantum ≡ self.old.quantum }
         ensures turns { self.new.turns ≡ self.old.turns }
         ensures over { self.new.over ≡ is_last result }
@@ -246,8 +272,9 @@ impl Emulator {
     {
         self.over = true;
         self.process.begin();
+        self.native.clear();
         self.process.set_clock(self.clock)?;
-        let turn = self.process.call(self.clock, dev)?;
+        let turn = self.process.call(self.clock, &mut self.native, dev)?;
         self.over = turn.is_end();
         Ok(turn)
     }
@@ -272,6 +299,15 @@ impl Emulator {
         ensures { result.now ≡ self.now.events }
     {
         self.process.events()
+    }
+
+    /// What the kernel was told and asked in the last turns that were taken at once, or in the last call alone, in order: its
+    /// clock, signals that were posted from outside, and native calls. None where no log is kept, and after a turn that
+    /// stopped early nothing is said of it. (The entries are those of the native log.)
+    pub fn native(&self) -> &[LogEntry]
+        ensures { result.now ≡ unwrap_or self.now.native.entries [] }
+    {
+        self.native.entries()
     }
 
     /// Whether the process runs: it is not over, no call waits, and no signal has stopped it.

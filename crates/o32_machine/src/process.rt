@@ -1,5 +1,6 @@
 //! The process of an o32 program: its processor and memory, the kernel that it calls, and the steps of its turns.
 ghost use Rattle.std.specs.Prelude.{◌≡◌, ◌+◌, ◌*◌, ◌<◌, ◌^◌, ◌≤◌, ◌↔◌, ◌++◌, ◌||◌, [], ◌∷◌, max, ℕ, Contains, false, if◌then◌else◌, IfErr, IfOk, IfSome, None, OnOk, is_some};
+ghost use Rattle.bridge_delivery.specs.Kept.{KeepsNative};
 ghost use Rattle.bridge_ends.specs.Ended.{ended_wait};
 ghost use Rattle.kernel_core.specs.LoadedTree.{saved};
 ghost use Rattle.kernel_core.specs.ValidTree.{IsReached, IsValidTree, numbers};
@@ -9,7 +10,9 @@ ghost use Rattle.kernel_model.specs.Stops.{StopsOnlyIfRose};
 ghost use Rattle.mips_exec.specs.Processor.{register};
 ghost use Rattle.o32_machine.specs.Answered.{IsTurn, over_of, turns_of};
 ghost use Rattle.o32_machine.specs.Emulator.{at_clock, coming_of, first_process, first_standing, machine_at, machine_of, within_at, within_now};
+ghost use Rattle.native_log.specs.NativeLog.{IsReady};
 ghost use Rattle.o32_machine.specs.inside.Finishing.{finished};
+ghost use Rattle.o32_machine.specs.inside.Logging.{LogsLast, LogsSettled, PostsLogged};
 ghost use Rattle.o32_machine.specs.inside.Quieting.{goes, next_due};
 ghost use Rattle.o32_machine.specs.inside.Stepping.{GoesThen};
 ghost use Rattle.o32_machine.specs.inside.Steps.{Finds, IsLast, Settles, Takes, begun, goes_on, jumped_within, last_steps, resumes, wakes, wakes_for};
@@ -37,6 +40,7 @@ use host_mem::HostMem;
 use kernel_core::{Event, Finish, Info, NoMemory, Sig, Stop, Tree};
 use mips_exec::{Cpu, Stepped};
 use native_kernel::NativeKernel;
+use native_log::NativeLog;
 use number_tables::O32Number;
 use o32_model::{CallWords, Cause, Log, Outcome, Seen};
 use o32_turns::Going;
@@ -185,12 +189,16 @@ impl Process {
 
     /// The first step of a turn: posts what is due at a time of the clock, in nanoseconds, the events of the schedule
     /// and then the timer's. The kernel's clock, which is not past that time, goes there.
-    pub(crate) fn post(&mut self, clock: u64) -> Result<(), NoMemory>
+    pub(crate) fn post(&mut self, clock: u64, native: &mut NativeLog) -> Result<(), NoMemory>
         requires later { self.old.kernel.clock ≤ clock }
+        requires told { native.old.told ≤ self.old.kernel.clock }
         ensures posted { OnOk result (within_now self.new ≡ posted whole (within_at clock self.old)) }
         ensures clock { OnOk result (self.new.kernel.clock ≡ clock) }
         ensures behind { self.new.kernel.clock ≤ clock }
         ensures idle { self.new.idle ≡ self.old.idle }
+        ensures native { OnOk result (PostsLogged self.old.kernel self.new.kernel native.old native.new) }
+        ensures ready { OnOk result (IsReady clock native.new self.new.kernel) }
+        ensures told { native.new.told ≤ self.new.kernel.clock }
     {
         post_due(
             clock,
@@ -198,8 +206,11 @@ impl Process {
             &mut self.going,
             &self.space,
             &mut self.kernel,
+            native,
         )?;
-        post_timer(clock, &mut self.going, &self.space, &mut self.kernel)
+        let next = self.kernel.next_time();
+        post_timer(clock, &mut self.going, &self.space, &mut self.kernel)?;
+        native.tell_timer(clock, next)
     }
 
     /// Ends the call that waits for a cause, at the kernel's time `clock`, in nanoseconds. It is not a handler that
@@ -209,16 +220,17 @@ impl Process {
         cause: Cause,
         clock: u64,
         dev: &mut Devices<I, O, E>,
+        log: &mut Log,
     ) -> Result<(), Stop>
         requires clock { self.old.kernel.clock ≡ clock }
         ensures ended { Takes (λ within. ended_wait false cause within within.machine.wait) result self.old self.new
             (contents I.left O.written E.written dev.old) (contents I.left O.written E.written dev.new) }
+        ensures native { KeepsNative result (I.left dev.old.input) self.old.kernel self.new.kernel log.old.native log.new.native }
         ensures clock { self.new.kernel.clock ≡ clock }
         ensures idle { self.new.idle ≡ self.old.idle }
         ensures cause { StopsOnlyIfRose I.faults O.faults E.faults result dev.old dev.new }
         ensures counts { NoCountFell I.faults O.faults E.faults dev.old dev.new }
     {
-        let mut log = no_log();
         end_wait(
             false,
             cause,
@@ -229,7 +241,7 @@ impl Process {
             &mut self.kernel,
             &mut self.mem,
             dev,
-            &mut log,
+            log,
         )
     }
 
@@ -246,9 +258,11 @@ impl Process {
     fn accepts<I: Source, O: Sink, E: Sink>(
         &mut self,
         dev: &mut Devices<I, O, E>,
+        log: &mut Log,
     ) -> Result<bool, Stop>
         ensures found { Finds (λ found. found ≡ wakes_for (machine_of self.old)) result self.old self.new
             (contents I.left O.written E.written dev.old) (contents I.left O.written E.written dev.new) }
+        ensures native { KeepsNative result (I.left dev.old.input) self.old.kernel self.new.kernel log.old.native log.new.native }
         ensures clock { self.new.kernel.clock ≡ self.old.kernel.clock }
         ensures idle { self.new.idle ≡ self.old.idle }
         ensures cause { StopsOnlyIfRose I.faults O.faults E.faults result dev.old dev.new }
@@ -260,14 +274,13 @@ impl Process {
         if self.going.stopped || self.going.interrupted {
             return Ok(false);
         }
-        let mut log = no_log();
         accepts(
             &wait,
             &self.space,
             &mut self.kernel,
             &mut self.mem,
             dev,
-            &mut log,
+            log,
         )
     }
 
@@ -277,21 +290,23 @@ impl Process {
         &mut self,
         clock: u64,
         dev: &mut Devices<I, O, E>,
+        log: &mut Log,
     ) -> Result<(), Stop>
         requires clock { self.old.kernel.clock ≡ clock }
         ensures woken { Takes (second_step whole) result self.old self.new
             (contents I.left O.written E.written dev.old) (contents I.left O.written E.written dev.new) }
+        ensures native { KeepsNative result (I.left dev.old.input) self.old.kernel self.new.kernel log.old.native log.new.native }
         ensures clock { self.new.kernel.clock ≡ clock }
         ensures idle { self.new.idle ≡ self.old.idle }
         ensures cause { StopsOnlyIfRose I.faults O.faults E.faults result dev.old dev.new }
         ensures counts { NoCountFell I.faults O.faults E.faults dev.old dev.new }
     {
-        let accepted = self.accepts(dev)?;
+        let accepted = self.accepts(dev, log)?;
         if accepted {
-            return self.end_wait(Cause::Accepted, clock, dev);
+            return self.end_wait(Cause::Accepted, clock, dev, log);
         }
         if self.wakes(clock) {
-            return self.end_wait(Cause::Due, clock, dev);
+            return self.end_wait(Cause::Due, clock, dev, log);
         }
         Ok(())
     }
@@ -301,10 +316,12 @@ impl Process {
         &mut self,
         clock: u64,
         dev: &mut Devices<I, O, E>,
+        log: &mut Log,
     ) -> Result<(), Stop>
         requires clock { self.old.kernel.clock ≡ clock }
         ensures delivered { Takes (third_step whole) result self.old self.new
             (contents I.left O.written E.written dev.old) (contents I.left O.written E.written dev.new) }
+        ensures native { KeepsNative result (I.left dev.old.input) self.old.kernel self.new.kernel log.old.native log.new.native }
         ensures clock { self.new.kernel.clock ≡ clock }
         ensures idle { self.new.idle ≡ self.old.idle }
         ensures cause { StopsOnlyIfRose I.faults O.faults E.faults result dev.old dev.new }
@@ -313,7 +330,6 @@ impl Process {
         if self.going.stopped {
             return Ok(());
         }
-        let mut log = no_log();
         deliver(
             clock,
             &mut self.going,
@@ -322,7 +338,7 @@ impl Process {
             &mut self.kernel,
             &mut self.mem,
             dev,
-            &mut log,
+            log,
         )
     }
 
@@ -339,17 +355,19 @@ impl Process {
         &mut self,
         clock: u64,
         dev: &mut Devices<I, O, E>,
+        log: &mut Log,
     ) -> Result<(), Stop>
         requires clock { self.old.kernel.clock ≡ clock }
         ensures resumed { Takes goes_on result self.old self.new
             (contents I.left O.written E.written dev.old) (contents I.left O.written E.written dev.new) }
+        ensures native { KeepsNative result (I.left dev.old.input) self.old.kernel self.new.kernel log.old.native log.new.native }
         ensures clock { self.new.kernel.clock ≡ clock }
         ensures idle { self.new.idle ≡ self.old.idle }
         ensures cause { StopsOnlyIfRose I.faults O.faults E.faults result dev.old dev.new }
         ensures counts { NoCountFell I.faults O.faults E.faults dev.old dev.new }
     {
         if self.resumes() {
-            return self.end_wait(Cause::Stopped, clock, dev);
+            return self.end_wait(Cause::Stopped, clock, dev, log);
         }
         Ok(())
     }
@@ -359,17 +377,19 @@ impl Process {
         &mut self,
         clock: u64,
         dev: &mut Devices<I, O, E>,
+        log: &mut Log,
     ) -> Result<(), Stop>
         requires clock { self.old.kernel.clock ≡ clock }
         ensures took { Takes (λ within. goes_on (third_step whole within)) result self.old self.new
             (contents I.left O.written E.written dev.old) (contents I.left O.written E.written dev.new) }
+        ensures native { KeepsNative result (I.left dev.old.input) self.old.kernel self.new.kernel log.old.native log.new.native }
         ensures clock { self.new.kernel.clock ≡ clock }
         ensures idle { self.new.idle ≡ self.old.idle }
         ensures cause { StopsOnlyIfRose I.faults O.faults E.faults result dev.old dev.new }
         ensures counts { NoCountFell I.faults O.faults E.faults dev.old dev.new }
     {
-        self.deliver(clock, dev)?;
-        self.resume(clock, dev)
+        self.deliver(clock, dev, log)?;
+        self.resume(clock, dev, log)
     }
 
     /// The second to the fourth step of a turn.
@@ -377,17 +397,19 @@ impl Process {
         &mut self,
         clock: u64,
         dev: &mut Devices<I, O, E>,
+        log: &mut Log,
     ) -> Result<(), Stop>
         requires clock { self.old.kernel.clock ≡ clock }
         ensures took { Takes (λ within. goes_on (third_step whole (second_step whole within))) result self.old self.new
             (contents I.left O.written E.written dev.old) (contents I.left O.written E.written dev.new) }
+        ensures native { KeepsNative result (I.left dev.old.input) self.old.kernel self.new.kernel log.old.native log.new.native }
         ensures clock { self.new.kernel.clock ≡ clock }
         ensures idle { self.new.idle ≡ self.old.idle }
         ensures cause { StopsOnlyIfRose I.faults O.faults E.faults result dev.old dev.new }
         ensures counts { NoCountFell I.faults O.faults E.faults dev.old dev.new }
     {
-        self.wake(clock, dev)?;
-        self.deliver_and_resume(clock, dev)
+        self.wake(clock, dev, log)?;
+        self.deliver_and_resume(clock, dev, log)
     }
 
     /// The first four steps of a turn, at a time of the clock, in nanoseconds: what is due is posted, a wait ends whose
@@ -400,11 +422,15 @@ impl Process {
     pub(crate) fn settle<I: Source, O: Sink, E: Sink>(
         &mut self,
         clock: u64,
+        native: &mut NativeLog,
         dev: &mut Devices<I, O, E>,
     ) -> Result<(), Stop>
         requires later { self.old.kernel.clock ≤ clock }
+        requires told { native.old.told ≤ self.old.kernel.clock }
         ensures settled { Settles clock result self.old self.new
             (contents I.left O.written E.written dev.old) (contents I.left O.written E.written dev.new) }
+        ensures native { LogsSettled clock result (I.left dev.old.input) self.old.kernel self.new.kernel native.old native.new }
+        ensures told { native.new.told ≤ self.new.kernel.clock }
         ensures clock { OnOk result (self.new.kernel.clock ≡ clock) }
         ensures behind { self.new.kernel.clock ≤ clock }
         ensures idle { self.new.idle ≡ self.old.idle }
@@ -412,8 +438,11 @@ impl Process {
         ensures counts { NoCountFell I.faults O.faults E.faults dev.old dev.new }
     {
         self.begin();
-        self.post(clock)?;
-        self.wake_to_resume(clock, dev)
+        self.post(clock, native)?;
+        let mut log = native.part();
+        self.wake_to_resume(clock, dev, &mut log)?;
+        native.add(log, clock)?;
+        Ok(())
     }
 
     /// The last steps of a turn, at the kernel's time `clock`, in nanoseconds: a process that was killed has ended; where
@@ -427,14 +456,19 @@ impl Process {
         &mut self,
         clock: u64,
         quantum: u64,
+        native: &mut NativeLog,
         dev: &mut Devices<I, O, E>,
     ) -> Result<Last, Stop>
         requires clock { self.old.kernel.clock ≡ clock }
+        requires told { native.old.told ≤ clock }
         requires quantum { quantum ≤ 1_000_000 }
         requires few { clock + 1_000_000 < 2 ^ 64 }
         requires idle { self.old.idle ≤ clock }
         ensures last { IsLast (last_steps quantum (within_now self.old)) result self.new
             (contents I.left O.written E.written dev.old) (contents I.left O.written E.written dev.new) }
+        ensures native { LogsLast clock result self.old.kernel self.new.kernel native.old native.new
+            (contents I.left O.written E.written dev.old) (contents I.left O.written E.written dev.new) }
+        ensures told { native.new.told ≤ clock }
         ensures bound { IfOk result (λ last. last.clock ≤ max clock (2 ^ 61) + 1_000_000 * turns_of last.turn) }
         ensures later { IfOk result (λ last. clock ≤ last.clock) }
         ensures clock { self.new.kernel.clock ≡ clock }
@@ -452,7 +486,7 @@ impl Process {
         if self.rests() {
             return Ok(self.jump(clock));
         }
-        self.execute(clock, quantum, dev)
+        self.execute(clock, quantum, native, dev)
     }
 
     /// How the process has ended.
@@ -522,13 +556,18 @@ impl Process {
         &mut self,
         clock: u64,
         quantum: u64,
+        native: &mut NativeLog,
         dev: &mut Devices<I, O, E>,
     ) -> Result<Last, Stop>
         requires clock { self.old.kernel.clock ≡ clock }
+        requires told { native.old.told ≤ clock }
         requires quantum { quantum ≤ 1_000_000 }
         requires few { clock + 1_000_000 < 2 ^ 64 }
         ensures last { IsLast (sixth_step whole quantum (within_now self.old)) result self.new
             (contents I.left O.written E.written dev.old) (contents I.left O.written E.written dev.new) }
+        ensures native { LogsLast clock result self.old.kernel self.new.kernel native.old native.new
+            (contents I.left O.written E.written dev.old) (contents I.left O.written E.written dev.new) }
+        ensures told { native.new.told ≤ clock }
         ensures time { IfOk result (λ last. last.clock ≡ clock + quantum) }
         ensures counted { IfOk result (λ last. turns_of last.turn ≡ 1) }
         ensures clock { self.new.kernel.clock ≡ clock }
@@ -537,7 +576,7 @@ impl Process {
         ensures counts { NoCountFell I.faults O.faults E.faults dev.old dev.new }
     {
         let came = self.run(0).came?;
-        let turn = self.end_turn(came, clock, dev)?;
+        let turn = self.end_turn(came, clock, native, dev)?;
         Ok(Last {
             turn,
             clock: later(clock, quantum, 1),
@@ -560,12 +599,17 @@ impl Process {
         &mut self,
         came: Stepped,
         clock: u64,
+        native: &mut NativeLog,
         dev: &mut Devices<I, O, E>,
     ) -> Result<Turn, Stop>
         requires clock { self.old.kernel.clock ≡ clock }
+        requires told { native.old.told ≤ clock }
         ensures turn { IsTurn (λ left. after_events self.old.going.events (after_step whole (machine_of self.old) came left)) result
             (machine_of self.new) self.new.going.events
             (contents I.left O.written E.written dev.old) (contents I.left O.written E.written dev.new) }
+        ensures native { LogsLast clock result self.old.kernel self.new.kernel native.old native.new
+            (contents I.left O.written E.written dev.old) (contents I.left O.written E.written dev.new) }
+        ensures told { native.new.told ≤ clock }
         ensures clock { self.new.kernel.clock ≡ clock }
         ensures counted { IfOk result (λ turn. turns_of turn ≡ 1) }
         ensures idle { self.new.idle ≡ self.old.idle }
@@ -574,7 +618,7 @@ impl Process {
     {
         match came {
             Stepped::Next => Ok(Turn::Went),
-            Stepped::Syscall => self.call(clock, dev),
+            Stepped::Syscall => self.call(clock, native, dev),
             Stepped::Fault { sig, code, addr } => {
                 self.keep_fault(fault_info(sig, code, addr))?;
                 Ok(Turn::Went)
@@ -589,12 +633,17 @@ impl Process {
     pub(crate) fn call<I: Source, O: Sink, E: Sink>(
         &mut self,
         clock: u64,
+        native: &mut NativeLog,
         dev: &mut Devices<I, O, E>,
     ) -> Result<Turn, Stop>
-        requires { self.old.kernel.clock ≡ clock }
+        requires clock { self.old.kernel.clock ≡ clock }
+        requires told { native.old.told ≤ clock }
         ensures turn { IsTurn (λ left. after_events self.old.going.events (called whole (machine_of self.old) left)) result
             (machine_of self.new) self.new.going.events
             (contents I.left O.written E.written dev.old) (contents I.left O.written E.written dev.new) }
+        ensures native { LogsLast clock result self.old.kernel self.new.kernel native.old native.new
+            (contents I.left O.written E.written dev.old) (contents I.left O.written E.written dev.new) }
+        ensures told { native.new.told ≤ clock }
         ensures clock { self.new.kernel.clock ≡ clock }
         ensures counted { IfOk result (λ turn. turns_of turn ≡ 1) }
         ensures idle { self.new.idle ≡ self.old.idle }
@@ -603,7 +652,7 @@ impl Process {
     {
         let words = args(&self.space, &self.cpu);
         let seen = self.seen(clock);
-        let mut log = no_log();
+        let mut log = native.part();
         let outcome = make_call(
             self.alloc,
             &words,
@@ -615,6 +664,7 @@ impl Process {
             &mut log,
             &seen,
         )?;
+        native.add(log, clock)?;
         let turn = self.finish(&words, outcome)?;
         Ok(turn)
     }
@@ -763,14 +813,6 @@ fn first_going(alloc: Global) -> Going
         saved: None,
         over: None,
         events: Vec::new(alloc),
-    }
-}
-
-/// A log in which nothing is kept.
-fn no_log() -> Log {
-    Log {
-        native: None,
-        effects: None,
     }
 }
 

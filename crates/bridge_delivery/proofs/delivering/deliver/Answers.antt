@@ -8,6 +8,7 @@ use Rattle.o32_turns.specs.Going.{within_of}
 use Rattle.o32_turns.specs.Machine.{Within}
 use Rattle.outside.specs.Streams.{Contents}
 use Rattle.schedule.specs.declared.events.Due.{Due}
+use Rattle.bridge_delivery.proofs.Keeping.{leads_then, told_then}
 use Rattle.bridge_delivery.proofs.Rounds.{all_done, one_round, over_so}
 use Rattle.bridge_delivery.proofs.delivering.deliver.Goals as goal
 
@@ -35,6 +36,9 @@ loop-round-preserved g c = record {
             (omega arith) (sym c.is_delivered.ensures ∙ c.if-is_delivered.false))
             ∙ so.1 coming idle,
       );
+  kept = λ left told.
+      leads_then (c.loop-round.invariant.kept left told)
+      (c.in_ok-round.ensures.kept left (told_then (c.loop-round.invariant.carried left told).0 told));
   later = search rules;
   stays = search rules;
 }

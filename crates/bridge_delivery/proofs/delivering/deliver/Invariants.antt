@@ -4,6 +4,7 @@ use Rattle.o32_turns.specs.Delivering.{most_rounds, rounds}
 use Rattle.o32_turns.specs.Going.{within_of}
 use Rattle.outside.specs.Streams.{NoCountFell, NoCountRose, contents}
 use Rattle.schedule.specs.declared.events.Due.{Due}
+use Rattle.bridge_delivery.specs.Kept.{LeadsOn}
 use Rattle.bridge_delivery.proofs.delivering.deliver.Given as goal
 
 -- the rounds from the start are those so far, and the rounds from here
@@ -14,6 +15,7 @@ invariant-loop-round g l = record {
       → (contents g.I.Source.left g.O.Sink.written g.E.Sink.written l.dev ≡ contents g.I.Source.left g.O.Sink.written g.E.Sink.written l.fn.dev)
       × ((coming : List Due) (idle : ℕ) → rounds whole_end (most_rounds - l._round) (within_of l.going l.cpu l.space l.k coming idle)
       ≡ rounds whole_end most_rounds (within_of l.fn.going l.fn.cpu l.fn.space l.fn.k coming idle));
+  kept : (left : List ℕ) → g.I.Source.left l.fn.dev.input ≡ Some left → LeadsOn l.fn.k l.k left l.fn.log.native l.log.native;
   later : NoCountFell g.I.Source.faults g.O.Sink.faults g.E.Sink.faults l.fn.dev l.dev;
   stays : NoCountRose g.I.Source.faults g.O.Sink.faults g.E.Sink.faults l.fn.dev l.dev;
 }

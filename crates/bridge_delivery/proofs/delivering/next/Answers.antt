@@ -8,6 +8,7 @@ use Rattle.kernel_model.specs.State.{Kernel}
 use Rattle.o32_model.specs.Suspending.{all_signals}
 use Rattle.outside.specs.Streams.{Contents}
 use Rattle.bridge_delivery.proofs.Nothing.{chosen}
+use Rattle.bridge_delivery.proofs.Keeping.{leads_look, leads_then, told_then}
 use Rattle.bridge_delivery.proofs.delivering.next.Goals as goal
 
 pub returns-clause-looks : goal.returns-clause-looks
@@ -23,3 +24,9 @@ returns-clause-looks g c = λ left told.
           ∙ ap (λ (set : SignalSet). find (λ (signal : Sig). has (pending_set signals) signal && not (has set signal)) all_signals) mask
           ∙ chosen signals,
     )
+
+pub returns-clause-kept : goal.returns-clause-kept
+returns-clause-kept g c = λ left told.
+    let first = c.in_ok-pending.ensures.looks left told in
+    let second = c.in_ok-blocked.ensures.looks left (told_then first.1.rest told) in
+    leads_then (leads_look first.1) (leads_look second.1)

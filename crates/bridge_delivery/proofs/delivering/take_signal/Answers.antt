@@ -10,6 +10,7 @@ use Rattle.outside.specs.Streams.{Contents}
 use Rattle.schedule.specs.declared.events.Due.{Due}
 use Rattle.bridge_delivery.proofs.Carrying.{on_ok}
 use Rattle.bridge_delivery.proofs.Takings.{taken_none, taken_some}
+use Rattle.bridge_delivery.proofs.Keeping.{kept_then, leads_act, leads_look, leads_then, told_then}
 use Rattle.bridge_delivery.proofs.delivering.take_signal.Goals as goal
 
 pub returns-in-None-clause-delivered : goal.returns-in-None-clause-delivered
@@ -43,3 +44,16 @@ returns-in-Some-clause-delivered g c = λ left told.
           ∙ taken_some going cpu space c.action.new.k c.take.new.k c.args.sig coming idle info (sym c.in-Some.is ∙ took.0.0) took.0.1
           ∙ ap (λ (k : Kernel). signal_taken whole_end (within_of going cpu space k coming idle) c.args.sig (pending_at k.signals c.args.sig)) seen.1.same) sent.1,
     )
+
+pub returns-in-None-clause-kept : goal.returns-in-None-clause-kept
+returns-in-None-clause-kept g c = λ left told.
+    let seen = c.in_ok-action.ensures.looks left told in
+    let took = c.in_ok-take.ensures.acts left (told_then seen.1.rest told) in
+    leads_then (leads_look seen.1) (leads_act took.1)
+
+pub returns-in-Some-clause-kept : goal.returns-in-Some-clause-kept
+returns-in-Some-clause-kept g c = λ left told.
+    let seen = c.in_ok-action.ensures.looks left told in
+    let took = c.in_ok-take.ensures.acts left (told_then seen.1.rest told) in
+    kept_then c.deliver_sent.result c.deliver_sent.new.k c.deliver_sent.new.log.native (leads_then (leads_look seen.1) (leads_act took.1))
+    (c.deliver_sent.ensures.kept left (told_then took.1.rest (told_then seen.1.rest told)))

@@ -9,6 +9,7 @@ use Rattle.o32_turns.specs.Machine.{Within, happens}
 use Rattle.outside.specs.Streams.{contents}
 use Rattle.schedule.specs.declared.events.Due.{Due}
 use Rattle.bridge_delivery.proofs.Carrying.{carried_then}
+use Rattle.bridge_delivery.proofs.Keeping.{kept_then, told_then}
 use Rattle.bridge_delivery.proofs.handling.handle.Goals as goal
 
 pub returns-clause-handled : goal.returns-clause-handled
@@ -32,3 +33,8 @@ returns-clause-handled g c = λ left told.
           ∙ ap (λ (w : Within). happens w (events.Signal info.sig deliveries.Handler)) (ended.1 coming idle),
     )
     c.begin.ensures.begun
+
+pub returns-clause-kept : goal.returns-clause-kept
+returns-clause-kept g c = λ left told.
+    let ended = c.in_ok-leave_wait.ensures.left left told in
+    kept_then c.begin.result c.begin.new.k c.begin.new.log.native (c.in_ok-leave_wait.ensures.kept left told) (c.begin.ensures.kept left (told_then ended.0 told))

@@ -10,6 +10,7 @@ use Rattle.schedule.specs.declared.events.Due.{Due}
 use Rattle.bridge_delivery.specs.inside.Standings.{kept_of}
 use Rattle.bridge_delivery.proofs.Carrying.{carried_then, wait_left}
 use Rattle.bridge_ends.specs.Ended.{ended_wait}
+use Rattle.bridge_delivery.proofs.Keeping.{kept_end}
 use Rattle.bridge_delivery.proofs.handling.leave_wait.Goals as goal
 
 pub returns-clause-left : goal.returns-clause-left
@@ -26,3 +27,8 @@ returns-clause-left g c = λ left told.
     left (λ w. wait_left c.args.action.now c.restart-restarts.result c.restart-restarts.ensures w.machine.wait w) told
     (refl, λ (coming : List Due) (idle : ℕ). ap (λ (s : Standing). within_of s c.args.cpu.now c.args.space.now c.args.k.now coming idle) c.keep_mask.ensures)
     c.end_wait.ensures.ends
+
+pub returns-clause-kept : goal.returns-clause-kept
+returns-clause-kept g c = λ left told.
+    kept_end c.end_wait.result c.args.k.now c.end_wait.new.k c.args.space.now.pages c.end_wait.new.space.pages left c.args.log.now c.end_wait.new.log
+    (c.end_wait.ensures.kept left told)

@@ -19,7 +19,7 @@ returns-in_err-turn-clause-turn g c = λ left told.
     let clock = c.self.inside.clock in
     let before : c.set_clock.new.self ≡ record c.self.inside.process { kernel = at_clock clock c.self.inside.process.kernel; going = begun c.self.inside.process.going } =
     c.in_ok-set_clock.ensures.moved ∙ ap (λ (p : ProcessState). record p { kernel = at_clock clock p.kernel }) c.begin.ensures in
-    call_stopped_here c.args.self.now clock c.self.inside.quantum c.self.inside.turns c.self.inside.over c.self.inside.process c.set_clock.new.self c.self.view_is before left
+    call_stopped_here c.args.self.now clock c.self.inside.quantum c.self.inside.turns c.self.inside.over c.self.inside.native c.self.inside.process c.set_clock.new.self c.self.view_is before left
     c.from_residual-in_err-turn.result _ _ _ _ c.from_residual-in_err-turn.ensures.0 (c.in_err-turn.ensures.turn left told)
 
 pub returns-clause-turn : goal.returns-clause-turn
@@ -27,7 +27,7 @@ returns-clause-turn g c = λ left told.
     let clock = c.self.inside.clock in
     let before : c.set_clock.new.self ≡ record c.self.inside.process { kernel = at_clock clock c.self.inside.process.kernel; going = begun c.self.inside.process.going } =
     c.in_ok-set_clock.ensures.moved ∙ ap (λ (p : ProcessState). record p { kernel = at_clock clock p.kernel }) c.begin.ensures in
-    call_went c.args.self.now clock c.self.inside.quantum c.self.inside.turns c.self.inside.over c.self.inside.process c.set_clock.new.self c.self.view_is before left
+    call_went c.args.self.now clock c.self.inside.quantum c.self.inside.turns c.self.inside.over c.self.inside.native c.self.inside.process c.set_clock.new.self c.self.view_is before left
     c.in_ok-turn.turn (machine_of c.call.new.self) c.call.new.self.going.events _ _ (c.in_ok-turn.ensures.turn left told)
 
 pub set_clock-requires-clause-timer : goal.set_clock-requires-clause-timer

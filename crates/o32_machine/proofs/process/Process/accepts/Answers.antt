@@ -13,4 +13,4 @@ pub returns-clause-found : goal.returns-clause-found
 returns-clause-found g c =
     finds_named c.accepts.result _ c.args.self.now c.accepts.new.k c.in-Some.wait
     (contents g.I.Source.left g.O.Sink.written g.E.Sink.written c.args.dev.now) (contents g.I.Source.left g.O.Sink.written g.E.Sink.written c.accepts.new.dev)
-    c.no_log-log.result c.accepts.new.log (ap seen_as c.self-inside.view_is ∙ c.self.view_is) c.in-Some.is c.if-self.false c.if-self-2.false c.accepts.ensures.looks
+    c.args.log.now c.accepts.new.log (ap seen_as c.self-inside.view_is ∙ c.self.view_is) c.in-Some.is c.if-self.false c.if-self-2.false c.accepts.ensures.looks

@@ -1,0 +1,8 @@
+-- The next signal is found, and then delivered.
+use Rattle.bridge_delivery.proofs.Keeping.{kept_then, told_then}
+use Rattle.bridge_delivery.proofs.delivering.take_next.Goals as goal
+
+pub returns-in-Some-clause-kept : goal.returns-in-Some-clause-kept
+returns-in-Some-clause-kept g c = λ left told.
+    let found = c.in_ok-next.ensures.looks left told in
+    kept_then c.take_signal.result c.take_signal.new.k c.take_signal.new.log.native (c.in_ok-next.ensures.kept left told) (c.take_signal.ensures.kept left (told_then found.0 told))
