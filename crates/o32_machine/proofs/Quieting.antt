@@ -19,7 +19,7 @@ use Rattle.o32_machine.proofs.Turning.{at_time_answers, at_time_stopped, fails_b
 use Rattle.o32_machine.specs.Answered.{IsTurn, Stopped, Turned, turns_done, turns_of}
 use Rattle.native_log.specs.NativeLog.{NativeLog}
 use Rattle.o32_machine.specs.Emulator.{Emulated, ProcessState, at_clock, machine_at, machine_of}
-use Rattle.o32_machine.specs.Quiet.{IsQuiet, IsTurnAfter}
+use Rattle.o32_machine.specs.Quiet.{IsQuiet, IsStill, IsTurnAfter}
 use Rattle.o32_machine.specs.declared.turn.Turn as code
 use Rattle.o32_machine.specs.inside.Quieting.{IsBefore, OnlyExecutes, goes, next_due}
 use Rattle.o32_machine.specs.inside.Stepping.{Goes, GoesThen, Steps}
@@ -230,11 +230,33 @@ module _ (quantum : ℕ) (machine : Machine) where
             ap (λ (r : Reached). (turn_of quantum r.machine r.left).events) (reach k left middle there fewer goes)
             ∙ ap (λ (t : Turn). t.events) (turn_is k left middle there now kept Next fewer step)
 
+    still_here : (k : ℕ) (left : List ℕ) (now : Processor) (kept : Memory) → k ≤ most → Goes k machine.processor machine.memory now kept → IsStill machine.kernel left (reached quantum machine left k)
+    still_here k left now kept few goes =
+        subst (λ (r : Reached). IsStill machine.kernel left r) (sym (reach k left now kept few goes))
+        (record { same = refl; later = omega (arith, time_is k); rest = refl })
+
+    still : (k : ℕ) (left : List ℕ) (now : Processor) (kept : Memory) → k ≤ most → Goes k machine.processor machine.memory now kept → (j : ℕ) → j ≤ k → IsStill machine.kernel left (reached quantum machine left j)
+    unfolding Goes
+    still zero left now kept few goes j within =
+        let none : j ≡ 0 = omega arith in
+        subst (λ (n : ℕ). IsStill machine.kernel left (reached quantum machine left n)) (sym none) (still_here zero left now kept few goes)
+    still (suc k) left now kept few (middle, there, goes, step) j within =
+        elim (cases_eq j (suc k)) as (λ _. IsStill machine.kernel left (reached quantum machine left j)) [
+          | inl same ↦
+              subst (λ (n : ℕ). IsStill machine.kernel left (reached quantum machine left n)) (sym same)
+              (still_here (suc k) left now kept few (middle, there, goes, step))
+          | inr other ↦
+              let fewer : k ≤ most = omega arith in
+              let less : j ≤ k = omega (arith, within, other) in
+              still k left middle there fewer goes j less
+        ]
+
     pub quiet : (k : ℕ) (now : Processor) (kept : Memory) → k ≤ most → Goes k machine.processor machine.memory now kept → IsQuiet quantum machine k (here k now kept)
     quiet k now kept few goes = record {
       running = λ left j below. running k left now kept few goes j below;
       reaches = λ left. reach k left now kept few goes;
       silent = λ left j below. silent k left now kept few goes j below;
+      still = λ left j within. still k left now kept few goes j within;
     }
 
 -- An emulator's turns
@@ -247,7 +269,15 @@ unfolding reached
 at_once quantum limit machine turns result became turns_then events before after last counted some = record {
   quiet = 0;
   middle = machine;
-  first = record { running = λ left j below. absurd (omega arith); reaches = λ left. refl; silent = λ left j below. absurd (omega arith) };
+  first = record {
+    running = λ left j below. absurd (omega arith);
+    reaches = λ left. refl;
+    silent = λ left j below. absurd (omega arith);
+    still = λ left j few.
+        let none : j ≡ 0 = omega arith in
+        let here : IsStill machine.kernel left (reached quantum machine left 0) = record { same = refl; later = omega arith; rest = refl } in
+        subst (λ (n : ℕ). IsStill machine.kernel left (reached quantum machine left n)) (sym none) here;
+  };
   last = last;
   counted = omega (arith, counted);
   within = some;
