@@ -6,7 +6,7 @@ use Rattle.kernel_core.specs.ValidTree.{IsValidTree}
 use Rattle.kernel_core.specs.declared.tree.Tree.{Tree}
 use Rattle.fs_image.specs.Text.{text_of}
 use Rattle.o32_session.specs.Words.{Reading, Asks, WrongAt, read_words}
-use Rattle.o32_session.specs.Asked.{names_of}
+use Rattle.o32_session.specs.Asked.{Names, names_of}
 use Rattle.o32_session.specs.declared.answer.End.{End}
 use Rattle.o32_session.specs.declared.answer.End.TheVariants.{Exited, Killed, Budget, Blocked, Refused, ReadFault, WriteFault, NoMemory}
 
@@ -53,11 +53,18 @@ abbrev pub SavesTo : Option (List ℕ) → End → Option Files → Option Files
 SavesTo None end old new = new ≡ old
 SavesTo (Some name) end old new = ChangesFile old new name (IsFileAfter end)
 
+-- what becomes of the files of these names: first of that of the trace, then of that of the native log, and last of the one that is saved
+abbrev pub WritesFiles : Names → End → Option Files → Option Files → Type 0
+WritesFiles names end old new =
+    (traced : Option Files)
+    × (logged : Option Files)
+    × TextsTo names.trace end old traced
+    × TextsTo names.native end traced logged
+    × SavesTo names.save end logged new
+
 abbrev pub SavesReading : List (List ℕ) → Reading → End → Option Files → Option Files → Type 0
 SavesReading words (WrongAt word) end old new = new ≡ old
-SavesReading words (Asks line) end old new =
-    let names = names_of words line in
-    (traced : Option Files) × (logged : Option Files) × TextsTo names.trace end old traced × TextsTo names.native end traced logged × SavesTo names.save end logged new
+SavesReading words (Asks line) end old new = WritesFiles (names_of words line) end old new
 
 abbrev pub SavesWords : List (List ℕ) → End → Option Files → Option Files → Type 0
 SavesWords words end old new = SavesReading words (read_words words) end old new
