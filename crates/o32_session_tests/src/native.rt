@@ -93,12 +93,14 @@ const CALLS: &str = r"
     o32run run --native native p = blocked 123 7
 ";
 
-/// SIGCHLD, 18 and 17 there, is ignored and dropped. In a slot no signal is delivered, and the timer's signal comes in one, 20
-/// microseconds after turn 5. The attempt that finds the process blocked has the number behind those of its turns.
+/// SIGCHLD, 18 and 17 there, is ignored and dropped. A turn posts the signals from outside first, and moves the kernel's clock to its
+/// own time then: turn 6 posts at the time of turn 5, and the attempt behind turn 3, to which the clock jumps, at that of turn 3. The
+/// attempt that finds the process blocked has the number behind those of its turns. The timer is asked for what it shows before it is
+/// set, and goes off 20 microseconds after turn 5, in a slot, where no signal is delivered; pause(2) asks for the mask first.
 const EVENTS: &str = r"
     beq $zero $zero 0xFFFF; nop
     file t at 5000 kill 18\nat 5000 queue 18 7\n
-    native 6 clock 5000
+    native 6 clock 4000
     native 6 post 17 0 0
     native 6 post 17 -1 7
     o32run run --schedule t --budget 8 --native native p = budget 124 8
@@ -108,6 +110,7 @@ const EVENTS: &str = r"
     trace 25 post 14
     trace 25 budget
     native 5 clock 4000
+    native 5 call 102 0000000000000000 0000000000010000 0000000000000000 0000000000000000 0000000000000000 0000000000000000 0000000000000000000000000000000000000000000000000000000000000000 0000000000000000000000000000000000000000000000000000000000000000 = 0
     native 5 call 103 0000000000000000 0000000000010000 0000000000000000 0000000000000000 0000000000000000 0000000000000000 0000000000000000000000000000000000000000000000001400000000000000 0000000000000000000000000000000000000000000000001400000000000000 = 0
     native 25 clock 24000
     o32run run --trace trace --native native --budget 25 p = budget 124 25
@@ -117,7 +120,7 @@ const EVENTS: &str = r"
     native 2 clock 1000
     native 2 call 135 0000000000000000 0000000000000000 0000000000010000 0000000000000010 0000000000000000 0000000000000000 00000000000000000000000000000000 00000000000000000000000000000000 = 0
     native 2 call 133 0000000000010000 0000000000000010 0000000000000000 0000000000000000 0000000000000000 0000000000000000 00000000000000000000000000000000 00000000000000000000000000000000 = sleep 0 -
-    native 4 clock 5000
+    native 4 clock 2000
     native 4 post 17 0 0
     o32run run --schedule t --native native p = blocked 123 3
 ";
