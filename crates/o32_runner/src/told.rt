@@ -76,11 +76,11 @@ fn make<F: Store>(name: Option<&str>, files: &mut F) -> Result<(), DevError>
 }
 
 /// Makes the files that are named, first that of the trace.
-fn make_all<F: Store>(names: &Names<'_>, files: &mut F) -> Result<(), DevError>
-    ensures made { OnOk result (MakesBoth (option_copied names.now.trace) (option_copied names.now.native)
+fn make_all<F: Store>(names: Names<'_>, files: &mut F) -> Result<(), DevError>
+    ensures made { OnOk result (MakesBoth (option_copied names.entry.trace) (option_copied names.entry.native)
         (stored_of F.files F.created F.loads F.turned_away F.write_faults files.old)
         (stored_of F.files F.created F.loads F.turned_away F.write_faults files.new)) }
-    ensures unmade { OnErr result (MakesNotBoth (option_copied names.now.trace) (option_copied names.now.native)
+    ensures unmade { OnErr result (MakesNotBoth (option_copied names.entry.trace) (option_copied names.entry.native)
         (stored_of F.files F.created F.loads F.turned_away F.write_faults files.old)
         (stored_of F.files F.created F.loads F.turned_away F.write_faults files.new)) }
     ensures cause { FailsOnlyIfRose result (F.write_faults files.old) (F.write_faults files.new) }
@@ -204,19 +204,19 @@ fn tell_budget<F: Store>(
 /// Adds the lines of the last turn of an emulator, which came to this, to the files that are named: first those of the trace.
 fn tell<F: Store>(
     alloc: Global,
-    names: &Names<'_>,
+    names: Names<'_>,
     emulator: &Emulator,
     turn: Turn,
     files: &mut F,
 ) -> Result<(), DevError>
     requires few { emulator.now.turns ≤ 1_000_000_000_000 }
     requires counted { turns_of turn ≤ emulator.now.turns }
-    requires trace { IsMade (F.created files.old) (option_copied names.now.trace) }
-    requires native { IsMade (F.created files.old) (option_copied names.now.native) }
-    ensures added { OnOk result (AddsBoth (option_copied names.now.trace) (option_copied names.now.native) (trace_of emulator.now turn) (native_of emulator.now turn)
+    requires trace { IsMade (F.created files.old) (option_copied names.trace) }
+    requires native { IsMade (F.created files.old) (option_copied names.native) }
+    ensures added { OnOk result (AddsBoth (option_copied names.entry.trace) (option_copied names.entry.native) (trace_of emulator.now turn) (native_of emulator.now turn)
         (stored_of F.files F.created F.loads F.turned_away F.write_faults files.old)
         (stored_of F.files F.created F.loads F.turned_away F.write_faults files.new)) }
-    ensures part { OnErr result (AddsPartOfBoth (option_copied names.now.trace) (option_copied names.now.native) (trace_of emulator.now turn) (native_of emulator.now turn)
+    ensures part { OnErr result (AddsPartOfBoth (option_copied names.entry.trace) (option_copied names.entry.native) (trace_of emulator.now turn) (native_of emulator.now turn)
         (stored_of F.files F.created F.loads F.turned_away F.write_faults files.old)
         (stored_of F.files F.created F.loads F.turned_away F.write_faults files.new)) }
     ensures created { F.created files.new ≡ F.created files.old }
@@ -235,18 +235,18 @@ fn take_turns<F: Store, I: Source, O: Sink, E: Sink>(
     alloc: Global,
     emulator: &mut Emulator,
     limit: u64,
-    names: &Names<'_>,
+    names: Names<'_>,
     files: &mut F,
     dev: &mut Devices<I, O, E>,
 ) -> Result<Turn, Cut>
     requires on { emulator.old.over ≡ false }
     requires some { 0 < limit }
     requires few { emulator.old.turns + limit ≤ 1_000_000_000_000 }
-    requires trace { IsMade (F.created files.old) (option_copied names.now.trace) }
-    requires native { IsMade (F.created files.old) (option_copied names.now.native) }
+    requires trace { IsMade (F.created files.old) (option_copied names.trace) }
+    requires native { IsMade (F.created files.old) (option_copied names.native) }
     ensures turns { TakesTurns limit result emulator.old emulator.new
         (contents I.left O.written E.written dev.old) (contents I.left O.written E.written dev.new)
-        (option_copied names.now.trace) (option_copied names.now.native)
+        (option_copied names.entry.trace) (option_copied names.entry.native)
         (stored_of F.files F.created F.loads F.turned_away F.write_faults files.old)
         (stored_of F.files F.created F.loads F.turned_away F.write_faults files.new) }
     ensures quantum { emulator.new.quantum ≡ emulator.old.quantum }
@@ -285,21 +285,21 @@ pub fn run_told<F: Store, I: Source, O: Sink, E: Sink>(
     alloc: Global,
     emulator: &mut Emulator,
     budget: u64,
-    names: &Names<'_>,
+    names: Names<'_>,
     files: &mut F,
     dev: &mut Devices<I, O, E>,
 ) -> Ran
     requires fresh { IsFresh emulator.old }
-    requires log { BeginsLog (option_copied names.now.native) emulator.old.native }
+    requires log { BeginsLog (option_copied names.native) emulator.old.native }
     requires budget { budget ≤ 1_000_000_000_000 }
-    requires differ { Differ (option_copied names.now.trace) (option_copied names.now.native) }
+    requires differ { Differ (option_copied names.trace) (option_copied names.native) }
     ensures run { RunsAs emulator.old.quantum emulator.old.machine budget result.turns result.end
         (contents I.left O.written E.written dev.old) (contents I.left O.written E.written dev.new) emulator.new.machine }
-    ensures texts { WritesTexts (option_copied names.now.trace) (option_copied names.now.native) emulator.old.quantum emulator.old.machine budget result.turns result.end (I.left dev.old.input)
+    ensures texts { WritesTexts (option_copied names.entry.trace) (option_copied names.entry.native) emulator.old.quantum emulator.old.machine budget result.turns result.end (I.left dev.old.input)
         (stored_of F.files F.created F.loads F.turned_away F.write_faults files.old)
         (stored_of F.files F.created F.loads F.turned_away F.write_faults files.new) }
     ensures within { result.turns ≤ budget }
-    ensures early { (option_copied names.now.trace ≡ None) → WithinBudget result.end result.turns budget }
+    ensures early { (option_copied names.entry.trace ≡ None) → WithinBudget result.end result.turns budget }
     ensures turns { IfOk result.end (λ finish. emulator.new.turns ≡ result.turns) }
     ensures cause { StopsOnlyIfAnyRose I.faults O.faults E.faults result.end (F.write_faults files.old) (F.write_faults files.new) dev.old dev.new }
     ensures counts { NoCountFell I.faults O.faults E.faults dev.old dev.new }
@@ -320,23 +320,23 @@ fn run_made<F: Store, I: Source, O: Sink, E: Sink>(
     alloc: Global,
     emulator: &mut Emulator,
     budget: u64,
-    names: &Names<'_>,
+    names: Names<'_>,
     files: &mut F,
     dev: &mut Devices<I, O, E>,
 ) -> Ran
     requires fresh { IsFresh emulator.old }
-    requires log { BeginsLog (option_copied names.now.native) emulator.old.native }
+    requires log { BeginsLog (option_copied names.native) emulator.old.native }
     requires budget { budget ≤ 1_000_000_000_000 }
-    requires differ { Differ (option_copied names.now.trace) (option_copied names.now.native) }
-    requires trace { IsMade (F.created files.old) (option_copied names.now.trace) }
-    requires native { IsMade (F.created files.old) (option_copied names.now.native) }
+    requires differ { Differ (option_copied names.trace) (option_copied names.native) }
+    requires trace { IsMade (F.created files.old) (option_copied names.trace) }
+    requires native { IsMade (F.created files.old) (option_copied names.native) }
     ensures run { RunsAs emulator.old.quantum emulator.old.machine budget result.turns result.end
         (contents I.left O.written E.written dev.old) (contents I.left O.written E.written dev.new) emulator.new.machine }
-    ensures texts { (start : Stored) → MakesBoth (option_copied names.now.trace) (option_copied names.now.native) start (stored_of F.files F.created F.loads F.turned_away F.write_faults files.old)
-        → WritesTexts (option_copied names.now.trace) (option_copied names.now.native) emulator.old.quantum emulator.old.machine budget result.turns result.end (I.left dev.old.input) start
+    ensures texts { (start : Stored) → MakesBoth (option_copied names.entry.trace) (option_copied names.entry.native) start (stored_of F.files F.created F.loads F.turned_away F.write_faults files.old)
+        → WritesTexts (option_copied names.entry.trace) (option_copied names.entry.native) emulator.old.quantum emulator.old.machine budget result.turns result.end (I.left dev.old.input) start
         (stored_of F.files F.created F.loads F.turned_away F.write_faults files.new) }
     ensures within { result.turns ≤ budget }
-    ensures early { (option_copied names.now.trace ≡ None) → WithinBudget result.end result.turns budget }
+    ensures early { (option_copied names.entry.trace ≡ None) → WithinBudget result.end result.turns budget }
     ensures turns { IfOk result.end (λ finish. emulator.new.turns ≡ result.turns) }
     ensures cause { StopsOnlyIfAnyRose I.faults O.faults E.faults result.end (F.write_faults files.old) (F.write_faults files.new) dev.old dev.new }
     ensures counts { NoCountFell I.faults O.faults E.faults dev.old dev.new }

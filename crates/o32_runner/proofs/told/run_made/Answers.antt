@@ -21,7 +21,7 @@ loop-emulator-init g c = record {
       let e = c.args.emulator.now in
       subst (λ (n : ℕ). IsSoFar e.quantum e.machine left n at at e.machine) (sym c.requires.fresh.none) (at_start e.quantum e.machine left at told);
   texts = λ start made.
-      written_first (option_copied c.args.names.now.trace) (option_copied c.args.names.now.native) c.args.emulator.now.quantum (g.I.Source.left c.args.dev.now.input) c.args.emulator.now c.requires.fresh.none c.requires.log start
+      written_first (option_copied c.args.names.trace) (option_copied c.args.names.native) c.args.emulator.now.quantum (g.I.Source.left c.args.dev.now.input) c.args.emulator.now c.requires.fresh.none c.requires.log start
       (stored_of g.F.Store.files g.F.Store.created g.F.Store.loads g.F.Store.turned_away g.F.Store.write_faults c.args.files.now) made;
   trace = c.requires.trace;
   native = c.requires.native;
@@ -42,13 +42,13 @@ loop-emulator-preserved g c =
       most = omega (arith, turned.within, counts);
       on = c.in-Ok-Went.ensures.over ∙ ap is_end c.in-Ok-Went.field-0-is;
       long = c.take_turns.ensures.quantum ∙ i.long;
-      so = goes_on (option_copied c.args.names.now.trace) (option_copied c.args.names.now.native) c.requires.differ c.args.emulator.now.quantum c.args.emulator.now.machine c.args.budget (c.args.budget - c.turns-in-loop-emulator.result) (contents g.I.Source.left g.O.Sink.written g.E.Sink.written c.args.dev.now) (contents g.I.Source.left g.O.Sink.written g.E.Sink.written c.loop-emulator.dev) (contents g.I.Source.left g.O.Sink.written g.E.Sink.written c.take_turns.new.dev) c.loop-emulator.emulator c.take_turns.new.emulator i.long i.so
+      so = goes_on (option_copied c.args.names.trace) (option_copied c.args.names.native) c.requires.differ c.args.emulator.now.quantum c.args.emulator.now.machine c.args.budget (c.args.budget - c.turns-in-loop-emulator.result) (contents g.I.Source.left g.O.Sink.written g.E.Sink.written c.args.dev.now) (contents g.I.Source.left g.O.Sink.written g.E.Sink.written c.loop-emulator.dev) (contents g.I.Source.left g.O.Sink.written g.E.Sink.written c.take_turns.new.dev) c.loop-emulator.emulator c.take_turns.new.emulator i.long i.so
           (stored_of g.F.Store.files g.F.Store.created g.F.Store.loads g.F.Store.turned_away g.F.Store.write_faults c.loop-emulator.files) (stored_of g.F.Store.files g.F.Store.created g.F.Store.loads g.F.Store.turned_away g.F.Store.write_faults c.take_turns.new.files) c.in-Ok-Went.field-0 takes c.in-Ok-Went.field-0-is;
       texts = λ start made.
-          written_on (option_copied c.args.names.now.trace) (option_copied c.args.names.now.native) c.requires.differ c.args.emulator.now.quantum c.args.emulator.now.machine c.args.budget (c.args.budget - c.turns-in-loop-emulator.result) (contents g.I.Source.left g.O.Sink.written g.E.Sink.written c.args.dev.now) (contents g.I.Source.left g.O.Sink.written g.E.Sink.written c.loop-emulator.dev) (contents g.I.Source.left g.O.Sink.written g.E.Sink.written c.take_turns.new.dev) c.loop-emulator.emulator c.take_turns.new.emulator i.long i.so
+          written_on (option_copied c.args.names.trace) (option_copied c.args.names.native) c.requires.differ c.args.emulator.now.quantum c.args.emulator.now.machine c.args.budget (c.args.budget - c.turns-in-loop-emulator.result) (contents g.I.Source.left g.O.Sink.written g.E.Sink.written c.args.dev.now) (contents g.I.Source.left g.O.Sink.written g.E.Sink.written c.loop-emulator.dev) (contents g.I.Source.left g.O.Sink.written g.E.Sink.written c.take_turns.new.dev) c.loop-emulator.emulator c.take_turns.new.emulator i.long i.so
           (stored_of g.F.Store.files g.F.Store.created g.F.Store.loads g.F.Store.turned_away g.F.Store.write_faults c.loop-emulator.files) (stored_of g.F.Store.files g.F.Store.created g.F.Store.loads g.F.Store.turned_away g.F.Store.write_faults c.take_turns.new.files) c.in-Ok-Went.field-0 takes start (i.texts start made) c.in-Ok-Went.field-0-is;
-      trace = subst (λ (names : List (List ℕ)). IsMade names (option_copied c.args.names.now.trace)) (sym c.take_turns.ensures.created) i.trace;
-      native = subst (λ (names : List (List ℕ)). IsMade names (option_copied c.args.names.now.native)) (sym c.take_turns.ensures.created) i.native;
+      trace = subst (λ (names : List (List ℕ)). IsMade names (option_copied c.args.names.trace)) (sym c.take_turns.ensures.created) i.trace;
+      native = subst (λ (names : List (List ℕ)). IsMade names (option_copied c.args.names.native)) (sym c.take_turns.ensures.created) i.native;
       later = record {
         input_later = omega (arith, i.later.input_later, c.take_turns.ensures.counts.input_later);
         out_later = omega (arith, i.later.out_later, c.take_turns.ensures.counts.out_later);
@@ -72,7 +72,7 @@ returns-in-Ok-Ended-clause-run g c = λ left told.
     let below : c.loop-emulator.emulator.turns < c.args.budget = omega arith in
     let room : (c.args.budget - c.turns-in-loop-emulator.result) ≡ c.args.budget - c.loop-emulator.emulator.turns = ap (λ (n : ℕ). c.args.budget - n) c.turns-in-loop-emulator.ensures in
     subst (λ (n : ℕ). IsOver c.args.emulator.now.quantum c.args.emulator.now.machine left c.args.budget n c.in-Ok-Ended.finish (contents g.I.Source.left g.O.Sink.written g.E.Sink.written c.args.dev.now) (contents g.I.Source.left g.O.Sink.written g.E.Sink.written c.take_turns.new.dev) c.take_turns.new.emulator.machine) (sym c.turns-in-Ok-Ended.ensures)
-    (ends (option_copied c.args.names.now.trace) (option_copied c.args.names.now.native) c.requires.differ c.args.emulator.now.quantum c.args.emulator.now.machine c.args.budget (c.args.budget - c.turns-in-loop-emulator.result) (contents g.I.Source.left g.O.Sink.written g.E.Sink.written c.args.dev.now) (contents g.I.Source.left g.O.Sink.written g.E.Sink.written c.loop-emulator.dev) (contents g.I.Source.left g.O.Sink.written g.E.Sink.written c.take_turns.new.dev) c.loop-emulator.emulator c.take_turns.new.emulator i.long i.so
+    (ends (option_copied c.args.names.trace) (option_copied c.args.names.native) c.requires.differ c.args.emulator.now.quantum c.args.emulator.now.machine c.args.budget (c.args.budget - c.turns-in-loop-emulator.result) (contents g.I.Source.left g.O.Sink.written g.E.Sink.written c.args.dev.now) (contents g.I.Source.left g.O.Sink.written g.E.Sink.written c.loop-emulator.dev) (contents g.I.Source.left g.O.Sink.written g.E.Sink.written c.take_turns.new.dev) c.loop-emulator.emulator c.take_turns.new.emulator i.long i.so
     (stored_of g.F.Store.files g.F.Store.created g.F.Store.loads g.F.Store.turned_away g.F.Store.write_faults c.loop-emulator.files) (stored_of g.F.Store.files g.F.Store.created g.F.Store.loads g.F.Store.turned_away g.F.Store.write_faults c.take_turns.new.files) c.in-Ok-Ended.field-0 c.in-Ok-Ended.ensures.turns c.in-Ok-Ended.finish c.in-Ok-Ended.field-0-is below room left told)
 
 pub returns-in-Ok-Ended-clause-texts : goal.returns-in-Ok-Ended-clause-texts
@@ -80,9 +80,9 @@ returns-in-Ok-Ended-clause-texts g c = λ start made.
     let i = c.loop-emulator.invariant in
     let below : c.loop-emulator.emulator.turns < c.args.budget = omega arith in
     let room : (c.args.budget - c.turns-in-loop-emulator.result) ≡ c.args.budget - c.loop-emulator.emulator.turns = ap (λ (n : ℕ). c.args.budget - n) c.turns-in-loop-emulator.ensures in
-    writes_so (option_copied c.args.names.now.trace) (option_copied c.args.names.now.native) c.args.emulator.now.quantum c.args.emulator.now.machine c.args.budget c.turns-in-Ok-Ended.result (Ok c.in-Ok-Ended.finish) (g.I.Source.left c.args.dev.now.input) start (stored_of g.F.Store.files g.F.Store.created g.F.Store.loads g.F.Store.turned_away g.F.Store.write_faults c.take_turns.new.files)
-    (subst (λ (n : ℕ). WrittenAs (option_copied c.args.names.now.trace) (option_copied c.args.names.now.native) c.args.emulator.now.quantum c.args.emulator.now.machine c.args.budget n (Ok c.in-Ok-Ended.finish) (g.I.Source.left c.args.dev.now.input) start (stored_of g.F.Store.files g.F.Store.created g.F.Store.loads g.F.Store.turned_away g.F.Store.write_faults c.take_turns.new.files)) (sym c.turns-in-Ok-Ended.ensures)
-    (written_whole (option_copied c.args.names.now.trace) (option_copied c.args.names.now.native) c.requires.differ c.args.emulator.now.quantum c.args.emulator.now.machine c.args.budget (c.args.budget - c.turns-in-loop-emulator.result) (contents g.I.Source.left g.O.Sink.written g.E.Sink.written c.args.dev.now) (contents g.I.Source.left g.O.Sink.written g.E.Sink.written c.loop-emulator.dev) (contents g.I.Source.left g.O.Sink.written g.E.Sink.written c.take_turns.new.dev) c.loop-emulator.emulator c.take_turns.new.emulator i.long i.so
+    writes_so (option_copied c.args.names.trace) (option_copied c.args.names.native) c.args.emulator.now.quantum c.args.emulator.now.machine c.args.budget c.turns-in-Ok-Ended.result (Ok c.in-Ok-Ended.finish) (g.I.Source.left c.args.dev.now.input) start (stored_of g.F.Store.files g.F.Store.created g.F.Store.loads g.F.Store.turned_away g.F.Store.write_faults c.take_turns.new.files)
+    (subst (λ (n : ℕ). WrittenAs (option_copied c.args.names.trace) (option_copied c.args.names.native) c.args.emulator.now.quantum c.args.emulator.now.machine c.args.budget n (Ok c.in-Ok-Ended.finish) (g.I.Source.left c.args.dev.now.input) start (stored_of g.F.Store.files g.F.Store.created g.F.Store.loads g.F.Store.turned_away g.F.Store.write_faults c.take_turns.new.files)) (sym c.turns-in-Ok-Ended.ensures)
+    (written_whole (option_copied c.args.names.trace) (option_copied c.args.names.native) c.requires.differ c.args.emulator.now.quantum c.args.emulator.now.machine c.args.budget (c.args.budget - c.turns-in-loop-emulator.result) (contents g.I.Source.left g.O.Sink.written g.E.Sink.written c.args.dev.now) (contents g.I.Source.left g.O.Sink.written g.E.Sink.written c.loop-emulator.dev) (contents g.I.Source.left g.O.Sink.written g.E.Sink.written c.take_turns.new.dev) c.loop-emulator.emulator c.take_turns.new.emulator i.long i.so
     (stored_of g.F.Store.files g.F.Store.created g.F.Store.loads g.F.Store.turned_away g.F.Store.write_faults c.loop-emulator.files) (stored_of g.F.Store.files g.F.Store.created g.F.Store.loads g.F.Store.turned_away g.F.Store.write_faults c.take_turns.new.files) c.in-Ok-Ended.field-0 c.in-Ok-Ended.ensures.turns c.in-Ok-Ended.finish c.in-Ok-Ended.field-0-is below room start (i.texts start made)))
 
 pub returns-in-Err-clause-run : goal.returns-in-Err-clause-run
@@ -90,7 +90,7 @@ returns-in-Err-clause-run g c =
     let i = c.loop-emulator.invariant in
     let below : c.loop-emulator.emulator.turns < c.args.budget = omega arith in
     let room : (c.args.budget - c.turns-in-loop-emulator.result) ≡ c.args.budget - c.loop-emulator.emulator.turns = ap (λ (n : ℕ). c.args.budget - n) c.turns-in-loop-emulator.ensures in
-    cuts (option_copied c.args.names.now.trace) (option_copied c.args.names.now.native) c.requires.differ c.args.emulator.now.quantum c.args.emulator.now.machine c.args.budget (c.args.budget - c.turns-in-loop-emulator.result) (contents g.I.Source.left g.O.Sink.written g.E.Sink.written c.args.dev.now) (contents g.I.Source.left g.O.Sink.written g.E.Sink.written c.loop-emulator.dev) (contents g.I.Source.left g.O.Sink.written g.E.Sink.written c.take_turns.new.dev) c.loop-emulator.emulator c.take_turns.new.emulator i.long i.so
+    cuts (option_copied c.args.names.trace) (option_copied c.args.names.native) c.requires.differ c.args.emulator.now.quantum c.args.emulator.now.machine c.args.budget (c.args.budget - c.turns-in-loop-emulator.result) (contents g.I.Source.left g.O.Sink.written g.E.Sink.written c.args.dev.now) (contents g.I.Source.left g.O.Sink.written g.E.Sink.written c.loop-emulator.dev) (contents g.I.Source.left g.O.Sink.written g.E.Sink.written c.take_turns.new.dev) c.loop-emulator.emulator c.take_turns.new.emulator i.long i.so
     (stored_of g.F.Store.files g.F.Store.created g.F.Store.loads g.F.Store.turned_away g.F.Store.write_faults c.loop-emulator.files) (stored_of g.F.Store.files g.F.Store.created g.F.Store.loads g.F.Store.turned_away g.F.Store.write_faults c.take_turns.new.files) c.in-Err.cut below room c.in-Err.ensures.turns
 
 pub returns-in-Err-clause-texts : goal.returns-in-Err-clause-texts
@@ -98,21 +98,21 @@ returns-in-Err-clause-texts g c = λ start made.
     let i = c.loop-emulator.invariant in
     let below : c.loop-emulator.emulator.turns < c.args.budget = omega arith in
     let room : (c.args.budget - c.turns-in-loop-emulator.result) ≡ c.args.budget - c.loop-emulator.emulator.turns = ap (λ (n : ℕ). c.args.budget - n) c.turns-in-loop-emulator.ensures in
-    writes_so (option_copied c.args.names.now.trace) (option_copied c.args.names.now.native) c.args.emulator.now.quantum c.args.emulator.now.machine c.args.budget c.in-Err.cut.turns (Err c.in-Err.cut.stop) (g.I.Source.left c.args.dev.now.input) start (stored_of g.F.Store.files g.F.Store.created g.F.Store.loads g.F.Store.turned_away g.F.Store.write_faults c.take_turns.new.files)
-    (written_partly (option_copied c.args.names.now.trace) (option_copied c.args.names.now.native) c.requires.differ c.args.emulator.now.quantum c.args.emulator.now.machine c.args.budget (c.args.budget - c.turns-in-loop-emulator.result) (contents g.I.Source.left g.O.Sink.written g.E.Sink.written c.args.dev.now) (contents g.I.Source.left g.O.Sink.written g.E.Sink.written c.loop-emulator.dev) (contents g.I.Source.left g.O.Sink.written g.E.Sink.written c.take_turns.new.dev) c.loop-emulator.emulator c.take_turns.new.emulator i.long i.so
+    writes_so (option_copied c.args.names.trace) (option_copied c.args.names.native) c.args.emulator.now.quantum c.args.emulator.now.machine c.args.budget c.in-Err.cut.turns (Err c.in-Err.cut.stop) (g.I.Source.left c.args.dev.now.input) start (stored_of g.F.Store.files g.F.Store.created g.F.Store.loads g.F.Store.turned_away g.F.Store.write_faults c.take_turns.new.files)
+    (written_partly (option_copied c.args.names.trace) (option_copied c.args.names.native) c.requires.differ c.args.emulator.now.quantum c.args.emulator.now.machine c.args.budget (c.args.budget - c.turns-in-loop-emulator.result) (contents g.I.Source.left g.O.Sink.written g.E.Sink.written c.args.dev.now) (contents g.I.Source.left g.O.Sink.written g.E.Sink.written c.loop-emulator.dev) (contents g.I.Source.left g.O.Sink.written g.E.Sink.written c.take_turns.new.dev) c.loop-emulator.emulator c.take_turns.new.emulator i.long i.so
     (stored_of g.F.Store.files g.F.Store.created g.F.Store.loads g.F.Store.turned_away g.F.Store.write_faults c.loop-emulator.files) (stored_of g.F.Store.files g.F.Store.created g.F.Store.loads g.F.Store.turned_away g.F.Store.write_faults c.take_turns.new.files) c.in-Err.cut below room start (i.texts start made) c.in-Err.ensures.turns)
 
 pub returns-clause-run : goal.returns-clause-run
 returns-clause-run g c =
     let i = c.loop-emulator.invariant in
     let full : c.loop-emulator.emulator.turns ≡ c.args.budget = omega (arith, i.most) in
-    done (option_copied c.args.names.now.trace) (option_copied c.args.names.now.native) c.requires.differ c.args.emulator.now.quantum c.args.emulator.now.machine c.args.budget c.turns-2.result c.end_of_budget.result.turns (contents g.I.Source.left g.O.Sink.written g.E.Sink.written c.args.dev.now) (contents g.I.Source.left g.O.Sink.written g.E.Sink.written c.loop-emulator.dev) c.loop-emulator.emulator i.so
+    done (option_copied c.args.names.trace) (option_copied c.args.names.native) c.requires.differ c.args.emulator.now.quantum c.args.emulator.now.machine c.args.budget c.turns-2.result c.end_of_budget.result.turns (contents g.I.Source.left g.O.Sink.written g.E.Sink.written c.args.dev.now) (contents g.I.Source.left g.O.Sink.written g.E.Sink.written c.loop-emulator.dev) c.loop-emulator.emulator i.so
     (stored_of g.F.Store.files g.F.Store.created g.F.Store.loads g.F.Store.turned_away g.F.Store.write_faults c.loop-emulator.files) (stored_of g.F.Store.files g.F.Store.created g.F.Store.loads g.F.Store.turned_away g.F.Store.write_faults c.end_of_budget.new.files) full c.turns-2.ensures c.end_of_budget.ensures.turns c.end_of_budget.result.end c.end_of_budget.ensures.end
 
 pub returns-clause-texts : goal.returns-clause-texts
 returns-clause-texts g c = λ start made.
     let i = c.loop-emulator.invariant in
     let full : c.loop-emulator.emulator.turns ≡ c.args.budget = omega (arith, i.most) in
-    writes_so (option_copied c.args.names.now.trace) (option_copied c.args.names.now.native) c.args.emulator.now.quantum c.args.emulator.now.machine c.args.budget c.end_of_budget.result.turns c.end_of_budget.result.end (g.I.Source.left c.args.dev.now.input) start (stored_of g.F.Store.files g.F.Store.created g.F.Store.loads g.F.Store.turned_away g.F.Store.write_faults c.end_of_budget.new.files)
-    (written_done (option_copied c.args.names.now.trace) (option_copied c.args.names.now.native) c.requires.differ c.args.emulator.now.quantum c.args.emulator.now.machine c.args.budget c.turns-2.result c.end_of_budget.result.turns (contents g.I.Source.left g.O.Sink.written g.E.Sink.written c.args.dev.now) (contents g.I.Source.left g.O.Sink.written g.E.Sink.written c.loop-emulator.dev) c.loop-emulator.emulator i.so
+    writes_so (option_copied c.args.names.trace) (option_copied c.args.names.native) c.args.emulator.now.quantum c.args.emulator.now.machine c.args.budget c.end_of_budget.result.turns c.end_of_budget.result.end (g.I.Source.left c.args.dev.now.input) start (stored_of g.F.Store.files g.F.Store.created g.F.Store.loads g.F.Store.turned_away g.F.Store.write_faults c.end_of_budget.new.files)
+    (written_done (option_copied c.args.names.trace) (option_copied c.args.names.native) c.requires.differ c.args.emulator.now.quantum c.args.emulator.now.machine c.args.budget c.turns-2.result c.end_of_budget.result.turns (contents g.I.Source.left g.O.Sink.written g.E.Sink.written c.args.dev.now) (contents g.I.Source.left g.O.Sink.written g.E.Sink.written c.loop-emulator.dev) c.loop-emulator.emulator i.so
     (stored_of g.F.Store.files g.F.Store.created g.F.Store.loads g.F.Store.turned_away g.F.Store.write_faults c.loop-emulator.files) (stored_of g.F.Store.files g.F.Store.created g.F.Store.loads g.F.Store.turned_away g.F.Store.write_faults c.end_of_budget.new.files) full c.turns-2.ensures c.end_of_budget.ensures.turns start (i.texts start made) c.end_of_budget.result.end c.end_of_budget.ensures.end)
