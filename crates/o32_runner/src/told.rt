@@ -59,10 +59,10 @@ fn count(turn: Turn) -> u64
 
 /// Makes a file, where one is named.
 fn make<F: Store>(name: Option<&str>, files: &mut F) -> Result<(), DevError>
-    ensures made { OnOk result (Makes (option_copied name)
+    ensures made { OnOk result (Makes (option_copied name.entry)
         (stored_of F.files F.created F.loads F.turned_away F.write_faults files.old)
         (stored_of F.files F.created F.loads F.turned_away F.write_faults files.new)) }
-    ensures unmade { OnErr result (MakesNone (option_copied name)
+    ensures unmade { OnErr result (MakesNone (option_copied name.entry)
         (stored_of F.files F.created F.loads F.turned_away F.write_faults files.old)
         (stored_of F.files F.created F.loads F.turned_away F.write_faults files.new)) }
     ensures cause { FailsOnlyIfRose result (F.write_faults files.old) (F.write_faults files.new) }
@@ -77,10 +77,10 @@ fn make<F: Store>(name: Option<&str>, files: &mut F) -> Result<(), DevError>
 
 /// Makes the files that are named, first that of the trace.
 fn make_all<F: Store>(names: Names<'_>, files: &mut F) -> Result<(), DevError>
-    ensures made { OnOk result (MakesBoth (option_copied names.trace) (option_copied names.native)
+    ensures made { OnOk result (MakesBoth (option_copied names.entry.trace) (option_copied names.entry.native)
         (stored_of F.files F.created F.loads F.turned_away F.write_faults files.old)
         (stored_of F.files F.created F.loads F.turned_away F.write_faults files.new)) }
-    ensures unmade { OnErr result (MakesNotBoth (option_copied names.trace) (option_copied names.native)
+    ensures unmade { OnErr result (MakesNotBoth (option_copied names.entry.trace) (option_copied names.entry.native)
         (stored_of F.files F.created F.loads F.turned_away F.write_faults files.old)
         (stored_of F.files F.created F.loads F.turned_away F.write_faults files.new)) }
     ensures cause { FailsOnlyIfRose result (F.write_faults files.old) (F.write_faults files.new) }
@@ -122,10 +122,10 @@ fn tell_trace<F: Store>(
 ) -> Result<(), DevError>
     requires few { turns ≤ 1_000_000_000_000 }
     requires made { IsMade (F.created files.old) (option_copied name) }
-    ensures added { OnOk result (Adds (option_copied name) (told_lines turns turn events.now)
+    ensures added { OnOk result (Adds (option_copied name.entry) (told_lines turns turn events.now)
         (stored_of F.files F.created F.loads F.turned_away F.write_faults files.old)
         (stored_of F.files F.created F.loads F.turned_away F.write_faults files.new)) }
-    ensures part { OnErr result (AddsPart (option_copied name) (told_lines turns turn events.now)
+    ensures part { OnErr result (AddsPart (option_copied name.entry) (told_lines turns turn events.now)
         (stored_of F.files F.created F.loads F.turned_away F.write_faults files.old)
         (stored_of F.files F.created F.loads F.turned_away F.write_faults files.new)) }
     ensures created { F.created files.new ≡ F.created files.old }
@@ -151,10 +151,10 @@ fn tell_native<F: Store>(
     files: &mut F,
 ) -> Result<(), DevError>
     requires made { IsMade (F.created files.old) (option_copied name) }
-    ensures added { OnOk result (Adds (option_copied name) (entry_lines number entries.now)
+    ensures added { OnOk result (Adds (option_copied name.entry) (entry_lines number entries.now)
         (stored_of F.files F.created F.loads F.turned_away F.write_faults files.old)
         (stored_of F.files F.created F.loads F.turned_away F.write_faults files.new)) }
-    ensures part { OnErr result (AddsPart (option_copied name) (entry_lines number entries.now)
+    ensures part { OnErr result (AddsPart (option_copied name.entry) (entry_lines number entries.now)
         (stored_of F.files F.created F.loads F.turned_away F.write_faults files.old)
         (stored_of F.files F.created F.loads F.turned_away F.write_faults files.new)) }
     ensures created { F.created files.new ≡ F.created files.old }
@@ -179,17 +179,17 @@ fn tell_budget<F: Store>(
     files: &mut F,
 ) -> Result<(), DevError>
     requires made { IsMade (F.created files.old) (option_copied name) }
-    ensures added { OnOk result (Adds (option_copied name) (trace_line turns event.Budget)
+    ensures added { OnOk result (Adds (option_copied name.entry) (trace_line turns event.Budget)
         (stored_of F.files F.created F.loads F.turned_away F.write_faults files.old)
         (stored_of F.files F.created F.loads F.turned_away F.write_faults files.new)) }
-    ensures part { OnErr result (AddsPart (option_copied name) (trace_line turns event.Budget)
+    ensures part { OnErr result (AddsPart (option_copied name.entry) (trace_line turns event.Budget)
         (stored_of F.files F.created F.loads F.turned_away F.write_faults files.old)
         (stored_of F.files F.created F.loads F.turned_away F.write_faults files.new)) }
     ensures created { F.created files.new ≡ F.created files.old }
     ensures cause { FailsOnlyIfRose result (F.write_faults files.old) (F.write_faults files.new) }
     ensures later { F.write_faults files.old ≤ F.write_faults files.new }
     ensures loads { F.load_faults files.new ≡ F.load_faults files.old }
-    ensures unnamed { (option_copied name ≡ None) → IsOk result }
+    ensures unnamed { (option_copied name.entry ≡ None) → IsOk result }
 {
     let Some(name) = name else {
         return Ok(());
@@ -213,10 +213,10 @@ fn tell<F: Store>(
     requires counted { turns_of turn ≤ emulator.now.turns }
     requires trace { IsMade (F.created files.old) (option_copied names.trace) }
     requires native { IsMade (F.created files.old) (option_copied names.native) }
-    ensures added { OnOk result (AddsBoth (option_copied names.trace) (option_copied names.native) (trace_of emulator.now turn) (native_of emulator.now turn)
+    ensures added { OnOk result (AddsBoth (option_copied names.entry.trace) (option_copied names.entry.native) (trace_of emulator.now turn) (native_of emulator.now turn)
         (stored_of F.files F.created F.loads F.turned_away F.write_faults files.old)
         (stored_of F.files F.created F.loads F.turned_away F.write_faults files.new)) }
-    ensures part { OnErr result (AddsPartOfBoth (option_copied names.trace) (option_copied names.native) (trace_of emulator.now turn) (native_of emulator.now turn)
+    ensures part { OnErr result (AddsPartOfBoth (option_copied names.entry.trace) (option_copied names.entry.native) (trace_of emulator.now turn) (native_of emulator.now turn)
         (stored_of F.files F.created F.loads F.turned_away F.write_faults files.old)
         (stored_of F.files F.created F.loads F.turned_away F.write_faults files.new)) }
     ensures created { F.created files.new ≡ F.created files.old }
@@ -246,7 +246,7 @@ fn take_turns<F: Store, I: Source, O: Sink, E: Sink>(
     requires native { IsMade (F.created files.old) (option_copied names.native) }
     ensures turns { TakesTurns limit result emulator.old emulator.new
         (contents I.left O.written E.written dev.old) (contents I.left O.written E.written dev.new)
-        (option_copied names.trace) (option_copied names.native)
+        (option_copied names.entry.trace) (option_copied names.entry.native)
         (stored_of F.files F.created F.loads F.turned_away F.write_faults files.old)
         (stored_of F.files F.created F.loads F.turned_away F.write_faults files.new) }
     ensures quantum { emulator.new.quantum ≡ emulator.old.quantum }
@@ -295,11 +295,11 @@ pub fn run_told<F: Store, I: Source, O: Sink, E: Sink>(
     requires differ { Differ (option_copied names.trace) (option_copied names.native) }
     ensures run { RunsAs emulator.old.quantum emulator.old.machine budget result.turns result.end
         (contents I.left O.written E.written dev.old) (contents I.left O.written E.written dev.new) emulator.new.machine }
-    ensures texts { WritesTexts (option_copied names.trace) (option_copied names.native) emulator.old.quantum emulator.old.machine budget result.turns result.end (I.left dev.old.input)
+    ensures texts { WritesTexts (option_copied names.entry.trace) (option_copied names.entry.native) emulator.old.quantum emulator.old.machine budget result.turns result.end (I.left dev.old.input)
         (stored_of F.files F.created F.loads F.turned_away F.write_faults files.old)
         (stored_of F.files F.created F.loads F.turned_away F.write_faults files.new) }
     ensures within { result.turns ≤ budget }
-    ensures early { (option_copied names.trace ≡ None) → WithinBudget result.end result.turns budget }
+    ensures early { (option_copied names.entry.trace ≡ None) → WithinBudget result.end result.turns budget }
     ensures turns { IfOk result.end (λ finish. emulator.new.turns ≡ result.turns) }
     ensures cause { StopsOnlyIfAnyRose I.faults O.faults E.faults result.end (F.write_faults files.old) (F.write_faults files.new) dev.old dev.new }
     ensures counts { NoCountFell I.faults O.faults E.faults dev.old dev.new }
@@ -332,11 +332,11 @@ fn run_made<F: Store, I: Source, O: Sink, E: Sink>(
     requires native { IsMade (F.created files.old) (option_copied names.native) }
     ensures run { RunsAs emulator.old.quantum emulator.old.machine budget result.turns result.end
         (contents I.left O.written E.written dev.old) (contents I.left O.written E.written dev.new) emulator.new.machine }
-    ensures texts { (start : Stored) → MakesBoth (option_copied names.trace) (option_copied names.native) start (stored_of F.files F.created F.loads F.turned_away F.write_faults files.old)
-        → WritesTexts (option_copied names.trace) (option_copied names.native) emulator.old.quantum emulator.old.machine budget result.turns result.end (I.left dev.old.input) start
+    ensures texts { (start : Stored) → MakesBoth (option_copied names.entry.trace) (option_copied names.entry.native) start (stored_of F.files F.created F.loads F.turned_away F.write_faults files.old)
+        → WritesTexts (option_copied names.entry.trace) (option_copied names.entry.native) emulator.old.quantum emulator.old.machine budget result.turns result.end (I.left dev.old.input) start
         (stored_of F.files F.created F.loads F.turned_away F.write_faults files.new) }
     ensures within { result.turns ≤ budget }
-    ensures early { (option_copied names.trace ≡ None) → WithinBudget result.end result.turns budget }
+    ensures early { (option_copied names.entry.trace ≡ None) → WithinBudget result.end result.turns budget }
     ensures turns { IfOk result.end (λ finish. emulator.new.turns ≡ result.turns) }
     ensures cause { StopsOnlyIfAnyRose I.faults O.faults E.faults result.end (F.write_faults files.old) (F.write_faults files.new) dev.old dev.new }
     ensures counts { NoCountFell I.faults O.faults E.faults dev.old dev.new }
@@ -368,10 +368,10 @@ fn run_made<F: Store, I: Source, O: Sink, E: Sink>(
 fn end_of_budget<F: Store>(alloc: Global, turns: u64, trace: Option<&str>, files: &mut F) -> Ran
     requires made { IsMade (F.created files.old) (option_copied trace) }
     ensures turns { result.turns ≡ turns }
-    ensures end { EndsBudget (option_copied trace) turns result.end
+    ensures end { EndsBudget (option_copied trace.entry) turns result.end
         (stored_of F.files F.created F.loads F.turned_away F.write_faults files.old)
         (stored_of F.files F.created F.loads F.turned_away F.write_faults files.new) }
-    ensures unnamed { (option_copied trace ≡ None) → IsOk result.end }
+    ensures unnamed { (option_copied trace.entry ≡ None) → IsOk result.end }
     ensures cause { WritesOnlyIfRose result.end (F.write_faults files.old) (F.write_faults files.new) }
     ensures later { F.write_faults files.old ≤ F.write_faults files.new }
     ensures loads { F.load_faults files.new ≡ F.load_faults files.old }
