@@ -18,6 +18,8 @@
 //!     saved old                        what is then in the file `s`, where there is one
 //!     trace 9 exit 7                   a line that is then in the file `trace`, where there is one
 //!     traced 9 ex                      the same without the end of the line
+//!     native 5 clock 5000              a line that is then in the file `native`, where there is one
+//!     logged 5 cl                      the same without the end of the line
 //!
 //! Among the words of a session `""` is the empty one, and `a*9` has nine letters.
 use crate::ends::{outcome_of, refused};

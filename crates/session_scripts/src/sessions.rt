@@ -52,6 +52,8 @@ pub(crate) struct Left {
     pub(crate) saved: Option<Vec<u8>>,
     /// What it left in the file `trace`, where there is one.
     pub(crate) traced: Option<Vec<u8>>,
+    /// What it left in the file `native`, where there is one.
+    pub(crate) logged: Option<Vec<u8>>,
 }
 
 /// What a session did.
@@ -112,6 +114,7 @@ fn is_right(done: &Done, outcome: &Outcome, left: &Left) -> bool {
         && done.err.as_slice() == left.err.as_slice()
         && is_left(&done.store, "s", &left.saved)
         && is_left(&done.store, "trace", &left.traced)
+        && is_left(&done.store, "native", &left.logged)
 }
 
 /// Whether a session comes out so.
