@@ -1,15 +1,15 @@
 -- What is added to files that were made.
-use Rattle.std.proofs.Common.{◌≡◌, ◌≢◌, ℕ, Bool, true, false, List, [], ◌∷◌, ◌++◌, Option, Some, None, inl, inr, ◌⊎◌, refl, sym, ap, ◌∙◌, subst, append-nil}
+use Rattle.std.proofs.Common.{◌≡◌, ◌≢◌, ℕ, Bool, true, false, List, [], ◌∷◌, ◌++◌, Option, Some, None, Result, Ok, Err, OnErr, inl, inr, ◌⊎◌, refl, sym, ap, ◌∙◌, subst, append-nil}
 use Rattle.std.specs.Prelude.{if◌then◌else◌}
 use Rattle.std.specs.Str.{bytes_eq}
 use Rattle.std.proofs.lemmas.Slice.Eq.{bytes_eq-Decides}
 use Rattle.outside.specs.Files.{ChangesFile, Files, Gains, GainsPart, IsUnchangedOrEmptied}
 use Rattle.outside.specs.Output.{IsPrefix, with_text}
 use Rattle.outside.proofs.FileLemmas.{bytes_eq-differ, bytes_eq-same}
-use Rattle.outside.proofs.OutputLemmas.{IsPrefix-empty}
+use Rattle.outside.proofs.OutputLemmas.{IsPrefix-empty, IsPrefix-refl}
 use Rattle.o32_runner.specs.Stored.{HasText, IfNamed, IsUnmade, SavesText, Stored}
 use Rattle.o32_runner.specs.Texts.{Differ}
-use Rattle.o32_runner.specs.inside.Told.{Adds, AddsBoth, AddsPart, AddsPartOfBoth, AddsText, Makes, MakesBoth}
+use Rattle.o32_runner.specs.inside.Told.{Adds, AddsBoth, AddsPart, AddsPartOfBoth, AddsText, Makes, MakesBoth, MakesNone, MakesNotBoth}
 
 -- One file
 
@@ -183,8 +183,17 @@ adds_first trace native text old new adds = record { middle = new; first = adds;
 pub adds_neither : (trace native : Option (List ℕ)) (store : Stored) → AddsBoth trace native [] [] store store
 adds_neither trace native store = record { middle = store; first = added_none trace store; second = added_none native store }
 
--- a part of both where a part of the first was added, or the first and a part of the second
-pub part_of_first : (trace native : Option (List ℕ)) (first second : List ℕ) (old new : Stored) → AddsPart trace first old new → AddsPartOfBoth trace native first second old new
+-- A part of both where a part of the first was added, or the first and a part of the second
+
+on_err : {A E : Type 0} (result : Result A E) (P Q : Type 0) → (P → Q) → OnErr result P → OnErr result Q
+on_err (Ok value) P Q so p = p
+on_err (Err error) P Q so p = so p
+
+always_on_err : {A E : Type 0} (result : Result A E) (P : Type 0) → P → OnErr result P
+always_on_err (Ok value) P p = tt
+always_on_err (Err error) P p = p
+
+part_of_first : (trace native : Option (List ℕ)) (first second : List ℕ) (old new : Stored) → AddsPart trace first old new → AddsPartOfBoth trace native first second old new
 part_of_first trace native first second old new adds = record {
   trace_part = adds.0;
   native_part = [];
@@ -193,15 +202,40 @@ part_of_first trace native first second old new adds = record {
   adds = adds_first trace native adds.0 old new adds.2;
 }
 
-pub part_of_second : (trace native : Option (List ℕ)) (first second : List ℕ) (old middle new : Stored) → Adds trace first old middle → AddsPart native second middle new
+pub first_in_part : {A E : Type 0} (result : Result A E) (trace native : Option (List ℕ)) (given first second : List ℕ) (old new : Stored) → given ≡ first → AddsPart trace given old new
+    → OnErr result (AddsPartOfBoth trace native first second old new)
+first_in_part result trace native given first second old new same adds =
+    always_on_err result (AddsPartOfBoth trace native first second old new)
+    (part_of_first trace native first second old new (subst (λ (t : List ℕ). AddsPart trace t old new) same adds))
+
+part_of_second : (trace native : Option (List ℕ)) (first second : List ℕ) (old middle new : Stored) → Adds trace first old middle → AddsPart native second middle new
     → AddsPartOfBoth trace native first second old new
 part_of_second trace native first second old middle new done adds = record {
   trace_part = first;
   native_part = adds.0;
-  trace_begins = record { rest = []; whole = append-nil first };
+  trace_begins = IsPrefix-refl first;
   native_begins = adds.1;
   adds = record { middle = middle; first = done; second = adds.2 };
 }
+
+pub second_in_part : {A E : Type 0} (result : Result A E) (trace native : Option (List ℕ)) (given first other second : List ℕ) (old middle new : Stored) → given ≡ first → other ≡ second → Adds trace given old middle
+    → OnErr result (AddsPart native other middle new) → OnErr result (AddsPartOfBoth trace native first second old new)
+second_in_part result trace native given first other second old middle new same equal done adds =
+    on_err result (AddsPart native other middle new) (AddsPartOfBoth trace native first second old new)
+    (λ part.
+    part_of_second trace native first second old middle new (subst (λ (t : List ℕ). Adds trace t old middle) same done)
+    (subst (λ (t : List ℕ). AddsPart native t middle new) equal part))
+    adds
+
+-- The files are made
+
+pub first_unmade : {A E : Type 0} (result : Result A E) (trace native : Option (List ℕ)) (old new : Stored) → MakesNone trace old new → OnErr result (MakesNotBoth trace native old new)
+first_unmade result trace native old new none = always_on_err result (MakesNotBoth trace native old new) (inl none)
+
+pub second_unmade : {A E : Type 0} (result : Result A E) (trace native : Option (List ℕ)) (old middle new : Stored) → Makes trace old middle → OnErr result (MakesNone native middle new)
+    → OnErr result (MakesNotBoth trace native old new)
+second_unmade result trace native old middle new made none =
+    on_err result (MakesNone native middle new) (MakesNotBoth trace native old new) (λ unmade_there. inr (middle, made, unmade_there)) none
 
 pub saves_made : (trace native : Option (List ℕ)) (old new : Stored) → MakesBoth trace native old new → SavesBoth trace native [] [] old new
 saves_made trace native old new made = record { middle = made.middle; first = made.first; second = made.second }

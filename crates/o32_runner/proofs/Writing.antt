@@ -1,6 +1,6 @@
 -- What a run has written to its files.
 use Rattle.std.proofs.Common.{◌≡◌, ℕ, ◌+◌, ◌-◌, ◌<◌, ◌≤◌, true, List, [], ◌++◌, Option, Some, None, Result, Ok, Err, inl, inr, ◌⊎◌, arith, refl, sym, ap, ◌∙◌, subst, append-nil}
-use Rattle.std.specs.Prelude.{⊤}
+use Rattle.std.specs.Prelude.{⊤, IsOk}
 use Rattle.kernel_core.specs.declared.core_error.Stop.{Stop}
 use Rattle.kernel_core.specs.declared.event.Event.TheVariants as event
 use Rattle.kernel_core.specs.declared.finish.Finish.{Finish}
@@ -16,14 +16,14 @@ use Rattle.outside.proofs.OutputLemmas.{IsPrefix-empty}
 use Rattle.outside.specs.Streams.{Contents}
 use Rattle.trace_text.specs.Trace.{trace_line}
 use Rattle.o32_runner.specs.NativeText.{HasCutLog, HasLog, IsCutLog, IsWholeLog, LogsAs}
-use Rattle.o32_runner.specs.Runs.{GoesSo, IsOver, IsSoFar, RunsTo}
+use Rattle.o32_runner.specs.Runs.{GoesSo, IsOver, RunsTo, WithinBudget}
 use Rattle.o32_runner.specs.Stored.{IfNamed, IsUnmade, Stored}
 use Rattle.o32_runner.specs.Texts.{BeginsLog, Differ, WritesTexts}
 use Rattle.o32_runner.specs.Trace.{next_lines, traced}
 use Rattle.o32_runner.specs.Traced.{IsTrace, TracesAs}
 use Rattle.o32_runner.specs.declared.told.Cut.{Cut}
-use Rattle.o32_runner.specs.inside.Told.{AddsBoth, AddsPartOfBoth, EndsBudget, MakesBoth, MakesNone, MakesNotBoth, TakesTurns, Takes, native_of, trace_of}
-use Rattle.o32_runner.proofs.Files.{Saves, SavesBoth, adds_first, both_more, part_of_first, saves_made, unmade}
+use Rattle.o32_runner.specs.inside.Told.{AddsBoth, EndsBudget, MakesBoth, MakesNone, MakesNotBoth, Takes, TakesTurns, native_of, trace_of}
+use Rattle.o32_runner.proofs.Files.{Saves, SavesBoth, adds_first, both_more, saves_made, unmade}
 use Rattle.o32_runner.proofs.Histories.{SoLogged, begins, cut_log, ended_log, partly_log, stopped_log, went_log, whole_log}
 use Rattle.o32_runner.proofs.QuietTurns.{is_over_after, went_after}
 use Rattle.o32_runner.proofs.Telling.{SoTraced, before_it, cut_behind, cut_in, cut_run, done_partly, done_run, done_told, ended_told, none_traced, partly_told, untold, went_told, within_budget}
@@ -146,6 +146,11 @@ module _ (trace native : Option (List ℕ)) (differ : Differ trace native) (quan
     cuts (inr (turn, turned, adds, counts)) =
         cut_behind quantum machine budget emulated.turns emulated.quantum limit before at after emulated.machine became.machine became.turns became.events same so below room turn turned.turned cut.turns counts
 
+    pub cut_below : TakesTurns limit (Err cut) emulated became at after trace native old new → cut.turns < budget
+    cut_below (inl stopped) = omega (arith, below, room, stopped.0.turned.within, stopped.0.turned.counted)
+    cut_below (inr (turn, turned, adds, counts)) =
+        within_budget quantum machine budget emulated.turns emulated.quantum limit before at after emulated.machine became.machine became.turns became.events same so below room turn turned.turned cut.turns counts
+
     pub written_partly : (start : Stored) → WrittenSo trace native quantum machine emulated.turns before.left emulated start old → TakesTurns limit (Err cut) emulated became at after trace native old new → WrittenAs trace native quantum machine budget cut.turns (Err cut.stop) before.left start new
     written_partly start was (inl stopped) =
         same_files trace native differ (SoTraced quantum machine emulated.turns before.left) (LogsSoFar quantum machine emulated.turns before.left emulated.native emulated.machine.kernel)
@@ -207,6 +212,11 @@ module _ (trace native : Option (List ℕ)) (differ : Differ trace native) (quan
         (done_partly quantum machine budget emulated.turns turns result before at emulated.machine so full counts same was.traced ends.0 ends.1)
         (λ had left told. partly_then left (had left told))
         (adds_first trace native ends.0 old new ends.2)
+
+-- a run without a trace does not stop there
+pub early_end : (end : Result Finish Stop) (turns budget : ℕ) → IsOk end → turns ≤ budget → WithinBudget end turns budget
+early_end (Ok finish) turns budget over within = within
+early_end (Err stop) turns budget over within = absurd over
 
 -- What a run has written is what it makes of its files.
 

@@ -1,4 +1,4 @@
-use Rattle.std.proofs.Common.{◌≡◌, ◌+◌, ◌-◌, ◌<◌, ℕ, List, Some, Result, Ok, Err, ap, arith, refl, subst, sym, ◌∙◌}
+use Rattle.std.proofs.Common.{◌≡◌, ◌+◌, ◌-◌, ◌<◌, ◌≤◌, ℕ, List, Some, Result, Ok, Err, ap, arith, refl, subst, sym, ◌∙◌}
 use Rattle.std.specs.Option.{option_copied}
 use Rattle.outside.specs.Streams.{contents}
 use Rattle.outside.proofs.StreamLemmas.{NoCountRose-refl, NoCountRose-trans}
@@ -8,7 +8,7 @@ use Rattle.o32_runner.specs.Runs.{IsOver, IsSoFar}
 use Rattle.o32_runner.specs.Stored.{stored_of}
 use Rattle.o32_runner.specs.inside.Told.{IsMade}
 use Rattle.o32_runner.proofs.RunLemmas.{at_start}
-use Rattle.o32_runner.proofs.Writing.{WrittenAs, cuts, done, ends, goes_on, writes_so, written_done, written_first, written_on, written_partly, written_whole}
+use Rattle.o32_runner.proofs.Writing.{WrittenAs, cut_below, cuts, done, early_end, ends, goes_on, writes_so, written_done, written_first, written_on, written_partly, written_whole}
 use Rattle.o32_runner.proofs.told.run_made.Goals as goal
 
 pub loop-emulator-init : goal.loop-emulator-init
@@ -101,6 +101,20 @@ returns-in-Err-clause-texts g c = λ start made.
     writes_so (option_copied c.args.names.trace) (option_copied c.args.names.native) c.args.emulator.now.quantum c.args.emulator.now.machine c.args.budget c.in-Err.cut.turns (Err c.in-Err.cut.stop) (g.I.Source.left c.args.dev.now.input) start (stored_of g.F.Store.files g.F.Store.created g.F.Store.loads g.F.Store.turned_away g.F.Store.write_faults c.take_turns.new.files)
     (written_partly (option_copied c.args.names.trace) (option_copied c.args.names.native) c.requires.differ c.args.emulator.now.quantum c.args.emulator.now.machine c.args.budget (c.args.budget - c.turns-in-loop-emulator.result) (contents g.I.Source.left g.O.Sink.written g.E.Sink.written c.args.dev.now) (contents g.I.Source.left g.O.Sink.written g.E.Sink.written c.loop-emulator.dev) (contents g.I.Source.left g.O.Sink.written g.E.Sink.written c.take_turns.new.dev) c.loop-emulator.emulator c.take_turns.new.emulator i.long i.so
     (stored_of g.F.Store.files g.F.Store.created g.F.Store.loads g.F.Store.turned_away g.F.Store.write_faults c.loop-emulator.files) (stored_of g.F.Store.files g.F.Store.created g.F.Store.loads g.F.Store.turned_away g.F.Store.write_faults c.take_turns.new.files) c.in-Err.cut below room start (i.texts start made) c.in-Err.ensures.turns)
+
+pub returns-in-Err-clause-early : goal.returns-in-Err-clause-early
+returns-in-Err-clause-early g c = λ none.
+    let i = c.loop-emulator.invariant in
+    let below : c.loop-emulator.emulator.turns < c.args.budget = omega arith in
+    let room : (c.args.budget - c.turns-in-loop-emulator.result) ≡ c.args.budget - c.loop-emulator.emulator.turns = ap (λ (n : ℕ). c.args.budget - n) c.turns-in-loop-emulator.ensures in
+    cut_below (option_copied c.args.names.trace) (option_copied c.args.names.native) c.requires.differ c.args.emulator.now.quantum c.args.emulator.now.machine c.args.budget (c.args.budget - c.turns-in-loop-emulator.result) (contents g.I.Source.left g.O.Sink.written g.E.Sink.written c.args.dev.now) (contents g.I.Source.left g.O.Sink.written g.E.Sink.written c.loop-emulator.dev) (contents g.I.Source.left g.O.Sink.written g.E.Sink.written c.take_turns.new.dev) c.loop-emulator.emulator c.take_turns.new.emulator i.long i.so
+    (stored_of g.F.Store.files g.F.Store.created g.F.Store.loads g.F.Store.turned_away g.F.Store.write_faults c.loop-emulator.files) (stored_of g.F.Store.files g.F.Store.created g.F.Store.loads g.F.Store.turned_away g.F.Store.write_faults c.take_turns.new.files) c.in-Err.cut below room c.in-Err.ensures.turns
+
+pub returns-clause-early : goal.returns-clause-early
+returns-clause-early g c = λ none.
+    let i = c.loop-emulator.invariant in
+    let within : c.end_of_budget.result.turns ≤ c.args.budget = omega (arith, i.most, c.turns-2.ensures, c.end_of_budget.ensures.turns) in
+    early_end c.end_of_budget.result.end c.end_of_budget.result.turns c.args.budget (c.end_of_budget.ensures.unnamed none) within
 
 pub returns-clause-run : goal.returns-clause-run
 returns-clause-run g c =

@@ -12,3 +12,9 @@ returns-in-Err-clause-run g c = λ left told.
     let at = (contents g.I.Source.left g.O.Sink.written g.E.Sink.written c.args.dev.now) in
     let within : 0 ≤ c.args.budget = omega arith in
     cut_here c.args.emulator.now.quantum c.args.emulator.now.machine left 0 c.args.budget at at c.args.emulator.now.machine within (at_start c.args.emulator.now.quantum c.args.emulator.now.machine left at told)
+
+pub returns-in-Err-clause-texts : goal.returns-in-Err-clause-texts
+returns-in-Err-clause-texts g c =
+    writes_none c.args.emulator.now.quantum c.args.emulator.now.machine c.args.budget c.stop_of.result (g.I.Source.left c.args.dev.now.input) (option_copied c.args.names.trace) (option_copied c.args.names.native)
+    (stored_of g.F.Store.files g.F.Store.created g.F.Store.loads g.F.Store.turned_away g.F.Store.write_faults c.args.files.now)
+    (stored_of g.F.Store.files g.F.Store.created g.F.Store.loads g.F.Store.turned_away g.F.Store.write_faults c.make_all.new.files) c.in-Err.ensures.unmade
