@@ -28,11 +28,11 @@ pub(crate) fn run_named<F: Store, I: Source, O: Sink, E: Sink>(
     requires differ { Differ (option_copied names.trace) (option_copied names.native) }
     ensures run { RunsAs emulator.old.quantum emulator.old.machine budget result.turns result.end
         (contents I.left O.written E.written dev.old) (contents I.left O.written E.written dev.new) emulator.new.machine }
-    ensures texts { WritesTexts (option_copied names.trace) (option_copied names.native) emulator.old.quantum emulator.old.machine budget result.turns result.end (I.left dev.old.input)
+    ensures texts { WritesTexts (option_copied names.entry.trace) (option_copied names.entry.native) emulator.old.quantum emulator.old.machine budget result.turns result.end (I.left dev.old.input)
         (stored_of F.files F.created F.loads F.turned_away F.write_faults files.old)
         (stored_of F.files F.created F.loads F.turned_away F.write_faults files.new) }
     ensures within { result.turns ≤ budget }
-    ensures early { (option_copied names.trace ≡ None) → WithinBudget result.end result.turns budget }
+    ensures early { (option_copied names.entry.trace ≡ None) → WithinBudget result.end result.turns budget }
     ensures turns { IfOk result.end (λ finish. emulator.new.turns ≡ result.turns) }
     ensures cause { StopsOnlyIfAnyRose I.faults O.faults E.faults result.end (F.write_faults files.old) (F.write_faults files.new) dev.old dev.new }
     ensures counts { NoCountFell I.faults O.faults E.faults dev.old dev.new }
