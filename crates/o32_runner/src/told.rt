@@ -299,7 +299,7 @@ pub fn run_told<F: Store, I: Source, O: Sink, E: Sink>(
         (stored_of F.files F.created F.loads F.turned_away F.write_faults files.old)
         (stored_of F.files F.created F.loads F.turned_away F.write_faults files.new) }
     ensures within { result.turns ≤ budget }
-    ensures early { (option_copied names.entry.trace ≡ None) → WithinBudget result.end result.turns budget }
+    ensures early { (option_copied names.entry.trace ≡ None) → 0 < budget → WithinBudget result.end result.turns budget }
     ensures turns { IfOk result.end (λ finish. emulator.new.turns ≡ result.turns) }
     ensures cause { StopsOnlyIfAnyRose I.faults O.faults E.faults result.end (F.write_faults files.old) (F.write_faults files.new) dev.old dev.new }
     ensures counts { NoCountFell I.faults O.faults E.faults dev.old dev.new }

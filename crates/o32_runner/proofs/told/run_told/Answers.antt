@@ -18,3 +18,6 @@ returns-in-Err-clause-texts g c =
     writes_none c.args.emulator.now.quantum c.args.emulator.now.machine c.args.budget c.stop_of.result (g.I.Source.left c.args.dev.now.input) (option_copied c.args.names.trace) (option_copied c.args.names.native)
     (stored_of g.F.Store.files g.F.Store.created g.F.Store.loads g.F.Store.turned_away g.F.Store.write_faults c.args.files.now)
     (stored_of g.F.Store.files g.F.Store.created g.F.Store.loads g.F.Store.turned_away g.F.Store.write_faults c.make_all.new.files) c.in-Err.ensures.unmade
+
+pub returns-in-Err-clause-early : goal.returns-in-Err-clause-early
+returns-in-Err-clause-early g c = λ none some. some
