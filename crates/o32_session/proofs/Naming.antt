@@ -1,10 +1,16 @@
--- The files that a run writes its texts to have names that differ.
-use Rattle.std.proofs.Common.{◌≡◌, ℕ, Bool, cond, true, List, Option, None, Some, Ok, option_map, max, ap, refl, sym, ◌∙◌, subst}
+-- The files that a run writes its texts to: their names differ, and a log begins where one is named.
+use Rattle.std.proofs.Common.{◌≡◌, ◌≤◌, ℕ, Bool, cond, true, List, Option, None, Some, is_some, Result, Ok, Err, option_map, max, ap, arith, refl, sym, ◌∙◌, subst}
 use Rattle.std.specs.Prelude.{option_and_then}
 use Rattle.std.specs.Str.{bytes_eq}
 use Rattle.outside.specs.Files.{Files}
 use Rattle.outside.proofs.FileLemmas.{bytes_eq-same}
-use Rattle.o32_runner.specs.Texts.{Differ}
+use Rattle.native_log.specs.NativeLog.{NativeLog, first_log}
+use Rattle.kernel_core.specs.declared.core_error.Stop.{Stop}
+use Rattle.kernel_core.specs.declared.finish.Finish.{Finish}
+use Rattle.o32_turns.specs.Machine.{Machine}
+use Rattle.o32_runner.specs.Runs.{WithinBudget}
+use Rattle.o32_runner.specs.Stored.{Stored}
+use Rattle.o32_runner.specs.Texts.{BeginsLog, Differ, WritesTexts}
 use Rattle.o32_session.specs.Asked.{names_of}
 use Rattle.o32_session.specs.Words.{Line, Reading, Asks, WrongAt, compare_names, equal_name, equal_to_native, equal_to_saved, equal_to_written, first_of, later_of_equal, read_line, read_words, with_names, word_at}
 use Rattle.o32_session.specs.inside.Prepared.{IsPrepared}
@@ -70,3 +76,29 @@ ready_differ words (WrongAt word) told ready is prepared = absurd prepared
 ready_differ words (Asks line) told ready is prepared =
     subst (λ (n : Option ℕ). Differ (option_map (word_at words) n) (option_map (word_at words) ready.native)) (sym prepared.1.1.0)
     (subst (λ (n : Option ℕ). Differ (option_map (word_at words) line.trace) (option_map (word_at words) n)) (sym prepared.1.1.1) (names_apart words line is))
+
+-- the same of the names themselves
+pub named_differ : (trace other_trace native other_native : Option (List ℕ)) → trace ≡ other_trace → native ≡ other_native → Differ other_trace other_native → Differ trace native
+named_differ trace other_trace native other_native traced logged apart =
+    subst (λ (n : Option (List ℕ)). Differ n native) (sym traced) (subst (λ (n : Option (List ℕ)). Differ other_trace n) (sym logged) apart)
+
+-- a log begins where one is named
+begins : (words : List (List ℕ)) (native : Option ℕ) (log : NativeLog) → log ≡ first_log (is_some native) → BeginsLog (option_map (word_at words) native) log
+begins words None log is = tt
+begins words (Some native) log is = is
+
+pub begins_log : (words : List (List ℕ)) (native : Option ℕ) (name : Option (List ℕ)) (log : NativeLog) → name ≡ option_map (word_at words) native → log ≡ first_log (is_some native) → BeginsLog name log
+begins_log words native name log named is = subst (λ (n : Option (List ℕ)). BeginsLog n log) (sym named) (begins words native log is)
+
+-- A run that writes no text
+
+pub nothing_written : (quantum : ℕ) (machine : Machine) (budget turns : ℕ) (end : Result Finish Stop) (told : Option (List ℕ)) (store : Stored) (trace native : Option (List ℕ)) → trace ≡ None → native ≡ None
+    → WritesTexts trace native quantum machine budget turns end told store store
+nothing_written quantum machine budget turns end told store trace native traced logged =
+    let none : WritesTexts None None quantum machine budget turns end told store store = record { middle = store; traces = refl; logs = refl } in
+    subst (λ (n : Option (List ℕ)). WritesTexts n native quantum machine budget turns end told store store) (sym traced)
+    (subst (λ (n : Option (List ℕ)). WritesTexts None n quantum machine budget turns end told store store) (sym logged) none)
+
+pub within_budget : (end : Result Finish Stop) (turns budget : ℕ) → WithinBudget end turns budget → turns ≤ budget
+within_budget (Ok finish) turns budget within = within
+within_budget (Err stop) turns budget within = omega arith
