@@ -216,7 +216,7 @@ module _ (trace native : Option (List ℕ)) (differ : Differ trace native) (quan
 -- a run without a trace does not stop there
 pub early_end : (end : Result Finish Stop) (turns budget : ℕ) → IsOk end → turns ≤ budget → WithinBudget end turns budget
 early_end (Ok finish) turns budget over within = within
-early_end (Err stop) turns budget over within = absurd over
+early_end (Err stop) turns budget over within = absurd cc
 
 -- What a run has written is what it makes of its files.
 
