@@ -1,5 +1,5 @@
 -- The history of a run's native kernel, and the text of its log, turn by turn.
-use Rattle.std.proofs.Common.{◌≡◌, ℕ, zero, suc, ◌+◌, ◌-◌, ◌<◌, ◌≤◌, Bool, true, false, List, [], ◌∷◌, ◌++◌, Option, Some, None, Result, Ok, Err, inl, inr, arith, refl, sym, ap, ◌∙◌, subst, add-zero, append-nil}
+use Rattle.std.proofs.Common.{◌≡◌, ℕ, zero, suc, ◌+◌, ◌-◌, ◌<◌, ◌≤◌, Bool, true, false, List, [], ◌∷◌, ◌++◌, Option, Some, Result, Ok, Err, inl, inr, arith, refl, sym, ap, ◌∙◌, subst, add-zero, append-nil}
 use Rattle.std.specs.Prelude.{◌==◌, if◌then◌else◌, nat_lt, unwrap_or}
 use Rattle.std.proofs.lemmas.Bool.{cases_eq, cases_lt}
 use Rattle.std.proofs.lemmas.Bool.Decides.{nat_tests}
@@ -23,17 +23,15 @@ use Rattle.o32_machine.specs.declared.turn.Turn.TheVariants.{Went, Ended}
 use Rattle.o32_model.specs.Logs.{with_more}
 use Rattle.o32_turns.specs.Machine.{Machine, Turn}
 use Rattle.o32_turns.specs.Runs.{Reached, attempt, reached}
-use Rattle.o32_turns.specs.Turn.{turn_of}
 use Rattle.outside.specs.Output.{IsPrefix}
 use Rattle.outside.specs.Streams.{Contents}
 use Rattle.outside.proofs.OutputLemmas.{IsPrefix-empty}
 use Rattle.o32_runner.specs.NativeText.{HasCutLog, HasLog, IsHistory, LeadsOver, LeadsTo, entry_lines, last_entries, logged, up_to}
 use Rattle.o32_runner.specs.Runs.{IsOver, IsSoFar}
 use Rattle.o32_runner.specs.inside.Told.{number_of}
-use Rattle.o32_runner.proofs.QuietTurns.{behind, none_behind, sent_behind}
+use Rattle.o32_runner.proofs.QuietTurns.{none_behind, sent_behind}
 use Rattle.o32_runner.proofs.Telling.{answered, attempt_is}
 use Rattle.o32_runner.proofs.Traces.{there}
-use Rattle.o32_runner.proofs.TurnEnds.{turn_ends}
 
 -- Lists turn by turn
 

@@ -1,9 +1,9 @@
 -- What the lines of turns that were taken make of the text of a trace.
-use Rattle.std.proofs.Common.{◌≡◌, ℕ, zero, suc, ◌+◌, ◌-◌, ◌<◌, ◌≤◌, Bool, true, false, List, [], ◌++◌, Option, Some, None, Result, Ok, Err, inl, inr, arith, refl, sym, ap, ◌∙◌, ◌⊎◌, subst, add-zero, append-nil}
+use Rattle.std.proofs.Common.{◌≡◌, ℕ, ◌+◌, ◌-◌, ◌<◌, ◌≤◌, Bool, true, false, List, [], ◌++◌, Option, Some, Result, Ok, Err, inl, inr, arith, refl, sym, ap, ◌∙◌, subst, add-zero, append-nil}
 use Rattle.std.specs.Prelude.{◌==◌, if◌then◌else◌}
 use Rattle.std.proofs.lemmas.Bool.{cases_eq}
 use Rattle.std.proofs.lemmas.Bool.Decides.{nat_tests}
-use Rattle.outside.specs.Output.{GainsBetween, GainsText, IsPrefix}
+use Rattle.outside.specs.Output.{IsPrefix}
 use Rattle.outside.specs.Streams.{Contents}
 use Rattle.outside.proofs.OutputLemmas.{GainsBetween-exact, GainsBetween-lower, GainsBetween-nothing, IsPrefix-empty}
 use Rattle.kernel_core.specs.declared.core_error.Stop.{Stop}
@@ -16,7 +16,7 @@ use Rattle.o32_machine.specs.Quiet.{IsQuiet, IsTurnAfter}
 use Rattle.o32_machine.specs.declared.turn.Turn as code
 use Rattle.o32_machine.specs.declared.turn.Turn.TheVariants.{Went, Ended}
 use Rattle.o32_turns.specs.Machine.{Machine, Turn}
-use Rattle.o32_turns.specs.Runs.{Reached, attempt, is_block, is_blocked, reached}
+use Rattle.o32_turns.specs.Runs.{attempt, is_block, is_blocked, reached}
 use Rattle.o32_turns.specs.Turn.{turn_of}
 use Rattle.trace_text.specs.Trace.{trace_line}
 use Rattle.o32_runner.specs.Runs.{IsCut, IsOver, IsSoFar, turns_begun}

@@ -1,5 +1,5 @@
 -- How the text of a trace grows.
-use Rattle.std.proofs.Common.{◌≡◌, ℕ, zero, suc, ◌+◌, ◌<◌, ◌≤◌, Bool, true, false, List, [], ◌++◌, Option, Some, None, Result, Ok, Err, arith, refl, sym, ap, ◌∙◌, add-zero, append-nil}
+use Rattle.std.proofs.Common.{◌≡◌, ℕ, zero, suc, ◌+◌, ◌<◌, List, [], ◌++◌, arith, ap, ◌∙◌, add-zero, append-nil}
 use Rattle.kernel_core.specs.declared.event.Event.{Event}
 use Rattle.outside.specs.Streams.{Contents}
 use Rattle.o32_machine.specs.Quiet.{IsQuiet}

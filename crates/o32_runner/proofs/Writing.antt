@@ -1,5 +1,5 @@
 -- What a run has written to its files.
-use Rattle.std.proofs.Common.{◌≡◌, ℕ, ◌+◌, ◌-◌, ◌<◌, ◌≤◌, true, List, [], ◌++◌, Option, Some, None, Result, Ok, Err, inl, inr, ◌⊎◌, arith, refl, sym, ap, ◌∙◌, subst, append-nil}
+use Rattle.std.proofs.Common.{◌≡◌, ℕ, ◌-◌, ◌<◌, ◌≤◌, List, [], ◌++◌, Option, Some, None, Result, Ok, Err, inl, inr, arith, refl, sym, ◌∙◌, subst, append-nil}
 use Rattle.std.specs.Prelude.{⊤, IsOk}
 use Rattle.kernel_core.specs.declared.core_error.Stop.{Stop}
 use Rattle.kernel_core.specs.declared.event.Event.TheVariants as event
@@ -7,7 +7,6 @@ use Rattle.kernel_core.specs.declared.finish.Finish.{Finish}
 use Rattle.kernel_core.specs.declared.finish.Finish.TheVariants.{Budget}
 use Rattle.kernel_model.specs.State.{Kernel}
 use Rattle.native_log.specs.NativeLog.{NativeLog}
-use Rattle.o32_machine.specs.Answered.{turns_of}
 use Rattle.o32_machine.specs.Emulator.{Emulated}
 use Rattle.o32_machine.specs.declared.turn.Turn as code
 use Rattle.o32_machine.specs.declared.turn.Turn.TheVariants.{Went, Ended}
@@ -17,7 +16,7 @@ use Rattle.outside.specs.Streams.{Contents}
 use Rattle.trace_text.specs.Trace.{trace_line}
 use Rattle.o32_runner.specs.NativeText.{HasCutLog, HasLog, IsCutLog, IsWholeLog, LogsAs}
 use Rattle.o32_runner.specs.Runs.{GoesSo, IsOver, RunsTo, WithinBudget}
-use Rattle.o32_runner.specs.Stored.{IfNamed, IsUnmade, Stored}
+use Rattle.o32_runner.specs.Stored.{IfNamed, Stored}
 use Rattle.o32_runner.specs.Texts.{BeginsLog, Differ, WritesTexts}
 use Rattle.o32_runner.specs.Trace.{next_lines, traced}
 use Rattle.o32_runner.specs.Traced.{IsTrace, TracesAs}
@@ -216,7 +215,7 @@ module _ (trace native : Option (List ℕ)) (differ : Differ trace native) (quan
 -- a run without a trace does not stop there
 pub early_end : (end : Result Finish Stop) (turns budget : ℕ) → IsOk end → turns ≤ budget → WithinBudget end turns budget
 early_end (Ok finish) turns budget over within = within
-early_end (Err stop) turns budget over within = absurd over
+early_end (Err stop) turns budget over within = absurd cc
 
 -- What a run has written is what it makes of its files.
 

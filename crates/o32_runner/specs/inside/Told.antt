@@ -11,7 +11,6 @@ use Rattle.o32_machine.specs.Emulator.{Emulated}
 use Rattle.o32_machine.specs.Quiet.{IsTurnAfter}
 use Rattle.o32_machine.specs.declared.turn.Turn as code
 use Rattle.o32_machine.specs.declared.turn.Turn.TheVariants.{Went, Ended}
-use Rattle.o32_turns.specs.Machine.{Machine}
 use Rattle.outside.specs.Count.{Rose}
 use Rattle.outside.specs.Files.{ChangesFile}
 use Rattle.outside.specs.Output.{IsPrefix, with_text}

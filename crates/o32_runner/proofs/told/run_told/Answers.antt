@@ -1,4 +1,4 @@
-use Rattle.std.proofs.Common.{ℕ, ◌≤◌, Some, arith}
+use Rattle.std.proofs.Common.{◌≤◌, arith}
 use Rattle.std.specs.Option.{option_copied}
 use Rattle.outside.specs.Streams.{contents}
 use Rattle.o32_runner.specs.Stored.{stored_of}
