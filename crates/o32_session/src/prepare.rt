@@ -76,9 +76,11 @@ fn machine_of_plan(
     requires plan { plans.IsValidPlan plan.now }
     requires tree { trees.IsValidTree tree }
     requires schedule { IsGivenSchedule schedule }
+    requires some { 0 < line.budget }
     requires bounded { line.budget ≤ 1_000_000_000_000 }
     ensures ready { IfOk result (λ ready. asked_of_schedule (texts args.now) (line_seen line) plan.now tree schedule ≡ Run ready.emulator.quantum ready.emulator.machine ready.budget) }
     ensures fresh { IfOk result (λ ready. IsFresh ready.emulator) }
+    ensures some { IfOk result (λ ready. 0 < ready.budget) }
     ensures bounded { IfOk result (λ ready. ready.budget ≤ 1_000_000_000_000) }
     ensures log { IfOk result (λ ready. ready.emulator.native ≡ first_log (is_some ready.native)) }
     ensures trace { IfOk result (λ ready. ready.trace ≡ line.trace) }
@@ -107,6 +109,7 @@ pub(crate) fn prepare<F: Store>(
     ensures prepared { IsPrepared (texts words.now) (read_words (texts words.now)) (F.files files.old) result }
     ensures fresh { IfOk result (λ ready. IsFresh ready.emulator) }
     ensures log { IfOk result (λ ready. ready.emulator.native ≡ first_log (is_some ready.native)) }
+    ensures some { IfOk result (λ ready. 0 < ready.budget) }
     ensures bounded { IfOk result (λ ready. ready.budget ≤ 1_000_000_000_000) }
     ensures loads { LoadsReading (texts words.now) (read_words (texts words.now)) result
         (stored_of F.files F.created F.loads F.turned_away F.write_faults files.old)
@@ -126,10 +129,12 @@ fn prepare_line<F: Store>(
     files: &mut F,
 ) -> Result<Ready, NotRun>
     requires program { line.program < length words.now }
+    requires some { 0 < line.budget }
     requires bounded { line.budget ≤ 1_000_000_000_000 }
     ensures prepared { IsPreparedLine (texts words.now) (line_seen line) (F.files files.old) result }
     ensures fresh { IfOk result (λ ready. IsFresh ready.emulator) }
     ensures log { IfOk result (λ ready. ready.emulator.native ≡ first_log (is_some ready.native)) }
+    ensures some { IfOk result (λ ready. 0 < ready.budget) }
     ensures bounded { IfOk result (λ ready. ready.budget ≤ 1_000_000_000_000) }
     ensures loads { LoadsFiles (names_of (texts words.now) (line_seen line)) result
         (stored_of F.files F.created F.loads F.turned_away F.write_faults files.old)

@@ -1,5 +1,5 @@
 //! A run, and the texts that it writes where files are named for them.
-ghost use Rattle.std.specs.Prelude.{◌≡◌, ◌≤◌, IfOk, None};
+ghost use Rattle.std.specs.Prelude.{◌≡◌, ◌<◌, ◌≤◌, IfOk, None};
 ghost use Rattle.std.specs.Option.{option_copied};
 ghost use Rattle.outside.specs.Streams.{NoCountFell, contents};
 ghost use Rattle.o32_runner.specs.Runs.{IsFresh, RunsAs, WithinBudget};
@@ -24,6 +24,7 @@ pub(crate) fn run_named<F: Store, I: Source, O: Sink, E: Sink>(
 ) -> Ran
     requires fresh { IsFresh emulator.old }
     requires log { BeginsLog (option_copied names.native) emulator.old.native }
+    requires some { 0 < budget }
     requires bounded { budget ≤ 1_000_000_000_000 }
     requires differ { Differ (option_copied names.trace) (option_copied names.native) }
     ensures run { RunsAs emulator.old.quantum emulator.old.machine budget result.turns result.end

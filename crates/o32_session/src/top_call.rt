@@ -1,5 +1,5 @@
 //! The top call: from words and devices to an answer.
-ghost use Rattle.std.specs.Prelude.{ℕ, List, ◌≡◌, ◌≤◌, ◌⊎◌, [], OnOk, OnErr, Some, None, is_some, option_map};
+ghost use Rattle.std.specs.Prelude.{ℕ, List, ◌≡◌, ◌<◌, ◌≤◌, ◌⊎◌, [], OnOk, OnErr, Some, None, is_some, option_map};
 ghost use Rattle.outside.specs.Causes.{FailsOnlyIfRose};
 ghost use Rattle.outside.specs.Count.{Rose};
 ghost use Rattle.outside.specs.Output.{GainsText, GainsBetween};
@@ -194,6 +194,7 @@ fn run_ready<F: Store, I: Source, O: Sink, E: Sink>(
 ) -> Answer
     requires fresh { IsFresh ready.emulator }
     requires log { ready.emulator.native ≡ first_log (is_some ready.native) }
+    requires some { 0 < ready.budget }
     requires bounded { ready.budget ≤ 1_000_000_000_000 }
     requires differ { Differ (option_map (word_at (texts words.now)) ready.trace) (option_map (word_at (texts words.now)) ready.native) }
     ensures run { (names : Names) → names.save ≡ option_map (word_at (texts words.now)) ready.save

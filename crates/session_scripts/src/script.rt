@@ -65,7 +65,8 @@ fn is_refused(
     let (refusal, line) = refusal.split_once(" : ").ok_or("no line")?;
     setting.tells(alloc, line)?;
     let (given, left) = setting.with_words(alloc, words_of(alloc, words)?)?;
-    comes_out(alloc, given, &refused(alloc, refusal)?, &left)
+    let refused = refused(alloc, refusal)?;
+    Ok(comes_out(alloc, given, &refused, &left))
 }
 
 /// Whether a session comes out as the rest of its line says.
@@ -76,7 +77,7 @@ fn is_right(alloc: Global, setting: Setting, text: &str) -> Result<bool, Fail> {
     let (words, outcome) = text.split_once(" = ").ok_or("no end")?;
     let outcome = outcome_of(alloc, outcome)?;
     let (given, left) = setting.with_words(alloc, words_of(alloc, words)?)?;
-    comes_out(alloc, given, &outcome, &left)
+    Ok(comes_out(alloc, given, &outcome, &left))
 }
 
 /// What is common to the sessions of a script.
