@@ -20,7 +20,7 @@ use Rattle.o32_runner.proofs.RunLemmas.{is_cut_by, is_over_by, went_on_by}
 
 -- What stands after more turns
 
-sent_behind : (first second third : Sent) → more_sent (more_sent first second) third ≡ more_sent first (more_sent second third)
+pub sent_behind : (first second third : Sent) → more_sent (more_sent first second) third ≡ more_sent first (more_sent second third)
 sent_behind first second third =
     ap (λ (o : List ℕ). let s : Sent = record { out = o; err = (first.err ++ second.err) ++ third.err } in s) (append_assoc first.out second.out third.out)
     ∙ ap (λ (e : List ℕ). let s : Sent = record { out = first.out ++ (second.out ++ third.out); err = e } in s) (append_assoc first.err second.err third.err)
@@ -42,7 +42,7 @@ over_behind quantum sent more (Some finish) = refl
 over_behind quantum sent more None =
     let turn = turn_of quantum more.machine more.left in blocked_behind sent more turn (is_blocked turn)
 
-none_behind : (sent : Sent) → more_sent sent nothing ≡ sent
+pub none_behind : (sent : Sent) → more_sent sent nothing ≡ sent
 none_behind sent =
     ap (λ (o : List ℕ). let s : Sent = record { out = o; err = sent.err ++ nothing.err } in s) (append-nil sent.out)
     ∙ ap (λ (e : List ℕ). let s : Sent = record { out = sent.out; err = e } in s) (append-nil sent.err)

@@ -1,9 +1,9 @@
--- What the lines of turns that were taken make of a trace.
-use Rattle.std.proofs.Common.{◌≡◌, ℕ, zero, suc, ◌+◌, ◌-◌, ◌<◌, ◌≤◌, Bool, true, false, List, [], ◌++◌, Option, Some, None, Result, Ok, Err, inl, inr, arith, refl, sym, ap, ◌∙◌, ◌⊎◌, subst, add-zero, append-nil}
+-- What the lines of turns that were taken make of the text of a trace.
+use Rattle.std.proofs.Common.{◌≡◌, ℕ, ◌+◌, ◌-◌, ◌<◌, ◌≤◌, Bool, true, false, List, [], ◌++◌, Option, Some, Result, Ok, Err, inl, inr, arith, refl, sym, ap, ◌∙◌, subst, add-zero, append-nil}
 use Rattle.std.specs.Prelude.{◌==◌, if◌then◌else◌}
 use Rattle.std.proofs.lemmas.Bool.{cases_eq}
 use Rattle.std.proofs.lemmas.Bool.Decides.{nat_tests}
-use Rattle.outside.specs.Output.{GainsBetween, GainsText, IsPrefix}
+use Rattle.outside.specs.Output.{IsPrefix}
 use Rattle.outside.specs.Streams.{Contents}
 use Rattle.outside.proofs.OutputLemmas.{GainsBetween-exact, GainsBetween-lower, GainsBetween-nothing, IsPrefix-empty}
 use Rattle.kernel_core.specs.declared.core_error.Stop.{Stop}
@@ -16,15 +16,13 @@ use Rattle.o32_machine.specs.Quiet.{IsQuiet, IsTurnAfter}
 use Rattle.o32_machine.specs.declared.turn.Turn as code
 use Rattle.o32_machine.specs.declared.turn.Turn.TheVariants.{Went, Ended}
 use Rattle.o32_turns.specs.Machine.{Machine, Turn}
-use Rattle.o32_turns.specs.Runs.{Reached, attempt, is_block, is_blocked, reached}
+use Rattle.o32_turns.specs.Runs.{attempt, is_block, is_blocked, reached}
 use Rattle.o32_turns.specs.Turn.{turn_of}
 use Rattle.trace_text.specs.Trace.{trace_line}
-use Rattle.o32_runner.specs.Runs.{IsCut, IsOver, IsSoFar, RunsTo, turns_begun}
+use Rattle.o32_runner.specs.Runs.{IsCut, IsOver, IsSoFar, turns_begun}
 use Rattle.o32_runner.specs.Trace.{attempt_lines, blocked_line, next_lines, traced, turn_lines, whole_trace}
-use Rattle.o32_runner.specs.Stored.{SavesText, Stored}
-use Rattle.o32_runner.specs.Traced.{IsTrace, TracesAs, WritesTrace}
-use Rattle.o32_runner.specs.declared.traced.Cut.{Cut}
-use Rattle.o32_runner.specs.inside.Told.{Adds, AddsPart, EndsBudget, TakesTurns, told_lines}
+use Rattle.o32_runner.specs.Traced.{IsCutTrace, IsWholeTrace}
+use Rattle.o32_runner.specs.inside.Told.{told_lines}
 use Rattle.o32_runner.proofs.QuietTurns.{is_cut_after, is_done, quiet_then}
 use Rattle.o32_runner.proofs.RunLemmas.{is_cut_by}
 use Rattle.o32_runner.proofs.Traces.{next_traced, quiet_traced}
@@ -90,23 +88,23 @@ module _ (quantum : ℕ) (machine : Machine) (left : List ℕ) (j q limit : ℕ)
     abbrev pub k : ℕ
     k = j + turned.quiet
 
-    so_then : IsSoFar quantum machine left k before at turned.middle
+    pub so_then : IsSoFar quantum machine left k before at turned.middle
     so_then = quiet_then quantum machine left j q limit before at after now became turns events same so result turned
 
     pub quiet_here : traced quantum machine left k ≡ traced quantum machine left j
     quiet_here = quiet_traced quantum machine left j before at now so turned.quiet turned.middle (subst (λ (n : ℕ). IsQuiet n now turned.quiet turned.middle) same turned.first)
 
-    abbrev left_here : List ℕ
+    abbrev pub left_here : List ℕ
     left_here = (reached quantum machine left k).left
 
-    attempt_is : attempt quantum machine left k ≡ turn_of quantum turned.middle left_here
+    pub attempt_is : attempt quantum machine left k ≡ turn_of quantum turned.middle left_here
     attempt_is = ap (λ (m : Machine). turn_of quantum m left_here) so_then.same
 
   module _ (turn : code.Turn) (turned : IsTurnAfter q limit now j (Ok turn) became turns events at after) where
     abbrev there : ℕ
     there = k (Ok turn) turned
 
-    answered : Turned (turn_of quantum turned.middle (left_here (Ok turn) turned)) turn became events at after
+    pub answered : Turned (turn_of quantum turned.middle (left_here (Ok turn) turned)) turn became events at after
     answered =
         subst (λ (n : ℕ). Turned (turn_of n turned.middle (left_here (Ok turn) turned)) turn became events at after) same
         (turned.last (left_here (Ok turn) turned) (so_then (Ok turn) turned).rest)
@@ -213,18 +211,7 @@ module _ (quantum : ℕ) (machine : Machine) (left : List ℕ) (j q limit : ℕ)
           whole_part (turn_of quantum turned.middle here) turn became events at after
           (subst (λ (n : ℕ). Turned (turn_of n turned.middle here) turn became events at after) same (turned.last here told))
 
--- The file of the trace
-
--- more is added to it
-pub tells : (name : List ℕ) (start old new : Stored) (lines : List ℕ) (Had Has : List ℕ → Type 0) → ((text : List ℕ) → Had text → Has (text ++ lines)) → WritesTrace name Had start old → Adds name lines old new → WritesTrace name Has start new
-tells name start old new lines Had Has grows wrote adds = (wrote.0 ++ lines, grows wrote.0 wrote.1, adds start wrote.0 wrote.2)
-
-tells_part : (name : List ℕ) (start old new : Stored) (lines : List ℕ) (Had Has : List ℕ → Type 0) → ((text part : List ℕ) → IsPrefix part lines → Had text → Has (text ++ part)) → WritesTrace name Had start old → AddsPart name lines old new
-    → WritesTrace name Has start new
-tells_part name start old new lines Had Has grows wrote adds =
-    let some = adds start wrote.0 wrote.2 in (wrote.0 ++ some.0, grows wrote.0 some.0 some.1 wrote.1, some.2)
-
--- what it has after so many turns
+-- What a trace has after so many turns
 abbrev pub SoTraced : ℕ → Machine → ℕ → Option (List ℕ) → List ℕ → Type 0
 SoTraced quantum machine k told text = (left : List ℕ) → told ≡ Some left → text ≡ traced quantum machine left k
 
@@ -235,62 +222,58 @@ none_traced quantum machine left k none = ap (λ (n : ℕ). traced quantum machi
 
 -- The run is cut in a turn, or where its lines are added.
 module _ (quantum : ℕ) (machine : Machine) (budget j q limit : ℕ) (before at after : Contents) (now became : Machine) (turns : ℕ) (events : List Event) (same : q ≡ quantum)
-    (so : (left : List ℕ) → before.left ≡ Some left → IsSoFar quantum machine left j before at now) (cut : Cut) (name : List ℕ) (old new : Stored) where
-  module _ (below : j < budget) (room : limit ≡ budget - j) where
-    pub cut_run : TakesTurns q limit now j (Err cut) became turns events at after name old new → (left : List ℕ) → before.left ≡ Some left → IsCut quantum machine left cut.turns (turns_begun budget cut.turns) before after
-    cut_run (inl stopped) left told =
-        let within : cut.turns < budget = omega (arith, below, room, stopped.0.within, stopped.0.counted) in
-        cut_within quantum machine left cut.turns budget before after within
-        (is_cut_after quantum machine left j q limit before at after now became cut.turns events same (so left told) cut.stop stopped.0)
-    cut_run (inr (turn, turned, adds, counts)) left told =
-        let here : j + turned.quiet ≡ cut.turns = omega (arith, counts, turned.counted) in
-        let within : cut.turns < budget = omega (arith, below, room, here, turned.within) in
-        cut_within quantum machine left cut.turns budget before after within
-        (subst (λ (n : ℕ). IsCut quantum machine left n (n + 1) before after) here
+    (so : (left : List ℕ) → before.left ≡ Some left → IsSoFar quantum machine left j before at now) (below : j < budget) (room : limit ≡ budget - j) where
+  -- in a turn
+  pub cut_in : (stop : Stop) → IsTurnAfter q limit now j (Err stop) became turns events at after → (left : List ℕ) → before.left ≡ Some left → IsCut quantum machine left turns (turns_begun budget turns) before after
+  cut_in stop turned left told =
+      let within : turns < budget = omega (arith, below, room, turned.within, turned.counted) in
+      cut_within quantum machine left turns budget before after within
+      (is_cut_after quantum machine left j q limit before at after now became turns events same (so left told) stop turned)
+
+  pub untold : (stop : Stop) (turned : IsTurnAfter q limit now j (Err stop) became turns events at after) (text : List ℕ) → SoTraced quantum machine j before.left text → IsCutTrace quantum machine budget turns before.left text
+  untold stop turned text had left told =
+      let here : j + turned.quiet ≡ turns = omega (arith, turned.counted) in (
+        [],
+        IsPrefix-empty (next_lines quantum machine left budget turns),
+        had left told
+            ∙ sym (quiet_here quantum machine left j q limit before at after now became turns events same (so left told) (Err stop) turned)
+            ∙ ap (λ (n : ℕ). traced quantum machine left n) here
+            ∙ sym (append-nil (traced quantum machine left turns)),
+      )
+
+  -- or behind it
+  module _ (turn : code.Turn) (turned : IsTurnAfter q limit now j (Ok turn) became turns events at after) (finished : ℕ) (counts : turns ≡ finished + turns_of turn) where
+    pub before_it : j + turned.quiet ≡ finished
+    before_it = omega (arith, counts, turned.counted)
+
+    pub within_budget : finished < budget
+    within_budget = omega (arith, below, room, before_it, turned.within)
+
+    pub cut_behind : (left : List ℕ) → before.left ≡ Some left → IsCut quantum machine left finished (turns_begun budget finished) before after
+    cut_behind left told =
+        cut_within quantum machine left finished budget before after within_budget
+        (subst (λ (n : ℕ). IsCut quantum machine left n (n + 1) before after) before_it
         (cut_untold quantum machine left j q limit before at after now became turns events same (so left told) turn turned))
 
-  module _ (start : Stored) (below : j < budget) (room : limit ≡ budget - j) where
-    abbrev pub Partly : List ℕ → Type 0
-    Partly text = IsTrace quantum machine budget cut.turns (Err cut.stop) before.left text
-
-    untold : (turned : IsTurnAfter q limit now j (Err cut.stop) became cut.turns events at after) (text : List ℕ) → SoTraced quantum machine j before.left text → Partly text
-    untold turned text had left told =
-        let here : j + turned.quiet ≡ cut.turns = omega (arith, turned.counted) in (
-          [],
-          IsPrefix-empty (next_lines quantum machine left budget cut.turns),
-          had left told
-              ∙ sym (quiet_here quantum machine left j q limit before at after now became cut.turns events same (so left told) (Err cut.stop) turned)
-              ∙ ap (λ (n : ℕ). traced quantum machine left n) here
-              ∙ sym (append-nil (traced quantum machine left cut.turns)),
-        )
-
-    partly_told : (turn : code.Turn) (turned : IsTurnAfter q limit now j (Ok turn) became turns events at after) → turns ≡ cut.turns + turns_of turn
-        → (text part : List ℕ) → IsPrefix part (told_lines turns turn events) → SoTraced quantum machine j before.left text → Partly (text ++ part)
-    partly_told turn turned counts text part begins had left told =
-        let here : j + turned.quiet ≡ cut.turns = omega (arith, counts, turned.counted) in (
-          part,
-          subst (λ (n : ℕ). IsPrefix part (next_lines quantum machine left budget n)) here
-              (subst (λ (l : List ℕ). IsPrefix part l) (sym (told_next quantum machine left j q limit before at after now became turns events same (so left told) budget turn turned below room)) begins),
-          ap (λ (t : List ℕ). t ++ part)
-              (had left told
-              ∙ sym (quiet_here quantum machine left j q limit before at after now became turns events same (so left told) (Ok turn) turned)
-              ∙ ap (λ (n : ℕ). traced quantum machine left n) here),
-        )
-
-    pub cut_trace : TakesTurns q limit now j (Err cut) became turns events at after name old new → WritesTrace name (SoTraced quantum machine j before.left) start old → WritesTrace name Partly start new
-    cut_trace (inl stopped) wrote =
-        (wrote.0, untold stopped.0 wrote.0 wrote.1, subst (λ (s : Stored). SavesText name wrote.0 start s) (sym stopped.1) wrote.2)
-    cut_trace (inr (turn, turned, adds, counts)) wrote =
-        tells_part name start old new (told_lines turns turn events) (SoTraced quantum machine j before.left) Partly (partly_told turn turned counts) wrote adds
+    pub partly_told : (text part : List ℕ) → IsPrefix part (told_lines turns turn events) → SoTraced quantum machine j before.left text → IsCutTrace quantum machine budget finished before.left (text ++ part)
+    partly_told text part begins had left told = (
+      part,
+      subst (λ (n : ℕ). IsPrefix part (next_lines quantum machine left budget n)) before_it
+          (subst (λ (l : List ℕ). IsPrefix part l) (sym (told_next quantum machine left j q limit before at after now became turns events same (so left told) budget turn turned below room)) begins),
+      ap (λ (t : List ℕ). t ++ part)
+          (had left told
+          ∙ sym (quiet_here quantum machine left j q limit before at after now became turns events same (so left told) (Ok turn) turned)
+          ∙ ap (λ (n : ℕ). traced quantum machine left n) before_it),
+    )
 
 -- The budget's turns are done.
-module _ (quantum : ℕ) (machine : Machine) (budget j turns became : ℕ) (before at : Contents) (now : Machine) (name : List ℕ) (old new : Stored)
+module _ (quantum : ℕ) (machine : Machine) (budget j turns became : ℕ) (before at : Contents) (now : Machine)
     (so : (left : List ℕ) → before.left ≡ Some left → IsSoFar quantum machine left j before at now) (full : j ≡ budget) (counts : turns ≡ j) (same : became ≡ turns) where
-  pub budget_run : (end : Result Finish Stop) → EndsBudget name turns end old new → (left : List ℕ) → before.left ≡ Some left → RunsTo quantum machine left budget became end before at now
-  budget_run (Ok finish) ends left told =
-      subst (λ (f : Finish). IsOver quantum machine left budget became f before at now) (sym ends.0)
-      (is_done quantum machine left j budget became before at now (so left told) full (same ∙ counts))
-  budget_run (Err stop) ends left told =
+  pub done_run : (left : List ℕ) → before.left ≡ Some left → IsOver quantum machine left budget became Budget before at now
+  done_run left told = is_done quantum machine left j budget became before at now (so left told) full (same ∙ counts)
+
+  pub cut_run : (left : List ℕ) → before.left ≡ Some left → IsCut quantum machine left became (turns_begun budget became) before at
+  cut_run left told =
       subst (λ (n : ℕ). IsCut quantum machine left n (turns_begun budget n) before at) (sym (same ∙ counts)) (cut_full quantum machine left j budget before at now full (so left told))
 
   next_is : (left : List ℕ) → next_lines quantum machine left budget became ≡ trace_line turns event.Budget
@@ -299,27 +282,15 @@ module _ (quantum : ℕ) (machine : Machine) (budget j turns became : ℕ) (befo
       (at_budget became budget (same ∙ counts ∙ full))
       ∙ ap (λ (n : ℕ). trace_line n event.Budget) same
 
-  pub budget_trace : (end : Result Finish Stop) (start : Stored) → EndsBudget name turns end old new → WritesTrace name (SoTraced quantum machine j before.left) start old
-      → WritesTrace name (IsTrace quantum machine budget became end before.left) start new
-  budget_trace (Ok finish) start ends wrote =
-      subst (λ (f : Finish). WritesTrace name (IsTrace quantum machine budget became (Ok f) before.left) start new) (sym ends.0)
-      (tells name start old new (trace_line turns event.Budget) (SoTraced quantum machine j before.left) (IsTrace quantum machine budget became (Ok Budget) before.left)
-      (λ text had left told.
+  pub done_told : (text : List ℕ) → SoTraced quantum machine j before.left text → IsWholeTrace quantum machine became Budget before.left (text ++ trace_line turns event.Budget)
+  done_told text had left told =
       ap (λ (t : List ℕ). t ++ trace_line turns event.Budget) (had left told)
       ∙ ap (λ (n : ℕ). traced quantum machine left n ++ trace_line turns event.Budget) (sym (same ∙ counts))
-      ∙ ap (λ (n : ℕ). traced quantum machine left became ++ trace_line n event.Budget) (sym same))
-      wrote ends.1)
-  budget_trace (Err stop) start ends wrote =
-      tells_part name start old new (trace_line turns event.Budget) (SoTraced quantum machine j before.left) (IsTrace quantum machine budget became (Err stop) before.left)
-      (λ text part begins had left told. (
-        part,
-        subst (λ (l : List ℕ). IsPrefix part l) (sym (next_is left)) begins,
-        ap (λ (t : List ℕ). t ++ part) (had left told ∙ ap (λ (n : ℕ). traced quantum machine left n) (sym (same ∙ counts))),
-      ))
-      wrote ends
+      ∙ ap (λ (n : ℕ). traced quantum machine left became ++ trace_line n event.Budget) (sym same)
 
--- what a run wrote, once its file was made
-pub traces_so : (name : List ℕ) (quantum : ℕ) (machine : Machine) (budget turns : ℕ) (end : Result Finish Stop) (told : Option (List ℕ)) (old new : Stored) → WritesTrace name (IsTrace quantum machine budget turns end told) old new
-    → TracesAs name quantum machine budget turns end told old new
-traces_so name quantum machine budget turns (Ok finish) told old new wrote = wrote
-traces_so name quantum machine budget turns (Err stop) told old new wrote = inl wrote
+  pub done_partly : (text part : List ℕ) → IsPrefix part (trace_line turns event.Budget) → SoTraced quantum machine j before.left text → IsCutTrace quantum machine budget became before.left (text ++ part)
+  done_partly text part begins had left told = (
+    part,
+    subst (λ (l : List ℕ). IsPrefix part l) (sym (next_is left)) begins,
+    ap (λ (t : List ℕ). t ++ part) (had left told ∙ ap (λ (n : ℕ). traced quantum machine left n) (sym (same ∙ counts))),
+  )

@@ -1,5 +1,5 @@
 -- How the text of a trace grows.
-use Rattle.std.proofs.Common.{◌≡◌, ℕ, zero, suc, ◌+◌, ◌<◌, ◌≤◌, Bool, true, false, List, [], ◌++◌, Option, Some, None, Result, Ok, Err, arith, refl, sym, ap, ◌∙◌, add-zero, append-nil}
+use Rattle.std.proofs.Common.{◌≡◌, ℕ, zero, suc, ◌+◌, ◌<◌, List, [], ◌++◌, arith, ap, ◌∙◌, add-zero, append-nil}
 use Rattle.kernel_core.specs.declared.event.Event.{Event}
 use Rattle.outside.specs.Streams.{Contents}
 use Rattle.o32_machine.specs.Quiet.{IsQuiet}
@@ -18,10 +18,10 @@ next_traced quantum machine left k =
 
 -- an attempt behind others is one of the run from there
 module _ (quantum : ℕ) (machine : Machine) (left : List ℕ) (j : ℕ) (before at : Contents) (now : Machine) (so : IsSoFar quantum machine left j before at now) where
-  abbrev here : Reached
+  abbrev pub here : Reached
   here = reached quantum machine left j
 
-  there : (d : ℕ) → reached quantum machine left (j + d) ≡ behind here.sent (reached quantum now here.left d)
+  pub there : (d : ℕ) → reached quantum machine left (j + d) ≡ behind here.sent (reached quantum now here.left d)
   there d = composed quantum machine left j d so.alive ∙ ap (λ (m : Machine). behind here.sent (reached quantum m here.left d)) so.same
 
   attempt_there : (d : ℕ) → (attempt quantum machine left (j + d)).events ≡ (attempt quantum now here.left d).events

@@ -1,6 +1,6 @@
 -- What a run of an emulator for a budget comes to, by what the machine's run is defined to be. (That a run may stop early, and what holds then, is
 -- this project's own.)
-use Rattle.std.specs.Prelude.{ℕ, ◌≡◌, ◌+◌, ◌<◌, ◌≤◌, ◌⊎◌, ◌==◌, if◌then◌else◌, false, List, Option, Some, None, Result, Ok, Err}
+use Rattle.std.specs.Prelude.{ℕ, ◌≡◌, ◌+◌, ◌<◌, ◌≤◌, ◌⊎◌, ◌==◌, if◌then◌else◌, false, List, Some, None, Result, Ok, Err}
 use Rattle.outside.specs.Output.{GainsText, GainsBetween}
 use Rattle.outside.specs.Streams.{Contents}
 use Rattle.kernel_core.specs.declared.core_error.Stop.{Stop}

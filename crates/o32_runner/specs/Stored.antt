@@ -1,6 +1,7 @@
 -- The store of a session, and what becomes of one of its files. This project's own.
-use Rattle.std.specs.Prelude.{ℕ, ◌≡◌, List, [], ◌∷◌, ◌++◌, Option, Some}
-use Rattle.outside.specs.Files.{Files, ChangesFile}
+use Rattle.std.specs.Prelude.{ℕ, ◌≡◌, List, [], ◌∷◌, ◌++◌, Option, None, Some}
+use Rattle.outside.specs.Files.{Files, ChangesFile, IsUnchangedOrEmptied}
+use Rattle.outside.specs.Output.{IsPrefix}
 use Rattle.outside.specs.Turned.{TurnedLoad}
 
 -- what is seen of a store: its files, the names of those that it made, the names of the loads that it answered, the loads that it turned away,
@@ -31,3 +32,23 @@ pub record SavesText (name text : List ℕ) (old new : Stored) : Type 0 where
   pub created : new.created ≡ old.created ++ name ∷ []
   pub loads : new.loads ≡ old.loads
   pub turned : new.turned ≡ old.turned
+
+-- the file was made and has a text of this form
+abbrev pub WritesText : List ℕ → (List ℕ → Type 0) → Stored → Stored → Type 0
+WritesText name HasForm old new = (text : List ℕ) × HasForm text × SavesText name text old new
+
+-- the file was not made: it stands as it was or is empty, and every other stands
+pub record IsUnmade (name : List ℕ) (old new : Stored) : Type 0 where
+  pub files : ChangesFile old.files new.files name IsUnchangedOrEmptied
+  pub created : new.created ≡ old.created
+  pub loads : new.loads ≡ old.loads
+  pub turned : new.turned ≡ old.turned
+
+-- what becomes of a file where one is named; where none is, the store stands
+abbrev pub IfNamed : Option (List ℕ) → (List ℕ → Stored → Stored → Type 0) → Stored → Stored → Type 0
+IfNamed None Becomes old new = new ≡ old
+IfNamed (Some name) Becomes old new = Becomes name old new
+
+-- the first text, and a part of the second behind it
+abbrev pub IsPartly : List ℕ → List ℕ → List ℕ → Type 0
+IsPartly first more text = (part : List ℕ) × IsPrefix part more × (text ≡ first ++ part)

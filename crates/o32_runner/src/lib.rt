@@ -1,9 +1,9 @@
-//! A run of an emulator for a budget, and the trace that it writes.
+//! A run of an emulator for a budget, and the texts that it writes: its trace and its native log.
 #![tactic(auto)]
 
-mod trace;
-mod traced;
+mod lines;
+mod told;
 mod untraced;
 
-pub use traced::run_traced;
+pub use told::{Names, run_told};
 pub use untraced::{Ran, run};

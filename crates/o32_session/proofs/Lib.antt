@@ -1,4 +1,5 @@
 pub mod Guest
+pub mod Naming
 pub mod Numbers
 pub mod Preparing
 pub mod Loading

@@ -106,14 +106,14 @@ pub prepared : (words : List (List ℕ)) (line : Line) (told : Option Files) (pl
     args ≡ arguments_of words line → IsPlanOf told (names_of words line).program plan →
     IsTree told (names_of words line).image (Ok tree) → IsScheduledAs told (names_of words line).schedule (Ok schedule) → (result : Result Ready NotRun) →
     IfOk result (λ ready. asked_of_schedule args line plan tree schedule ≡ Run ready.emulator.quantum ready.emulator.machine ready.budget) →
-    IfOk result (λ ready. ready.save ≡ line.save) → IfOk result (λ ready. ready.trace ≡ line.trace) →
+    IfOk result (λ ready. ready.save ≡ line.save) → IfOk result (λ ready. ready.trace ≡ line.trace) → IfOk result (λ ready. ready.native ≡ line.native) →
     IfErr result (IsStartReason (asked_of_schedule args line plan tree schedule)) → IsPreparedLine words line told result
-prepared words line told plan tree schedule args same is image scheduled (Ok ready) runs save trace reason = (
+prepared words line told plan tree schedule args same is image scheduled (Ok ready) runs save trace native reason = (
   asks_planned words line told plan (Ok tree) (Run ready.emulator.quantum ready.emulator.machine ready.budget) is image.0
       (Ok schedule, scheduled, sym (ap (λ a. asked_of_schedule a line plan tree schedule) (sym same) ∙ runs)),
-  (save, trace),
+  (save, (trace, native)),
 )
-prepared words line told plan tree schedule args same is image scheduled (Err reason) runs save trace why =
+prepared words line told plan tree schedule args same is image scheduled (Err reason) runs save trace native why =
     start_prepared words line told plan tree schedule reason is image.0 scheduled
     (subst (λ a. IsStartReason (asked_of_schedule a line plan tree schedule) reason) same why)
 

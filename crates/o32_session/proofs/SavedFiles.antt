@@ -1,17 +1,22 @@
 -- What an answer says of the files alone.
-use Rattle.std.proofs.Common.{◌≡◌, ℕ, List, [], Option, Some, None, inl, inr, refl, sym, ap, subst}
+use Rattle.std.proofs.Common.{◌≡◌, ℕ, List, [], Option, Some, None, Result, Ok, Err, ◌⊎◌, inl, inr, refl, sym, ap, subst}
 use Rattle.outside.specs.Files.{Files, ChangesFile, IsUnchangedOrEmptied}
 use Rattle.kernel_core.specs.declared.finish.Finish.{Finish}
 use Rattle.kernel_core.specs.declared.finish.Finish.TheVariants as finishes
+use Rattle.kernel_core.specs.declared.core_error.Stop.{Stop}
+use Rattle.kernel_core.specs.declared.core_error.Stop.TheVariants as stops
 use Rattle.kernel_core.specs.declared.tree.Tree.{Tree}
 use Rattle.fs_image.specs.Text.{text_of}
 use Rattle.o32_machine.specs.Emulator.{Emulated}
 use Rattle.o32_turns.specs.Machine.{Machine}
 use Rattle.o32_session.specs.Asked.{Asked, Refuse, Run, Names, names_of}
 use Rattle.o32_session.specs.Saved.{SavesPart, SavesTree, SavesTreeInPart, StandsOrBegins}
-use Rattle.o32_runner.specs.Stored.{HasText, Stored}
-use Rattle.o32_session.specs.SavedFile.{HasTreeText, IsFileAfter, IsTraceAfter, SavesReading, SavesTo, StandsOrHasPart, StandsOrIsThere, TracesTo}
-use Rattle.o32_session.specs.Session.{Answers, AnswersReading, Finishes, Seen, StopsAfter, StopsAtSave, StopsInRun, WritesTrace, WritesTraceInPart, final_tree, no_names, once_loaded}
+use Rattle.o32_runner.specs.NativeText.{IsCutLog, IsWholeLog, LogsAs}
+use Rattle.o32_runner.specs.Stored.{HasText, IfNamed, IsUnmade, Stored, WritesText}
+use Rattle.o32_runner.specs.Texts.{WritesTexts}
+use Rattle.o32_runner.specs.Traced.{IsCutTrace, IsWholeTrace, TracesAs}
+use Rattle.o32_session.specs.SavedFile.{HasTreeText, IsFileAfter, IsTextAfter, SavesReading, SavesTo, StandsOrHasPart, StandsOrIsThere, TextsTo, WritesFiles}
+use Rattle.o32_session.specs.Session.{Answers, AnswersReading, Finishes, Seen, StopsAfter, StopsAtSave, StopsInRun, final_tree, no_names, once_loaded}
 use Rattle.o32_session.specs.Words.{Reading, Asks, WrongAt}
 use Rattle.o32_session.specs.declared.answer.Refusal.{Refusal}
 use Rattle.o32_session.specs.declared.answer.Refusal.TheVariants.{Usage}
@@ -45,9 +50,9 @@ stands_part name text store = record {
 
 -- The end
 
--- both files stand after an end that isn't a finish
+-- all files stand after an end that isn't a finish
 abbrev IsNoFinish : End → Type 0
-IsNoFinish end = (file : Option (List ℕ)) → IsFileAfter end file file × IsTraceAfter end file file
+IsNoFinish end = (file : Option (List ℕ)) → IsFileAfter end file file × IsTextAfter end file file
 
 early_stands : (count : ℕ) (names : Names) (end : End) → StopsAfter count names end → IsNoFinish end
 early_stands count names ReadFault early = λ file. (refl, inl refl)
@@ -59,19 +64,17 @@ early_stands count names Blocked early = absurd early
 early_stands count names (Refused given) early = absurd early
 early_stands count names WriteFault early = absurd early
 
-abbrev Writes : Option (List ℕ) → Option (List ℕ) → End → Option Files → Option Files → Type 0
-Writes trace save end old new = (middle : Option Files) × TracesTo trace end old middle × SavesTo save end middle new
-
 save_stands : (end : End) (old new : Option Files) → IsNoFinish end → new ≡ old → (save : Option (List ℕ)) → SavesTo save end old new
 save_stands end old new stands same None = same
 save_stands end old new stands same (Some name) = unchanged_file old new name (IsFileAfter end) same (λ file. (stands file).0)
 
-trace_stands : (end : End) (files : Option Files) → IsNoFinish end → (trace : Option (List ℕ)) → TracesTo trace end files files
-trace_stands end files stands None = refl
-trace_stands end files stands (Some name) = unchanged_file files files name (IsTraceAfter end) refl (λ file. (stands file).1)
+text_stands : (end : End) (files : Option Files) → IsNoFinish end → (text : Option (List ℕ)) → TextsTo text end files files
+text_stands end files stands None = refl
+text_stands end files stands (Some name) = unchanged_file files files name (IsTextAfter end) refl (λ file. (stands file).1)
 
-stands_so : (end : End) (old new : Option Files) → IsNoFinish end → new ≡ old → (trace save : Option (List ℕ)) → Writes trace save end old new
-stands_so end old new stands same trace save = (old, trace_stands end old stands trace, save_stands end old new stands same save)
+stands_so : (end : End) (old new : Option Files) → IsNoFinish end → new ≡ old → (names : Names) → WritesFiles names end old new
+stands_so end old new stands same names =
+    (old, old, text_stands end old stands names.trace, text_stands end old stands names.native, save_stands end old new stands same names.save)
 
 -- what an answer to a refusal says of the end and of the store
 refused_stands : (refusal : Refusal) (names : Names) (old new : Seen) (turns : ℕ) (end : End) (host : Option Emulated) →
@@ -107,13 +110,12 @@ part_saves : (save : Option (List ℕ)) (tree : Tree) (old new : Stored) (end : 
 part_saves None tree old new end says saved = absurd saved
 part_saves (Some name) tree old new end says saved = changed_file old.files new.files name (StandsOrBegins (text_of tree)) (IsFileAfter end) says saved.files
 
--- the trace was written whole, or in part
+-- a text was written whole, or in part
 
-traces_whole : (name : Option (List ℕ)) (quantum : ℕ) (machine : Machine) (turns : ℕ) (finish : Finish) (told : Option (List ℕ)) (old new : Stored) (end : End)
-    → ((before after : Option (List ℕ)) → (text : List ℕ) × (after ≡ Some text) → IsTraceAfter end before after) → WritesTrace name quantum machine turns finish told old new → TracesTo name end old.files new.files
-traces_whole None quantum machine turns finish told old new end says wrote = ap (λ (s : Stored). s.files) wrote
-traces_whole (Some name) quantum machine turns finish told old new end says wrote =
-    changed_file old.files new.files name (HasText wrote.0) (IsTraceAfter end) (λ before after is. says before after (wrote.0, is)) wrote.2.files
+text_whole : (name : List ℕ) (HasForm : List ℕ → Type 0) (old new : Stored) (end : End) → ((before after : Option (List ℕ)) → (text : List ℕ) × (after ≡ Some text) → IsTextAfter end before after)
+    → WritesText name HasForm old new → ChangesFile old.files new.files name (IsTextAfter end)
+text_whole name HasForm old new end says wrote =
+    changed_file old.files new.files name (HasText wrote.0) (IsTextAfter end) (λ before after is. says before after (wrote.0, is)) wrote.2.files
 
 emptied_says : (before after : Option (List ℕ)) → IsUnchangedOrEmptied before after → StandsOrIsThere before after
 emptied_says before after is =
@@ -122,14 +124,34 @@ emptied_says before after is =
       | inr empty ↦ inr ([], empty)
     ]
 
-traces_part : (name : Option (List ℕ)) (quantum : ℕ) (machine : Machine) (budget turns : ℕ) (told : Option (List ℕ)) (old new : Stored) (end : End)
-    → ((before after : Option (List ℕ)) → StandsOrIsThere before after → IsTraceAfter end before after) → WritesTraceInPart name quantum machine budget turns told old new → TracesTo name end old.files new.files
-traces_part None quantum machine budget turns told old new end says wrote = ap (λ (s : Stored). s.files) wrote.1
-traces_part (Some name) quantum machine budget turns told old new end says wrote =
-    elim wrote.1 as (λ _. TracesTo (Some name) end old.files new.files) [
-      | inl part ↦ changed_file old.files new.files name (HasText part.0) (IsTraceAfter end) (λ before after is. says before after (inr (part.0, is))) part.2.files
-      | inr unmade ↦ changed_file old.files new.files name IsUnchangedOrEmptied (IsTraceAfter end) (λ before after is. says before after (emptied_says before after is)) unmade.1.files
+text_part : (name : List ℕ) (HasForm : List ℕ → Type 0) (turns : ℕ) (old new : Stored) (end : End) → ((before after : Option (List ℕ)) → StandsOrIsThere before after → IsTextAfter end before after)
+    → WritesText name HasForm old new ⊎ ((turns ≡ 0) × IsUnmade name old new) → ChangesFile old.files new.files name (IsTextAfter end)
+text_part name HasForm turns old new end says wrote =
+    elim wrote as (λ _. ChangesFile old.files new.files name (IsTextAfter end)) [
+      | inl part ↦ changed_file old.files new.files name (HasText part.0) (IsTextAfter end) (λ before after is. says before after (inr (part.0, is))) part.2.files
+      | inr unmade ↦ changed_file old.files new.files name IsUnchangedOrEmptied (IsTextAfter end) (λ before after is. says before after (emptied_says before after is)) unmade.1.files
     ]
+
+module _ (quantum : ℕ) (machine : Machine) (budget turns : ℕ) (told : Option (List ℕ)) (old new : Stored) (end : End) where
+  traces_whole : (name : Option (List ℕ)) (finish : Finish) → ((before after : Option (List ℕ)) → (text : List ℕ) × (after ≡ Some text) → IsTextAfter end before after)
+      → IfNamed name (λ n. TracesAs n quantum machine budget turns (Ok finish) told) old new → TextsTo name end old.files new.files
+  traces_whole None finish says wrote = ap (λ (s : Stored). s.files) wrote
+  traces_whole (Some name) finish says wrote = text_whole name (IsWholeTrace quantum machine turns finish told) old new end says wrote
+
+  logs_whole : (name : Option (List ℕ)) (finish : Finish) → ((before after : Option (List ℕ)) → (text : List ℕ) × (after ≡ Some text) → IsTextAfter end before after)
+      → IfNamed name (λ n. LogsAs n quantum machine budget turns (Ok finish) told) old new → TextsTo name end old.files new.files
+  logs_whole None finish says wrote = ap (λ (s : Stored). s.files) wrote
+  logs_whole (Some name) finish says wrote = text_whole name (IsWholeLog quantum machine turns finish told) old new end says wrote
+
+  traces_part : (name : Option (List ℕ)) (stop : Stop) → ((before after : Option (List ℕ)) → StandsOrIsThere before after → IsTextAfter end before after)
+      → IfNamed name (λ n. TracesAs n quantum machine budget turns (Err stop) told) old new → TextsTo name end old.files new.files
+  traces_part None stop says wrote = ap (λ (s : Stored). s.files) wrote
+  traces_part (Some name) stop says wrote = text_part name (IsCutTrace quantum machine budget turns told) turns old new end says wrote
+
+  logs_part : (name : Option (List ℕ)) (stop : Stop) → ((before after : Option (List ℕ)) → StandsOrIsThere before after → IsTextAfter end before after)
+      → IfNamed name (λ n. LogsAs n quantum machine budget turns (Err stop) told) old new → TextsTo name end old.files new.files
+  logs_part None stop says wrote = ap (λ (s : Stored). s.files) wrote
+  logs_part (Some name) stop says wrote = text_part name (IsCutLog quantum machine budget turns told) turns old new end says wrote
 
 -- a run that stopped saves nothing
 stopped_saves : (save : Option (List ℕ)) (end : End) (files : Option Files) → ((file : Option (List ℕ)) → IsFileAfter end file file) → SavesTo save end files files
@@ -138,55 +160,61 @@ stopped_saves (Some name) end files stands = unchanged_file files files name (Is
 
 module _ (quantum : ℕ) (machine : Machine) (budget : ℕ) (names : Names) (old new : Seen) (turns : ℕ) where
   finished : (finish : Finish) (end : End) (host : Option Emulated) → ((before after : Option (List ℕ)) → HasTreeText after → IsFileAfter end before after)
-      → ((before after : Option (List ℕ)) → (text : List ℕ) × (after ≡ Some text) → IsTraceAfter end before after)
-      → Finishes quantum machine budget names old new turns finish host → Writes names.trace names.save end old.store.files new.store.files
-  finished finish end host saves traces answer = (
+      → ((before after : Option (List ℕ)) → (text : List ℕ) × (after ≡ Some text) → IsTextAfter end before after)
+      → Finishes quantum machine budget names old new turns finish host → WritesFiles names end old.store.files new.store.files
+  finished finish end host saves texts answer = (
+    answer.texts.middle.files,
     answer.middle.files,
-    traces_whole names.trace quantum machine turns finish old.left old.store answer.middle end traces answer.traces,
+    traces_whole quantum machine budget turns old.left old.store answer.texts.middle end names.trace finish texts answer.texts.traces,
+    logs_whole quantum machine budget turns old.left answer.texts.middle answer.middle end names.native finish texts answer.texts.logs,
     finish_saves names.save (final_tree answer.emulated.machine) answer.middle new.store end saves answer.saves,
   )
 
-  in_run : (end : End) → ((file : Option (List ℕ)) → IsFileAfter end file file) → ((before after : Option (List ℕ)) → StandsOrIsThere before after → IsTraceAfter end before after)
-      → StopsInRun quantum machine budget names old new turns → Writes names.trace names.save end old.store.files new.store.files
-  in_run end stands says answer = (
+  in_run : (stop : Stop) (end : End) → ((file : Option (List ℕ)) → IsFileAfter end file file) → ((before after : Option (List ℕ)) → StandsOrIsThere before after → IsTextAfter end before after)
+      → StopsInRun quantum machine budget names stop old new turns → WritesFiles names end old.store.files new.store.files
+  in_run stop end stands says answer = (
+    answer.texts.middle.files,
     new.store.files,
-    traces_part names.trace quantum machine budget turns old.left old.store new.store end says answer.traces,
+    traces_part quantum machine budget turns old.left old.store answer.texts.middle end names.trace stop says answer.texts.traces,
+    logs_part quantum machine budget turns old.left answer.texts.middle new.store end names.native stop says answer.texts.logs,
     stopped_saves names.save end new.store.files stands,
   )
 
   at_save : (end : End) → ((tree : Tree) (before after : Option (List ℕ)) → StandsOrBegins (text_of tree) before after → IsFileAfter end before after)
-      → ((before after : Option (List ℕ)) → (text : List ℕ) × (after ≡ Some text) → IsTraceAfter end before after)
-      → StopsAtSave quantum machine budget names old new turns → Writes names.trace names.save end old.store.files new.store.files
+      → ((before after : Option (List ℕ)) → (text : List ℕ) × (after ≡ Some text) → IsTextAfter end before after)
+      → StopsAtSave quantum machine budget names old new turns → WritesFiles names end old.store.files new.store.files
   at_save end saves says answer = (
+    answer.texts.middle.files,
     answer.middle.files,
-    traces_whole names.trace quantum machine turns answer.finish old.left old.store answer.middle end says answer.traces,
+    traces_whole quantum machine budget turns old.left old.store answer.texts.middle end names.trace answer.finish says answer.texts.traces,
+    logs_whole quantum machine budget turns old.left answer.texts.middle answer.middle end names.native answer.finish says answer.texts.logs,
     part_saves names.save (final_tree answer.final) answer.middle new.store end (saves (final_tree answer.final)) answer.saves,
   )
 
-  run_saves : (end : End) (host : Option Emulated) → Answers (Run quantum machine budget) names old new turns end host → Writes names.trace names.save end old.store.files new.store.files
+  run_saves : (end : End) (host : Option Emulated) → Answers (Run quantum machine budget) names old new turns end host → WritesFiles names end old.store.files new.store.files
   run_saves (Exited status) host answer = finished (finishes.Exited status) (Exited status) host (λ before after is. is) (λ before after is. is) answer
   run_saves (Killed signal) host answer = finished (finishes.Killed signal) (Killed signal) host (λ before after is. is) (λ before after is. is) answer
   run_saves Budget host answer = finished finishes.Budget Budget host (λ before after is. is) (λ before after is. is) answer
   run_saves Blocked host answer = finished finishes.Blocked Blocked host (λ before after is. is) (λ before after is. is) answer
   run_saves (Refused given) host answer = absurd answer
-  run_saves ReadFault host answer = in_run ReadFault (λ file. refl) (λ before after is. is) answer.0
+  run_saves ReadFault host answer = in_run stops.ReadFault ReadFault (λ file. refl) (λ before after is. is) answer.0
   run_saves WriteFault host answer =
-      elim answer as (λ _. Writes names.trace names.save WriteFault old.store.files new.store.files) [
-        | inl stopped ↦ in_run WriteFault (λ file. inl refl) (λ before after is. is) stopped.0
+      elim answer as (λ _. WritesFiles names WriteFault old.store.files new.store.files) [
+        | inl stopped ↦ in_run stops.WriteFault WriteFault (λ file. inl refl) (λ before after is. is) stopped.0
         | inr failed ↦ at_save WriteFault part_says (λ before after is. inr is) failed.0
       ]
   run_saves NoMemory host answer =
-      elim answer as (λ _. Writes names.trace names.save NoMemory old.store.files new.store.files) [
-        | inl stopped ↦ in_run NoMemory (λ file. inl refl) (λ before after is. is) stopped
+      elim answer as (λ _. WritesFiles names NoMemory old.store.files new.store.files) [
+        | inl stopped ↦ in_run stops.NoMemory NoMemory (λ file. inl refl) (λ before after is. is) stopped
         | inr failed ↦ at_save NoMemory part_says (λ before after is. inr is) failed
       ]
 
 -- What is asked for
 
 asked_saves : (names : Names) (old new : Seen) (turns : ℕ) (end : End) (host : Option Emulated) (asked : Asked) → Answers asked names (once_loaded asked names old) new turns end host
-    → Writes names.trace names.save end old.store.files new.store.files
+    → WritesFiles names end old.store.files new.store.files
 asked_saves names old new turns end host (Refuse refusal) answer =
-    let stands = refused_stands refusal names (once_loaded (Refuse refusal) names old) new turns end host answer in stands_so end old.store.files new.store.files stands.0 stands.1 names.trace names.save
+    let stands = refused_stands refusal names (once_loaded (Refuse refusal) names old) new turns end host answer in stands_so end old.store.files new.store.files stands.0 stands.1 names
 asked_saves names old new turns end host (Run quantum machine budget) answer =
     run_saves quantum machine budget names (once_loaded (Run quantum machine budget) names old) new turns end host answer
 
@@ -199,9 +227,9 @@ saves words (WrongAt word) old new turns end host answer =
       | inr refused ↦ (refused_stands (Usage word) no_names old new turns end host refused).1
     ]
 saves words (Asks line) old new turns end host answer =
-    elim answer as (λ _. Writes (names_of words line).trace (names_of words line).save end old.store.files new.store.files) [
+    elim answer as (λ _. WritesFiles (names_of words line) end old.store.files new.store.files) [
       | inl early ↦
           stands_so end old.store.files new.store.files (early_stands early.count (names_of words line) end early.early)
-          (ap (λ (s : Stored). s.files) early.nothing.stands) (names_of words line).trace (names_of words line).save
+          (ap (λ (s : Stored). s.files) early.nothing.stands) (names_of words line)
       | inr asked ↦ asked_saves (names_of words line) old new turns end host asked.0 asked.2
     ]

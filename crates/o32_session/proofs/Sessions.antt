@@ -30,7 +30,8 @@ use Rattle.o32_session.specs.Words.{Line, Reading, Asks, WrongAt, read_words, wo
 use Rattle.o32_session.specs.inside.Ends.{end_of, end_of_stop}
 use Rattle.o32_session.specs.inside.Prepared.{EndsRefused, EndsWithoutRun, IsPrepared, LineFailsOnlyIfRose, LoadsReading, ReasonOnlyIfRose}
 use Rattle.o32_runner.specs.Runs.{RunsAs}
-use Rattle.o32_session.specs.inside.Runs.{AnswersRun, TracesRun}
+use Rattle.o32_runner.specs.Texts.{WritesTexts}
+use Rattle.o32_session.specs.inside.Runs.{AnswersRun}
 use Rattle.o32_session.specs.declared.answer.Answer.{Answer}
 use Rattle.o32_session.specs.declared.answer.End.{End}
 use Rattle.o32_session.specs.declared.answer.End.TheVariants.{Exited, Killed, Budget, Blocked, Refused, ReadFault, WriteFault, NoMemory}
@@ -122,17 +123,25 @@ cut_told : (quantum : ℕ) (machine : Machine) (budget turns : ℕ) (stop : Stop
 cut_told quantum machine budget turns stop old new final runs left told =
     let so = runs left told in record { alive = so.alive; first = so.first; to_out = so.to_out; to_err = so.to_err; rest = so.rest }
 
+-- the texts of a run by other names of the same files
+pub texts_named : (quantum : ℕ) (machine : Machine) (budget turns : ℕ) (end : Result Finish Stop) (told : Option (List ℕ)) (old new : Stored) (trace other_trace native other_native : Option (List ℕ)) → trace ≡ other_trace → native ≡ other_native
+    → WritesTexts trace native quantum machine budget turns end told old new → WritesTexts other_trace other_native quantum machine budget turns end told old new
+texts_named quantum machine budget turns end told old new trace other_trace native other_native traced logged texts =
+    subst (λ (n : Option (List ℕ)). WritesTexts n other_native quantum machine budget turns end told old new) traced
+    (subst (λ (n : Option (List ℕ)). WritesTexts trace n quantum machine budget turns end told old new) logged texts)
+
 -- the run stopped early
-pub cut_answer : (quantum : ℕ) (machine : Machine) (budget turns : ℕ) (names : Names) (stop : Stop) (old new : Seen) (final : Machine) (host : Option Emulated) → TracesRun names.trace quantum machine budget turns (Err stop) old.left old.store new.store
+pub cut_answer : (quantum : ℕ) (machine : Machine) (budget turns : ℕ) (names : Names) (stop : Stop) (old new : Seen) (final : Machine) (host : Option Emulated) → turns ≤ budget → (names.trace ≡ None → turns < budget)
+    → WritesTexts names.trace names.native quantum machine budget turns (Err stop) old.left old.store new.store
     → RunsAs quantum machine budget turns (Err stop) (contents_of old) (contents_of new) final
     → (stop ≡ stops.ReadFault → Rose old.read_faults new.read_faults) → (stop ≡ stops.WriteFault → Rose old.out_faults new.out_faults ⊎ (Rose old.err_faults new.err_faults ⊎ Rose old.store.write_faults new.store.write_faults))
     → Answers (Run quantum machine budget) names old new turns (end_of_stop stop) host
-cut_answer quantum machine budget turns names stops.ReadFault old new final host traces runs read write =
-    (record { traces = traces; told = cut_told quantum machine budget turns stops.ReadFault old new final runs }, read refl)
-cut_answer quantum machine budget turns names stops.WriteFault old new final host traces runs read write =
-    inl (record { traces = traces; told = cut_told quantum machine budget turns stops.WriteFault old new final runs }, write refl)
-cut_answer quantum machine budget turns names stops.NoMemory old new final host traces runs read write =
-    inl (record { traces = traces; told = cut_told quantum machine budget turns stops.NoMemory old new final runs })
+cut_answer quantum machine budget turns names stops.ReadFault old new final host within early texts runs read write =
+    (record { within = within; early = early; texts = texts; told = cut_told quantum machine budget turns stops.ReadFault old new final runs }, read refl)
+cut_answer quantum machine budget turns names stops.WriteFault old new final host within early texts runs read write =
+    inl (record { within = within; early = early; texts = texts; told = cut_told quantum machine budget turns stops.WriteFault old new final runs }, write refl)
+cut_answer quantum machine budget turns names stops.NoMemory old new final host within early texts runs read write =
+    inl (record { within = within; early = early; texts = texts; told = cut_told quantum machine budget turns stops.NoMemory old new final runs })
 
 finish_answers : (quantum : ℕ) (machine : Machine) (budget turns : ℕ) (names : Names) (finish : Finish) (old new : Seen) (host : Option Emulated) → Finishes quantum machine budget names old new turns finish host
     → Answers (Run quantum machine budget) names old new turns (end_of finish) host
@@ -142,31 +151,32 @@ finish_answers quantum machine budget turns names finishes.Budget old new host s
 finish_answers quantum machine budget turns names finishes.Blocked old new host so = so
 
 -- the run is over, and what follows it says the answer
-pub run_answer : (quantum : ℕ) (machine : Machine) (budget turns : ℕ) (names : Names) (name : Option (List ℕ)) (finish : Finish) (emulated : Emulated) (answer : Answer) (old new : Seen) (middle : Stored) → names.save ≡ name → middle.write_faults ≡ old.store.write_faults → TracesRun names.trace quantum machine budget turns (Ok finish) old.left old.store middle → emulated.turns ≡ turns
+pub run_answer : (quantum : ℕ) (machine : Machine) (budget turns : ℕ) (names : Names) (name : Option (List ℕ)) (finish : Finish) (emulated : Emulated) (answer : Answer) (old new : Seen) (middle : Stored) → names.save ≡ name → middle.write_faults ≡ old.store.write_faults → turns ≤ budget
+    → WritesTexts names.trace names.native quantum machine budget turns (Ok finish) old.left old.store middle → emulated.turns ≡ turns
     → RunsAs quantum machine budget turns (Ok finish) (contents_of old) (contents_of new) emulated.machine → AnswersRun name emulated finish answer middle new.store
     → Answers (Run quantum machine budget) names old new answer.turns answer.end answer.host
-run_answer quantum machine budget turns names name finish emulated answer old new middle named unfaulty traces counted runs (inl done) =
+run_answer quantum machine budget turns names name finish emulated answer old new middle named unfaulty within texts counted runs (inl done) =
     let same : answer.turns ≡ turns = done.turns ∙ counted in
     let so : Finishes quantum machine budget names old new turns finish answer.host = record {
-      within = traces.0;
+      within = within;
       emulated = emulated;
       hosted = done.host;
       turned = counted;
       middle = middle;
-      traces = traces.1;
+      texts = texts;
       saves = subst (λ (n : Option (List ℕ)). SavesTree n (final_tree emulated.machine) middle new.store) (sym named) done.saves;
       told = run_told quantum machine budget turns finish old new emulated.machine runs;
     } in
     subst (λ (n : ℕ). Answers (Run quantum machine budget) names old new n answer.end answer.host) (sym same)
     (subst (λ (e : End). Answers (Run quantum machine budget) names old new turns e answer.host) (sym done.end) (finish_answers quantum machine budget turns names finish old new answer.host so))
-run_answer quantum machine budget turns names name finish emulated answer old new middle named unfaulty traces counted runs (inr failed) =
+run_answer quantum machine budget turns names name finish emulated answer old new middle named unfaulty within texts counted runs (inr failed) =
     let same : answer.turns ≡ turns = failed.turns ∙ counted in
     let so : StopsAtSave quantum machine budget names old new turns = record {
-      within = traces.0;
+      within = within;
       finish = finish;
       final = emulated.machine;
       middle = middle;
-      traces = traces.1;
+      texts = texts;
       saves = subst (λ (n : Option (List ℕ)). SavesTreeInPart n (final_tree emulated.machine) middle new.store) (sym named) failed.saves;
       told = run_told quantum machine budget turns finish old new emulated.machine runs;
     } in
@@ -188,7 +198,7 @@ write_cause input out err stop writes writes_then old new cause is = subst (λ (
 
 -- There is a run, and the answer is what it came to.
 pub run_answers : (words : List (List ℕ)) (reading : Reading) (ready : Ready) (old new : Seen) (turns : ℕ) (end : End) (host : Option Emulated) (faults : ℕ) (middle : Stored) → IsPrepared words reading old.store.files (Ok ready)
-    → ((names : Names) → names.save ≡ option_map (word_at words) ready.save → names.trace ≡ option_map (word_at words) ready.trace → Answers (Run ready.emulator.quantum ready.emulator.machine ready.budget) names (record old { load_faults = faults; store = middle }) new turns end host)
+    → ((names : Names) → names.save ≡ option_map (word_at words) ready.save → names.trace ≡ option_map (word_at words) ready.trace → names.native ≡ option_map (word_at words) ready.native → Answers (Run ready.emulator.quantum ready.emulator.machine ready.budget) names (record old { load_faults = faults; store = middle }) new turns end host)
     → LoadsReading {T = Ready} words reading (Ok ready) old.store middle → faults ≡ old.load_faults → AnswersReading words reading old new turns end host
 run_answers words (WrongAt word) ready old new turns end host faults middle is runs loads same = absurd is
 run_answers words (Asks line) ready old new turns end host faults middle is runs loads same = inr (
@@ -196,7 +206,8 @@ run_answers words (Asks line) ready old new turns end host faults middle is runs
   is.0,
   subst (λ (s : Stored). Answers (Run ready.emulator.quantum ready.emulator.machine ready.budget) (names_of words line) (record old { store = s }) new turns end host) loads
       (subst (λ (n : ℕ). Answers (Run ready.emulator.quantum ready.emulator.machine ready.budget) (names_of words line) (record old { load_faults = n; store = middle }) new turns end host) same
-      (runs (names_of words line) (ap (λ (n : Option ℕ). option_map (word_at words) n) (sym is.1.0)) (ap (λ (n : Option ℕ). option_map (word_at words) n) (sym is.1.1)))),
+      (runs (names_of words line) (ap (λ (n : Option ℕ). option_map (word_at words) n) (sym is.1.0)) (ap (λ (n : Option ℕ). option_map (word_at words) n) (sym is.1.1.0))
+      (ap (λ (n : Option ℕ). option_map (word_at words) n) (sym is.1.1.1)))),
 )
 
 -- a run is not refused

@@ -51,13 +51,14 @@ image_limit = 671088640
 abbrev pub schedule_limit : ℕ
 schedule_limit = 16777216
 
--- the names of the files of a line: of the program, of the image, of the schedule, of the file of the trace, and of the one that the final tree is
--- saved to
+-- the names of the files of a line: of the program, of the image, of the schedule, of the files of the trace and of the native log, and of the one
+-- that the final tree is saved to
 pub record Names : Type 0 where
   pub program : List ℕ
   pub image : Option (List ℕ)
   pub schedule : Option (List ℕ)
   pub trace : Option (List ℕ)
+  pub native : Option (List ℕ)
   pub save : Option (List ℕ)
 
 abbrev pub names_of : List (List ℕ) → Line → Names
@@ -66,6 +67,7 @@ names_of words line = record {
   image = option_map (word_at words) line.image;
   schedule = option_map (word_at words) line.schedule;
   trace = option_map (word_at words) line.trace;
+  native = option_map (word_at words) line.native;
   save = option_map (word_at words) line.save;
 }
 

@@ -6,7 +6,7 @@ use Rattle.kernel_core.specs.ValidTree.{IsValidTree}
 use Rattle.kernel_core.specs.declared.tree.Tree.{Tree}
 use Rattle.fs_image.specs.Text.{text_of}
 use Rattle.o32_session.specs.Words.{Reading, Asks, WrongAt, read_words}
-use Rattle.o32_session.specs.Asked.{names_of}
+use Rattle.o32_session.specs.Asked.{Names, names_of}
 use Rattle.o32_session.specs.declared.answer.End.{End}
 use Rattle.o32_session.specs.declared.answer.End.TheVariants.{Exited, Killed, Budget, Blocked, Refused, ReadFault, WriteFault, NoMemory}
 
@@ -33,30 +33,38 @@ IsFileAfter NoMemory before after = StandsOrHasPart before after
 abbrev pub StandsOrIsThere : Option (List ℕ) → Option (List ℕ) → Type 0
 StandsOrIsThere before after = (after ≡ before) ⊎ ((text : List ℕ) × (after ≡ Some text))
 
--- what an end says of the file of `--trace`, before and after
-abbrev pub IsTraceAfter : End → Option (List ℕ) → Option (List ℕ) → Type 0
-IsTraceAfter (Exited status) before after = (text : List ℕ) × (after ≡ Some text)
-IsTraceAfter (Killed signal) before after = (text : List ℕ) × (after ≡ Some text)
-IsTraceAfter Budget before after = (text : List ℕ) × (after ≡ Some text)
-IsTraceAfter Blocked before after = (text : List ℕ) × (after ≡ Some text)
-IsTraceAfter (Refused given) before after = after ≡ before
-IsTraceAfter ReadFault before after = StandsOrIsThere before after
-IsTraceAfter WriteFault before after = StandsOrIsThere before after
-IsTraceAfter NoMemory before after = StandsOrIsThere before after
+-- what an end says of the file of `--trace` and of that of `--native`, before and after
+abbrev pub IsTextAfter : End → Option (List ℕ) → Option (List ℕ) → Type 0
+IsTextAfter (Exited status) before after = (text : List ℕ) × (after ≡ Some text)
+IsTextAfter (Killed signal) before after = (text : List ℕ) × (after ≡ Some text)
+IsTextAfter Budget before after = (text : List ℕ) × (after ≡ Some text)
+IsTextAfter Blocked before after = (text : List ℕ) × (after ≡ Some text)
+IsTextAfter (Refused given) before after = after ≡ before
+IsTextAfter ReadFault before after = StandsOrIsThere before after
+IsTextAfter WriteFault before after = StandsOrIsThere before after
+IsTextAfter NoMemory before after = StandsOrIsThere before after
 
-abbrev pub TracesTo : Option (List ℕ) → End → Option Files → Option Files → Type 0
-TracesTo None end old new = new ≡ old
-TracesTo (Some name) end old new = ChangesFile old new name (IsTraceAfter end)
+abbrev pub TextsTo : Option (List ℕ) → End → Option Files → Option Files → Type 0
+TextsTo None end old new = new ≡ old
+TextsTo (Some name) end old new = ChangesFile old new name (IsTextAfter end)
 
 -- and but for these no file changes
 abbrev pub SavesTo : Option (List ℕ) → End → Option Files → Option Files → Type 0
 SavesTo None end old new = new ≡ old
 SavesTo (Some name) end old new = ChangesFile old new name (IsFileAfter end)
 
+-- what becomes of the files of these names: first of that of the trace, then of that of the native log, and last of the one that is saved
+abbrev pub WritesFiles : Names → End → Option Files → Option Files → Type 0
+WritesFiles names end old new =
+    (traced : Option Files)
+    × (logged : Option Files)
+    × TextsTo names.trace end old traced
+    × TextsTo names.native end traced logged
+    × SavesTo names.save end logged new
+
 abbrev pub SavesReading : List (List ℕ) → Reading → End → Option Files → Option Files → Type 0
 SavesReading words (WrongAt word) end old new = new ≡ old
-SavesReading words (Asks line) end old new =
-    (middle : Option Files) × TracesTo (names_of words line).trace end old middle × SavesTo (names_of words line).save end middle new
+SavesReading words (Asks line) end old new = WritesFiles (names_of words line) end old new
 
 abbrev pub SavesWords : List (List ℕ) → End → Option Files → Option Files → Type 0
 SavesWords words end old new = SavesReading words (read_words words) end old new

@@ -1,5 +1,5 @@
 -- What an answer says where a refusal or a run is asked for. This project's own.
-use Rattle.std.specs.Prelude.{ℕ, ◌≡◌, ◌<◌, ◌≤◌, ⊤, ◌⊎◌, List, [], length, take, Option, Some, None, Ok}
+use Rattle.std.specs.Prelude.{ℕ, ◌≡◌, ◌<◌, ◌≤◌, ⊤, ◌⊎◌, List, [], length, take, Option, Some, None, Ok, Err}
 use Rattle.outside.specs.Files.{Files}
 use Rattle.outside.specs.Count.{Rose}
 use Rattle.outside.specs.Output.{GainsText, GainsBetween}
@@ -19,12 +19,14 @@ use Rattle.o32_runner.specs.Runs.{turns_begun}
 use Rattle.o32_runner.specs.Stored.{Stored}
 use Rattle.o32_turns.specs.Runs.{IsOverAt, IsRunningAt, last_machine, reached}
 use Rattle.o32_turns.specs.Machine.{Machine}
-use Rattle.o32_runner.specs.Traced.{TracesPart, TracesWhole}
+use Rattle.o32_runner.specs.Texts.{WritesTexts}
 use Rattle.o32_session.specs.Lines.{line_of}
 use Rattle.o32_session.specs.declared.answer.Refusal.{Refusal}
 use Rattle.o32_session.specs.declared.answer.Refusal.TheVariants.{Usage}
 use Rattle.kernel_core.specs.declared.finish.Finish.{Finish}
 use Rattle.kernel_core.specs.declared.finish.Finish.TheVariants as finishes
+use Rattle.kernel_core.specs.declared.core_error.Stop.{Stop}
+use Rattle.kernel_core.specs.declared.core_error.Stop.TheVariants as stops
 use Rattle.o32_session.specs.declared.answer.End.{End}
 use Rattle.o32_session.specs.declared.answer.End.TheVariants.{Exited, Killed, Budget, Blocked, Refused, ReadFault, WriteFault, NoMemory}
 
@@ -93,7 +95,7 @@ pub record IsRun (quantum : ℕ) (machine : Machine) (left : List ℕ) (budget :
 abbrev pub final_tree : Machine → Tree
 final_tree machine = saved machine.kernel.files.nodes
 
--- The process has not ended after these turns, and the attempt at the next stopped, or the last lines of the trace could not be added. What was
+-- The process has not ended after these turns, and the attempt at the next stopped, or its lines or the last ones of the trace could not be added. What was
 -- written lies between what it has sent then and what it has sent one turn later, and of the input there is left what is left then or what is left
 -- one turn later; where the budget's turns are done no turn more was begun.
 pub record IsPartOfRun (quantum : ℕ) (machine : Machine) (left : List ℕ) (budget : ℕ) (old new : Seen) (turns : ℕ) : Type 0 where
@@ -103,19 +105,8 @@ pub record IsPartOfRun (quantum : ℕ) (machine : Machine) (left : List ℕ) (bu
   pub to_err : GainsBetween old.err new.err (reached quantum machine left turns).sent.err (reached quantum machine left (turns_begun budget turns)).sent.err
   pub rest : (new.left ≡ Some (reached quantum machine left turns).left) ⊎ (new.left ≡ Some (reached quantum machine left (turns_begun budget turns)).left)
 
--- The trace of the run was written, whole or in part, to the file that is named for it; and where none is, the store stands. Where it is written, a run
--- may also stop once the budget's turns are done.
-
-abbrev pub WritesTrace : Option (List ℕ) → ℕ → Machine → ℕ → Finish → Option (List ℕ) → Stored → Stored → Type 0
-WritesTrace None quantum machine turns finish told old new = new ≡ old
-WritesTrace (Some name) quantum machine turns finish told old new = TracesWhole name quantum machine turns finish told old new
-
-abbrev pub WritesTraceInPart : Option (List ℕ) → ℕ → Machine → ℕ → ℕ → Option (List ℕ) → Stored → Stored → Type 0
-WritesTraceInPart None quantum machine budget turns told old new = (turns < budget) × (new ≡ old)
-WritesTraceInPart (Some name) quantum machine budget turns told old new = (turns ≤ budget) × TracesPart name quantum machine budget turns told old new
-
--- A run ended so, within the budget. The emulator is handed out, and its final tree was saved. Where the input tells what is left of it, the
--- run is the machine's.
+-- A run ended so, within the budget. Its trace and its native log were written to the files that are named for them, the emulator is handed out, and
+-- its final tree was saved. Where the input tells what is left of it, the run is the machine's.
 pub record Finishes (quantum : ℕ) (machine : Machine) (budget : ℕ) (names : Names) (old new : Seen) (turns : ℕ) (finish : Finish) (host : Option Emulated) :
     Type 0 where
   pub within : turns ≤ budget
@@ -123,13 +114,15 @@ pub record Finishes (quantum : ℕ) (machine : Machine) (budget : ℕ) (names : 
   pub hosted : host ≡ Some emulated
   pub turned : emulated.turns ≡ turns
   pub middle : Stored
-  pub traces : WritesTrace names.trace quantum machine turns finish old.left old.store middle
+  pub texts : WritesTexts names.trace names.native quantum machine budget turns (Ok finish) old.left old.store middle
   pub saves : SavesTree names.save (final_tree emulated.machine) middle new.store
   pub told : (left : List ℕ) → old.left ≡ Some left → IsRun quantum machine left budget old new turns finish emulated.machine
 
--- a run stopped early after these turns, which are fewer than the budget's where no trace is written
-pub record StopsInRun (quantum : ℕ) (machine : Machine) (budget : ℕ) (names : Names) (old new : Seen) (turns : ℕ) : Type 0 where
-  pub traces : WritesTraceInPart names.trace quantum machine budget turns old.left old.store new.store
+-- A run stopped early after these turns, and had written parts of its texts. Where a trace is written, it may also stop once the budget's turns are done.
+pub record StopsInRun (quantum : ℕ) (machine : Machine) (budget : ℕ) (names : Names) (stop : Stop) (old new : Seen) (turns : ℕ) : Type 0 where
+  pub within : turns ≤ budget
+  pub early : names.trace ≡ None → turns < budget
+  pub texts : WritesTexts names.trace names.native quantum machine budget turns (Err stop) old.left old.store new.store
   pub told : (left : List ℕ) → old.left ≡ Some left → IsPartOfRun quantum machine left budget old new turns
 
 -- a run ended, and at most a part of its final tree was saved
@@ -138,7 +131,7 @@ pub record StopsAtSave (quantum : ℕ) (machine : Machine) (budget : ℕ) (names
   pub finish : Finish
   pub final : Machine
   pub middle : Stored
-  pub traces : WritesTrace names.trace quantum machine turns finish old.left old.store middle
+  pub texts : WritesTexts names.trace names.native quantum machine budget turns (Ok finish) old.left old.store middle
   pub saves : SavesTreeInPart names.save (final_tree final) middle new.store
   pub told : (left : List ℕ) → old.left ≡ Some left → IsRun quantum machine left budget old new turns finish final
 
@@ -162,13 +155,13 @@ Answers (Run quantum machine budget) names old new turns Budget host = Finishes 
 Answers (Run quantum machine budget) names old new turns Blocked host = Finishes quantum machine budget names old new turns finishes.Blocked host
 Answers (Run quantum machine budget) names old new turns (Refused given) host = ⊥
 Answers (Run quantum machine budget) names old new turns ReadFault host =
-    StopsInRun quantum machine budget names old new turns × Rose old.read_faults new.read_faults
+    StopsInRun quantum machine budget names stops.ReadFault old new turns × Rose old.read_faults new.read_faults
 Answers (Run quantum machine budget) names old new turns WriteFault host =
-    (StopsInRun quantum machine budget names old new turns
+    (StopsInRun quantum machine budget names stops.WriteFault old new turns
     × (Rose old.out_faults new.out_faults ⊎ (Rose old.err_faults new.err_faults ⊎ Rose old.store.write_faults new.store.write_faults)))
     ⊎ (StopsAtSave quantum machine budget names old new turns × Rose old.store.write_faults new.store.write_faults)
 Answers (Run quantum machine budget) names old new turns NoMemory host =
-    StopsInRun quantum machine budget names old new turns ⊎ StopsAtSave quantum machine budget names old new turns
+    StopsInRun quantum machine budget names stops.NoMemory old new turns ⊎ StopsAtSave quantum machine budget names old new turns
 
 -- The loads that come before what is asked for: each is answered once, in the order of the names, up to the first that a refusal comes of.
 abbrev pub once_loaded : Asked → Names → Seen → Seen
@@ -199,7 +192,7 @@ pub record StopsEarly (names : Names) (old new : Seen) (turns : ℕ) (end : End)
 
 -- a line that names no file
 abbrev pub no_names : Names
-no_names = record { program = []; image = None; schedule = None; trace = None; save = None }
+no_names = record { program = []; image = None; schedule = None; trace = None; native = None; save = None }
 
 -- The same by the reading of the words. Wrong words are refused before any load, so that want of memory alone may come
 -- first. Else a fault of a load or want of memory may come before all is loaded; or the answer is that of what the line

@@ -1,6 +1,6 @@
 -- The words after the emulator's own name, as this project defines them:
 --
---     run [--image F] [--schedule F] [--budget N] [--trace F] [--save F] [--env K=V].. PROGRAM [WORD..]
+--     run [--image F] [--schedule F] [--budget N] [--trace F] [--native F] [--save F] [--env K=V].. PROGRAM [WORD..]
 --
 -- Square brackets hold what may be absent, and `..` follows what may stand any number of times. Options stand before
 -- PROGRAM in any order, each at most once but `--env`; a value is the next word, whatever it is. A word is given by its
@@ -41,7 +41,7 @@ budget_of text = if is_plain_number text then up_to_greatest (digits_value 10 te
 abbrev pub is_setting : List ℕ → Bool
 is_setting text = not (has_nul text) && list_any (λ byte. byte == 61) (drop 1 text)
 
--- the name of a file: F of `--image F`, of `--schedule F`, of `--trace F` and of `--save F`
+-- the name of a file: F of `--image F`, of `--schedule F`, of `--trace F`, of `--native F` and of `--save F`
 abbrev pub is_file_name : List ℕ → Bool
 is_file_name [] = false
 is_file_name (first ∷ rest) = not (has_nul (first ∷ rest))
@@ -52,6 +52,7 @@ pub data Role : Type 0 where
   ScheduleOption : Role
   BudgetOption : Role
   TraceOption : Role
+  NativeOption : Role
   SaveOption : Role
   EnvOption : Role
   ProgramName : Role
@@ -68,25 +69,28 @@ role_of word =
     else (if bytes_eq word (codes "--schedule") then ScheduleOption
     else (if bytes_eq word (codes "--budget") then BudgetOption
     else (if bytes_eq word (codes "--trace") then TraceOption
+    else (if bytes_eq word (codes "--native") then NativeOption
     else (if bytes_eq word (codes "--save") then SaveOption
     else (if bytes_eq word (codes "--env") then EnvOption
-    else (if is_program word then ProgramName else NoOption))))))
+    else (if is_program word then ProgramName else NoOption)))))))
 
 -- the options that were read: N of `--budget`, each K=V in their order, and the indices of the names of `--image`,
--- `--schedule`, `--trace` and `--save`
+-- `--schedule`, `--trace`, `--native` and `--save`
 pub record Options : Type 0 where
   pub image : Option ℕ
   pub schedule : Option ℕ
   pub budget : Option ℕ
   pub trace : Option ℕ
+  pub native : Option ℕ
   pub save : Option ℕ
   pub environment : List (List ℕ)
 
 abbrev pub no_options : Options
-no_options = record { image = None; schedule = None; budget = None; trace = None; save = None; environment = [] }
+no_options = record { image = None; schedule = None; budget = None; trace = None; native = None; save = None; environment = [] }
 
 -- what the words ask for: the budget, the environment, the index of PROGRAM, the first of the guest's arguments, and the
--- indices of the names of the image, of the schedule, of the file of the trace and of the one that is saved, where there are
+-- indices of the names of the image, of the schedule, of the files of the trace and of the native log and of the one that
+-- is saved, where there are
 pub record Line : Type 0 where
   pub budget : ℕ
   pub environment : List (List ℕ)
@@ -94,6 +98,7 @@ pub record Line : Type 0 where
   pub image : Option ℕ
   pub schedule : Option ℕ
   pub trace : Option ℕ
+  pub native : Option ℕ
   pub save : Option ℕ
 
 -- the budget of a run whose words give none
@@ -117,6 +122,7 @@ line_of options program = record {
   image = options.image;
   schedule = options.schedule;
   trace = options.trace;
+  native = options.native;
   save = options.save;
 }
 
@@ -126,6 +132,7 @@ read_last at options ImageOption = if is_some options.image then WrongAt at else
 read_last at options ScheduleOption = if is_some options.schedule then WrongAt at else WrongAt (at + 1)
 read_last at options BudgetOption = if is_some options.budget then WrongAt at else WrongAt (at + 1)
 read_last at options TraceOption = if is_some options.trace then WrongAt at else WrongAt (at + 1)
+read_last at options NativeOption = if is_some options.native then WrongAt at else WrongAt (at + 1)
 read_last at options SaveOption = if is_some options.save then WrongAt at else WrongAt (at + 1)
 read_last at options EnvOption = WrongAt (at + 1)
 read_last at options ProgramName = Asks (line_of options at)
@@ -135,9 +142,9 @@ abbrev pub with_budget : ℕ → Options → Option ℕ → (Options → Reading
 with_budget at options None go_on = WrongAt (at + 1)
 with_budget at options (Some n) go_on = go_on (record options { budget = Some n })
 
--- A word with another after it, one case for each form of the line: `--image`, `--schedule`, `--budget`, `--trace` or `--save` and its value,
--- each at most once; `--env` and its value; PROGRAM with the guest's words. Any other word is wrong, and so is a value that is
--- none, at its own index. After a value the reading goes on.
+-- A word with another after it, one case for each form of the line: `--image`, `--schedule`, `--budget`, `--trace`, `--native` or
+-- `--save` and its value, each at most once; `--env` and its value; PROGRAM with the guest's words. Any other word is wrong, and so
+-- is a value that is none, at its own index. After a value the reading goes on.
 abbrev pub read_pair : ℕ → Options → Role → List ℕ → Reading → (Options → Reading) → Reading
 read_pair at options ImageOption value guest go_on =
     if is_some options.image then WrongAt at
@@ -150,6 +157,9 @@ read_pair at options BudgetOption value guest go_on =
 read_pair at options TraceOption value guest go_on =
     if is_some options.trace then WrongAt at
     else (if is_file_name value then go_on (record options { trace = Some (at + 1) }) else WrongAt (at + 1))
+read_pair at options NativeOption value guest go_on =
+    if is_some options.native then WrongAt at
+    else (if is_file_name value then go_on (record options { native = Some (at + 1) }) else WrongAt (at + 1))
 read_pair at options SaveOption value guest go_on =
     if is_some options.save then WrongAt at
     else (if is_file_name value then go_on (record options { save = Some (at + 1) }) else WrongAt (at + 1))
@@ -188,22 +198,28 @@ first_of None other = other
 first_of (Some one) None = Some one
 first_of (Some one) (Some other) = Some (min one other)
 
--- The first name of a file that equals an earlier one, where at least one of the two is written. The files of `--trace` and of `--save` are
--- written; the others are the image, the schedule and PROGRAM.
+-- The first name of a file that equals an earlier one, where at least one of the two is written. The files of `--trace`, of
+-- `--native` and of `--save` are written; the others are the image, the schedule and PROGRAM.
 
 abbrev pub equal_to_written : List (List ℕ) → Line → ℕ → Option ℕ
 equal_to_written words line written =
     first_of (option_and_then (later_of_equal words written) line.image)
     (first_of (option_and_then (later_of_equal words written) line.schedule) (later_of_equal words written line.program))
 
--- the same of both written files, where there are
+-- the same with that of `--trace` among the others
+abbrev pub equal_to_native : List (List ℕ) → Line → ℕ → Option ℕ
+equal_to_native words line native =
+    first_of (equal_to_written words line native) (option_and_then (later_of_equal words native) line.trace)
+
+-- and with that of `--native`
 abbrev pub equal_to_saved : List (List ℕ) → Line → ℕ → Option ℕ
 equal_to_saved words line saved =
-    first_of (equal_to_written words line saved) (option_and_then (later_of_equal words saved) line.trace)
+    first_of (equal_to_native words line saved) (option_and_then (later_of_equal words saved) line.native)
 
 abbrev pub equal_name : List (List ℕ) → Line → Option ℕ
 equal_name words line =
-    first_of (option_and_then (equal_to_written words line) line.trace) (option_and_then (equal_to_saved words line) line.save)
+    first_of (option_and_then (equal_to_written words line) line.trace)
+    (first_of (option_and_then (equal_to_native words line) line.native) (option_and_then (equal_to_saved words line) line.save))
 
 -- a line without such a name
 abbrev pub with_names : Line → Option ℕ → Reading

@@ -1,9 +1,10 @@
 //! The steps before a run: words, the program's plan, the tree of files, the schedule, and the first machine.
-ghost use Rattle.std.specs.Prelude.{◌≡◌, ◌≤◌, ◌<◌, length, drop, IfOk, IfErr, None, Some};
+ghost use Rattle.std.specs.Prelude.{◌≡◌, ◌≤◌, ◌<◌, length, drop, is_some, IfOk, IfErr, None, Some};
 ghost use Rattle.elf_image.specs.Rules.{first_failure};
 ghost use Rattle.elf_image.specs.Loading.{plan_of};
 ghost use Rattle.elf_image.specs.Loading as plans;
 ghost use Rattle.kernel_core.specs.ValidTree as trees;
+ghost use Rattle.native_log.specs.NativeLog.{first_log};
 ghost use Rattle.o32_session.specs.Words.{texts, read_words};
 ghost use Rattle.o32_session.specs.inside.Reader.{line_seen};
 ghost use Rattle.schedule.specs.Ranges.{IsGivenSchedule};
@@ -35,6 +36,8 @@ pub(crate) struct Ready {
     pub budget: u64,
     /// The index of the name of the file of the trace, where one is written.
     pub trace: Option<usize>,
+    /// The index of the name of the file of the native log, where one is written. The emulator keeps a log then, and no other does.
+    pub native: Option<usize>,
     /// The index of the name of the file that the final tree is saved to, where it is saved.
     pub save: Option<usize>,
 }
@@ -73,11 +76,15 @@ fn machine_of_plan(
     requires plan { plans.IsValidPlan plan.now }
     requires tree { trees.IsValidTree tree }
     requires schedule { IsGivenSchedule schedule }
+    requires some { 0 < line.budget }
     requires bounded { line.budget ≤ 1_000_000_000_000 }
     ensures ready { IfOk result (λ ready. asked_of_schedule (texts args.now) (line_seen line) plan.now tree schedule ≡ Run ready.emulator.quantum ready.emulator.machine ready.budget) }
     ensures fresh { IfOk result (λ ready. IsFresh ready.emulator) }
+    ensures some { IfOk result (λ ready. 0 < ready.budget) }
     ensures bounded { IfOk result (λ ready. ready.budget ≤ 1_000_000_000_000) }
+    ensures log { IfOk result (λ ready. ready.emulator.native ≡ first_log (is_some ready.native)) }
     ensures trace { IfOk result (λ ready. ready.trace ≡ line.trace) }
+    ensures native { IfOk result (λ ready. ready.native ≡ line.native) }
     ensures save { IfOk result (λ ready. ready.save ≡ line.save) }
     ensures reason { IfErr result (IsStartReason (asked_of_schedule (texts args.now) (line_seen line) plan.now tree schedule)) }
 {
@@ -85,9 +92,10 @@ fn machine_of_plan(
     let chance = stack_chance(schedule.random.as_slice());
     let start = build(alloc, plan, args, environment, chance)?;
     Ok(Ready {
-        emulator: Emulator::new(alloc, start, tree, schedule, false)?,
+        emulator: Emulator::new(alloc, start, tree, schedule, line.native.is_some())?,
         budget: line.budget,
         trace: line.trace,
+        native: line.native,
         save: line.save,
     })
 }
@@ -100,6 +108,8 @@ pub(crate) fn prepare<F: Store>(
 ) -> Result<Ready, NotRun>
     ensures prepared { IsPrepared (texts words.now) (read_words (texts words.now)) (F.files files.old) result }
     ensures fresh { IfOk result (λ ready. IsFresh ready.emulator) }
+    ensures log { IfOk result (λ ready. ready.emulator.native ≡ first_log (is_some ready.native)) }
+    ensures some { IfOk result (λ ready. 0 < ready.budget) }
     ensures bounded { IfOk result (λ ready. ready.budget ≤ 1_000_000_000_000) }
     ensures loads { LoadsReading (texts words.now) (read_words (texts words.now)) result
         (stored_of F.files F.created F.loads F.turned_away F.write_faults files.old)
@@ -119,9 +129,12 @@ fn prepare_line<F: Store>(
     files: &mut F,
 ) -> Result<Ready, NotRun>
     requires program { line.program < length words.now }
+    requires some { 0 < line.budget }
     requires bounded { line.budget ≤ 1_000_000_000_000 }
     ensures prepared { IsPreparedLine (texts words.now) (line_seen line) (F.files files.old) result }
     ensures fresh { IfOk result (λ ready. IsFresh ready.emulator) }
+    ensures log { IfOk result (λ ready. ready.emulator.native ≡ first_log (is_some ready.native)) }
+    ensures some { IfOk result (λ ready. 0 < ready.budget) }
     ensures bounded { IfOk result (λ ready. ready.budget ≤ 1_000_000_000_000) }
     ensures loads { LoadsFiles (names_of (texts words.now) (line_seen line)) result
         (stored_of F.files F.created F.loads F.turned_away F.write_faults files.old)

@@ -1,45 +1,47 @@
-//! A run, and its trace where a file is named for it.
-ghost use Rattle.std.specs.Prelude.{◌≡◌, ◌≤◌, IfOk, option_map};
+//! A run, and the texts that it writes where files are named for them.
+ghost use Rattle.std.specs.Prelude.{◌≡◌, ◌<◌, ◌≤◌, IfOk, None};
+ghost use Rattle.std.specs.Option.{option_copied};
 ghost use Rattle.outside.specs.Streams.{NoCountFell, contents};
-ghost use Rattle.o32_runner.specs.Runs.{IsFresh, RunsAs};
+ghost use Rattle.o32_runner.specs.Runs.{IsFresh, RunsAs, WithinBudget};
 ghost use Rattle.o32_runner.specs.Stored.{stored_of};
+ghost use Rattle.o32_runner.specs.Texts.{BeginsLog, Differ, WritesTexts};
 ghost use Rattle.o32_runner.specs.Traced.{StopsOnlyIfAnyRose};
-ghost use Rattle.o32_session.specs.Words.{texts, word_at};
-ghost use Rattle.o32_session.specs.inside.Runs.{TracesRun};
 
-use crate::words::word_at;
 use o32_machine::Emulator;
-use o32_runner::{Ran, run, run_traced};
+use o32_runner::{Names, Ran, run, run_told};
 use outside::{Devices, Sink, Source, Store};
 use std::alloc::Global;
 
-/// Runs a fresh emulator for at most `budget` turns, and writes the trace to the file whose name is at index `trace` of the
-/// words, where one is written.
+/// Runs a fresh emulator for at most `budget` turns, and writes its trace and its native log to the files of these names, where
+/// they are named. Where none is, the run has no store and no text.
 pub(crate) fn run_named<F: Store, I: Source, O: Sink, E: Sink>(
     alloc: Global,
-    words: &[String],
     emulator: &mut Emulator,
     budget: u64,
-    trace: Option<usize>,
+    names: Names<'_>,
     files: &mut F,
     dev: &mut Devices<I, O, E>,
 ) -> Ran
     requires fresh { IsFresh emulator.old }
+    requires log { BeginsLog (option_copied names.native) emulator.old.native }
+    requires some { 0 < budget }
     requires bounded { budget ≤ 1_000_000_000_000 }
+    requires differ { Differ (option_copied names.trace) (option_copied names.native) }
     ensures run { RunsAs emulator.old.quantum emulator.old.machine budget result.turns result.end
         (contents I.left O.written E.written dev.old) (contents I.left O.written E.written dev.new) emulator.new.machine }
-    ensures trace { TracesRun (option_map (word_at (texts words.now)) trace) emulator.old.quantum emulator.old.machine budget result.turns result.end
-        (I.left dev.old.input)
+    ensures texts { WritesTexts (option_copied names.entry.trace) (option_copied names.entry.native) emulator.old.quantum emulator.old.machine budget result.turns result.end (I.left dev.old.input)
         (stored_of F.files F.created F.loads F.turned_away F.write_faults files.old)
         (stored_of F.files F.created F.loads F.turned_away F.write_faults files.new) }
+    ensures within { result.turns ≤ budget }
+    ensures early { (option_copied names.entry.trace ≡ None) → WithinBudget result.end result.turns budget }
     ensures turns { IfOk result.end (λ finish. emulator.new.turns ≡ result.turns) }
     ensures cause { StopsOnlyIfAnyRose I.faults O.faults E.faults result.end (F.write_faults files.old) (F.write_faults files.new) dev.old dev.new }
     ensures counts { NoCountFell I.faults O.faults E.faults dev.old dev.new }
     ensures writes_later { F.write_faults files.old ≤ F.write_faults files.new }
     ensures loads { F.load_faults files.new ≡ F.load_faults files.old }
 {
-    match trace {
-        Some(at) => run_traced(alloc, emulator, budget, word_at(words, at), files, dev),
-        None => run(emulator, budget, dev),
+    match (names.trace, names.native) {
+        (None, None) => run(emulator, budget, dev),
+        _ => run_told(alloc, emulator, budget, names, files, dev),
     }
 }

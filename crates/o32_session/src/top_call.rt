@@ -1,9 +1,10 @@
 //! The top call: from words and devices to an answer.
-ghost use Rattle.std.specs.Prelude.{ℕ, List, ◌≡◌, ◌≤◌, ◌⊎◌, [], OnOk, OnErr, Some, None, option_map};
+ghost use Rattle.std.specs.Prelude.{ℕ, List, ◌≡◌, ◌<◌, ◌≤◌, ◌⊎◌, [], OnOk, OnErr, Some, None, is_some, option_map};
 ghost use Rattle.outside.specs.Causes.{FailsOnlyIfRose};
 ghost use Rattle.outside.specs.Count.{Rose};
 ghost use Rattle.outside.specs.Output.{GainsText, GainsBetween};
 ghost use Rattle.outside.specs.Streams.{NoCountFell};
+ghost use Rattle.native_log.specs.NativeLog.{first_log};
 ghost use Rattle.o32_session.specs.Answers.{IsRefusal, finish_of, status_of};
 ghost use Rattle.o32_session.specs.Asked.{Names, Run};
 ghost use Rattle.o32_session.specs.inside.Ends.{end_of_error, end_of_stop};
@@ -14,6 +15,7 @@ ghost use Rattle.o32_runner.specs.Runs.{IsFresh};
 ghost use Rattle.o32_session.specs.inside.Runs.{AnswersRun};
 ghost use Rattle.o32_session.specs.Session.{Answers, AnswersWords, AsksForRun, EndsAsRun, seen_of};
 ghost use Rattle.o32_runner.specs.Stored.{stored_of};
+ghost use Rattle.o32_runner.specs.Texts.{Differ};
 ghost use Rattle.o32_session.specs.SavedFile.{SavesWords};
 ghost use Rattle.o32_session.specs.Words.{texts, word_at};
 
@@ -22,8 +24,10 @@ use crate::not_run::NotRun;
 use crate::prepare::{Ready, prepare};
 use crate::run::run_named;
 use crate::save::{SaveError, save_final};
+use crate::words::word_of;
 use kernel_core::{Finish, Stop};
 use o32_machine::Emulator;
+use o32_runner::Names as TextNames;
 use outside::{DevError, Devices, Sink, Source, Store};
 use std::alloc::Global;
 
@@ -103,8 +107,8 @@ fn end_without_run<E: Sink>(alloc: Global, reason: NotRun, err: &mut E) -> End
 }
 
 /// One run of the emulator: reads the words after its own name, loads the program, the image and the schedule that
-/// they name from `files`, runs the program over the devices, writes its trace where the words name a file for it, and saves the final tree of files where
-/// they name one for that.
+/// they name from `files`, runs the program over the devices, writes its trace and its native log where the words name files
+/// for them, and saves the final tree of files where they name one for that.
 /// Every list of words, every file and every budget has an answer.
 ///
 /// What the program writes to standard output goes to `dev.out`, and the line of a refusal to `dev.err`. The answers,
@@ -116,8 +120,8 @@ pub fn session<F: Store, I: Source, O: Sink, E: Sink>(
     dev: &mut Devices<I, O, E>,
 ) -> Answer
     // What the words, the files, the input and the machine say: each refusal and its line; the run's end, turns, outputs and what it leaves of the
-    // input, the files of the trace and of the final tree, and the emulator in its last state; the moment of the run at an early stop. Each says what became of the
-    // whole store.
+    // input, the files of the trace, of the native log and of the final tree, and the emulator in its last state; the moment of the run at an early stop. Each says
+    // what became of the whole store.
     ensures answer { AnswersWords (texts words.now)
         (seen_of I.left O.written E.written I.faults O.faults E.faults dev.old (F.load_faults files.old) (stored_of F.files F.created F.loads F.turned_away F.write_faults files.old))
         (seen_of I.left O.written E.written I.faults O.faults E.faults dev.new (F.load_faults files.new) (stored_of F.files F.created F.loads F.turned_away F.write_faults files.new))
@@ -128,7 +132,7 @@ pub fn session<F: Store, I: Source, O: Sink, E: Sink>(
     // A refusal leaves the input as it was.
     ensures input { IsRefusal result.end → dev.new.input ≡ dev.old.input }
 
-    // The same of the files alone: after each finish that of `--trace` is there, that of `--save` holds the image of a tree, and no other changes.
+    // The same of the files alone: after each finish those of `--trace` and `--native` are there, that of `--save` holds the image of a tree, and no other changes.
     ensures saved { SavesWords (texts words.now) result.end (F.files files.old) (F.files files.new) }
 
     // Where a run is asked for, the input tells what is left of it, and no device failed, the answer is the run's end, unless memory ran out.
@@ -189,9 +193,13 @@ fn run_ready<F: Store, I: Source, O: Sink, E: Sink>(
     dev: &mut Devices<I, O, E>,
 ) -> Answer
     requires fresh { IsFresh ready.emulator }
+    requires log { ready.emulator.native ≡ first_log (is_some ready.native) }
+    requires some { 0 < ready.budget }
     requires bounded { ready.budget ≤ 1_000_000_000_000 }
+    requires differ { Differ (option_map (word_at (texts words.now)) ready.trace) (option_map (word_at (texts words.now)) ready.native) }
     ensures run { (names : Names) → names.save ≡ option_map (word_at (texts words.now)) ready.save
-        → names.trace ≡ option_map (word_at (texts words.now)) ready.trace → Answers (Run ready.emulator.quantum ready.emulator.machine ready.budget) names
+        → names.trace ≡ option_map (word_at (texts words.now)) ready.trace
+        → names.native ≡ option_map (word_at (texts words.now)) ready.native → Answers (Run ready.emulator.quantum ready.emulator.machine ready.budget) names
         (seen_of I.left O.written E.written I.faults O.faults E.faults dev.old (F.load_faults files.old) (stored_of F.files F.created F.loads F.turned_away F.write_faults files.old))
         (seen_of I.left O.written E.written I.faults O.faults E.faults dev.new (F.load_faults files.new) (stored_of F.files F.created F.loads F.turned_away F.write_faults files.new))
         result.turns result.end result.host }
@@ -208,9 +216,14 @@ fn run_ready<F: Store, I: Source, O: Sink, E: Sink>(
         mut emulator,
         budget,
         trace,
+        native,
         save,
     } = ready;
-    let ran = run_named(alloc, words, &mut emulator, budget, trace, files, dev);
+    let names = TextNames {
+        trace: word_of(words, trace),
+        native: word_of(words, native),
+    };
+    let ran = run_named(alloc, &mut emulator, budget, names, files, dev);
     match ran.end {
         Ok(finish) => answer_run(alloc, words, save, emulator, finish, files),
         Err(stop) => answer_of(End::from(stop), ran.turns, None),

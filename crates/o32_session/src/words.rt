@@ -1,11 +1,12 @@
-//! The words after the emulator's own name: `run [--image F] [--schedule F] [--budget N] [--trace F] [--save F]
-//! [--env K=V].. PROGRAM [WORD..]`.
+//! The words after the emulator's own name: `run [--image F] [--schedule F] [--budget N] [--trace F] [--native F]
+//! [--save F] [--env K=V].. PROGRAM [WORD..]`.
 
-ghost use Rattle.std.specs.Prelude.{◌≡◌, ◌+◌, ◌<◌, ◌^◌, ◌==◌, length, drop, if◌then◌else◌, IfOk, IfErr, IfSome, Some, None, option_and_then};
+ghost use Rattle.std.specs.Prelude.{◌≡◌, ◌+◌, ◌<◌, ◌^◌, ◌==◌, length, drop, if◌then◌else◌, IfOk, IfErr, IfSome, Some, None, option_and_then, option_map};
 ghost use Rattle.std.specs.List.{list_any, list_all, position};
+ghost use Rattle.std.specs.Option.{option_copied};
 ghost use Rattle.std.specs.String.{string_bytes};
 ghost use Rattle.std.specs.Char.{is_ascii_digit};
-ghost use Rattle.o32_session.specs.Words.{texts, read_words, read_line, read_guest, budget_of, is_setting, is_program, is_file_name, is_plain_number, has_nul, no_options, Line, line_of, Asks, word_at, later_of_equal, equal_to_saved, equal_to_written, equal_name, first_of};
+ghost use Rattle.o32_session.specs.Words.{texts, read_words, read_line, read_guest, budget_of, is_setting, is_program, is_file_name, is_plain_number, has_nul, no_options, Line, line_of, Asks, word_at, later_of_equal, equal_to_native, equal_to_saved, equal_to_written, equal_name, first_of};
 ghost use Rattle.o32_session.specs.inside.Steps.{read_from, step_of, step_at_option, step_at_setting, Option_or_program};
 ghost use Rattle.o32_session.specs.declared.words.Expected.TheVariants.{OptionOrProgram};
 ghost use Rattle.o32_session.specs.declared.words.Step.TheVariants.{GoesOn, IsWrong};
@@ -28,6 +29,8 @@ pub(crate) struct RunLine {
     pub schedule: Option<usize>,
     /// The index of the name of the file of the trace, where there is one.
     pub trace: Option<usize>,
+    /// The index of the name of the file of the native log, where there is one.
+    pub native: Option<usize>,
     /// The index of the name of the file that the final tree is saved to, where it is saved.
     pub save: Option<usize>,
 }
@@ -73,6 +76,7 @@ enum Role {
     Schedule,
     Budget,
     Trace,
+    Native,
     Save,
     Environment,
     Program,
@@ -87,6 +91,7 @@ enum Expected {
     ScheduleValue,
     BudgetValue,
     TraceValue,
+    NativeValue,
     SaveValue,
     EnvironmentValue,
 }
@@ -161,6 +166,8 @@ fn role_of(word: &str) -> Role
         Role::Budget
     } else if word == "--trace" {
         Role::Trace
+    } else if word == "--native" {
+        Role::Native
     } else if word == "--save" {
         Role::Save
     } else if word == "--env" {
@@ -186,6 +193,7 @@ struct Options {
     schedule: Option<usize>,
     budget: Option<u64>,
     trace: Option<usize>,
+    native: Option<usize>,
     save: Option<usize>,
     environment: Vec<String>,
 }
@@ -220,6 +228,7 @@ impl Options {
             schedule: None,
             budget: None,
             trace: None,
+            native: None,
             save: None,
             environment: Vec::new(alloc),
         }
@@ -241,6 +250,7 @@ impl Options {
             Expected::ScheduleValue => Ok(keep(&mut self.schedule, file_name(at, word))),
             Expected::BudgetValue => Ok(keep(&mut self.budget, budget(word))),
             Expected::TraceValue => Ok(keep(&mut self.trace, file_name(at, word))),
+            Expected::NativeValue => Ok(keep(&mut self.native, file_name(at, word))),
             Expected::SaveValue => Ok(keep(&mut self.save, file_name(at, word))),
             Expected::EnvironmentValue => self.step_at_setting(alloc, word),
         }
@@ -258,6 +268,8 @@ impl Options {
             Role::Budget => Step::GoesOn(Expected::BudgetValue),
             Role::Trace if self.trace.is_some() => Step::IsWrong,
             Role::Trace => Step::GoesOn(Expected::TraceValue),
+            Role::Native if self.native.is_some() => Step::IsWrong,
+            Role::Native => Step::GoesOn(Expected::NativeValue),
             Role::Save if self.save.is_some() => Step::IsWrong,
             Role::Save => Step::GoesOn(Expected::SaveValue),
             Role::Environment => Step::GoesOn(Expected::EnvironmentValue),
@@ -303,6 +315,13 @@ pub(crate) fn word_at(words: &[String], index: usize) -> &str
     }
 }
 
+/// The word at an index, where there is an index.
+pub(crate) fn word_of(words: &[String], index: Option<usize>) -> Option<&str>
+    ensures { option_copied result ≡ option_map (word_at (texts words.now)) index }
+{
+    Some(word_at(words, index?))
+}
+
 /// The later of two words, where they are equal.
 fn later_of_equal(words: &[String], one: usize, other: usize) -> Option<usize>
     ensures { result ≡ later_of_equal (texts words.now) one other }
@@ -344,13 +363,23 @@ fn equal_to_written(words: &[String], line: &RunLine, written: usize) -> Option<
     first_of(image, first_of(schedule, program))
 }
 
+/// The same where the other may be that of `--trace` too.
+fn equal_to_native(words: &[String], line: &RunLine, native: usize) -> Option<usize>
+    ensures { result ≡ equal_to_native (texts words.now) (line_seen line.now) native }
+{
+    first_of(
+        equal_to_written(words, line, native),
+        later_of_named(words, native, line.trace),
+    )
+}
+
 /// The same where the written one is that of `--save`, at index `saved`, and the other any.
 fn equal_to_saved(words: &[String], line: &RunLine, saved: usize) -> Option<usize>
     ensures { result ≡ equal_to_saved (texts words.now) (line_seen line.now) saved }
 {
     first_of(
-        equal_to_written(words, line, saved),
-        later_of_named(words, saved, line.trace),
+        equal_to_native(words, line, saved),
+        later_of_named(words, saved, line.native),
     )
 }
 
@@ -359,6 +388,13 @@ fn equal_to_traced(words: &[String], line: &RunLine) -> Option<usize>
     ensures { result ≡ option_and_then (equal_to_written (texts words.now) (line_seen line.now)) line.now.trace }
 {
     equal_to_written(words, line, line.trace?)
+}
+
+/// The same where the written one is that of `--native`.
+fn equal_to_logged(words: &[String], line: &RunLine) -> Option<usize>
+    ensures { result ≡ option_and_then (equal_to_native (texts words.now) (line_seen line.now)) line.now.native }
+{
+    equal_to_native(words, line, line.native?)
 }
 
 /// The same where the written one is that of `--save`, where there is one.
@@ -374,7 +410,10 @@ fn equal_name(words: &[String], line: &RunLine) -> Option<usize>
 {
     first_of(
         equal_to_traced(words, line),
-        equal_to_any_saved(words, line),
+        first_of(
+            equal_to_logged(words, line),
+            equal_to_any_saved(words, line),
+        ),
     )
 }
 
@@ -448,6 +487,7 @@ fn finish(options: Options, program: usize, guest: &[String]) -> Result<RunLine,
         image: options.image,
         schedule: options.schedule,
         trace: options.trace,
+        native: options.native,
         save: options.save,
     })
 }

@@ -4,6 +4,8 @@
 #[cfg(test)]
 mod files;
 #[cfg(test)]
+mod native;
+#[cfg(test)]
 mod programs;
 #[cfg(test)]
 mod saves;

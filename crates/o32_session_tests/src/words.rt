@@ -39,6 +39,10 @@ const REFUSED_NAMES: &str = r#"
     o32run run --schedule i --schedule j p ! usage 3 : o32run: usage at word 3
     o32run run --trace t --trace u p ! usage 3 : o32run: usage at word 3
     o32run run --save s --save t p ! usage 3 : o32run: usage at word 3
+    o32run run --native ! usage 2 : o32run: usage at word 2
+    o32run run --native "" p ! usage 2 : o32run: usage at word 2
+    o32run run --native n\0 p ! usage 2 : o32run: usage at word 2
+    o32run run --native n --native m p ! usage 3 : o32run: usage at word 3
     o32run run --image x --save x p ! usage 4 : o32run: usage at word 4
     o32run run --save x --budget 1 --image x p ! usage 6 : o32run: usage at word 6
     o32run run --schedule x --save x p ! usage 4 : o32run: usage at word 4
@@ -48,7 +52,13 @@ const REFUSED_NAMES: &str = r#"
     o32run run --save t --trace t p ! usage 4 : o32run: usage at word 4
     o32run run --image t --trace t p ! usage 4 : o32run: usage at word 4
     o32run run --trace t --schedule t p ! usage 4 : o32run: usage at word 4
+    o32run run --trace t --native t p ! usage 4 : o32run: usage at word 4
+    o32run run --native t --save t p ! usage 4 : o32run: usage at word 4
+    o32run run --image t --native t p ! usage 4 : o32run: usage at word 4
+    o32run run --native t --schedule t p ! usage 4 : o32run: usage at word 4
     o32run run --trace p p ! usage 3 : o32run: usage at word 3
+    o32run run --native p p ! usage 3 : o32run: usage at word 3
+    o32run run --save p --native q --trace q p ! usage 6 : o32run: usage at word 6
     o32run run --save p p ! usage 3 : o32run: usage at word 3
     o32run run --save p --image i p ! usage 5 : o32run: usage at word 5
     o32run run --image p --save p p ! usage 4 : o32run: usage at word 4

@@ -18,6 +18,8 @@
 //!     saved old                        what is then in the file `s`, where there is one
 //!     trace 9 exit 7                   a line that is then in the file `trace`, where there is one
 //!     traced 9 ex                      the same without the end of the line
+//!     native 5 clock 5000              a line that is then in the file `native`, where there is one
+//!     logged 5 cl                      the same without the end of the line
 //!
 //! Among the words of a session `""` is the empty one, and `a*9` has nine letters.
 use crate::ends::{outcome_of, refused};
@@ -63,7 +65,8 @@ fn is_refused(
     let (refusal, line) = refusal.split_once(" : ").ok_or("no line")?;
     setting.tells(alloc, line)?;
     let (given, left) = setting.with_words(alloc, words_of(alloc, words)?)?;
-    comes_out(alloc, given, &refused(alloc, refusal)?, &left)
+    let refused = refused(alloc, refusal)?;
+    Ok(comes_out(alloc, given, &refused, &left))
 }
 
 /// Whether a session comes out as the rest of its line says.
@@ -74,7 +77,7 @@ fn is_right(alloc: Global, setting: Setting, text: &str) -> Result<bool, Fail> {
     let (words, outcome) = text.split_once(" = ").ok_or("no end")?;
     let outcome = outcome_of(alloc, outcome)?;
     let (given, left) = setting.with_words(alloc, words_of(alloc, words)?)?;
-    comes_out(alloc, given, &outcome, &left)
+    Ok(comes_out(alloc, given, &outcome, &left))
 }
 
 /// What is common to the sessions of a script.

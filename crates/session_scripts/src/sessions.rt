@@ -2,7 +2,6 @@
 use o32_session::{Answer, End, session};
 use outside::{Devices, MemSink, MemSource, MemStore, NamedFile};
 use std::alloc::Global;
-use std::test::Fail;
 
 /// The numbers of the calls that fail, counted from 1.
 #[derive(Drop)]
@@ -52,19 +51,21 @@ pub(crate) struct Left {
     pub(crate) saved: Option<Vec<u8>>,
     /// What it left in the file `trace`, where there is one.
     pub(crate) traced: Option<Vec<u8>>,
+    /// What it left in the file `native`, where there is one.
+    pub(crate) logged: Option<Vec<u8>>,
 }
 
 /// What a session did.
 #[derive(Drop)]
 struct Done {
     answer: Answer,
-    out: Vec<u8>,
-    err: Vec<u8>,
+    out: MemSink,
+    err: MemSink,
     store: MemStore,
 }
 
 /// Carries out a session.
-fn carry_out(alloc: Global, given: Given) -> Result<Done, Fail> {
+fn carry_out(alloc: Global, given: Given) -> Done {
     let failing = given.failing;
     let mut store = MemStore::new(alloc, given.files, failing.calls);
     let mut dev = Devices {
@@ -73,12 +74,12 @@ fn carry_out(alloc: Global, given: Given) -> Result<Done, Fail> {
         err: MemSink::new(alloc, failing.lines),
     };
     let answer = session(alloc, &given.words, &mut store, &mut dev);
-    Ok(Done {
+    Done {
         answer,
-        out: dev.out.bytes().to_vec(alloc)?,
-        err: dev.err.bytes().to_vec(alloc)?,
+        out: dev.out,
+        err: dev.err,
         store,
-    })
+    }
 }
 
 /// Whether an answer hands out an emulator that took its turns, exactly where the run ended by itself.
@@ -108,10 +109,11 @@ fn is_right(done: &Done, outcome: &Outcome, left: &Left) -> bool {
         && done.answer.status == outcome.status
         && done.answer.turns == outcome.turns
         && is_hosted(&done.answer)
-        && done.out.as_slice() == left.out.as_slice()
-        && done.err.as_slice() == left.err.as_slice()
+        && done.out.bytes() == left.out.as_slice()
+        && done.err.bytes() == left.err.as_slice()
         && is_left(&done.store, "s", &left.saved)
         && is_left(&done.store, "trace", &left.traced)
+        && is_left(&done.store, "native", &left.logged)
 }
 
 /// Whether a session comes out so.
@@ -120,6 +122,6 @@ pub(crate) fn comes_out(
     given: Given,
     outcome: &Outcome,
     left: &Left,
-) -> Result<bool, Fail> {
-    Ok(is_right(&carry_out(alloc, given)?, outcome, left))
+) -> bool {
+    is_right(&carry_out(alloc, given), outcome, left)
 }

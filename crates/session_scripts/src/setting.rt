@@ -44,6 +44,17 @@ fn push_text(alloc: Global, bytes: &mut Vec<u8>, text: &str) -> Result<(), Fail>
     Ok(())
 }
 
+/// Puts the bytes of a text behind those that are left in a file, which is there then.
+fn push_left(alloc: Global, left: &mut Option<Vec<u8>>, text: &str) -> Result<(), Fail> {
+    let mut bytes = match left.take() {
+        Some(bytes) => bytes,
+        None => Vec::new(alloc),
+    };
+    push_text(alloc, &mut bytes, text)?;
+    *left = Some(bytes);
+    Ok(())
+}
+
 /// Adds a file, of a name that no other has.
 fn add_file(
     alloc: Global,
@@ -84,6 +95,7 @@ impl Setting {
                 err: Vec::new(alloc),
                 saved: None,
                 traced: None,
+                logged: None,
             },
         }
     }
@@ -148,13 +160,18 @@ impl Setting {
 
     /// What is then in the file `trace`, behind what has been said of it.
     fn traced(&mut self, alloc: Global, text: &str) -> Result<(), Fail> {
-        let mut traced = match self.left.traced.take() {
-            Some(traced) => traced,
-            None => Vec::new(alloc),
-        };
-        push_text(alloc, &mut traced, text)?;
-        self.left.traced = Some(traced);
-        Ok(())
+        push_left(alloc, &mut self.left.traced, text)
+    }
+
+    /// What is then in the file `native`, behind what has been said of it.
+    fn logged(&mut self, alloc: Global, text: &str) -> Result<(), Fail> {
+        push_left(alloc, &mut self.left.logged, text)
+    }
+
+    /// A line that is then in the file `native`.
+    fn native(&mut self, alloc: Global, line: &str) -> Result<(), Fail> {
+        self.logged(alloc, line)?;
+        self.logged(alloc, r"\n")
     }
 
     /// A line that is then in the file `trace`.
@@ -185,6 +202,8 @@ impl Setting {
             "saved" => self.saved(alloc, text),
             "trace" => self.trace(alloc, text),
             "traced" => self.traced(alloc, text),
+            "native" => self.native(alloc, text),
+            "logged" => self.logged(alloc, text),
             _ => push_code(alloc, &mut self.code, line),
         }
     }

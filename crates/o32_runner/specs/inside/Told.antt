@@ -1,5 +1,5 @@
 -- How turns are taken and told one after the other.
-use Rattle.std.specs.Prelude.{ℕ, ◌≡◌, ◌+◌, ◌⊎◌, List, [], ◌++◌, Result, Ok, Err}
+use Rattle.std.specs.Prelude.{ℕ, ◌≡◌, ◌+◌, ◌-◌, ◌⊎◌, ⊤, List, [], ◌++◌, Contains, Option, None, Some, Result, Ok, Err, unwrap_or}
 use Rattle.kernel_core.specs.declared.core_error.Stop.{Stop}
 use Rattle.kernel_core.specs.declared.core_error.Stop.TheVariants as stops
 use Rattle.kernel_core.specs.declared.event.Event.{Event}
@@ -7,21 +7,26 @@ use Rattle.kernel_core.specs.declared.event.Event.TheVariants as events
 use Rattle.kernel_core.specs.declared.finish.Finish.{Finish}
 use Rattle.kernel_core.specs.declared.finish.Finish.TheVariants.{Exited, Killed, Budget, Blocked}
 use Rattle.o32_machine.specs.Answered.{turns_of}
+use Rattle.o32_machine.specs.Emulator.{Emulated}
 use Rattle.o32_machine.specs.Quiet.{IsTurnAfter}
 use Rattle.o32_machine.specs.declared.turn.Turn as code
 use Rattle.o32_machine.specs.declared.turn.Turn.TheVariants.{Went, Ended}
-use Rattle.o32_turns.specs.Machine.{Machine}
 use Rattle.outside.specs.Count.{Rose}
-use Rattle.outside.specs.Output.{IsPrefix}
+use Rattle.outside.specs.Files.{ChangesFile}
+use Rattle.outside.specs.Output.{IsPrefix, with_text}
 use Rattle.outside.specs.Streams.{Contents}
 use Rattle.outside.specs.declared.errors.DevError.{DevError}
 use Rattle.outside.specs.declared.errors.DevError.TheVariants as device
-use Rattle.o32_runner.specs.Stored.{SavesText, Stored}
+use Rattle.o32_machine.specs.Native.{LogsTurn}
+use Rattle.o32_runner.specs.NativeText.{entry_lines}
+use Rattle.o32_runner.specs.Stored.{IfNamed, IsUnmade, SavesText, Stored}
 use Rattle.o32_runner.specs.Trace.{turn_lines}
-use Rattle.o32_runner.specs.declared.traced.Cut.{Cut}
+use Rattle.o32_runner.specs.declared.told.Cut.{Cut}
 use Rattle.trace_text.specs.Trace.{trace_line}
 
--- the lines of a turn that came to this, where so many turns are done then
+-- The lines of a turn
+
+-- those of its events, where it came to this and so many turns are done then
 abbrev pub told_lines : ℕ → code.Turn → List Event → List ℕ
 told_lines turns Went happened = turn_lines turns happened
 told_lines turns (Ended (Exited status)) happened = turn_lines turns happened
@@ -29,15 +34,71 @@ told_lines turns (Ended (Killed signal)) happened = turn_lines turns happened
 told_lines turns (Ended Budget) happened = turn_lines turns happened
 told_lines turns (Ended Blocked) happened = turn_lines (turns + 1) happened ++ trace_line turns events.Blocked
 
--- a text was added to a file that was made since any moment
-abbrev pub Adds : List ℕ → List ℕ → Stored → Stored → Type 0
-Adds name text old new = (start : Stored) (first : List ℕ) → SavesText name first start old → SavesText name (first ++ text) start new
+-- its number, or the one that the attempt would have had
+abbrev pub number_of : ℕ → code.Turn → ℕ
+number_of turns turn = turns - turns_of turn + 1
+
+abbrev pub trace_of : Emulated → code.Turn → List ℕ
+trace_of emulated turn = told_lines emulated.turns turn emulated.events
+
+abbrev pub native_of : Emulated → code.Turn → List ℕ
+native_of emulated turn = entry_lines (number_of emulated.turns turn) (unwrap_or emulated.native.entries [])
+
+-- Files
+
+-- the file was made, where one is named
+abbrev pub IsMade : List (List ℕ) → Option (List ℕ) → Type 0
+IsMade created None = ⊤
+IsMade created (Some name) = Contains created name
+
+-- the file was made and is empty, where one is named
+abbrev pub Makes : Option (List ℕ) → Stored → Stored → Type 0
+Makes name old new = IfNamed name (λ made. SavesText made []) old new
+
+-- it could not be made
+abbrev pub MakesNone : Option (List ℕ) → Stored → Stored → Type 0
+MakesNone name old new = IfNamed name IsUnmade old new
+
+-- a text was added to the file of this name
+pub record AddsText (name text : List ℕ) (old new : Stored) : Type 0 where
+  pub files : ChangesFile old.files new.files name (λ before after. after ≡ with_text before text)
+  pub created : new.created ≡ old.created
+  pub loads : new.loads ≡ old.loads
+  pub turned : new.turned ≡ old.turned
+
+-- where a file is named
+abbrev pub Adds : Option (List ℕ) → List ℕ → Stored → Stored → Type 0
+Adds name text old new = IfNamed name (λ there. AddsText there text) old new
 
 -- a first part of it was added
-abbrev pub AddsPart : List ℕ → List ℕ → Stored → Stored → Type 0
-AddsPart name text old new =
-    (start : Stored) (first : List ℕ) → SavesText name first start old
-    → (part : List ℕ) × IsPrefix part text × SavesText name (first ++ part) start new
+abbrev pub AddsPart : Option (List ℕ) → List ℕ → Stored → Stored → Type 0
+AddsPart name text old new = (part : List ℕ) × IsPrefix part text × Adds name part old new
+
+-- a text to the first file, and then one to the second
+pub record AddsBoth (trace native : Option (List ℕ)) (traced logged : List ℕ) (old new : Stored) : Type 0 where
+  pub middle : Stored
+  pub first : Adds trace traced old middle
+  pub second : Adds native logged middle new
+
+-- a first part of both
+pub record AddsPartOfBoth (trace native : Option (List ℕ)) (traced logged : List ℕ) (old new : Stored) : Type 0 where
+  pub trace_part : List ℕ
+  pub native_part : List ℕ
+  pub trace_begins : IsPrefix trace_part traced
+  pub native_begins : IsPrefix native_part logged
+  pub adds : AddsBoth trace native trace_part native_part old new
+
+-- both files were made and are empty, where they are named
+pub record MakesBoth (trace native : Option (List ℕ)) (old new : Stored) : Type 0 where
+  pub middle : Stored
+  pub first : Makes trace old middle
+  pub second : Makes native middle new
+
+-- one of them could not be made: the first, or the second behind it
+abbrev pub MakesNotBoth : Option (List ℕ) → Option (List ℕ) → Stored → Stored → Type 0
+MakesNotBoth trace native old new = MakesNone trace old new ⊎ ((middle : Stored) × Makes trace old middle × MakesNone native middle new)
+
+-- Turns
 
 -- why a run that took turns is cut, where it is
 abbrev pub stop_in : Result code.Turn Cut → Result code.Turn Stop
@@ -49,19 +110,24 @@ abbrev pub stop_of : DevError → Stop
 stop_of device.Failed = stops.WriteFault
 stop_of device.NoMemory = stops.NoMemory
 
--- The turns that were taken came to this, and were told; or the run is cut: in a turn, or where its lines were added, which then does not count.
-abbrev pub TakesTurns : ℕ → ℕ → Machine → ℕ → Result code.Turn Cut → Machine → ℕ → List Event → Contents → Contents → List ℕ → Stored → Stored → Type 0
-TakesTurns quantum limit machine turns (Ok turn) became turns_then happened before after name old new =
-    IsTurnAfter quantum limit machine turns (Ok turn) became turns_then happened before after × Adds name (told_lines turns_then turn happened) old new
-TakesTurns quantum limit machine turns (Err cut) became turns_then happened before after name old new =
-    (IsTurnAfter quantum limit machine turns (Err cut.stop) became cut.turns happened before after × (new ≡ old))
-    ⊎ ((turn : code.Turn) × IsTurnAfter quantum limit machine turns (Ok turn) became turns_then happened before after
-    × AddsPart name (told_lines turns_then turn happened) old new × (turns_then ≡ cut.turns + turns_of turn))
+-- The turns that an emulator took came to this
+pub record Takes (limit : ℕ) (result : Result code.Turn Stop) (old new : Emulated) (turns : ℕ) (before after : Contents) : Type 0 where
+  pub turned : IsTurnAfter old.quantum limit old.machine old.turns result new.machine turns new.events before after
+  pub logged : LogsTurn result old.machine.kernel new.machine.kernel old.native new.native before after
 
--- the line that the budget's turns are done was added, or a part of it
-abbrev pub EndsBudget : List ℕ → ℕ → Result Finish Stop → Stored → Stored → Type 0
-EndsBudget name turns (Ok finish) old new = (finish ≡ Budget) × Adds name (trace_line turns events.Budget) old new
-EndsBudget name turns (Err stop) old new = AddsPart name (trace_line turns events.Budget) old new
+-- and were told; or the run is cut: in a turn, or where its lines were added, which then does not count.
+abbrev pub TakesTurns : ℕ → Result code.Turn Cut → Emulated → Emulated → Contents → Contents → Option (List ℕ) → Option (List ℕ) → Stored → Stored → Type 0
+TakesTurns limit (Ok turn) emulated became before after trace native old new =
+    Takes limit (Ok turn) emulated became became.turns before after × AddsBoth trace native (trace_of became turn) (native_of became turn) old new
+TakesTurns limit (Err cut) emulated became before after trace native old new =
+    (Takes limit (Err cut.stop) emulated became cut.turns before after × (new ≡ old))
+    ⊎ ((turn : code.Turn) × Takes limit (Ok turn) emulated became became.turns before after
+    × AddsPartOfBoth trace native (trace_of became turn) (native_of became turn) old new × (became.turns ≡ cut.turns + turns_of turn))
+
+-- the line that the budget's turns are done was added to the trace, or a part of it
+abbrev pub EndsBudget : Option (List ℕ) → ℕ → Result Finish Stop → Stored → Stored → Type 0
+EndsBudget trace turns (Ok finish) old new = (finish ≡ Budget) × Adds trace (trace_line turns events.Budget) old new
+EndsBudget trace turns (Err stop) old new = AddsPart trace (trace_line turns events.Budget) old new
 
 -- the store's count of faulty writes rose where a fault is told, and in no other case
 abbrev pub WritesOnlyIfRose : Result Finish Stop → ℕ → ℕ → Type 0

@@ -201,10 +201,10 @@ IsStartReason asked (Refused _) = ⊥
 IsStartReason asked ReadFault = ⊥
 IsStartReason asked NoMemory = ⊤
 
--- what is asked for by a line is ready, with the indices of the files that its tree is saved to and that its trace is written to
+-- what is asked for by a line is ready, with the indices of the files that its tree is saved to and that its texts are written to
 abbrev pub IsPreparedLine : List (List ℕ) → Line → Option Files → Result Ready NotRun → Type 0
 IsPreparedLine words line told (Ok ready) =
-    AsksFor words line told (Run ready.emulator.quantum ready.emulator.machine ready.budget) × ((ready.save ≡ line.save) × (ready.trace ≡ line.trace))
+    AsksFor words line told (Run ready.emulator.quantum ready.emulator.machine ready.budget) × ((ready.save ≡ line.save) × ((ready.trace ≡ line.trace) × (ready.native ≡ line.native)))
 IsPreparedLine words line told (Err (Refused refusal)) = AsksFor words line told (Refuse refusal)
 IsPreparedLine words line told (Err ReadFault) = ⊤
 IsPreparedLine words line told (Err NoMemory) = ⊤

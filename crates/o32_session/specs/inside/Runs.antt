@@ -1,24 +1,17 @@
--- How a run and what follows it stand for the answer.
-use Rattle.std.specs.Prelude.{ℕ, ◌≡◌, ◌<◌, ◌≤◌, ⊤, ◌⊎◌, List, Option, Some, None, Result, Ok, Err}
+-- How what follows a run stands for the answer.
+use Rattle.std.specs.Prelude.{ℕ, ◌≡◌, ⊤, ◌⊎◌, List, Option, Some, None, Result, Ok, Err}
 use Rattle.outside.specs.Count.{Rose}
-use Rattle.kernel_core.specs.declared.core_error.Stop.{Stop}
 use Rattle.kernel_core.specs.declared.finish.Finish.{Finish}
 use Rattle.kernel_core.specs.declared.tree.Tree.{Tree}
 use Rattle.o32_machine.specs.Emulator.{Emulated}
-use Rattle.o32_turns.specs.Machine.{Machine}
 use Rattle.o32_runner.specs.Stored.{Stored}
 use Rattle.o32_session.specs.Saved.{SavesTree, SavesTreeInPart}
-use Rattle.o32_session.specs.Session.{WritesTrace, WritesTraceInPart, final_tree}
+use Rattle.o32_session.specs.Session.{final_tree}
 use Rattle.o32_session.specs.inside.Ends.{end_of}
 use Rattle.o32_session.specs.declared.answer.Answer.{Answer}
 use Rattle.o32_session.specs.declared.save.SaveError.{SaveError}
 use Rattle.o32_session.specs.declared.save.SaveError.TheVariants as save
 use Rattle.o32_session.specs.declared.answer.End.TheVariants as ends
-
--- a run came to this, and wrote its trace where a file is named for it
-abbrev pub TracesRun : Option (List ℕ) → ℕ → Machine → ℕ → ℕ → Result Finish Stop → Option (List ℕ) → Stored → Stored → Type 0
-TracesRun name quantum machine budget turns (Ok finish) told old new = (turns ≤ budget) × WritesTrace name quantum machine turns finish told old new
-TracesRun name quantum machine budget turns (Err stop) told old new = WritesTraceInPart name quantum machine budget turns told old new
 
 -- the count of faulty writes rose in a save that failed, and in no other
 abbrev pub SaveFailsOnlyIfRose : {T : Type 0} → Result T SaveError → ℕ → ℕ → Type 0

@@ -7,6 +7,7 @@ use Rattle.o32_session.specs.Asked.{stack_chance}
 use Rattle.o32_session.specs.Words.{texts}
 use Rattle.o32_session.specs.inside.Reader.{line_seen}
 use Rattle.o32_session.proofs.Preparing.{machine_ready}
+use Rattle.native_log.specs.NativeLog.{first_log}
 use Rattle.o32_session.proofs.prepare.machine_of_plan.Goals as goal
 
 pub returns-clause-ready : goal.returns-clause-ready
@@ -23,3 +24,6 @@ returns-clause-ready c =
     (subst (λ (env : List (List ℕ)). start.space ≡ start_memory plan args env c.stack_chance-chance.result) env_is c.in_ok-start.ensures.space))
     (ap (λ (e : Emulated). e.quantum) c.in_ok-new.ensures.first)
     (ap (λ (e : Emulated). e.machine) c.in_ok-new.ensures.first)
+
+pub returns-clause-log : goal.returns-clause-log
+returns-clause-log c = ap (λ (e : Emulated). e.native) c.in_ok-new.ensures.first ∙ ap first_log c.is_some.ensures

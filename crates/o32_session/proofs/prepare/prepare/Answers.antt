@@ -4,4 +4,7 @@ use Rattle.o32_session.proofs.Budgets.{budget_within}
 use Rattle.o32_session.proofs.prepare.prepare.Goals as goal
 
 pub prepare_line-requires-clause-bounded : goal.prepare_line-requires-clause-bounded
-prepare_line-requires-clause-bounded g c = budget_within (texts c.args.words.now) (line_seen c.in_ok-line.line) c.in_ok-line.ensures.line
+prepare_line-requires-clause-bounded g c = (budget_within (texts c.args.words.now) (line_seen c.in_ok-line.line) c.in_ok-line.ensures.line).1
+
+pub prepare_line-requires-clause-some : goal.prepare_line-requires-clause-some
+prepare_line-requires-clause-some g c = (budget_within (texts c.args.words.now) (line_seen c.in_ok-line.line) c.in_ok-line.ensures.line).0

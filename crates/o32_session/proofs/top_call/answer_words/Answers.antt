@@ -7,6 +7,7 @@ use Rattle.o32_session.specs.Session.{AnswersWords, seen_of}
 use Rattle.o32_session.specs.declared.answer.End.{End}
 use Rattle.o32_session.proofs.Faults.{tells_since, unrun_faults}
 use Rattle.o32_session.proofs.Loading.{reading_writes}
+use Rattle.o32_session.proofs.Naming.{ready_differ}
 use Rattle.o32_session.proofs.Sessions.{ran_on, unrun, run_answers}
 use Rattle.o32_session.proofs.top_call.answer_words.Goals as goal
 
@@ -52,8 +53,12 @@ returns-in-Err-clause-faults g c =
 
 pub returns-in-Ok-clause-input : goal.returns-in-Ok-clause-input
 returns-in-Ok-clause-input g c refused =
-    let names : Names = record { program = []; image = None; schedule = None; trace = option_map (word_at (texts c.args.words.now)) c.in-Ok.ready.trace; save = option_map (word_at (texts c.args.words.now)) c.in-Ok.ready.save } in
+    let names : Names = record { program = []; image = None; schedule = None; trace = option_map (word_at (texts c.args.words.now)) c.in-Ok.ready.trace; native = option_map (word_at (texts c.args.words.now)) c.in-Ok.ready.native; save = option_map (word_at (texts c.args.words.now)) c.in-Ok.ready.save } in
     absurd (ran_on c.in-Ok.ready.emulator.quantum c.in-Ok.ready.emulator.machine c.in-Ok.ready.budget names
     (seen_of g.I.Source.left g.O.Sink.written g.E.Sink.written g.I.Source.faults g.O.Sink.faults g.E.Sink.faults c.args.dev.now (g.F.Store.load_faults c.prepare.new.files) (stored_of g.F.Store.files g.F.Store.created g.F.Store.loads g.F.Store.turned_away g.F.Store.write_faults c.prepare.new.files))
     (seen_of g.I.Source.left g.O.Sink.written g.E.Sink.written g.I.Source.faults g.O.Sink.faults g.E.Sink.faults c.run_ready.new.dev (g.F.Store.load_faults c.run_ready.new.files) (stored_of g.F.Store.files g.F.Store.created g.F.Store.loads g.F.Store.turned_away g.F.Store.write_faults c.run_ready.new.files))
-    c.run_ready.result.turns c.run_ready.result.end c.run_ready.result.host (c.run_ready.ensures.run names refl refl) refused)
+    c.run_ready.result.turns c.run_ready.result.end c.run_ready.result.host (c.run_ready.ensures.run names refl refl refl) refused)
+
+pub run_ready-requires-clause-differ : goal.run_ready-requires-clause-differ
+run_ready-requires-clause-differ g c =
+    ready_differ (texts c.args.words.now) (read_words (texts c.args.words.now)) (g.F.Store.files c.args.files.now) c.in-Ok.ready refl c.in-Ok.ensures.prepared

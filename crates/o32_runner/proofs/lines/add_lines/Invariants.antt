@@ -1,6 +1,6 @@
 use Rattle.std.proofs.Common.{◌≡◌, ◌++◌, drop}
 use Rattle.o32_runner.specs.Trace.{turn_lines}
-use Rattle.o32_runner.proofs.trace.add_lines.Given as goal
+use Rattle.o32_runner.proofs.lines.add_lines.Given as goal
 
 -- the whole is what stands there, and the lines to come
 abbrev pub invariant-loop-event : goal.invariant-loop-event

@@ -1,10 +1,11 @@
-use Rattle.std.proofs.Common.{◌≡◌, ◌≤◌, ◌-◌, false, Contains, List, ℕ, [], Some}
+use Rattle.std.proofs.Common.{◌≡◌, ◌≤◌, ◌-◌, false}
+use Rattle.std.specs.Option.{option_copied}
 use Rattle.outside.specs.Streams.{NoCountFell, NoCountRose, contents}
 use Rattle.o32_runner.specs.Runs.{GoesSo}
-use Rattle.o32_runner.specs.Stored.{SavesText, Stored, stored_of}
-use Rattle.o32_runner.specs.Trace.{traced}
-use Rattle.o32_runner.specs.Traced.{WritesTrace}
-use Rattle.o32_runner.proofs.traced.run_told.Given as goal
+use Rattle.o32_runner.specs.Stored.{Stored, stored_of}
+use Rattle.o32_runner.specs.inside.Told.{IsMade, MakesBoth}
+use Rattle.o32_runner.proofs.Writing.{WrittenSo}
+use Rattle.o32_runner.proofs.told.run_made.Given as goal
 
 abbrev pub invariant-loop-emulator : goal.invariant-loop-emulator
 invariant-loop-emulator g l = record {
@@ -12,10 +13,11 @@ invariant-loop-emulator g l = record {
   on : l.emulator.over ≡ false;
   long : l.emulator.quantum ≡ l.fn.emulator.quantum;
   so : GoesSo l.fn.emulator.quantum l.fn.emulator.machine l.emulator.turns (contents g.I.Source.left g.O.Sink.written g.E.Sink.written l.fn.dev) (contents g.I.Source.left g.O.Sink.written g.E.Sink.written l.dev) l.emulator.machine;
-  trace : (start : Stored) → SavesText l.name [] start (stored_of g.F.Store.files g.F.Store.created g.F.Store.loads g.F.Store.turned_away g.F.Store.write_faults l.fn.files)
-      → WritesTrace l.name (λ text. (left : List ℕ) → g.I.Source.left l.fn.dev.input ≡ Some left → text ≡ traced l.fn.emulator.quantum l.fn.emulator.machine left l.emulator.turns) start
+  texts : (start : Stored) → MakesBoth (option_copied l.names.trace) (option_copied l.names.native) start (stored_of g.F.Store.files g.F.Store.created g.F.Store.loads g.F.Store.turned_away g.F.Store.write_faults l.fn.files)
+      → WrittenSo (option_copied l.names.trace) (option_copied l.names.native) l.fn.emulator.quantum l.fn.emulator.machine l.emulator.turns (g.I.Source.left l.fn.dev.input) l.emulator start
       (stored_of g.F.Store.files g.F.Store.created g.F.Store.loads g.F.Store.turned_away g.F.Store.write_faults l.files);
-  made : Contains (g.F.Store.created l.files) l.name;
+  trace : IsMade (g.F.Store.created l.files) (option_copied l.names.trace);
+  native : IsMade (g.F.Store.created l.files) (option_copied l.names.native);
   later : NoCountFell g.I.Source.faults g.O.Sink.faults g.E.Sink.faults l.fn.dev l.dev;
   stays : NoCountRose g.I.Source.faults g.O.Sink.faults g.E.Sink.faults l.fn.dev l.dev;
   writes : g.F.Store.write_faults l.files ≡ g.F.Store.write_faults l.fn.files;
