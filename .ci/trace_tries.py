@@ -284,6 +284,8 @@ BESIDE = [
     ("call 4041 00000003 00000000 00000000 00000000 = 00000004 0", [native_call(23, 3, reply=4)], "dup(3</etc/passwd>) = 4</etc/passwd>"),
     ("call 4006 00000003 00000000 00000000 00000000 = 00000000 0", [native_call(57, 3, reply=0)], "close(3</etc/passwd>) = 0"),
     ("call 4006 00000003 00000000 00000000 00000000 = 00000009 1", [native_call(57, 3, reply=-9)], "close(3) = -1 EBADF (Bad file descriptor)"),
+    ("call 4003 00000004 7fff0100 00001000 00000000 = 00000000 0",
+     [native_call(63, 4, HOST, 4096, before="00" * 8, reply=0)], 'read(4</etc/passwd>, "", 4096) = 0'),
     ("call 4003 00000004 00000001 00000004 00000000 = 0000000e 1", [], "read(4</etc/passwd>, 0x1, 4) = -1 EFAULT (Bad address)"),
     ("call 4012 7fff0010 00000000 00000000 00000000 = 00000000 0", [native_call(49, HOST, before=hexed("/tmp\0"), reply=0)], 'chdir("/tmp") = 0'),
     ("call 4005 7fff0010 00000301 000001a4 00000000 = 00000003 0",
@@ -301,7 +303,7 @@ BESIDE = [
     ("call 4328 7fff0010 00000000 00000000 00000000 = 00000000 0",
      [native_call(59, HOST, 0, before="00" * 8, after="0700000008000000", reply=0)], "pipe2(0x7fff0010, 0) = 0"),
     ("wait 4003 00000007 7fff0010 00000004 00000000",
-     [native_call(63, 7, HOST, 4, before="00" * 4, reply="sleep 0 -")], "read(7<pipe of turn 12>, 0x7fff0010, 4) <waits>"),
+     [native_call(63, 7, HOST, 4, before="00" * 4, reply="sleep 0 -")], "read(7<pipe of turn 13>, 0x7fff0010, 4) <waits>"),
     ("call 4004 00000001 7fff0010 00000002 00000000 = 00000002 0",
      ["post 15 -1 7", native_call(64, 1, HOST, 2, before=hexed("Hi"), reply=2)], 'write(1<stdout>, "Hi", 2) = 2'),
 ]
@@ -317,7 +319,7 @@ def try_native(tries, box):
     for (line, _, wanted), found in zip(BESIDE, text.splitlines()):
         tries.one(f"{line} beside its native log", found.split(" ", 1)[1], wanted)
     filtered = told("decode", "--native", log, "--fd", "4", trace)[1]
-    tries.one("descriptors of lines that are not shown are known", [line.split()[0] for line in filtered.splitlines()], ["3", "6"])
+    tries.one("descriptors of lines that are not shown are known", [line.split()[0] for line in filtered.splitlines()], ["3", "6", "7"])
     broken = trace_of(box, *logged[:2], "5 call 57", *logged[2:], name="broken")
     status, found, wrong = told("decode", "--native", broken, trace)
     place = len(lines_of(logged[:2]))

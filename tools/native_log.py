@@ -147,7 +147,7 @@ class Known:
             if table is WRITES and call.number in WRITES:
                 place, size = (call.words[at] for at in WRITES[call.number])
                 found = (found or b"") + call.before[place - FIRST_ADDRESS :][:size]
-            elif table is READS and call.number in READS and (call.reply or -1) >= 0:
+            elif table is READS and call.number in READS and call.reply is not None and call.reply >= 0:
                 place = call.words[READS[call.number]]
                 found = (found or b"") + call.after[place - FIRST_ADDRESS :][: call.reply]
         return found
