@@ -245,7 +245,7 @@ def try_filters(tries, box):
         (("decode", "--calls", "opens", trace), "no call or group 'opens'"),
         (("decode", "--calls", "%files", trace), "no call or group '%files'"),
         (("decode", "--fd", "-1", trace), "'-1' is no descriptor"),
-        (("decode", "--fd", trace), "use: o32trace.py decode [--calls LIST] [--failed] [--fd N] TRACE"),
+        (("decode", "--fd", trace), "use: o32trace.py decode [--calls LIST] [--failed] [--fd N] [--native LOG] TRACE"),
         (("missing", "--failed", trace), "use: o32trace.py missing TRACE"),
         (("diff", trace), "use: o32trace.py diff [--ignore-turns] [--ignore-addresses] A B"),
     ]
@@ -257,6 +257,75 @@ def try_filters(tries, box):
     tries.one("the tool says what it does", (status, wrong, all(f"    o32trace.py {command} " in text for command in commands)), (0, "", True))
     status, _, wrong = told("decode", box / "nowhere")
     tries.one("a trace that is not there", (status, wrong.count("\n"), "No such file" in wrong), (2, 1, True))
+
+
+# Beside the native log
+
+
+def native_call(number, *words, before="-", after=None, reply):
+    """A call of a native log, behind its turn."""
+    arguments = " ".join(f"{word:016x}" for word in [*words, *[0] * (6 - len(words))])
+    return f"call {number} {arguments} {before} {before if after is None else after} = {reply}"
+
+
+def hexed(text):
+    return text.encode("latin-1").hex()
+
+
+HOST = 0x10000
+# Lines of a trace and of the native log of the same turn, and what is shown of them.
+BESIDE = [
+    ("call 4288 ffffff9c 7fff0010 00002000 00000000 = 00000003 0",
+     [native_call(56, 2**64 - 100, HOST, 0, before=hexed("/etc/passwd\0"), reply=3)],
+     'openat(AT_FDCWD, "/etc/passwd", O_RDONLY|O_LARGEFILE) = 3</etc/passwd>'),
+    ("call 4003 00000003 7fff0100 00001000 00000000 = 00000006 0",
+     ["clock 9", native_call(63, 3, HOST, 4096, before="00" * 8, after=hexed("root:x\0\0"), reply=6)],
+     'read(3</etc/passwd>, "root:x", 4096) = 6'),
+    ("call 4041 00000003 00000000 00000000 00000000 = 00000004 0", [native_call(23, 3, reply=4)], "dup(3</etc/passwd>) = 4</etc/passwd>"),
+    ("call 4006 00000003 00000000 00000000 00000000 = 00000000 0", [native_call(57, 3, reply=0)], "close(3</etc/passwd>) = 0"),
+    ("call 4006 00000003 00000000 00000000 00000000 = 00000009 1", [native_call(57, 3, reply=-9)], "close(3) = -1 EBADF (Bad file descriptor)"),
+    ("call 4003 00000004 7fff0100 00001000 00000000 = 00000000 0",
+     [native_call(63, 4, HOST, 4096, before="00" * 8, reply=0)], 'read(4</etc/passwd>, "", 4096) = 0'),
+    ("call 4003 00000004 00000001 00000004 00000000 = 0000000e 1", [], "read(4</etc/passwd>, 0x1, 4) = -1 EFAULT (Bad address)"),
+    ("call 4012 7fff0010 00000000 00000000 00000000 = 00000000 0", [native_call(49, HOST, before=hexed("/tmp\0"), reply=0)], 'chdir("/tmp") = 0'),
+    ("call 4005 7fff0010 00000301 000001a4 00000000 = 00000003 0",
+     [native_call(79, 2**64 - 100, HOST, HOST + 2, 0, before=hexed("a\0"), reply=-2),
+      native_call(56, 2**64 - 100, HOST, 0o1101, 0o644, before=hexed("a\0"), reply=3)],
+     'open("a", O_WRONLY|O_CREAT|O_TRUNC, 0644) = 3</tmp/a>'),
+    ("call 4004 00000003 7fff0010 00000029 00000000 = 00000029 0",
+     [native_call(64, 3, HOST, 41, before=hexed('"\\\n\t\r\x7f\xe9' + "0123456789" * 3 + "abcd"), reply=41)],
+     'write(3</tmp/a>, "\\"\\\\\\n\\t\\r\\x7f\\xe90123456789012345678901234"..., 41) = 41'),
+    ("call 4288 00000005 7fff0010 00000000 00000000 = 00000006 0",
+     [native_call(56, 5, HOST, 0, before=hexed("b\0"), reply=6)], 'openat(5, "b", O_RDONLY) = 6<?/b>'),
+    ("call 4038 7fff0010 7fff0020 00000000 00000000 = 00000002 1",
+     [native_call(276, 2**64 - 100, HOST, 2**64 - 100, HOST + 2, before=hexed("a\0c\0"), reply=-2)],
+     'rename("a", "c") = -1 ENOENT (No such file or directory)'),
+    ("call 4328 7fff0010 00000000 00000000 00000000 = 00000000 0",
+     [native_call(59, HOST, 0, before="00" * 8, after="0700000008000000", reply=0)], "pipe2(0x7fff0010, 0) = 0"),
+    ("wait 4003 00000007 7fff0010 00000004 00000000",
+     [native_call(63, 7, HOST, 4, before="00" * 4, reply="sleep 0 -")], "read(7<pipe of turn 13>, 0x7fff0010, 4) <waits>"),
+    ("call 4004 00000001 7fff0010 00000002 00000000 = 00000002 0",
+     ["post 15 -1 7", native_call(64, 1, HOST, 2, before=hexed("Hi"), reply=2)], 'write(1<stdout>, "Hi", 2) = 2'),
+]
+
+
+def try_native(tries, box):
+    """A trace is decoded beside the native log of its run."""
+    trace = trace_of(box, *[f"{turn} {line}" for turn, (line, _, _) in enumerate(BESIDE, 1)], f"{len(BESIDE) + 1} exit 0")
+    logged = [f"{turn} {line}" for turn, (_, lines, _) in enumerate(BESIDE, 1) for line in lines]
+    log = trace_of(box, *logged, name="log")
+    status, text, wrong = told("decode", "--native", log, trace)
+    tries.one("a trace beside its native log", (status, wrong), (0, ""))
+    for (line, _, wanted), found in zip(BESIDE, text.splitlines()):
+        tries.one(f"{line} beside its native log", found.split(" ", 1)[1], wanted)
+    filtered = told("decode", "--native", log, "--fd", "4", trace)[1]
+    tries.one("descriptors of lines that are not shown are known", [line.split()[0] for line in filtered.splitlines()], ["3", "6", "7"])
+    broken = trace_of(box, *logged[:2], "5 call 57", *logged[2:], name="broken")
+    status, found, wrong = told("decode", "--native", broken, trace)
+    place = len(lines_of(logged[:2]))
+    tries.one("a native log with a broken line", (status, found, wrong), (2, text, f"o32trace: {broken}: line 3 at byte {place}: no line of a native log\n"))
+    status, _, wrong = told("decode", "--native", box / "nowhere", trace)
+    tries.one("a native log that is not there", (status, "No such file" in wrong), (2, True))
 
 
 LACKS = [
@@ -503,4 +572,4 @@ def compared(top):
     return ran.returncode, [line.removeprefix("trace_tables: ") for line in (ran.stdout + ran.stderr).decode().splitlines()]
 
 
-PARTS = [try_lines, try_names, try_flags, try_filters, try_counts, try_diff, try_damage, try_streams, try_tables]
+PARTS = [try_lines, try_names, try_flags, try_filters, try_native, try_counts, try_diff, try_damage, try_streams, try_tables]

@@ -3,14 +3,16 @@
 
 This is a tool beside the product: plain Python, run by hand and by the gate's tests, and not proved.
 
-    o32trace.py decode [--calls LIST] [--failed] [--fd N] TRACE
+    o32trace.py decode [--calls LIST] [--failed] [--fd N] [--native LOG] TRACE
     o32trace.py missing TRACE
     o32trace.py summary TRACE
     o32trace.py diff [--ignore-turns] [--ignore-addresses] A B
 
 `decode` writes a line for each of the trace, with the number of its turn: calls with names, flags and errors, signals as
 `--- SIGALRM (handler) ---`, ends as `+++ exited with 7 +++`. A trace has four words of a call's arguments; where it has more,
-`...` stands for the rest. What an address leads to isn't in a trace, and so a descriptor has no name. LIST is names of calls
+`...` stands for the rest. What an address leads to isn't in a trace, and so a descriptor has no name. With --native LOG, the
+native log of the same run, paths and the bytes of reads and writes are shown, and behind a descriptor what it was opened by, as
+`read(3</etc/passwd>, "root:x:0:0", 4096) = 10`. LIST is names of calls
 and groups, parted by commas, such as `open,%signal`; the groups are %file, %desc, %memory, %signal, %time, %process, %wait,
 %network, %ipc and %system. --failed leaves the calls that gave an error, --fd N those that take or give the descriptor N.
 Lines on signals are in %signal, and the exit in %process; other lines that are no calls are shown without a filter alone.
@@ -29,7 +31,7 @@ A line that is none of a trace is passed over. Where there is one, or where the 
 place is told on standard error, by line (from 1) and byte (from 0), and the status is 2. So it is after any other trouble.
 
 The lines of a trace are described in docs/RULES.md, "The trace". The names are in calls.txt, flags.txt, errors.txt and
-signals.txt beside this script.
+signals.txt beside this script; native_log.py is a part of it.
 """
 import collections
 import functools
@@ -37,6 +39,8 @@ import os
 import pathlib
 import re
 import sys
+
+import native_log
 
 HERE = pathlib.Path(__file__).resolve().parent
 # A line of a trace is shorter than this.
@@ -534,14 +538,43 @@ def finished(*traces):
     return 2 if wrong else 0
 
 
-def decode(path, calls=None, failed=False, fd=None):
+def decode(path, calls=None, failed=False, fd=None, native=None):
     names, trace = read_names(), Trace(path)
     wanted = None if calls is None else listed(names, calls)
     descriptor = None if fd is None else a_number(fd)
+    if native is not None:
+        return decode_beside(names, trace, native, lambda names, event, wait: is_wanted(names, event, wait, wanted, failed, descriptor))
     for event, wait in with_waits(trace.events()):
         if is_wanted(names, event, wait, wanted, failed, descriptor):
             print(shown(names, event, wait))
     return finished(trace)
+
+
+def decode_beside(names, trace, native, wants):
+    """Shows what is wanted of a trace beside the native log of its run."""
+    with native_log.NativeLog(native) as log:
+        known = native_log.Known(log)
+        names = names._replace(texts=known.texts(names.texts))
+        for event, wait in with_waits(trace.events()):
+            show_beside(names, known, event, wait, wants)
+        return finished(trace, log)
+
+
+def show_beside(names, known, event, wait, wants):
+    """Shows an event, where it is wanted, with what is known of it, and takes up what it leaves."""
+    name, arguments, paths = "", [], []
+    if event.kind in ("call", "wait"):
+        call, words = call_numbered(names, event.words[0]), event.words[1 : 1 + WORDS]
+        name, arguments = call.name, arguments_of(names, call, words)
+        paths = known.begin(event.turn, name, arguments)
+    went_well = event.kind == "call" and not event.words[-1]
+    if went_well:
+        gives = gives_in(names, call, words) == "descriptor"
+        known.made(event.turn, name, arguments, paths, event.words[-2] if gives else None)
+    if wants(names, event, wait):
+        print(shown(names, event, wait))
+    if went_well:
+        known.leave(name, arguments, paths)
 
 
 def a_number(text):
@@ -690,7 +723,7 @@ def print_side(names, trace, kept, each):
 
 # Each command with the number of its names, and its options: whether they take a value.
 COMMANDS = {
-    "decode": (decode, ["TRACE"], {"calls": "LIST", "failed": None, "fd": "N"}),
+    "decode": (decode, ["TRACE"], {"calls": "LIST", "failed": None, "fd": "N", "native": "LOG"}),
     "missing": (missing, ["TRACE"], {}),
     "summary": (summary, ["TRACE"], {}),
     "diff": (differ, ["A", "B"], {"ignore-turns": None, "ignore-addresses": None}),
