@@ -117,11 +117,6 @@ fn is_right(done: &Done, outcome: &Outcome, left: &Left) -> bool {
 }
 
 /// Whether a session comes out so.
-pub(crate) fn comes_out(
-    alloc: Global,
-    given: Given,
-    outcome: &Outcome,
-    left: &Left,
-) -> bool {
+pub(crate) fn comes_out(alloc: Global, given: Given, outcome: &Outcome, left: &Left) -> bool {
     is_right(&carry_out(alloc, given), outcome, left)
 }
