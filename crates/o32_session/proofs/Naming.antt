@@ -1,6 +1,6 @@
 -- The files that a run writes its texts to: their names differ, and a log begins where one is named.
 use Rattle.std.proofs.Common.{◌≡◌, ◌≤◌, ℕ, Bool, cond, true, List, Option, None, Some, is_some, Result, Ok, Err, option_map, max, ap, arith, refl, sym, ◌∙◌, subst}
-use Rattle.std.specs.Prelude.{option_and_then}
+use Rattle.std.specs.Prelude.{⊤, option_and_then}
 use Rattle.std.specs.Str.{bytes_eq}
 use Rattle.outside.specs.Files.{Files}
 use Rattle.outside.proofs.FileLemmas.{bytes_eq-same}
