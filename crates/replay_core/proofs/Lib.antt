@@ -1,0 +1,9 @@
+pub mod Words
+pub mod Sending
+pub mod EffectSteps
+pub mod Parts
+pub mod Turns
+pub mod Ends
+pub mod Outputs
+pub mod ReadAhead
+pub mod PageEffects

@@ -1,0 +1,4 @@
+pub mod Answered
+pub mod Replay
+pub mod Whole
+pub mod inside
