@@ -8,9 +8,9 @@ use crate::fields::{function_of, opcode_of, rd_of, rs_of, rt_of, sa_of};
 use crate::insn::Insn;
 use crate::mnemonic::{Mnemonic, with_fields};
 
-/// The instruction of a word, if it is in a row.
-#[inline(always)]
-pub fn look_up(word: u32) -> Option<Insn>
+/// The instruction of a word, if it is in a row. It has a copy for the loop over instructions, which is put in line
+/// there since nothing else calls it, and one for all others.
+pub fn look_up<const IN_LINE: bool>(word: u32) -> Option<Insn>
     ensures { result ≡ instruction_of word }
 {
     match mnemonic_at(opcode_of(word), word) {

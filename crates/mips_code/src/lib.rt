@@ -23,7 +23,16 @@ pub fn decode(word: u32) -> Option<Insn>
     ensures meaning { result ≡ instruction_of word }
     ensures in_range { IfSome result (λ insn. IsTrue (is_in_range insn)) }
 {
-    decoder::look_up(word)
+    decoder::look_up::<false>(word)
+}
+
+/// The same for the loop over instructions, in a copy of its own that is put in line there. Takes no memory.
+#[inline(always)]
+pub fn decode_in_line(word: u32) -> Option<Insn>
+    ensures meaning { result ≡ instruction_of word }
+    ensures in_range { IfSome result (λ insn. IsTrue (is_in_range insn)) }
+{
+    decoder::look_up::<true>(word)
 }
 
 /// The word of an instruction that is in range (`Insn::in_range`): it decodes to that instruction,

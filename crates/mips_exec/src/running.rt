@@ -20,7 +20,7 @@ use crate::table::effect_of;
 use guest_space::Space;
 use kernel_core::NoMemory;
 use kernel_core::address_space::PAGE_SIZE;
-use mips_code::decode;
+use mips_code::decode_in_line;
 
 /// What came of a run of instructions.
 #[derive(Clone, Copy)]
@@ -125,7 +125,7 @@ fn step_in_page(cpu: &mut Cpu, space: &Space, page: &[u8; 4096]) -> Quiet
     requires there { shown_bytes (map.get space.now.pages (cpu.old.pc / 4096)) ≡ page.now }
     ensures told { IsQuiet cpu.old space.now result cpu.new }
 {
-    match decode(space.word_in_page(page, cpu.pc)) {
+    match decode_in_line(space.word_in_page(page, cpu.pc)) {
         Some(insn) => match effect_of(insn, cpu) {
             Effect::Store {
                 span,
