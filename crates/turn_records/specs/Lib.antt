@@ -1,0 +1,5 @@
+pub mod Entry
+pub mod Keeping
+pub mod Run
+pub mod Turn
+pub mod inside
