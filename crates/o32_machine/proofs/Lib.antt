@@ -3,6 +3,7 @@ pub mod EventPosts
 pub mod Numbering
 pub mod Logging
 pub mod Quieting
+pub mod Recording
 pub mod Steps
 pub mod Turning
 pub mod Waking

@@ -4,7 +4,7 @@ use Rattle.std.specs.Prelude.{◌&&◌, ◌||◌, if◌then◌else◌}
 use Rattle.bridge_acceptance.specs.Ends.{KeepsEnd}
 use Rattle.bridge_log.proofs.Histories.{logged_none, logged_then}
 use Rattle.bridge_log.specs.Keeping.{Logged}
-use Rattle.bridge_log.specs.Looks.{LooksFor, Looked}
+use Rattle.bridge_log.specs.Looks.{LooksFor}
 use Rattle.guest_space.specs.Memory.{Memory, Pages}
 use Rattle.kernel_core.specs.declared.core_error.Stop.{Stop}
 use Rattle.kernel_core.specs.declared.event.Event.TheVariants as events
@@ -28,6 +28,7 @@ use Rattle.o32_turns.specs.Going.{Standing, within_of}
 use Rattle.o32_turns.specs.Machine.{Within, happens, with_machine}
 use Rattle.o32_turns.specs.Posting.{after_post, event_info, is_kill, sent_to, timer_posted, waits_for}
 use Rattle.o32_turns.specs.Turn.{whole}
+use Rattle.turn_records.specs.Keeping.{Records}
 use Rattle.outside.specs.Streams.{Contents}
 use Rattle.schedule.specs.declared.events.Due.{Due}
 
@@ -202,8 +203,8 @@ module _ (clock : ℕ) (kernel first became final : Kernel) (left : List ℕ) (a
 
 -- A whole turn
 
-module _ (emulated : Emulated) (clock quantum turns : ℕ) (over : Bool) (native : NativeLog) (process : ProcessState)
-    (is : record { machine = machine_at clock (machine_of process); quantum = quantum; turns = turns; over = over; events = process.going.events; native = native } ≡ emulated) where
+module _ (emulated : Emulated) (clock quantum turns : ℕ) (over : Bool) (native : NativeLog) (records : Records) (process : ProcessState)
+    (is : record { machine = machine_at clock (machine_of process); quantum = quantum; turns = turns; over = over; events = process.going.events; native = native; records = records } ≡ emulated) where
   -- a log that was cleared, and its turn
   pub turn_logged : (cleared middle new : NativeLog) (first became : Kernel) (last : ℕ) (left : List ℕ) (after : Contents) → cleared.entries ≡ emptied native.entries → cleared.told ≡ native.told
       → Logged cleared.entries middle.entries (as_told cleared process.kernel left nothing) (as_told middle first left nothing)

@@ -1,12 +1,14 @@
 -- Quiet turns, as turns of the machine that is defined.
-use Rattle.std.proofs.Common.{◌≡◌, ℕ, zero, suc, ◌+◌, ◌*◌, ◌<◌, ◌≤◌, inl, inr, Bool, true, false, List, [], ◌∷◌, ◌++◌, Option, Some, None, Result, Ok, Err, IsErr, arith, refl, sym, ap, subst, ◌∙◌}
+use Rattle.std.proofs.Common.{◌≡◌, ℕ, zero, suc, ◌+◌, ◌-◌, ◌*◌, ◌%◌, ◌^◌, ◌<◌, ◌≤◌, inl, inr, Bool, true, false, List, [], ◌∷◌, ◌++◌, Option, Some, None, Result, Ok, Err, IsErr, arith, refl, sym, ap, subst, ◌∙◌}
 use Rattle.std.proofs.lemmas.Bool.{cases_eq}
 use Rattle.std.proofs.lemmas.Bool.Decides.{nat_tests}
-use Rattle.std.specs.Prelude.{◌&&◌, if◌then◌else◌, is_none, nat_le}
+use Rattle.std.specs.Prelude.{◌&&◌, ◌||◌, if◌then◌else◌, is_none, is_some, nat_le}
 use Rattle.guest_space.specs.Memory.{Memory}
 use Rattle.kernel_core.specs.declared.core_error.NoMemory.{NoMemory}
 use Rattle.kernel_core.specs.declared.core_error.Stop.{Stop}
 use Rattle.kernel_core.specs.declared.event.Event.{Event}
+use Rattle.kernel_core.specs.declared.finish.Finish.TheVariants.{Exited, Killed, Budget, Blocked}
+use Rattle.kernel_core.specs.declared.record.Record.{Record}
 use Rattle.kernel_model.specs.Clock.{comes, gone_off, if_comes, next_due as timer_after, next_time}
 use Rattle.kernel_model.specs.Pipes.{nothing}
 use Rattle.kernel_model.specs.SignalRows.{advance, after_expiry}
@@ -17,11 +19,14 @@ use Rattle.mips_exec.specs.Step.{Step}
 use Rattle.mips_exec.specs.declared.execution.Stepped.{Stepped}
 use Rattle.mips_exec.specs.declared.execution.Stepped.TheVariants.{Next}
 use Rattle.o32_machine.proofs.Turning.{at_time_answers, at_time_stopped, fails_before, stops}
-use Rattle.o32_machine.specs.Answered.{IsTurn, Stopped, Turned, turns_done, turns_of}
+use Rattle.o32_machine.proofs.Recording.{gains_so, step_at}
+use Rattle.o32_machine.specs.Answered.{IsTurn, Stopped, Turned, over_of, turns_done, turns_of}
 use Rattle.native_log.specs.NativeLog.{NativeLog}
 use Rattle.o32_machine.specs.Emulator.{Emulated, ProcessState, at_clock, machine_at, machine_of}
 use Rattle.o32_machine.specs.Quiet.{IsQuiet, IsStill, IsTurnAfter}
+use Rattle.o32_machine.specs.Records.{LastRecorded, RecordsTurn, RecordsTurns}
 use Rattle.o32_machine.specs.declared.turn.Turn as code
+use Rattle.o32_machine.specs.declared.turn.Turn.TheVariants.{Went, Ended}
 use Rattle.o32_machine.specs.inside.Quieting.{IsBefore, OnlyExecutes, goes, next_due}
 use Rattle.o32_machine.specs.inside.Steps.{begun}
 use Rattle.o32_model.specs.declared.wait.Wait.{Wait}
@@ -33,8 +38,12 @@ use Rattle.o32_turns.specs.Delivering.{next_signal}
 use Rattle.o32_turns.specs.Instruction.{after_step, at_time, executed, stepped}
 use Rattle.o32_turns.specs.Machine.{Machine, Turn, Within, begin, with_machine}
 use Rattle.o32_turns.specs.Posting.{event_info, events_posted, expiry_events, sent_to, timer_posted}
-use Rattle.o32_turns.specs.Runs.{IsRunningAt, Reached, after_attempt, attempt, is_blocked, reached, unless_over}
+use Rattle.o32_turns.specs.Runs.{IsRunningAt, Reached, after_attempt, attempt, is_block, is_blocked, reached}
+use Rattle.o32_turns.specs.Runs as runs
 use Rattle.o32_turns.specs.Turn.{after_events, fifth_or_sixth, first_step, fourth_step, next_event, second_step, sooner, third_step, turn_of, unless_killed, whole}
+use Rattle.turn_records.specs.Keeping.{Gains, Records, emptied}
+use Rattle.turn_records.specs.Turn.{AreRecordsOf, IsBehind, IsInstructionRecorded, IsLast, IsStepRecorded, IsTurnRecorded, before_instruction, unless_none, unless_over}
+use Rattle.turn_records.specs.Turn as spec
 use Rattle.outside.specs.Streams.{Contents}
 use Rattle.schedule.specs.declared.events.Due.{Due}
 
@@ -122,6 +131,25 @@ module _ (machine : Machine) where
   third_nothing : next_signal machine.kernel.signals ≡ None → third_step whole (begin plain) ≡ begin plain
   third_nothing none = delivery_stays whole_end (begin plain) (ap (λ (signal : Option Sig). is_none signal) none)
 
+  -- nothing stands before the instruction but the machine
+  plain_settles : IsBefore machine.kernel.clock (next_event machine.coming) → gone_off machine.kernel.clock machine.kernel.timer ≡ None → next_signal machine.kernel.signals ≡ None
+      → before_instruction plain ≡ begin plain
+  plain_settles before timer signals =
+      ap (λ (w : Within). unless_over (third_step whole (second_step whole w))) (posts_nothing before timer)
+      ∙ ap (λ (w : Within). unless_over (third_step whole w)) (second_nothing machine.interrupted)
+      ∙ ap unless_over (third_nothing signals)
+      ∙ fourth_nothing machine.interrupted
+
+  pub settles_nothing : (quantum most : ℕ) → OnlyExecutes quantum machine most → before_instruction machine ≡ begin machine
+  settles_nothing quantum most only =
+      let now = earlier machine.kernel.clock (machine.kernel.clock + most * quantum) (next_due machine) (omega arith) only.early in
+      let events = before_first machine.kernel.clock (next_event machine.coming) (next_time machine.kernel.timer) now in
+      let timer = before_second machine.kernel.clock (next_event machine.coming) (next_time machine.kernel.timer) now in
+      let same = plain_is only.waits only.faults only.stops in
+      ap before_instruction same
+      ∙ plain_settles events (timer_quiet machine.kernel.clock machine.kernel.timer timer) only.delivers
+      ∙ ap begin (sym same)
+
   module _ (quantum : ℕ) (left : List ℕ) where
     plain_turn : IsBefore machine.kernel.clock (next_event machine.coming) → gone_off machine.kernel.clock machine.kernel.timer ≡ None → next_signal machine.kernel.signals ≡ None
         → turn_of quantum plain left ≡ executed whole quantum plain left
@@ -161,8 +189,33 @@ module _ (quantum : ℕ) (machine : Machine) where
   more_turns : (k most : ℕ) → k ≤ most → k * quantum ≤ most * quantum
   more_turns k most few = grind arith
 
+  -- what they keep for the journal
+  module _ (k : ℕ) (now : Processor) (kept : Memory) (only : OnlyExecutes quantum (here k now kept) 0) (came : Stepped) (next : Processor) (stored : Memory)
+      (step : Steps now kept came next stored) (left : List ℕ) (turn : ℕ) (records : List Record) where
+    abbrev its_middle : Machine
+    its_middle = here k now kept
+
+    rests_not : (its_middle.stopped || is_some its_middle.wait) ≡ false
+    rests_not = ap (λ (b : Bool). b || is_some its_middle.wait) only.stops ∙ ap (λ (w : Option Wait). is_some w) only.waits
+
+    pub quick_turn_recorded : IsStepRecorded turn ((next.pc + (2 ^ 32 - 4)) % 2 ^ 32) (here k next stored) came left records → IsTurnRecorded turn its_middle left records
+    quick_turn_recorded so =
+        let settles = settles_nothing its_middle quantum 0 only in
+        let at_step : IsStepRecorded turn now.pc (here k next stored) came left records = step_at turn now next kept stored came step (here k next stored) left records so in
+        let instruction : IsInstructionRecorded turn its_middle left records =
+        subst (λ (s : Step). IsStepRecorded turn now.pc (record its_middle { processor = s.processor; memory = s.memory }) s.came left records) (sym step) at_step in
+        record {
+          first = [];
+          last = records;
+          whole = refl;
+          before = subst (λ (w : Within). spec.IsBefore turn its_middle w []) (sym settles) (record { none = refl; same = refl });
+          behind =
+              subst (λ (w : Within). IsBehind turn w left records) (sym settles)
+              (subst (λ (b : Bool). IsLast b turn its_middle left records) (sym rests_not) instruction);
+        }
+
   module _ (most : ℕ) (only : OnlyExecutes quantum machine most) where
-    only_here : (k : ℕ) (now : Processor) (kept : Memory) → k ≤ most → OnlyExecutes quantum (here k now kept) 0
+    pub only_here : (k : ℕ) (now : Processor) (kept : Memory) → k ≤ most → OnlyExecutes quantum (here k now kept) 0
     only_here k now kept few =
         let less = more_turns k most few in
         record {
@@ -190,7 +243,7 @@ module _ (quantum : ℕ) (machine : Machine) where
         ∙ ap (λ (m : Memory). so_far 0 left now m) goes.1
     reach (suc k) left now kept few (middle, there, goes, step) =
         let fewer : k ≤ most = omega arith in
-        ap (λ (r : Reached). unless_over quantum r r.over) (reach k left middle there fewer goes)
+        ap (λ (r : Reached). runs.unless_over quantum r r.over) (reach k left middle there fewer goes)
         ∙ ap (after_attempt (so_far k left middle there)) (turn_is k left middle there now kept Next fewer step)
 
     pub running : (k : ℕ) (left : List ℕ) (now : Processor) (kept : Memory) → k ≤ most → Goes k machine.processor machine.memory now kept → (j : ℕ) → j < k → IsRunningAt quantum machine left j
@@ -230,6 +283,29 @@ module _ (quantum : ℕ) (machine : Machine) where
             ap (λ (r : Reached). (turn_of quantum r.machine r.left).events) (reach k left middle there fewer goes)
             ∙ ap (λ (t : Turn). t.events) (turn_is k left middle there now kept Next fewer step)
 
+    -- a journal keeps nothing of them
+    unrecorded : (k : ℕ) (left : List ℕ) (now : Processor) (kept : Memory) → k ≤ most → Goes k machine.processor machine.memory now kept → (j turn : ℕ) → j < k
+        → AreRecordsOf quantum turn (reached quantum machine left j).machine (reached quantum machine left j).left []
+    unfolding Goes
+    unrecorded zero left now kept few goes j turn below = absurd (omega arith)
+    unrecorded (suc k) left now kept few (middle, there, goes, step) j turn below =
+        elim (cases_eq j k) as (λ _. AreRecordsOf quantum turn (reached quantum machine left j).machine (reached quantum machine left j).left []) [
+          | inl same ↦ subst (λ (n : ℕ). AreRecordsOf quantum turn (reached quantum machine left n).machine (reached quantum machine left n).left []) (sym same) at_last
+          | inr other ↦ let less : j < k = omega arith in unrecorded k left middle there fewer goes j turn less
+        ]
+      where
+        fewer : k ≤ most
+        fewer = omega arith
+
+        awake : is_blocked (turn_of quantum (here k middle there) left) ≡ false
+        awake = ap is_blocked (turn_is k left middle there now kept Next fewer step)
+
+        at_last : AreRecordsOf quantum turn (reached quantum machine left k).machine (reached quantum machine left k).left []
+        at_last =
+            subst (λ (r : Reached). AreRecordsOf quantum turn r.machine r.left []) (sym (reach k left middle there fewer goes))
+            (subst (λ (b : Bool). unless_none b [] (IsTurnRecorded turn (here k middle there) left [])) (sym awake)
+            (quick_turn_recorded k middle there (only_here k middle there fewer) Next now kept step left turn [] refl))
+
     still_here : (k : ℕ) (left : List ℕ) (now : Processor) (kept : Memory) → k ≤ most → Goes k machine.processor machine.memory now kept → IsStill machine.kernel left (reached quantum machine left k)
     still_here k left now kept few goes =
         subst (λ (r : Reached). IsStill machine.kernel left r) (sym (reach k left now kept few goes))
@@ -256,8 +332,18 @@ module _ (quantum : ℕ) (machine : Machine) where
       running = λ left j below. running k left now kept few goes j below;
       reaches = λ left. reach k left now kept few goes;
       silent = λ left j below. silent k left now kept few goes j below;
+      unrecorded = λ left j turn below. unrecorded k left now kept few goes j turn below;
       still = λ left j within. still k left now kept few goes j within;
     }
+
+-- What they keep for the journal
+
+pub counts_none : (turn : code.Turn) → turns_of turn ≡ 1 → is_block (over_of turn) ≡ false
+counts_none Went one = refl
+counts_none (Ended (Exited status)) one = refl
+counts_none (Ended (Killed signal)) one = refl
+counts_none (Ended Budget) one = refl
+counts_none (Ended Blocked) one = absurd cc
 
 -- An emulator's turns
 
@@ -273,6 +359,7 @@ at_once quantum limit machine turns result became turns_then events before after
     running = λ left j below. absurd (omega arith);
     reaches = λ left. refl;
     silent = λ left j below. absurd (omega arith);
+    unrecorded = λ left j turn below. absurd (omega arith);
     still = λ left j few.
         let none : j ≡ 0 = omega arith in
         let here : IsStill machine.kernel left (reached quantum machine left 0) = record { same = refl; later = omega arith; rest = refl } in
@@ -363,8 +450,8 @@ module _ (quantum limit : ℕ) (machine : Machine) (turns most k : ℕ) (only : 
 
 -- The same of an emulator, whose process begins a turn, runs and has its clock moved
 
-module _ (emulated : Emulated) (clock quantum turns : ℕ) (over : Bool) (native : NativeLog) (process : ProcessState)
-    (is : record { machine = machine_at clock (machine_of process); quantum = quantum; turns = turns; over = over; events = process.going.events; native = native } ≡ emulated)
+module _ (emulated : Emulated) (clock quantum turns : ℕ) (over : Bool) (native : NativeLog) (records : Records) (process : ProcessState)
+    (is : record { machine = machine_at clock (machine_of process); quantum = quantum; turns = turns; over = over; events = process.going.events; native = native; records = records } ≡ emulated)
     (limit most k : ℕ) (only : OnlyExecutes emulated.quantum emulated.machine most) (few : k ≤ most) (within : most < limit) (begun_by ran : ProcessState)
     (begun_is : begun_by ≡ record process { going = begun process.going }) (others : ran ≡ record begun_by { processor = ran.processor; memory = ran.memory }) where
   abbrev inside : Machine
@@ -434,6 +521,37 @@ module _ (emulated : Emulated) (clock quantum turns : ℕ) (over : Bool) (native
             (stopped_after quantum limit inside turns most k only_inside few within ran.processor ran.memory came given was (from_begun given last) time time_so moved
             (ap machine_of all_is) (ap (λ (p : ProcessState). p.going.events) all_is) result became turns_then events before after answered failed counted)
 
+        -- what it keeps for the journal
+        pub quick_recorded : (turn : code.Turn) (turns_then : ℕ) (cleared new : Records) (left : List ℕ) → cleared ≡ emptied records → turns_then ≡ turns + k + 1 → turns_of turn ≡ 1
+            → over_of turn ≡ (after_step whole (machine_of moved) came left).over
+            → Gains cleared new (IsStepRecorded (turns + k + 1) ((moved.processor.pc + (2 ^ 32 - 4)) % 2 ^ 32) (machine_of moved) came left)
+            → LastRecorded emulated.quantum emulated.machine emulated.turns left (Ok turn) turns_then emulated.records new
+        quick_recorded turn turns_then cleared new left empty counted one over gains =
+            let there = stepped_there quantum limit inside turns most k only_inside few within ran.processor ran.memory came given was (from_begun given last) in
+            let moved_machine : machine_of moved ≡ here quantum inside k ran.processor ran.memory =
+            ap machine_of all_is
+            ∙ ap (λ (n : ℕ). record inside { processor = ran.processor; memory = ran.memory; kernel = at_clock n inside.kernel }) (time_so ∙ sym (time_is quantum inside k)) in
+            let moved_pc = ap (λ (p : ProcessState). (p.processor.pc + (2 ^ 32 - 4)) % 2 ^ 32) all_is in
+            let same_over : is_blocked (turn_of quantum (here quantum inside k there.0 there.1) left) ≡ is_block (over_of turn) =
+            ap is_blocked (turn_is quantum inside most only_inside k left there.0 there.1 ran.processor ran.memory came few there.3)
+            ∙ ap (λ (m : Machine). is_block (after_step whole m came left).over) (sym moved_machine)
+            ∙ ap is_block (sym over) in
+            subst (λ (e : Emulated). LastRecorded e.quantum e.machine e.turns left (Ok turn) turns_then e.records new) is (record {
+              quiet = k;
+              counted = counted ∙ ap (λ (n : ℕ). turns + k + n) (sym one);
+              gains =
+                  subst (λ (r : Records). Gains r new (AreRecordsOf quantum (turns + k + 1) (reached quantum inside left k).machine left)) empty
+                  (gains_so cleared new _ _
+                  (λ (more : List Record) (so : IsStepRecorded (turns + k + 1) ((moved.processor.pc + (2 ^ 32 - 4)) % 2 ^ 32) (machine_of moved) came left more).
+                  subst (λ (m : Machine). AreRecordsOf quantum (turns + k + 1) m left more)
+                  (sym (ap (λ (r : Reached). r.machine) (reach quantum inside most only_inside k left there.0 there.1 few there.2)))
+                  (subst (λ (b : Bool). unless_none b more (IsTurnRecorded (turns + k + 1) (here quantum inside k there.0 there.1) left more)) (sym (same_over ∙ counts_none turn one))
+                  (quick_turn_recorded quantum inside k there.0 there.1 (only_here quantum inside most only_inside k there.0 there.1 few) came ran.processor ran.memory there.3 left (turns + k + 1) more
+                  (subst (λ (n : ℕ). IsStepRecorded (turns + k + 1) n (here quantum inside k ran.processor ran.memory) came left more) moved_pc
+                  (subst (λ (m : Machine). IsStepRecorded (turns + k + 1) ((moved.processor.pc + (2 ^ 32 - 4)) % 2 ^ 32) m came left more) moved_machine so)))))
+                  gains);
+            })
+
 -- One turn
 
 module _ (quantum : ℕ) (machine : Machine) (turns : ℕ) (result : Result code.Turn Stop) (became : Machine) (turns_then : ℕ) (events : List Event) (before after : Contents)
@@ -452,3 +570,19 @@ module _ (quantum : ℕ) (machine : Machine) (turns : ℕ) (result : Result code
 
   pub one_counts : turns_then ≡ turns + turns_done result
   one_counts = omega (arith, so.counted, none_quiet)
+
+-- and what it keeps for the journal
+pub one_record : (result : Result code.Turn Stop) (quantum : ℕ) (machine : Machine) (turns : ℕ) (became : Machine) (turns_then : ℕ) (events : List Event) (before after : Contents)
+    → IsTurnAfter quantum 1 machine turns result became turns_then events before after → (old new : Records)
+    → RecordsTurns result quantum machine turns turns_then old new before → RecordsTurn result quantum machine turns old new before
+unfolding reached
+one_record (Ok turn) quantum machine turns became turns_then events before after so old new records = λ left told.
+    let last = records left told in
+    let none : last.quiet ≡ 0 = omega (arith, so.counted, so.within, last.counted) in
+    let at_once : Gains (emptied old) new (AreRecordsOf quantum (turns + 0 + 1) machine left) =
+    subst (λ (n : ℕ). Gains (emptied old) new (AreRecordsOf quantum (turns + n + 1) (reached quantum machine left n).machine left)) none last.gains in
+    subst (λ (n : ℕ). Gains (emptied old) new (AreRecordsOf quantum (n + 1) machine left)) (none_more turns) at_once
+  where
+    none_more : (n : ℕ) → n + 0 ≡ n
+    none_more n = omega arith
+one_record (Err stop) quantum machine turns became turns_then events before after so old new records = λ left told. tt

@@ -25,6 +25,7 @@ use Rattle.o32_turns.specs.Machine.{Machine, Turn, Within}
 use Rattle.o32_turns.specs.Turn.{after_events, whole}
 use Rattle.outside.proofs.OutputLemmas.{GainsBetween-exact, GainsBetween-lower, GainsBetween-nothing, GainsText-nothing, IsPrefix-empty}
 use Rattle.outside.specs.Output.{GainsText}
+use Rattle.turn_records.specs.Keeping.{Records}
 use Rattle.outside.specs.Streams.{Contents}
 
 -- nothing is taken and nothing is sent
@@ -164,8 +165,8 @@ not_due kernel clock none = ap (λ (gone : Option Timer). after_expiry (record k
 
 -- A call alone, where no timer is due
 
-module _ (emulated : Emulated) (clock quantum turns : ℕ) (over : Bool) (native : NativeLog) (process before_call : ProcessState)
-    (is : record { machine = machine_at clock (machine_of process); quantum = quantum; turns = turns; over = over; events = process.going.events; native = native } ≡ emulated)
+module _ (emulated : Emulated) (clock quantum turns : ℕ) (over : Bool) (native : NativeLog) (records : Records) (process before_call : ProcessState)
+    (is : record { machine = machine_at clock (machine_of process); quantum = quantum; turns = turns; over = over; events = process.going.events; native = native; records = records } ≡ emulated)
     (before_is : before_call ≡ record process { kernel = at_clock clock process.kernel; going = begun process.going }) (left : List ℕ) where
   call_is : at_time clock (after_events before_call.going.events (called whole (machine_of before_call) left)) ≡ at_time emulated.machine.kernel.clock (called whole emulated.machine left)
   call_is =

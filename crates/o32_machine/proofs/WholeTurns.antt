@@ -28,6 +28,7 @@ use Rattle.o32_turns.specs.Delivering.{next_signal}
 use Rattle.o32_turns.specs.Instruction.{after_step, at_time, stepped}
 use Rattle.o32_turns.specs.Machine.{Machine, Turn, Within, turn}
 use Rattle.o32_turns.specs.Turn.{after_events, fifth_or_sixth, fifth_step, jumped, next_for, sixth_step, turn_of, whole}
+use Rattle.turn_records.specs.Keeping.{Records}
 use Rattle.outside.specs.Streams.{Contents}
 
 -- one instruction alone
@@ -134,8 +135,8 @@ lacks_first defined (Err stop) new at failed = stopped_before defined at
 
 -- The whole
 
-module _ (emulated : Emulated) (clock quantum turns : ℕ) (over : Bool) (native : NativeLog) (process : ProcessState)
-    (is : record { machine = machine_at clock (machine_of process); quantum = quantum; turns = turns; over = over; events = process.going.events; native = native } ≡ emulated) where
+module _ (emulated : Emulated) (clock quantum turns : ℕ) (over : Bool) (native : NativeLog) (records : Records) (process : ProcessState)
+    (is : record { machine = machine_at clock (machine_of process); quantum = quantum; turns = turns; over = over; events = process.going.events; native = native; records = records } ≡ emulated) where
   abbrev its_turn : List ℕ → Turn
   its_turn left = turn_of emulated.quantum emulated.machine left
 
@@ -186,8 +187,8 @@ only_so quantum machine most up early =
     let so = goes_so machine.wait machine.fault machine.stopped (next_signal machine.kernel.signals) up in
     record { waits = so.0; faults = so.1; stops = so.2; delivers = so.3; early = early }
 
-module _ (emulated : Emulated) (clock quantum turns : ℕ) (over : Bool) (native : NativeLog) (process : ProcessState)
-    (is : record { machine = machine_at clock (machine_of process); quantum = quantum; turns = turns; over = over; events = process.going.events; native = native } ≡ emulated)
+module _ (emulated : Emulated) (clock quantum turns : ℕ) (over : Bool) (native : NativeLog) (records : Records) (process : ProcessState)
+    (is : record { machine = machine_at clock (machine_of process); quantum = quantum; turns = turns; over = over; events = process.going.events; native = native; records = records } ≡ emulated)
     (due : Option ℕ) (due_is : due ≡ next_due (machine_of process)) (up : goes (machine_of process) ≡ true) where
   only_here : (most : ℕ) → IsBefore (clock + most * quantum) due → OnlyExecutes emulated.quantum emulated.machine most
   only_here most early =

@@ -9,9 +9,11 @@ use Rattle.o32_turns.specs.Going.{Standing, within_of}
 use Rattle.o32_turns.specs.Machine.{Machine, Within}
 use Rattle.schedule.specs.declared.Schedule.{Schedule}
 use Rattle.schedule.specs.declared.events.Due.{Due}
+use Rattle.turn_records.specs.Keeping.{Records}
 
 -- The machine; how many nanoseconds of its clock a turn with an instruction takes; how many turns there were; whether there is no further
--- one, because the process has ended or is blocked, or a turn stopped early; what happened in the last turn, in order; and the native log
+-- one, because the process has ended or is blocked, or a turn stopped early; what happened in the last turn, in order; the native log; and the
+-- records that a journal keeps of the last turn
 pub record Emulated : Type 0 where
   pub machine : Machine
   pub quantum : ℕ
@@ -19,6 +21,7 @@ pub record Emulated : Type 0 where
   pub over : Bool
   pub events : List Event
   pub native : NativeLog
+  pub records : Records
 
 -- The machine's clock is ahead of the native kernel's, which is moved when a turn has posted what is due: the machine's kernel is the native one
 -- at the machine's time.
@@ -74,8 +77,9 @@ first_process processor memory kernel coming =
 abbrev pub first_machine : Processor → Memory → Kernel → List Due → Machine
 first_machine processor memory kernel coming = machine_of (first_process processor memory kernel coming)
 
-abbrev pub first_emulated : ℕ → Machine → NativeLog → Emulated
-first_emulated quantum machine native = record { machine = machine; quantum = quantum; turns = 0; over = false; events = []; native = native }
+abbrev pub first_emulated : ℕ → Machine → NativeLog → Records → Emulated
+first_emulated quantum machine native records =
+    record { machine = machine; quantum = quantum; turns = 0; over = false; events = []; native = native; records = records }
 
 -- the process runs: it is not over, no call waits, and no signal has stopped it
 abbrev pub runs : Emulated → Bool

@@ -1,5 +1,5 @@
 -- What a turn keeps in the native log. (That it is kept, and its form, is this project's own.)
-use Rattle.std.specs.Prelude.{◌≡◌, ◌≤◌, ℕ, List, Option, Some, Result, OnOk}
+use Rattle.std.specs.Prelude.{◌≡◌, ◌≤◌, ℕ, List, Some, Result, OnOk}
 use Rattle.bridge_log.specs.Keeping.{Logged}
 use Rattle.kernel_core.specs.declared.core_error.Stop.{Stop}
 use Rattle.kernel_model.specs.Pipes.{Sent, nothing}

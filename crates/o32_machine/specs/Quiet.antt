@@ -11,6 +11,7 @@ use Rattle.o32_turns.specs.Machine.{Machine}
 use Rattle.o32_turns.specs.Runs.{IsRunningAt, Reached, attempt, reached}
 use Rattle.o32_turns.specs.Turn.{turn_of}
 use Rattle.outside.specs.Streams.{Contents}
+use Rattle.turn_records.specs.Turn.{AreRecordsOf}
 
 -- nothing of a kernel has changed but its clock, which has not gone back, and nothing was taken of the input
 pub record IsStill (kernel : Kernel) (left : List ℕ) (there : Reached) : Type 0 where
@@ -19,11 +20,12 @@ pub record IsStill (kernel : Kernel) (left : List ℕ) (there : Reached) : Type 
   pub rest : there.left ≡ left
 
 -- k turns lead to this machine, whatever is left of the input: they take nothing of it and send nothing, the process runs before each of them,
--- they have no events, and in none of them anything of the kernel changes but its clock
+-- they have no events, a journal keeps nothing of them, and in none of them anything of the kernel changes but its clock
 pub record IsQuiet (quantum : ℕ) (machine : Machine) (k : ℕ) (then : Machine) : Type 0 where
   pub running : (left : List ℕ) (j : ℕ) → j < k → IsRunningAt quantum machine left j
   pub reaches : (left : List ℕ) → reached quantum machine left k ≡ record { machine = then; left = left; sent = nothing; over = None }
   pub silent : (left : List ℕ) (j : ℕ) → j < k → (attempt quantum machine left j).events ≡ []
+  pub unrecorded : (left : List ℕ) (j turn : ℕ) → j < k → AreRecordsOf quantum turn (reached quantum machine left j).machine (reached quantum machine left j).left []
   pub still : (left : List ℕ) (j : ℕ) → j ≤ k → IsStill machine.kernel left (reached quantum machine left j)
 
 -- Some quiet turns, and one more, which is answered; together at most `limit`. The quiet ones count, and the last one counts where it is finished.

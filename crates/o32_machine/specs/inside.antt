@@ -1,4 +1,5 @@
 pub mod Finishing
 pub mod Logging
 pub mod Quieting
+pub mod Recording
 pub mod Steps

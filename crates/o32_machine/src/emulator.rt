@@ -1,26 +1,29 @@
 //! An emulator: a process, its clock and the turns that it took.
-ghost use Rattle.std.specs.Prelude.{◌≡◌, ◌↔◌, ◌+◌, ◌*◌, ◌<◌, ◌≤◌, [], ℕ, Contains, false, true, IfOk, IfSome, None, unwrap_or};
+ghost use Rattle.std.specs.Prelude.{◌≡◌, ◌↔◌, ◌+◌, ◌*◌, ◌<◌, ◌≤◌, [], ℕ, Contains, false, true, if◌then◌else◌, IfOk, IfSome, None, unwrap_or};
 ghost use Rattle.kernel_core.specs.LoadedTree.{saved};
 ghost use Rattle.kernel_core.specs.ValidTree.{IsReached, IsValidTree, numbers};
 ghost use Rattle.kernel_model.specs.Begin.{first_state};
 ghost use Rattle.kernel_model.specs.Clock.{gone_off};
 ghost use Rattle.kernel_model.specs.Stops.{StopsOnlyIfRose};
 ghost use Rattle.native_kernel.specs.Settings.{settings_of};
-ghost use Rattle.o32_machine.specs.Answered.{IsTurn, is_last, turns_done};
+ghost use Rattle.o32_machine.specs.Answered.{IsTurn, is_last, over_of, turns_done};
 ghost use Rattle.native_log.specs.NativeLog.{first_log};
 ghost use Rattle.o32_machine.specs.Emulator.{coming_of, first_emulated, first_machine, runs};
 ghost use Rattle.o32_machine.specs.Native.{LogsTurn};
 ghost use Rattle.o32_machine.specs.Quiet.{IsTurnAfter};
+ghost use Rattle.o32_machine.specs.Records.{RecordsCall, RecordsTurn, RecordsTurns};
 ghost use Rattle.o32_machine.specs.inside.Quieting.{OnlyExecutes};
 ghost use Rattle.o32_turns.specs.Instruction.{at_time, called};
+ghost use Rattle.o32_turns.specs.Runs.{is_block};
 ghost use Rattle.o32_turns.specs.Turn.{turn_of, whole};
 ghost use Rattle.outside.specs.Streams.{NoCountFell, contents};
 ghost use Rattle.schedule.specs.Ranges.{IsGivenSchedule};
+ghost use Rattle.turn_records.specs.Keeping.{emptied, first_records};
 
 use crate::process::Process;
 use crate::times::{later, most_quiet};
 use crate::turn::Turn;
-use kernel_core::{Event, LogEntry, NoMemory, Stop, Tree};
+use kernel_core::{Event, Finish, LogEntry, NoMemory, Record, Stop, Tree};
 use native_kernel::NativeKernel;
 use native_log::NativeLog;
 use outside::{Devices, Sink, Source};
@@ -28,6 +31,7 @@ use schedule::Schedule;
 use start_stack::Start;
 use std::alloc::Global;
 use std::marker::Model;
+use turn_records::TurnRecords;
 
 /// An emulator of one o32 program. Contracts see it as `Emulated`: its machine, the nanoseconds of a turn with
 /// an instruction, the turns so far, and whether there is no further one. (Turns are this project's own.)
@@ -45,6 +49,8 @@ pub struct Emulator {
     over: bool,
     /// What the kernel was told and asked in the last turns that were taken at once.
     native: NativeLog,
+    /// What a journal keeps of the last turn.
+    records: TurnRecords,
 }
 
 impl Model for Emulator {
@@ -58,16 +64,16 @@ impl Model for Emulator {
 
     ghost coded = { Prim.hlevel (codes, memory_code, nodes_code) };
 
-    ghost view = { λ e. record { machine = machine_at e.clock (machine_of e.process); quantum = e.quantum; turns = e.turns; over = e.over; events = e.process.going.events; native = e.native } };
+    ghost view = { λ e. record { machine = machine_at e.clock (machine_of e.process); quantum = e.quantum; turns = e.turns; over = e.over; events = e.process.going.events; native = e.native; records = e.records } };
 
     ghost invariant = { λ e. (1 ≤ e.quantum) × (e.quantum ≤ 1_000_000) × (e.clock ≤ 2 ^ 61 + 1_000_000 * e.turns) × (e.process.idle ≤ e.clock)
-        × (e.process.kernel.clock ≤ e.clock) × (e.native.told ≤ e.process.kernel.clock) };
+        × (e.process.kernel.clock ≤ e.clock) × (e.native.told ≤ e.process.kernel.clock) × (e.turns ≤ 1_000_000_000_000) };
 }
 
 impl Emulator {
     /// The emulator of a program at its first instruction, over the nodes of a file tree, with what a schedule
-    /// says of the clock, the terminal and chance, and before its events. A native log is kept where `log` says so. It takes
-    /// its memory from `alloc`.
+    /// says of the clock, the terminal and chance, and before its events. A native log is kept where `log` says so, and
+    /// records of a journal where `journal` does. It takes its memory from `alloc`.
     #[tactic(auto, unfolding(kernel_model::specs::Begin::first_state))]
     pub fn new(
         alloc: Global,
@@ -75,11 +81,12 @@ impl Emulator {
         tree: Tree,
         schedule: Schedule,
         log: bool,
+        journal: bool,
     ) -> Result<Emulator, NoMemory>
         requires tree { IsValidTree tree }
         requires schedule { IsGivenSchedule schedule }
         ensures first { IfOk result (λ emulator. emulator
-            ≡ first_emulated schedule.quantum (first_machine start.cpu start.space (first_state tree (settings_of schedule)) (coming_of schedule)) (first_log log)) }
+            ≡ first_emulated schedule.quantum (first_machine start.cpu start.space (first_state tree (settings_of schedule)) (coming_of schedule)) (first_log log) (first_records journal)) }
     {
         let kernel = NativeKernel::new(alloc, tree, &schedule)?;
         let quantum = schedule.quantum;
@@ -90,6 +97,7 @@ impl Emulator {
             turns: 0,
             over: false,
             native: NativeLog::new(alloc, log),
+            records: TurnRecords::new(alloc, journal),
         })
     }
 
@@ -112,6 +120,8 @@ impl Emulator {
             (contents I.left O.written E.written dev.old) (contents I.left O.written E.written dev.new) }
         ensures native { LogsTurn result self.old.machine.kernel self.new.machine.kernel self.old.native self.new.native
             (contents I.left O.written E.written dev.old) (contents I.left O.written E.written dev.new) }
+        ensures records { RecordsTurn result self.old.quantum self.old.machine self.old.turns self.old.records self.new.records
+            (contents I.left O.written E.written dev.old) }
         ensures quantum { self.new.quantum ≡ self.old.quantum }
         ensures turns { self.new.turns ≡ self.old.turns + turns_done result }
         ensures over { self.new.over ≡ is_last result }
@@ -140,6 +150,8 @@ impl Emulator {
             (contents I.left O.written E.written dev.old) (contents I.left O.written E.written dev.new) }
         ensures native { LogsTurn result self.old.machine.kernel self.new.machine.kernel self.old.native self.new.native
             (contents I.left O.written E.written dev.old) (contents I.left O.written E.written dev.new) }
+        ensures records { RecordsTurns result self.old.quantum self.old.machine self.old.turns self.new.turns self.old.records self.new.records
+            (contents I.left O.written E.written dev.old) }
         ensures quantum { self.new.quantum ≡ self.old.quantum }
         ensures over { self.new.over ≡ is_last result }
         ensures cause { StopsOnlyIfRose I.faults O.faults E.faults result dev.old dev.new }
@@ -164,6 +176,8 @@ impl Emulator {
             (contents I.left O.written E.written dev.old) (contents I.left O.written E.written dev.new) }
         ensures native { LogsTurn result self.old.machine.kernel self.new.machine.kernel self.old.native self.new.native
             (contents I.left O.written E.written dev.old) (contents I.left O.written E.written dev.new) }
+        ensures records { RecordsTurns result self.old.quantum self.old.machine self.old.turns self.new.turns self.old.records self.new.records
+            (contents I.left O.written E.written dev.old) }
         ensures quantum { self.new.quantum ≡ self.old.quantum }
         ensures over { self.new.over ≡ self.old.over }
         ensures cause { StopsOnlyIfRose I.faults O.faults E.faults result dev.old dev.new }
@@ -202,6 +216,8 @@ impl Emulator {
             (contents I.left O.written E.written dev.old) (contents I.left O.written E.written dev.new) }
         ensures native { LogsTurn result self.old.machine.kernel self.new.machine.kernel self.old.native self.new.native
             (contents I.left O.written E.written dev.old) (contents I.left O.written E.written dev.new) }
+        ensures records { RecordsTurns result self.old.quantum self.old.machine self.old.turns self.new.turns self.old.records self.new.records
+            (contents I.left O.written E.written dev.old) }
         ensures quantum { self.new.quantum ≡ self.old.quantum }
         ensures over { self.new.over ≡ self.old.over }
         ensures cause { StopsOnlyIfRose I.faults O.faults E.faults result dev.old dev.new }
@@ -209,14 +225,20 @@ impl Emulator {
     {
         self.process.begin();
         self.native.clear();
+        self.records.clear();
         let ran = self.process.run(most);
         self.clock = later(self.clock, self.quantum, ran.quiet);
         self.turns += ran.quiet;
         let came = ran.came?;
         self.process.set_clock(self.clock)?;
-        let turn = self
-            .process
-            .end_turn(came, self.clock, &mut self.native, dev)?;
+        let turn = self.process.end_turn(
+            came,
+            self.clock,
+            self.turns + 1,
+            &mut self.native,
+            &mut self.records,
+            dev,
+        )?;
         self.clock += self.quantum;
         self.turns += 1;
         Ok(turn)
@@ -232,6 +254,8 @@ impl Emulator {
             (contents I.left O.written E.written dev.old) (contents I.left O.written E.written dev.new) }
         ensures native { LogsTurn result self.old.machine.kernel self.new.machine.kernel self.old.native self.new.native
             (contents I.left O.written E.written dev.old) (contents I.left O.written E.written dev.new) }
+        ensures records { RecordsTurn result self.old.quantum self.old.machine self.old.turns self.old.records self.new.records
+            (contents I.left O.written E.written dev.old) }
         ensures quantum { self.new.quantum ≡ self.old.quantum }
         ensures turns { self.new.turns ≡ self.old.turns + turns_done result }
         ensures over { self.new.over ≡ self.old.over }
@@ -239,10 +263,19 @@ impl Emulator {
         ensures counts { NoCountFell I.faults O.faults E.faults dev.old dev.new }
     {
         self.native.clear();
-        self.process.settle(self.clock, &mut self.native, dev)?;
-        let last = self
-            .process
-            .last_steps(self.clock, self.quantum, &mut self.native, dev)?;
+        self.records.clear();
+        let next = self.turns + 1;
+        self.process
+            .settle(self.clock, next, &mut self.native, &mut self.records, dev)?;
+        let last = self.process.last_steps(
+            self.clock,
+            self.quantum,
+            next,
+            &mut self.native,
+            &mut self.records,
+            dev,
+        )?;
+        end_records(&mut self.records, last.turn);
         self.clock = last.clock;
         self.turns += last.turn.count();
         Ok(last.turn)
@@ -264,6 +297,8 @@ impl Emulator {
             (contents I.left O.written E.written dev.old) (contents I.left O.written E.written dev.new) }
         ensures native { LogsTurn result self.old.machine.kernel self.new.machine.kernel self.old.native self.new.native
             (contents I.left O.written E.written dev.old) (contents I.left O.written E.written dev.new) }
+        ensures records { RecordsCall result (self.old.turns + 1) self.old.machine (emptied self.old.records) self.new.records
+            (contents I.left O.written E.written dev.old) }
         ensures quantum { self.new.quantum ≡ self.old.quantum }
         ensures turns { self.new.turns ≡ self.old.turns }
         ensures over { self.new.over ≡ is_last result }
@@ -273,8 +308,15 @@ impl Emulator {
         self.over = true;
         self.process.begin();
         self.native.clear();
+        self.records.clear();
         self.process.set_clock(self.clock)?;
-        let turn = self.process.call(self.clock, &mut self.native, dev)?;
+        let turn = self.process.call(
+            self.clock,
+            self.turns + 1,
+            &mut self.native,
+            &mut self.records,
+            dev,
+        )?;
         self.over = turn.is_end();
         Ok(turn)
     }
@@ -310,6 +352,16 @@ impl Emulator {
         self.native.entries()
     }
 
+    /// What a journal keeps of the last turn, or of the last call alone, in order: what was done to the machine before the
+    /// instruction, and the call, or that there was no instruction. None where no journal is kept, none of an attempt that
+    /// found the process blocked, and after a turn that stopped early nothing is said of it. The record of a run's end is
+    /// not among them. (The records are those of the journal.)
+    pub fn records(&self) -> &[Record]
+        ensures { result.now ≡ unwrap_or self.now.records [] }
+    {
+        self.records.records()
+    }
+
     /// Whether the process runs: it is not over, no call waits, and no signal has stopped it.
     pub fn is_running(&self) -> bool
         ensures { result ≡ runs self.now }
@@ -325,5 +377,14 @@ impl Emulator {
         ensures reached { IfOk result (λ tree. (number : ℕ) → Contains (numbers tree.nodes) number ↔ IsReached tree.nodes number) }
     {
         self.process.tree()
+    }
+}
+
+/// An attempt that finds the process blocked is no turn, and has no records.
+fn end_records(records: &mut TurnRecords, turn: Turn)
+    ensures { records.new ≡ (if is_block (over_of turn) then emptied records.old else records.old) }
+{
+    if let Turn::Ended(Finish::Blocked) = turn {
+        records.clear();
     }
 }

@@ -1,5 +1,5 @@
 //! The process of an o32 program: its processor and memory, the kernel that it calls, and the steps of its turns.
-ghost use Rattle.std.specs.Prelude.{◌≡◌, ◌+◌, ◌*◌, ◌<◌, ◌^◌, ◌≤◌, ◌↔◌, ◌++◌, ◌||◌, [], ◌∷◌, max, ℕ, Contains, false, if◌then◌else◌, IfErr, IfOk, IfSome, None, OnOk, is_some};
+ghost use Rattle.std.specs.Prelude.{◌≡◌, ◌+◌, ◌-◌, ◌*◌, ◌%◌, ◌<◌, ◌^◌, ◌≤◌, ◌↔◌, ◌++◌, ◌||◌, [], ◌∷◌, max, ℕ, Contains, false, if◌then◌else◌, IfErr, IfOk, IfSome, None, OnOk, is_some, option_map};
 ghost use Rattle.bridge_ends.specs.Ended.{ended_wait};
 ghost use Rattle.kernel_core.specs.LoadedTree.{saved};
 ghost use Rattle.kernel_core.specs.ValidTree.{IsReached, IsValidTree, numbers};
@@ -10,10 +10,12 @@ ghost use Rattle.mips_exec.specs.Processor.{register};
 ghost use Rattle.mips_exec.specs.Going.{GoesThen};
 ghost use Rattle.o32_machine.specs.Answered.{IsTurn, over_of, turns_of};
 ghost use Rattle.o32_machine.specs.Emulator.{at_clock, coming_of, first_process, first_standing, machine_at, machine_of, within_at, within_now};
-ghost use Rattle.native_log.specs.NativeLog.{IsReady};
+ghost use Rattle.native_log.specs.NativeLog.{IsReady, emptied};
 ghost use Rattle.o32_machine.specs.inside.Finishing.{finished};
 ghost use Rattle.o32_machine.specs.inside.Logging.{KeepsNative, LogsLast, LogsSettled, PostsLogged};
+ghost use Rattle.o32_machine.specs.Records.{RecordsCall};
 ghost use Rattle.o32_machine.specs.inside.Quieting.{goes, next_due};
+ghost use Rattle.o32_machine.specs.inside.Recording.{KeepsEffects, RecordsBefore, RecordsBehind, RecordsStep};
 ghost use Rattle.o32_machine.specs.inside.Steps.{Finds, IsLast, Settles, Takes, begun, goes_on, jumped_within, last_steps, resumes, wakes, wakes_for};
 ghost use Rattle.o32_turns.specs.Handling.{faults, frame_fault};
 ghost use Rattle.o32_turns.specs.Instruction.{after_step, called, fault_info, restart_after, seen_of};
@@ -22,6 +24,7 @@ ghost use Rattle.o32_turns.specs.Posting.{posted};
 ghost use Rattle.o32_turns.specs.Turn.{after_events, next_event, next_for, second_step, sixth_step, third_step, whole};
 ghost use Rattle.o32_model.specs.Words.{a3, v0, with_result};
 ghost use Rattle.o32_model.specs.declared.call_words.CallWords.{CallWords};
+ghost use Rattle.turn_records.specs.Keeping.{no_effects};
 ghost use Rattle.outside.specs.Streams.{NoCountFell, contents};
 ghost use Rattle.schedule.specs.Ranges.{IsGivenSchedule};
 
@@ -35,7 +38,7 @@ use bridge_ends::{end_wait, post_timer};
 use bridge_mem::args;
 use guest_space::Space;
 use host_mem::HostMem;
-use kernel_core::{Event, Finish, Info, NoMemory, Sig, Stop, Tree};
+use kernel_core::{Effect, Event, Finish, Info, NoMemory, Sig, Stop, Tree};
 use mips_exec::{Cpu, Ran, Stepped, run};
 use native_kernel::NativeKernel;
 use native_log::NativeLog;
@@ -47,6 +50,7 @@ use schedule::Schedule;
 use start_stack::Start;
 use std::alloc::Global;
 use std::marker::Model;
+use turn_records::{Registers, TurnRecords};
 
 // The registers of a call's results (System V ABI, MIPS supplement; syscall(2)).
 
@@ -194,6 +198,8 @@ impl Process {
         ensures clock { OnOk result (self.new.kernel.clock ≡ clock) }
         ensures behind { self.new.kernel.clock ≤ clock }
         ensures idle { self.new.idle ≡ self.old.idle }
+        ensures processor { self.new.processor ≡ self.old.processor }
+        ensures memory { self.new.memory ≡ self.old.memory }
         ensures native { OnOk result (PostsLogged self.old.kernel self.new.kernel native.old native.new) }
         ensures ready { OnOk result (IsReady clock native.new self.new.kernel) }
         ensures told { native.new.told ≤ self.new.kernel.clock }
@@ -224,6 +230,7 @@ impl Process {
         ensures ended { Takes (λ within. ended_wait false cause within within.machine.wait) result self.old self.new
             (contents I.left O.written E.written dev.old) (contents I.left O.written E.written dev.new) }
         ensures native { KeepsNative result (I.left dev.old.input) self.old.kernel self.new.kernel log.old.native log.new.native }
+        ensures effects { KeepsEffects result (I.left dev.old.input) self.old.memory.pages self.new.memory.pages log.old.effects log.new.effects }
         ensures clock { self.new.kernel.clock ≡ clock }
         ensures idle { self.new.idle ≡ self.old.idle }
         ensures cause { StopsOnlyIfRose I.faults O.faults E.faults result dev.old dev.new }
@@ -261,6 +268,7 @@ impl Process {
         ensures found { Finds (λ found. found ≡ wakes_for (machine_of self.old)) result self.old self.new
             (contents I.left O.written E.written dev.old) (contents I.left O.written E.written dev.new) }
         ensures native { KeepsNative result (I.left dev.old.input) self.old.kernel self.new.kernel log.old.native log.new.native }
+        ensures effects { KeepsEffects result (I.left dev.old.input) self.old.memory.pages self.new.memory.pages log.old.effects log.new.effects }
         ensures clock { self.new.kernel.clock ≡ self.old.kernel.clock }
         ensures idle { self.new.idle ≡ self.old.idle }
         ensures cause { StopsOnlyIfRose I.faults O.faults E.faults result dev.old dev.new }
@@ -294,6 +302,7 @@ impl Process {
         ensures woken { Takes (second_step whole) result self.old self.new
             (contents I.left O.written E.written dev.old) (contents I.left O.written E.written dev.new) }
         ensures native { KeepsNative result (I.left dev.old.input) self.old.kernel self.new.kernel log.old.native log.new.native }
+        ensures effects { KeepsEffects result (I.left dev.old.input) self.old.memory.pages self.new.memory.pages log.old.effects log.new.effects }
         ensures clock { self.new.kernel.clock ≡ clock }
         ensures idle { self.new.idle ≡ self.old.idle }
         ensures cause { StopsOnlyIfRose I.faults O.faults E.faults result dev.old dev.new }
@@ -320,6 +329,7 @@ impl Process {
         ensures delivered { Takes (third_step whole) result self.old self.new
             (contents I.left O.written E.written dev.old) (contents I.left O.written E.written dev.new) }
         ensures native { KeepsNative result (I.left dev.old.input) self.old.kernel self.new.kernel log.old.native log.new.native }
+        ensures effects { KeepsEffects result (I.left dev.old.input) self.old.memory.pages self.new.memory.pages log.old.effects log.new.effects }
         ensures clock { self.new.kernel.clock ≡ clock }
         ensures idle { self.new.idle ≡ self.old.idle }
         ensures cause { StopsOnlyIfRose I.faults O.faults E.faults result dev.old dev.new }
@@ -359,6 +369,7 @@ impl Process {
         ensures resumed { Takes goes_on result self.old self.new
             (contents I.left O.written E.written dev.old) (contents I.left O.written E.written dev.new) }
         ensures native { KeepsNative result (I.left dev.old.input) self.old.kernel self.new.kernel log.old.native log.new.native }
+        ensures effects { KeepsEffects result (I.left dev.old.input) self.old.memory.pages self.new.memory.pages log.old.effects log.new.effects }
         ensures clock { self.new.kernel.clock ≡ clock }
         ensures idle { self.new.idle ≡ self.old.idle }
         ensures cause { StopsOnlyIfRose I.faults O.faults E.faults result dev.old dev.new }
@@ -381,6 +392,7 @@ impl Process {
         ensures took { Takes (λ within. goes_on (third_step whole within)) result self.old self.new
             (contents I.left O.written E.written dev.old) (contents I.left O.written E.written dev.new) }
         ensures native { KeepsNative result (I.left dev.old.input) self.old.kernel self.new.kernel log.old.native log.new.native }
+        ensures effects { KeepsEffects result (I.left dev.old.input) self.old.memory.pages self.new.memory.pages log.old.effects log.new.effects }
         ensures clock { self.new.kernel.clock ≡ clock }
         ensures idle { self.new.idle ≡ self.old.idle }
         ensures cause { StopsOnlyIfRose I.faults O.faults E.faults result dev.old dev.new }
@@ -401,6 +413,7 @@ impl Process {
         ensures took { Takes (λ within. goes_on (third_step whole (second_step whole within))) result self.old self.new
             (contents I.left O.written E.written dev.old) (contents I.left O.written E.written dev.new) }
         ensures native { KeepsNative result (I.left dev.old.input) self.old.kernel self.new.kernel log.old.native log.new.native }
+        ensures effects { KeepsEffects result (I.left dev.old.input) self.old.memory.pages self.new.memory.pages log.old.effects log.new.effects }
         ensures clock { self.new.kernel.clock ≡ clock }
         ensures idle { self.new.idle ≡ self.old.idle }
         ensures cause { StopsOnlyIfRose I.faults O.faults E.faults result dev.old dev.new }
@@ -411,7 +424,7 @@ impl Process {
     }
 
     /// The first four steps of a turn, at a time of the clock, in nanoseconds: what is due is posted, a wait ends whose
-    /// deadline is over, signals are delivered, and a wait ends that a stop interrupted.
+    /// deadline is over, signals are delivered, and a wait ends that a stop interrupted. `turn` is the turn's number.
     ///
     /// # Errors
     ///
@@ -420,7 +433,9 @@ impl Process {
     pub(crate) fn settle<I: Source, O: Sink, E: Sink>(
         &mut self,
         clock: u64,
+        turn: u64,
         native: &mut NativeLog,
+        records: &mut TurnRecords,
         dev: &mut Devices<I, O, E>,
     ) -> Result<(), Stop>
         requires later { self.old.kernel.clock ≤ clock }
@@ -428,6 +443,7 @@ impl Process {
         ensures settled { Settles clock result self.old self.new
             (contents I.left O.written E.written dev.old) (contents I.left O.written E.written dev.new) }
         ensures native { LogsSettled clock result (I.left dev.old.input) self.old.kernel self.new.kernel native.old native.new }
+        ensures records { RecordsBefore result (I.left dev.old.input) turn (machine_at clock (machine_of self.old)) records.old records.new }
         ensures told { native.new.told ≤ self.new.kernel.clock }
         ensures clock { OnOk result (self.new.kernel.clock ≡ clock) }
         ensures behind { self.new.kernel.clock ≤ clock }
@@ -437,9 +453,20 @@ impl Process {
     {
         self.begin();
         self.post(clock, native)?;
-        let mut log = native.part();
+        let was = Registers::of(&self.cpu);
+        let mut log = part_of(native, records);
         self.wake_to_resume(clock, dev, &mut log)?;
-        native.add(log, clock)?;
+        let (calls, effects) = halves(log);
+        native.add(calls, clock)?;
+        let alive = self.going.over.is_none();
+        records.add_before(
+            turn,
+            &was,
+            &self.cpu,
+            self.going.events.as_slice(),
+            alive,
+            effects,
+        )?;
         Ok(())
     }
 
@@ -454,7 +481,9 @@ impl Process {
         &mut self,
         clock: u64,
         quantum: u64,
+        turn: u64,
         native: &mut NativeLog,
+        records: &mut TurnRecords,
         dev: &mut Devices<I, O, E>,
     ) -> Result<Last, Stop>
         requires clock { self.old.kernel.clock ≡ clock }
@@ -466,6 +495,7 @@ impl Process {
             (contents I.left O.written E.written dev.old) (contents I.left O.written E.written dev.new) }
         ensures native { LogsLast clock result self.old.kernel self.new.kernel native.old native.new
             (contents I.left O.written E.written dev.old) (contents I.left O.written E.written dev.new) }
+        ensures records { RecordsBehind result (I.left dev.old.input) turn (within_now self.old) records.old records.new }
         ensures told { native.new.told ≤ clock }
         ensures bound { IfOk result (λ last. last.clock ≤ max clock (2 ^ 61) + 1_000_000 * turns_of last.turn) }
         ensures later { IfOk result (λ last. clock ≤ last.clock) }
@@ -482,9 +512,10 @@ impl Process {
             });
         }
         if self.rests() {
+            records.add_idle(turn, &self.cpu)?;
             return Ok(self.jump(clock));
         }
-        self.execute(clock, quantum, native, dev)
+        self.execute(clock, quantum, turn, native, records, dev)
     }
 
     /// How the process has ended.
@@ -555,7 +586,9 @@ impl Process {
         &mut self,
         clock: u64,
         quantum: u64,
+        turn: u64,
         native: &mut NativeLog,
+        records: &mut TurnRecords,
         dev: &mut Devices<I, O, E>,
     ) -> Result<Last, Stop>
         requires clock { self.old.kernel.clock ≡ clock }
@@ -566,6 +599,8 @@ impl Process {
             (contents I.left O.written E.written dev.old) (contents I.left O.written E.written dev.new) }
         ensures native { LogsLast clock result self.old.kernel self.new.kernel native.old native.new
             (contents I.left O.written E.written dev.old) (contents I.left O.written E.written dev.new) }
+        ensures records { (self.old.going.stopped || is_some self.old.going.wait) ≡ false → self.old.going.over ≡ None
+            → RecordsBehind result (I.left dev.old.input) turn (within_now self.old) records.old records.new }
         ensures told { native.new.told ≤ clock }
         ensures time { IfOk result (λ last. last.clock ≡ clock + quantum) }
         ensures counted { IfOk result (λ last. turns_of last.turn ≡ 1) }
@@ -575,9 +610,9 @@ impl Process {
         ensures counts { NoCountFell I.faults O.faults E.faults dev.old dev.new }
     {
         let came = self.run(0).came?;
-        let turn = self.end_turn(came, clock, native, dev)?;
+        let ended = self.end_turn(came, clock, turn, native, records, dev)?;
         Ok(Last {
-            turn,
+            turn: ended,
             clock: later(clock, quantum, 1),
         })
     }
@@ -598,7 +633,9 @@ impl Process {
         &mut self,
         came: Stepped,
         clock: u64,
+        turn: u64,
         native: &mut NativeLog,
+        records: &mut TurnRecords,
         dev: &mut Devices<I, O, E>,
     ) -> Result<Turn, Stop>
         requires clock { self.old.kernel.clock ≡ clock }
@@ -608,6 +645,7 @@ impl Process {
             (contents I.left O.written E.written dev.old) (contents I.left O.written E.written dev.new) }
         ensures native { LogsLast clock result self.old.kernel self.new.kernel native.old native.new
             (contents I.left O.written E.written dev.old) (contents I.left O.written E.written dev.new) }
+        ensures records { RecordsStep result (I.left dev.old.input) turn ((self.old.processor.pc + (2 ^ 32 - 4)) % 2 ^ 32) (machine_of self.old) came records.old records.new }
         ensures told { native.new.told ≤ clock }
         ensures clock { self.new.kernel.clock ≡ clock }
         ensures counted { IfOk result (λ turn. turns_of turn ≡ 1) }
@@ -617,7 +655,7 @@ impl Process {
     {
         match came {
             Stepped::Next => Ok(Turn::Went),
-            Stepped::Syscall => self.call(clock, native, dev),
+            Stepped::Syscall => self.call(clock, turn, native, records, dev),
             Stepped::Fault { sig, code, addr } => {
                 self.keep_fault(fault_info(sig, code, addr))?;
                 Ok(Turn::Went)
@@ -625,14 +663,16 @@ impl Process {
         }
     }
 
-    /// Makes the call of the SYSCALL that was just executed, at the kernel's time `clock`, in nanoseconds. It stands apart from the path of the other instructions,
-    /// which keeps its buffers off their stack.
+    /// Makes the call of the SYSCALL that was just executed, at the kernel's time `clock`, in nanoseconds; `turn` is the turn's
+    /// number. It stands apart from the path of the other instructions, which keeps its buffers off their stack.
     #[cold]
     #[inline(never)]
     pub(crate) fn call<I: Source, O: Sink, E: Sink>(
         &mut self,
         clock: u64,
+        turn: u64,
         native: &mut NativeLog,
+        records: &mut TurnRecords,
         dev: &mut Devices<I, O, E>,
     ) -> Result<Turn, Stop>
         requires clock { self.old.kernel.clock ≡ clock }
@@ -642,6 +682,8 @@ impl Process {
             (contents I.left O.written E.written dev.old) (contents I.left O.written E.written dev.new) }
         ensures native { LogsLast clock result self.old.kernel self.new.kernel native.old native.new
             (contents I.left O.written E.written dev.old) (contents I.left O.written E.written dev.new) }
+        ensures records { RecordsCall result turn (machine_of self.old) records.old records.new
+            (contents I.left O.written E.written dev.old) }
         ensures told { native.new.told ≤ clock }
         ensures clock { self.new.kernel.clock ≡ clock }
         ensures counted { IfOk result (λ turn. turns_of turn ≡ 1) }
@@ -651,7 +693,8 @@ impl Process {
     {
         let words = args(&self.space, &self.cpu);
         let seen = self.seen(clock);
-        let mut log = native.part();
+        let was = Registers::of(&self.cpu);
+        let mut log = part_of(native, records);
         let outcome = make_call(
             self.alloc,
             &words,
@@ -663,9 +706,11 @@ impl Process {
             &mut log,
             &seen,
         )?;
-        native.add(log, clock)?;
-        let turn = self.finish(&words, outcome)?;
-        Ok(turn)
+        let (calls, effects) = halves(log);
+        native.add(calls, clock)?;
+        let ended = self.finish(&words, outcome)?;
+        records.add_call(turn, &was, &self.cpu, effects)?;
+        Ok(ended)
     }
 
     /// What a call sees of the machine beside registers and memory, at the kernel's time `clock`, in nanoseconds.
@@ -797,6 +842,32 @@ impl Process {
         self.going.events.push(event)?;
         Ok(())
     }
+}
+
+/// What the calls of a part of a turn keep: the native calls where a native log is kept, and the effects where a journal is.
+fn part_of(native: &NativeLog, records: &TurnRecords) -> Log
+    ensures native { result.native ≡ emptied native.now.entries }
+    ensures effects { result.effects ≡ no_effects records.now }
+{
+    Log {
+        native: native.part().native,
+        effects: records.part(),
+    }
+}
+
+/// The native calls of a part, and its effects.
+fn halves(log: Log) -> (Log, Option<Vec<Effect>>)
+    ensures native { result.0.native ≡ log.native }
+    ensures effects { option_map (λ v. v.items) result.1 ≡ log.effects }
+{
+    let Log { native, effects } = log;
+    (
+        Log {
+            native,
+            effects: None,
+        },
+        effects,
+    )
 }
 
 /// What a process has at first: no call waits, nothing is to be delivered, and nothing has happened.

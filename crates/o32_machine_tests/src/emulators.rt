@@ -75,7 +75,7 @@ pub(crate) fn new_emulator(alloc: Global, code: &[u32]) -> Result<Emulator, Fail
     };
     let tree = empty_tree(alloc)?;
     let schedule = empty_schedule(alloc)?;
-    match Emulator::new(alloc, start, tree, schedule, false) {
+    match Emulator::new(alloc, start, tree, schedule, false, false) {
         Ok(emulator) => Ok(emulator),
         Err(_) => Err(Fail::from("no memory")),
     }

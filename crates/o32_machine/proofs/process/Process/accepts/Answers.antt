@@ -1,12 +1,15 @@
 -- The kernel is asked for the signals that the call names.
 use Rattle.std.proofs.Common.{◌∙◌, ap, subst}
 use Rattle.outside.specs.Streams.{contents}
+use Rattle.guest_space.specs.Memory.{Pages}
 use Rattle.o32_machine.specs.inside.Logging.{KeepsNative}
+use Rattle.o32_machine.specs.inside.Recording.{KeepsEffects}
 use Rattle.o32_machine.proofs.Waking.{finds_named}
 use Rattle.o32_machine.specs.Emulator.{ProcessState, coming_of}
 use Rattle.o32_machine.specs.declared.process.Process.TheInside.{Inside}
 use Rattle.kernel_model.specs.State.{Kernel}
 use Rattle.o32_machine.proofs.Logging.{looks_native}
+use Rattle.o32_machine.proofs.Recording.{looks_effects}
 use Rattle.o32_machine.proofs.process.Process.accepts.Goals as goal
 
 abbrev seen_as : Inside → ProcessState
@@ -25,3 +28,11 @@ returns-clause-native g c =
     (looks_native _ c.accepts.result _ c.accepts.new.k
     (contents g.I.Source.left g.O.Sink.written g.E.Sink.written c.args.dev.now) (contents g.I.Source.left g.O.Sink.written g.E.Sink.written c.accepts.new.dev)
     c.args.log.now c.accepts.new.log c.accepts.ensures.looks)
+
+pub returns-clause-effects : goal.returns-clause-effects
+returns-clause-effects g c =
+    subst (λ (p : Pages). KeepsEffects c.accepts.result (g.I.Source.left c.args.dev.now.input) p c.self-inside.inside.0.1.0.pages c.args.log.now.effects c.accepts.new.log.effects)
+    (ap (λ (p : ProcessState). p.memory.pages) (ap seen_as c.self-inside.view_is ∙ c.self.view_is))
+    (looks_effects _ c.accepts.result _ c.accepts.new.k
+    (contents g.I.Source.left g.O.Sink.written g.E.Sink.written c.args.dev.now) (contents g.I.Source.left g.O.Sink.written g.E.Sink.written c.accepts.new.dev)
+    c.args.log.now c.accepts.new.log c.self-inside.inside.0.1.0.pages c.accepts.ensures.looks)

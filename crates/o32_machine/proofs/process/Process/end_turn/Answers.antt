@@ -1,5 +1,9 @@
 -- The turn of a SYSCALL is that of its call.
-use Rattle.std.proofs.Common.{subst, sym, refl}
+use Rattle.std.proofs.Common.{[], ◌+◌, ◌%◌, ◌^◌, subst, sym, refl}
+use Rattle.std.specs.Prelude.{◌-◌}
+use Rattle.o32_machine.proofs.Recording.{gains_none}
+use Rattle.o32_machine.specs.inside.Recording.{RecordsStep}
+use Rattle.turn_records.specs.Turn.{IsStepRecorded}
 use Rattle.outside.specs.Streams.{contents}
 use Rattle.mips_exec.specs.declared.execution.Stepped.{Stepped}
 use Rattle.o32_machine.specs.Answered.{Answers}
@@ -20,3 +24,18 @@ returns-in-Next-clause-native g c = λ left told ready. nothing_logged c.args.se
 
 pub returns-in_ok-keep_fault-in-Fault-clause-native : goal.returns-in_ok-keep_fault-in-Fault-clause-native
 returns-in_ok-keep_fault-in-Fault-clause-native g c = λ left told ready. nothing_logged c.args.self.now.kernel c.keep_fault.new.self.kernel left _ c.args.native.now c.keep_fault.ensures.kernel told
+
+pub returns-in-Syscall-clause-records : goal.returns-in-Syscall-clause-records
+returns-in-Syscall-clause-records g c =
+    subst (λ (s : Stepped). RecordsStep c.call.result (g.I.Source.left c.args.dev.now.input) c.args.turn ((c.args.self.now.processor.pc + (2 ^ 32 - 4)) % 2 ^ 32) (machine_of c.args.self.now) s
+    c.args.records.now c.call.new.records) (sym c.in-Syscall.is) c.call.ensures.records
+
+pub returns-in-Next-clause-records : goal.returns-in-Next-clause-records
+returns-in-Next-clause-records g c = λ left told.
+    gains_none c.args.records.now (IsStepRecorded c.args.turn ((c.args.self.now.processor.pc + (2 ^ 32 - 4)) % 2 ^ 32) (machine_of c.args.self.now) c.args.came left)
+    (subst (λ (s : Stepped). IsStepRecorded c.args.turn ((c.args.self.now.processor.pc + (2 ^ 32 - 4)) % 2 ^ 32) (machine_of c.args.self.now) s left []) (sym c.in-Next.is) refl)
+
+pub returns-in_ok-keep_fault-in-Fault-clause-records : goal.returns-in_ok-keep_fault-in-Fault-clause-records
+returns-in_ok-keep_fault-in-Fault-clause-records g c = λ left told.
+    gains_none c.args.records.now (IsStepRecorded c.args.turn ((c.args.self.now.processor.pc + (2 ^ 32 - 4)) % 2 ^ 32) (machine_of c.args.self.now) c.args.came left)
+    (subst (λ (s : Stepped). IsStepRecorded c.args.turn ((c.args.self.now.processor.pc + (2 ^ 32 - 4)) % 2 ^ 32) (machine_of c.args.self.now) s left []) (sym c.in-Fault.is) refl)

@@ -1,7 +1,11 @@
 -- One instruction, with its call.
-use Rattle.std.proofs.Common.{◌≡◌, ◌∙◌, ◌+◌, arith, ap, subst, sym}
+use Rattle.std.proofs.Common.{◌≡◌, ◌∙◌, ◌+◌, ◌%◌, ◌^◌, List, arith, ap, subst, sym}
+use Rattle.std.specs.Prelude.{◌-◌}
+use Rattle.kernel_core.specs.declared.record.Record.{Record}
+use Rattle.o32_machine.proofs.Recording.{behind_step, gains_so, instruction_recorded}
+use Rattle.turn_records.specs.Turn.{IsBehind, IsStepRecorded}
 use Rattle.o32_machine.proofs.WholeTurns.{executed_last, executed_stops, lacks_first, steps_once}
-use Rattle.o32_machine.specs.Emulator.{within_now, ProcessState}
+use Rattle.o32_machine.specs.Emulator.{machine_of, within_now, ProcessState}
 use Rattle.o32_turns.specs.Turn.{whole}
 use Rattle.o32_turns.specs.Turn.{sixth_step}
 use Rattle.kernel_model.specs.State.{Kernel}
@@ -14,19 +18,28 @@ pub returns-in_err-came-clause-last : goal.returns-in_err-came-clause-last
 returns-in_err-came-clause-last g c = λ left told.
     lacks_first (sixth_step whole c.args.quantum (within_now c.args.self.now) left) c.from_residual.result _ _ c.from_residual.ensures.0
 
-pub returns-in_err-turn-clause-last : goal.returns-in_err-turn-clause-last
-returns-in_err-turn-clause-last g c = λ left told.
+pub returns-in_err-ended-clause-last : goal.returns-in_err-ended-clause-last
+returns-in_err-ended-clause-last g c = λ left told.
     let step = steps_once c.run.result.quiet c.args.self.now.processor c.args.self.now.memory c.run.result.came c.in_ok-came.came c.run.new.self.processor c.run.new.self.memory c.run.ensures.few c.in_ok-came.was c.run.ensures.last in
-    executed_stops c.args.quantum c.args.clock c.args.self.now c.run.new.self c.in_ok-came.came c.requires.clock c.run.ensures.others step left c.from_residual-in_err-turn.result _ _ _ c.from_residual-in_err-turn.ensures.0 (c.in_err-turn.ensures.turn left told)
+    executed_stops c.args.quantum c.args.clock c.args.self.now c.run.new.self c.in_ok-came.came c.requires.clock c.run.ensures.others step left c.from_residual-in_err-ended.result _ _ _ c.from_residual-in_err-ended.ensures.0 (c.in_err-ended.ensures.turn left told)
 
 pub returns-clause-last : goal.returns-clause-last
 returns-clause-last g c = λ left told.
     let step = steps_once c.run.result.quiet c.args.self.now.processor c.args.self.now.memory c.run.result.came c.in_ok-came.came c.run.new.self.processor c.run.new.self.memory c.run.ensures.few c.in_ok-came.was c.run.ensures.last in
     let time : c.later.result ≡ c.args.clock + c.args.quantum = c.later.ensures.time ∙ omega arith in
-    executed_last c.args.quantum c.args.clock c.args.self.now c.run.new.self c.in_ok-came.came c.requires.clock c.run.ensures.others step left (record { turn = c.in_ok-turn.turn; clock = c.later.result }) c.end_turn.new.self _ _ time (c.in_ok-turn.ensures.turn left told)
+    executed_last c.args.quantum c.args.clock c.args.self.now c.run.new.self c.in_ok-came.came c.requires.clock c.run.ensures.others step left (record { turn = c.in_ok-ended.ended; clock = c.later.result }) c.end_turn.new.self _ _ time (c.in_ok-ended.ensures.turn left told)
 
 pub returns-clause-native : goal.returns-clause-native
 returns-clause-native g c = λ left told ready.
     let same = ap (λ (p : ProcessState). p.kernel) c.run.ensures.others in
     subst (λ (k : Kernel). LastLogged k c.end_turn.new.self.kernel left (contents g.I.Source.left g.O.Sink.written g.E.Sink.written c.end_turn.new.dev) c.args.native.now c.end_turn.new.native) same
-    (c.in_ok-turn.ensures.native left told (subst (λ (k : Kernel). IsReady c.args.clock c.args.native.now k) (sym same) ready))
+    (c.in_ok-ended.ensures.native left told (subst (λ (k : Kernel). IsReady c.args.clock c.args.native.now k) (sym same) ready))
+
+pub returns-clause-records : goal.returns-clause-records
+returns-clause-records g c = λ rests over left told.
+    let step = steps_once c.run.result.quiet c.args.self.now.processor c.args.self.now.memory c.run.result.came c.in_ok-came.came c.run.new.self.processor c.run.new.self.memory c.run.ensures.few c.in_ok-came.was c.run.ensures.last in
+    gains_so c.args.records.now c.end_turn.new.records _ (IsBehind c.args.turn (within_now c.args.self.now) left)
+    (λ (more : List Record) (so : IsStepRecorded c.args.turn ((c.run.new.self.processor.pc + (2 ^ 32 - 4)) % 2 ^ 32) (machine_of c.run.new.self) c.in_ok-came.came left more).
+    behind_step c.args.turn (within_now c.args.self.now) left more over rests
+    (instruction_recorded c.args.turn c.args.self.now c.run.new.self c.in_ok-came.came left more c.run.ensures.others step so))
+    (c.in_ok-ended.ensures.records left told)

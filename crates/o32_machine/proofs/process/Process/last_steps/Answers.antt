@@ -1,7 +1,12 @@
 -- The process has ended, or the clock jumps, or an instruction is carried out.
-use Rattle.std.proofs.Common.{sym, ◌∙◌, refl}
-use Rattle.o32_machine.proofs.WholeTurns.{execute_last, jump_last, over_last}
+use Rattle.std.proofs.Common.{sym, ◌∙◌, refl, ap, List, []}
+use Rattle.kernel_core.specs.declared.record.Record.{Record}
+use Rattle.o32_machine.proofs.WholeTurns.{execute_last, jump_last, lacks_first, over_last}
 use Rattle.o32_machine.proofs.Logging.{nothing_logged}
+use Rattle.o32_machine.proofs.Recording.{behind_over, behind_rests, gains_none, gains_so}
+use Rattle.o32_machine.specs.Emulator.{ProcessState, machine_of, within_now}
+use Rattle.o32_machine.specs.inside.Steps.{last_steps}
+use Rattle.turn_records.specs.Turn.{IsBehind}
 use Rattle.o32_machine.proofs.process.Process.last_steps.Goals as goal
 
 pub returns-in-Some-clause-last : goal.returns-in-Some-clause-last
@@ -23,3 +28,21 @@ returns-in-Some-clause-native g c = λ left told ready. nothing_logged c.args.se
 
 pub returns-then-rests-clause-native : goal.returns-then-rests-clause-native
 returns-then-rests-clause-native g c = λ left told ready. nothing_logged c.args.self.now.kernel c.jump.new.self.kernel left _ c.args.native.now c.jump.ensures.kernel told
+
+pub returns-in_err-add_idle-clause-last : goal.returns-in_err-add_idle-clause-last
+returns-in_err-add_idle-clause-last g c = λ left told.
+    lacks_first (last_steps c.args.quantum (within_now c.args.self.now) left) c.from_residual.result _ _ c.from_residual.ensures.0
+
+pub returns-in-Some-clause-records : goal.returns-in-Some-clause-records
+returns-in-Some-clause-records g c = λ left told.
+    gains_none c.args.records.now (IsBehind c.args.turn (within_now c.args.self.now) left)
+    (behind_over c.args.turn (within_now c.args.self.now) left [] c.in-Some.finish (sym c.over.ensures ∙ c.in-Some.is) refl)
+
+pub returns-then-rests-clause-records : goal.returns-then-rests-clause-records
+returns-then-rests-clause-records g c = λ left told.
+    gains_so c.args.records.now c.add_idle.new.self _ (IsBehind c.args.turn (within_now c.args.self.now) left)
+    (λ (more : List Record). behind_rests c.args.turn (within_now c.args.self.now) left more (sym c.over.ensures ∙ c.in_default.is) (sym c.rests.ensures ∙ c.if-rests.true))
+    (c.in_ok-add_idle.ensures (machine_of c.args.self.now) (ap (λ (p : ProcessState). p.processor) (sym c.self.view_is)))
+
+pub returns-clause-records : goal.returns-clause-records
+returns-clause-records g c = c.execute.ensures.records (sym c.rests.ensures ∙ c.if-rests.false) (sym c.over.ensures ∙ c.in_default.is)

@@ -8,6 +8,7 @@ use Rattle.o32_model.specs.declared.wait.Cause.TheVariants.{Accepted, Due}
 use Rattle.o32_turns.specs.Machine.{Within}
 use Rattle.outside.specs.Streams.{contents, Contents}
 use Rattle.o32_machine.proofs.Logging.{native_then}
+use Rattle.o32_machine.proofs.Recording.{effects_then}
 use Rattle.o32_machine.proofs.process.Process.wake.Goals as goal
 
 pub returns-then-accepted-clause-woken : goal.returns-then-accepted-clause-woken
@@ -47,3 +48,13 @@ pub returns-then-wakes-clause-native : goal.returns-then-wakes-clause-native
 returns-then-wakes-clause-native g c = λ left told.
     native_then c.accepts.result c.end_wait-then-wakes.result c.args.self.now.kernel c.accepts.new.self.kernel c.end_wait-then-wakes.new.self.kernel _ c.args.log.now.native c.accepts.new.log.native c.end_wait-then-wakes.new.log.native left
     (c.in_ok-accepted.ensures.native left told) (ap (λ (at : Contents). at.left) (c.in_ok-accepted.ensures.found left told).0 ∙ told) c.end_wait-then-wakes.ensures.native
+
+pub returns-then-accepted-clause-effects : goal.returns-then-accepted-clause-effects
+returns-then-accepted-clause-effects g c = λ left told.
+    effects_then c.end_wait.result c.args.self.now.memory.pages c.accepts.new.self.memory.pages c.end_wait.new.self.memory.pages _ c.args.log.now.effects c.accepts.new.log.effects c.end_wait.new.log.effects left
+    (c.in_ok-accepted.ensures.effects left told) (ap (λ (at : Contents). at.left) (c.in_ok-accepted.ensures.found left told).0 ∙ told) c.end_wait.ensures.effects
+
+pub returns-then-wakes-clause-effects : goal.returns-then-wakes-clause-effects
+returns-then-wakes-clause-effects g c = λ left told.
+    effects_then c.end_wait-then-wakes.result c.args.self.now.memory.pages c.accepts.new.self.memory.pages c.end_wait-then-wakes.new.self.memory.pages _ c.args.log.now.effects c.accepts.new.log.effects
+    c.end_wait-then-wakes.new.log.effects left (c.in_ok-accepted.ensures.effects left told) (ap (λ (at : Contents). at.left) (c.in_ok-accepted.ensures.found left told).0 ∙ told) c.end_wait-then-wakes.ensures.effects
