@@ -1,5 +1,5 @@
 -- The end of the records of a journal.
-use Rattle.std.proofs.Common.{◌≡◌, ◌≢◌, ◌<◌, ◌≤◌, ℕ, Bool, true, List, [], ◌∷◌, All, Option, Some, None, is_some, length, refl, sym, ap, subst, ◌∙◌, arith}
+use Rattle.std.proofs.Common.{◌≡◌, ◌<◌, ◌≤◌, ℕ, true, List, [], ◌∷◌, All, Option, Some, None, is_some, length, refl, sym, ap, subst, arith}
 use Rattle.std.proofs.lemmas.List.Elements.{All-nil, All-cons}
 use Rattle.journal.specs.Form.{AreRecords, IsBody, IsEffect, IsRecord, end_kind, front_of, greatest_turn}
 use Rattle.journal.specs.declared.turns.Front.{Front}

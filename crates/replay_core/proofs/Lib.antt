@@ -2,6 +2,7 @@ pub mod Words
 pub mod Sending
 pub mod EffectSteps
 pub mod Parts
+pub mod Stretches
 pub mod Turns
 pub mod Ends
 pub mod Outputs

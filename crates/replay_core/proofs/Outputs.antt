@@ -1,5 +1,5 @@
 -- The counts of faults of the two outputs.
-use Rattle.std.proofs.Common.{◌≡◌, ℕ, Option, Result, Ok, Err, refl, subst, ◌∙◌}
+use Rattle.std.proofs.Common.{ℕ, Option, Result, Ok, Err, refl, subst, ◌∙◌}
 use Rattle.guest_space.specs.Memory.{Memory, Pages}
 use Rattle.o32_model.specs.Effects.{Difference}
 use Rattle.replay_core.specs.Answered.{CountRose, CountsStay, StopsOnlyIfRose}

@@ -7,7 +7,6 @@ use Rattle.kernel_core.specs.declared.signal.Sig.{Sig}
 use Rattle.kernel_model.specs.Pipes.{Sent}
 use Rattle.mips_exec.specs.Processor.{Processor}
 use Rattle.mips_exec.specs.Step.{Step, step_of}
-use Rattle.mips_exec.specs.declared.execution.Stepped.{Stepped}
 use Rattle.mips_exec.specs.declared.execution.Stepped.TheVariants.{Next, Fault}
 use Rattle.o32_model.specs.Effects.{Difference}
 use Rattle.replay_core.specs.Answered.{Gains, Written}
@@ -22,7 +21,7 @@ use Rattle.replay_core.proofs.Sending.{Extends, before_further, extends_same, ex
 
 -- A test for a difference
 
-meets_so : (machine : Machine) (turns : ℕ) (first now : Written) (sent : Sent) (difference : Option Difference) (result : Result Unit Halt)
+pub meets_so : (machine : Machine) (turns : ℕ) (first now : Written) (sent : Sent) (difference : Option Difference) (result : Result Unit Halt)
     → Meets difference result → Gains first now sent → Comes (meets (replay_at machine turns sent) difference) machine turns first sent now result
 meets_so machine turns first now sent difference (Ok done) is gains =
     subst (λ (d : Option Difference). Comes (meets (replay_at machine turns sent) d) machine turns first sent now (Ok done)) (sym is) (refl, gains)

@@ -1,5 +1,5 @@
 -- What a part of a turn sends comes behind what was sent, and no part counts a turn.
-use Rattle.std.proofs.Common.{◌≡◌, ℕ, ◌+◌, ◌==◌, Bool, true, false, List, [], ◌∷◌, ◌++◌, Option, Some, None, Result, Ok, Err, refl, if◌then◌else◌}
+use Rattle.std.proofs.Common.{◌≡◌, ℕ, ◌==◌, Bool, true, false, List, [], ◌∷◌, ◌++◌, Option, Some, None, Result, Ok, Err, refl, if◌then◌else◌}
 use Rattle.guest_space.specs.Memory.{Pages}
 use Rattle.kernel_core.specs.declared.record.Effect.{Effect}
 use Rattle.kernel_core.specs.declared.record.Effect.TheVariants.{Register, Write, Map, Unmap, Protect, Output}
@@ -13,7 +13,7 @@ use Rattle.o32_model.specs.Effects.{Difference, Target, carried, after_register,
 use Rattle.o32_model.specs.Effects.{differs as differs_by}
 use Rattle.outside.specs.Output.{IsPrefix}
 use Rattle.outside.proofs.OutputLemmas.{IsPrefix-refl, IsPrefix-trans, IsPrefix-longer}
-use Rattle.replay_core.specs.Replay.{Replay, Carried, after_step, before_instruction, before_kind, call_kind, carried_on, carried_unless, comes, differs, ends_killed, first_difference, idle, idle_kind, instruction, instruction_or_none, is_excused, meets, taken, target_of, unless_met, words_of}
+use Rattle.replay_core.specs.Replay.{Replay, after_step, before_instruction, before_kind, call_kind, carried_on, carried_unless, comes, differs, ends_killed, first_difference, idle, idle_kind, instruction, instruction_or_none, is_excused, meets, taken, target_of, unless_met, words_of}
 
 pub record Extends (less more : Sent) : Type 0 where
   pub to_out : IsPrefix less.out more.out

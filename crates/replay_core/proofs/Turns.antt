@@ -7,13 +7,14 @@ use Rattle.mips_exec.specs.Processor.{Processor}
 use Rattle.kernel_model.specs.Pipes.{Sent, nothing}
 use Rattle.o32_model.specs.Effects.{Difference}
 use Rattle.replay_core.specs.Answered.{AnswersBy, Gains, GainsPart, Written}
-use Rattle.replay_core.specs.Replay.{Replay, before_instruction, counted, instruction_or_none, replayed, turn_after, turn_or_none, unless_met}
+use Rattle.replay_core.specs.Replay.{Replay, before_instruction, instruction_or_none, replayed, turn_after, turn_or_none, unless_met}
 use Rattle.replay_core.specs.declared.answer.ReplayEnd.{ReplayEnd}
 use Rattle.replay_core.specs.declared.answer.ReplayEnd.TheVariants.{Finished}
 use Rattle.replay_core.specs.declared.difference.Halt.{Halt}
 use Rattle.replay_core.specs.declared.difference.Halt.TheVariants.{Differs, WriteFault, NoMemory}
 use Rattle.replay_core.specs.declared.machine.Machine.{Machine}
 use Rattle.replay_core.specs.inside.Parts.{Comes, end_by, met, replay_at}
+use Rattle.replay_core.specs.inside.Stretch.{Takes}
 use Rattle.replay_core.proofs.Sending.{Further, before_further, instruction_or_none_further, unless_met_further}
 
 -- the replay after so many turns, none of which met a difference
@@ -43,6 +44,25 @@ module _ (start : Replay) (turns : ℕ) (machine : Machine) (before now : Writte
 
   none : (replayed start turns).difference ≡ None
   none = ap (λ (r : Replay). r.difference) so.same
+
+-- turns behind others are turns behind what those leave
+onwards : (start : Replay) (turns quiet : ℕ) → replayed start (turns + quiet) ≡ replayed (replayed start turns) quiet
+unfolding replayed
+onwards start turns zero = let e : turns + 0 ≡ turns = omega arith in ap (replayed start) e
+onwards start turns (suc quiet) =
+    let e : turns + suc quiet ≡ suc (turns + quiet) = omega arith in
+    ap (replayed start) e ∙ ap turn_or_none (onwards start turns quiet)
+
+pub goes_quietly_on : (start : Replay) (turns : ℕ) (machine : Machine) (before now : Written) → GoesSo start turns machine before now
+    → (new : Machine) (quiet : ℕ) (after : Written) (result : Result Unit Halt) → (takes : Takes machine new turns quiet now after result) → GoesSo start (turns + quiet) takes.middle before now
+goes_quietly_on start turns machine before now so new quiet after result takes =
+    let sent : Sent = (replayed start turns).sent in
+    let is : replayed start (turns + quiet) ≡ replay_at takes.middle (turns + quiet) sent =
+    onwards start turns quiet ∙ ap (λ (r : Replay). replayed r quiet) so.same ∙ takes.quietly sent in
+    record {
+      same = subst (λ (r : Replay). r ≡ replay_at takes.middle (turns + quiet) r.sent) (sym is) refl;
+      gained = subst (λ (r : Replay). Gains before now r.sent) (sym is) so.gained;
+    }
 
 -- a turn that meets a difference is not counted
 counted_by : (replay : Replay) (difference : Option Difference) (found : Difference) → difference ≡ Some found → (unless_met difference replay (record replay { turns = replay.turns + 1 })).turns ≡ replay.turns
@@ -118,6 +138,24 @@ stops_so start last turns machine new before now after ended NoMemory below so c
   none = none start turns machine before now so;
   part = subst (λ (r : Replay). GainsPart before after (replayed start turns).sent r.sent) (sym (next_is start turns machine before now so)) came;
 })
+
+-- Turns that were taken at once
+
+module _ (start : Replay) (turns : ℕ) (machine : Machine) (before now : Written) (so : GoesSo start turns machine before now) (new : Machine) (quiet : ℕ) (after : Written) where
+  pub goes_far : (result : Result Unit Halt) → result ≡ Ok tt → Takes machine new turns quiet now after result → GoesSo start (turns + quiet + 1) new before after
+  goes_far result is takes =
+      let there = goes_quietly_on start turns machine before now so new quiet after result takes in
+      goes_on start (turns + quiet) takes.middle before now there new after
+      (subst (λ (r : Result Unit Halt). Comes (turn_after (replay_at takes.middle (turns + quiet) (replayed start (turns + quiet)).sent)) new (turns + quiet + 1) before (replayed start (turns + quiet)).sent after r) is
+      (takes.last before (replayed start (turns + quiet)).sent there.gained))
+
+  pub stops_far : (last : ℕ) (ended : Option Finish) (result : Result Unit Halt) (halt : Halt) → turns + quiet < last → result ≡ Err halt → Takes machine new turns quiet now after result
+      → AnswersBy start last ended (end_by (turns + quiet) halt) (turns + quiet) before after
+  stops_far last ended result halt below is takes =
+      let there = goes_quietly_on start turns machine before now so new quiet after result takes in
+      stops_so start last (turns + quiet) takes.middle new before now after ended halt below there
+      (subst (λ (r : Result Unit Halt). Comes (turn_after (replay_at takes.middle (turns + quiet) (replayed start (turns + quiet)).sent)) new (turns + quiet + 1) before (replayed start (turns + quiet)).sent after r) is
+      (takes.last before (replayed start (turns + quiet)).sent there.gained))
 
 -- The start
 

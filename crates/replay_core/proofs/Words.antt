@@ -1,9 +1,8 @@
 -- The words of a record against the machine's, one after the other.
-use Rattle.std.proofs.Common.{◌≡◌, ◌≢◌, ◌<◌, ◌==◌, ℕ, suc, ◌+◌, Bool, true, false, List, [], ◌∷◌, length, drop, get_or, Option, Some, None, refl, sym, ap, subst, ◌∙◌, add-one, if◌then◌else◌, arith}
+use Rattle.std.proofs.Common.{◌≡◌, ◌≢◌, ◌<◌, ◌==◌, ℕ, suc, ◌+◌, Bool, true, false, List, ◌∷◌, length, drop, get_or, Some, None, sym, ap, ◌∙◌, add-one, if◌then◌else◌, arith}
 use Rattle.std.proofs.Math.Seq.{drop-cons, drop-length}
 use Rattle.std.proofs.lemmas.Bool.{eq-eqb}
 use Rattle.std.proofs.lemmas.Bool.Decides.{nat_tests}
-use Rattle.o32_model.specs.Effects.{Difference}
 use Rattle.replay_core.specs.Replay.{first_difference}
 
 opened : (wanted found : List ℕ) (place : ℕ) → place < length wanted → place < length found

@@ -4,10 +4,12 @@ ghost use Rattle.journal.specs.Form.{IsRecord};
 ghost use Rattle.journal.specs.Seen.{record_seen};
 ghost use Rattle.replay_core.specs.Replay.{comes, ends_killed, is_excused, is_killing};
 ghost use Rattle.replay_core.specs.inside.Parts.{Meets, without_call};
+ghost use Rattle.replay_core.specs.inside.Stretch.{IsFree, unrecorded};
 
 use crate::difference::{Difference, Halt};
 use journal::{ReadRecord, Records};
 use kernel_core::Finish;
+use mips_exec::Stepped;
 use std::marker::Model;
 
 /// The kind of a record of what was done before an instruction.
@@ -101,6 +103,43 @@ impl<'a> Coming<'a> {
             }));
         }
         Ok(())
+    }
+
+    /// How many quiet turns there can be behind so many before one more, up to the turn `last`: the next
+    /// record comes behind all of these. None where it comes in the next turn.
+    pub(crate) fn most_quiet(&self, turns: u64, last: u64) -> Option<u64>
+        requires { turns < last }
+        ensures few { IfSome result (λ most. turns + most < last) }
+        ensures free { IfSome result (λ most. IsFree (turns + most + 1) self.now) }
+    {
+        match &self.next {
+            None => Some(last - turns - 1),
+            Some(entry) if entry.turn <= turns + 1 => None,
+            Some(entry) => Some((entry.turn - 1).min(last) - turns - 1),
+        }
+    }
+
+    /// That what the instruction of this turn came to goes with the records, where this turn has none.
+    pub(crate) fn check_unrecorded(&self, turn: u64, came: Stepped) -> Result<(), Halt>
+        requires { turn + 1 < 2 ^ 64 }
+        ensures { Meets (unrecorded turn came self.now) result }
+    {
+        match came {
+            Stepped::Next => Ok(()),
+            Stepped::Syscall => Err(Halt::Differs(Difference {
+                wanted: 0,
+                found: 1,
+            })),
+            Stepped::Fault { .. } => {
+                if self.is_excused(turn) {
+                    return Ok(());
+                }
+                Err(Halt::Differs(Difference {
+                    wanted: 0,
+                    found: 2,
+                }))
+            }
+        }
     }
 
     /// Takes the next record.

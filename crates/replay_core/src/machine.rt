@@ -1,18 +1,19 @@
 //! The machine that takes the turns of a run again.
-ghost use Rattle.std.specs.Prelude.{◌≡◌, ◌+◌, ◌<◌, ◌^◌, ℕ, None};
+ghost use Rattle.std.specs.Prelude.{◌≡◌, ◌+◌, ◌<◌, ◌≤◌, ◌^◌, ℕ, None};
 ghost use Rattle.journal.specs.Form.{IsRecord};
 ghost use Rattle.journal.specs.Seen.{record_seen};
 ghost use Rattle.kernel_model.specs.Pipes.{Sent};
 ghost use Rattle.replay_core.specs.Answered.{Gains, Written, written};
 ghost use Rattle.replay_core.specs.Replay.{after_step, before_instruction, carried_unless, first_difference, instruction, instruction_or_none, turn_after};
 ghost use Rattle.replay_core.specs.inside.Parts.{Comes, Does, HaltsOnlyIfRose, replay_at, call_or_differs, idle_turn, take_words};
+ghost use Rattle.replay_core.specs.inside.Stretch.{IsFree, Takes};
 
 use crate::carrying::carry_out_all;
 use crate::coming::{BEFORE, CALL, Coming, IDLE};
 use crate::difference::{Difference, Halt, compare, words_of};
 use guest_space::Space;
 use journal::ReadRecord;
-use mips_exec::{Cpu, Stepped, step};
+use mips_exec::{Cpu, Stepped, run, step};
 use outside::Sink;
 
 /// A machine between two turns, with the records that are left of its journal.
@@ -21,6 +22,15 @@ pub(crate) struct Machine<'a> {
     pub(crate) cpu: Cpu,
     pub(crate) space: Space,
     pub(crate) coming: Coming<'a>,
+}
+
+/// Turns that were taken at once.
+#[derive(Clone, Copy)]
+pub(crate) struct Taken {
+    /// Those before the last one, which had no record, made no call and met no fault.
+    pub(crate) quiet: u64,
+    /// What the last one came to.
+    pub(crate) came: Result<(), Halt>,
 }
 
 /// Clears the link: no LL before a record goes on to an SC behind it.
@@ -185,12 +195,7 @@ impl<'a> Machine<'a> {
     }
 
     /// The turn behind so many.
-    pub(crate) fn turn<O: Sink, E: Sink>(
-        &mut self,
-        turns: u64,
-        out: &mut O,
-        err: &mut E,
-    ) -> Result<(), Halt>
+    fn turn<O: Sink, E: Sink>(&mut self, turns: u64, out: &mut O, err: &mut E) -> Result<(), Halt>
         requires { turns + 2 < 2 ^ 64 }
         ensures came { (first : Written) (sent : Sent) → Gains first (written O.written E.written out.old err.old) sent
             → Comes (turn_after (replay_at self.old turns sent)) self.new (turns + 1) first sent (written O.written E.written out.new err.new) result }
@@ -200,6 +205,51 @@ impl<'a> Machine<'a> {
         match self.before_instruction(turn, out, err) {
             Ok(()) => self.instruction_or_none(turn, out, err),
             Err(halt) => Err(halt),
+        }
+    }
+
+    /// The turns behind so many before the next record's: quiet ones, at most `most`, and one more.
+    fn stretch(&mut self, turns: u64, most: u64) -> Taken
+        requires few { turns + most + 2 < 2 ^ 64 }
+        requires free { IsFree (turns + most + 1) self.old.coming }
+        ensures few { result.quiet ≤ most }
+        ensures came { (held : Written) → Takes self.old self.new turns result.quiet held held result.came }
+        ensures still { (out err : ℕ) → HaltsOnlyIfRose result.came out out err err }
+    {
+        let ran = run(&mut self.cpu, &mut self.space, most);
+        match ran.came {
+            Ok(came) => Taken {
+                quiet: ran.quiet,
+                came: self.coming.check_unrecorded(turns + ran.quiet + 1, came),
+            },
+            Err(_) => Taken {
+                quiet: ran.quiet,
+                came: Err(Halt::NoMemory),
+            },
+        }
+    }
+
+    /// The next turns behind so many, up to the turn `last` at most: the next record's turn, or those
+    /// before it, up to the first that makes a call or meets a fault.
+    pub(crate) fn turns<O: Sink, E: Sink>(
+        &mut self,
+        turns: u64,
+        last: u64,
+        out: &mut O,
+        err: &mut E,
+    ) -> Taken
+        requires some { turns < last }
+        requires few { last + 1 < 2 ^ 64 }
+        ensures few { turns + result.quiet < last }
+        ensures came { Takes self.old self.new turns result.quiet (written O.written E.written out.old err.old) (written O.written E.written out.new err.new) result.came }
+        ensures cause { HaltsOnlyIfRose result.came (O.faults out.old) (O.faults out.new) (E.faults err.old) (E.faults err.new) }
+    {
+        match self.coming.most_quiet(turns, last) {
+            None => Taken {
+                quiet: 0,
+                came: self.turn(turns, out, err),
+            },
+            Some(most) => self.stretch(turns, most),
         }
     }
 }

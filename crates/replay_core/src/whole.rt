@@ -50,9 +50,12 @@ fn take_turns<O: Sink, E: Sink>(
     ensures goes { IsGoing result.end }
     ensures cause { StopsOnlyIfRose result.end (O.faults out.old) (O.faults out.new) (E.faults err.old) (E.faults err.new) }
 {
-    for turns in 0..end.turn {
-        match machine.turn(turns, out, err) {
-            Ok(()) => {}
+    let mut turns = 0;
+    while turns < end.turn {
+        let taken = machine.turns(turns, end.turn, out, err);
+        turns += taken.quiet;
+        match taken.came {
+            Ok(()) => turns += 1,
             Err(halt) => {
                 return ReplayAnswer {
                     end: end_by(turns, halt),

@@ -1,4 +1,4 @@
-use Rattle.std.proofs.Common.{◌≡◌, [], Result, Ok, ap, subst, sym}
+use Rattle.std.proofs.Common.{[], Result, Ok, ap, subst, sym}
 use Rattle.guest_space.specs.Memory.{Memory}
 use Rattle.journal.specs.Form.{IsEffect}
 use Rattle.journal.specs.Seen.{effect_seen}

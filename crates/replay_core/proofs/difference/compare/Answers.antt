@@ -1,4 +1,4 @@
-use Rattle.std.proofs.Common.{◌≡◌, ◌<◌, ◌∙◌, length, sym, arith}
+use Rattle.std.proofs.Common.{◌<◌, ◌∙◌, length, sym, arith}
 use Rattle.replay_core.proofs.Words.{no_more_words, other_word, same_word}
 use Rattle.replay_core.proofs.difference.compare.Goals as goal
 

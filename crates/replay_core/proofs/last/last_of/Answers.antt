@@ -1,4 +1,4 @@
-use Rattle.std.proofs.Common.{◌≡◌, ◌∙◌, List, ap, sym}
+use Rattle.std.proofs.Common.{◌∙◌, List, ap, sym}
 use Rattle.kernel_core.specs.declared.record.Record.{Record}
 use Rattle.replay_core.specs.Whole.{last_behind}
 use Rattle.replay_core.proofs.last.last_of.Goals as goal

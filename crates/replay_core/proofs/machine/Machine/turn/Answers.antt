@@ -1,4 +1,3 @@
-use Rattle.std.proofs.Common.{◌+◌, Err}
 use Rattle.replay_core.specs.Answered.{written}
 use Rattle.replay_core.proofs.Outputs.{halts_after}
 use Rattle.replay_core.proofs.Parts.{turn_goes, turn_stops}
