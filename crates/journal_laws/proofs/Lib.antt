@@ -1,0 +1,14 @@
+pub mod Behind
+pub mod Calls
+pub mod Carrying
+pub mod Entering
+pub mod FewCalls
+pub mod FewRows
+pub mod FewTurns
+pub mod Going
+pub mod Pending
+pub mod Records
+pub mod Runs
+pub mod Steps
+pub mod Turning
+pub mod Turns
