@@ -9,7 +9,7 @@ use Rattle.outside.proofs.FileLemmas.{bytes_eq-differ, bytes_eq-same}
 use Rattle.outside.proofs.OutputLemmas.{IsPrefix-empty, IsPrefix-refl}
 use Rattle.o32_runner.specs.Stored.{HasText, IfNamed, IsUnmade, SavesText, Stored}
 use Rattle.o32_runner.specs.Texts.{Differ}
-use Rattle.o32_runner.specs.inside.Told.{Adds, AddsBoth, AddsPart, AddsPartOfBoth, AddsText, Makes, MakesBoth, MakesNone, MakesNotBoth}
+use Rattle.o32_runner.specs.inside.Told.{Adds, AddsBoth, AddsPart, AddsPartOfAll, AddsPartOfBoth, AddsText, Makes, MakesBoth, MakesNone, MakesNotAll, MakesNotBoth}
 
 -- One file
 
@@ -239,3 +239,60 @@ second_unmade result trace native old middle new made none =
 
 pub saves_made : (trace native : Option (List ℕ)) (old new : Stored) → MakesBoth trace native old new → SavesBoth trace native [] [] old new
 saves_made trace native old new made = record { middle = made.middle; first = made.first; second = made.second }
+
+-- A third file
+
+pub past : (name third : Option (List ℕ)) → Differ name third → (text saved : List ℕ) (first old new : Stored) → Saves third saved first old → Adds name text old new
+    → (there : Stored) × Adds name text first there × Saves third saved there new
+past None third differ text saved first old new made adds = (first, refl, subst (λ (s : Stored). Saves third saved first s) (sym adds) made)
+past (Some name) None differ text saved first old new made adds = (new, subst (λ (s : Stored). AddsText name text s new) made adds, refl)
+past (Some name) (Some third) differ text saved first old new made adds = swap name third text saved differ first old new made adds
+
+-- What was added to both behind the third was added before it.
+pub both_past : (trace native third : Option (List ℕ)) → Differ trace third → Differ native third → (traced logged saved : List ℕ) (first old new : Stored) → Saves third saved first old
+    → AddsBoth trace native traced logged old new → (there : Stored) × AddsBoth trace native traced logged first there × Saves third saved there new
+both_past trace native third apart_first apart_second traced logged saved first old new made adds =
+    let one = past trace third apart_first traced saved first old adds.middle made adds.first in
+    let two = past native third apart_second logged saved one.0 adds.middle new one.2 adds.second in
+    (two.0, record { middle = one.0; first = one.1; second = two.1 }, two.2)
+
+pub third_more : (third : Option (List ℕ)) (saved text : List ℕ) (start old new : Stored) → Saves third saved start old → Adds third text old new → Saves third (saved ++ text) start new
+third_more None saved text start old new made adds = adds ∙ made
+third_more (Some name) saved text start old new made adds = saves_more name saved text start old new made adds
+
+-- A part of all where a part of the first two was added, or these whole and a part of the third
+
+part_of_lines : (trace native journal : Option (List ℕ)) (first second third : List ℕ) (old new : Stored) → AddsPartOfBoth trace native first second old new → AddsPartOfAll trace native journal first second third old new
+part_of_lines trace native journal first second third old new adds = record { middle = new; lines = adds; records = added_no_part journal third new }
+
+pub lines_in_part : {A E : Type 0} (result : Result A E) (trace native journal : Option (List ℕ)) (first second third : List ℕ) (old new : Stored) → AddsPartOfBoth trace native first second old new
+    → OnErr result (AddsPartOfAll trace native journal first second third old new)
+lines_in_part result trace native journal first second third old new adds =
+    always_on_err result (AddsPartOfAll trace native journal first second third old new) (part_of_lines trace native journal first second third old new adds)
+
+part_of_records : (trace native journal : Option (List ℕ)) (first second third : List ℕ) (old middle new : Stored) → AddsBoth trace native first second old middle → AddsPart journal third middle new
+    → AddsPartOfAll trace native journal first second third old new
+part_of_records trace native journal first second third old middle new done adds = record {
+  middle = middle;
+  lines = record {
+    trace_part = first;
+    native_part = second;
+    trace_begins = IsPrefix-refl first;
+    native_begins = IsPrefix-refl second;
+    adds = done;
+  };
+  records = adds;
+}
+
+pub records_in_part : {A E : Type 0} (result : Result A E) (trace native journal : Option (List ℕ)) (first second given third : List ℕ) (old middle new : Stored) → given ≡ third → AddsBoth trace native first second old middle
+    → OnErr result (AddsPart journal given middle new) → OnErr result (AddsPartOfAll trace native journal first second third old new)
+records_in_part result trace native journal first second given third old middle new same done adds =
+    on_err result (AddsPart journal given middle new) (AddsPartOfAll trace native journal first second third old new)
+    (λ part. part_of_records trace native journal first second third old middle new done (subst (λ (t : List ℕ). AddsPart journal t middle new) same part))
+    adds
+
+-- The third file could not be made
+pub third_unmade : {A E : Type 0} (result : Result A E) (trace native journal : Option (List ℕ)) (old middle new : Stored) → MakesBoth trace native old middle → OnErr result (MakesNone journal middle new)
+    → OnErr result (MakesNotAll trace native journal old new)
+third_unmade result trace native journal old middle new made none =
+    on_err result (MakesNone journal middle new) (MakesNotAll trace native journal old new) (λ unmade_there. inr (middle, made, unmade_there)) none

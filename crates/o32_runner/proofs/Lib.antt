@@ -5,4 +5,6 @@ pub mod Files
 pub mod Traces
 pub mod Histories
 pub mod Telling
+pub mod RecordLists
 pub mod Writing
+pub mod Journals

@@ -1,5 +1,5 @@
 -- Turns that send and take nothing continue a run, and so does one more.
-use Rattle.std.proofs.Common.{◌≡◌, ℕ, zero, suc, ◌+◌, ◌-◌, ◌<◌, Bool, true, false, List, ◌++◌, Option, Some, None, Result, Ok, Err, inl, inr, arith, refl, sym, ap, ◌∙◌, subst, add-zero, append-nil, append_assoc}
+use Rattle.std.proofs.Common.{◌≡◌, ℕ, zero, suc, ◌+◌, ◌-◌, ◌<◌, ◌≤◌, Bool, true, false, List, ◌++◌, Option, Some, None, Result, Ok, Err, inl, inr, arith, refl, sym, ap, ◌∙◌, subst, add-zero, append-nil, append_assoc}
 use Rattle.std.proofs.lemmas.Bool.{cases_lt}
 use Rattle.outside.specs.Output.{GainsText}
 use Rattle.outside.specs.Streams.{Contents}
@@ -123,7 +123,7 @@ module _ (quantum : ℕ) (machine : Machine) (left : List ℕ) (j q limit : ℕ)
       subst (λ (n : ℕ). IsSoFar quantum machine left n before after then) (sym counts)
       (went_on_by quantum machine left (j + turned.quiet) q before at after turned.middle then turn events same is (quiet_then (Ok turn) turned) turned.last)
 
-  pub is_over_after : (budget : ℕ) (turn : code.Turn) (finish : Finish) → turn ≡ Ended finish → j < budget → limit ≡ budget - j → IsTurnAfter q limit now j (Ok turn) then turns events at after
+  pub is_over_after : (budget : ℕ) (turn : code.Turn) (finish : Finish) → turn ≡ Ended finish → j < budget → limit ≤ budget - j → IsTurnAfter q limit now j (Ok turn) then turns events at after
       → IsOver quantum machine left budget turns finish before after then
   is_over_after budget turn finish is below room turned =
       let within : j + turned.quiet < budget = omega (arith, turned.within) in

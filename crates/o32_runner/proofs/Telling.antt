@@ -192,7 +192,7 @@ module _ (quantum : ℕ) (machine : Machine) (left : List ℕ) (j q limit : ℕ)
       ∙ end_told finish (subst (λ (t : code.Turn). IsTurnAfter q limit now j (Ok t) became turns events at after) is turned)
 
   -- The lines of a turn that could be added in part are those that are written next.
-  pub told_next : (budget : ℕ) (turn : code.Turn) (turned : IsTurnAfter q limit now j (Ok turn) became turns events at after) → j < budget → limit ≡ budget - j
+  pub told_next : (budget : ℕ) (turn : code.Turn) (turned : IsTurnAfter q limit now j (Ok turn) became turns events at after) → j < budget → limit ≤ budget - j
       → next_lines quantum machine left budget (there turn turned) ≡ told_lines turns turn events
   told_next budget turn turned below room =
       let within : there turn turned < budget = omega (arith, turned.within) in
@@ -222,7 +222,7 @@ none_traced quantum machine left k none = ap (λ (n : ℕ). traced quantum machi
 
 -- The run is cut in a turn, or where its lines are added.
 module _ (quantum : ℕ) (machine : Machine) (budget j q limit : ℕ) (before at after : Contents) (now became : Machine) (turns : ℕ) (events : List Event) (same : q ≡ quantum)
-    (so : (left : List ℕ) → before.left ≡ Some left → IsSoFar quantum machine left j before at now) (below : j < budget) (room : limit ≡ budget - j) where
+    (so : (left : List ℕ) → before.left ≡ Some left → IsSoFar quantum machine left j before at now) (below : j < budget) (room : limit ≤ budget - j) where
   -- in a turn
   pub cut_in : (stop : Stop) → IsTurnAfter q limit now j (Err stop) became turns events at after → (left : List ℕ) → before.left ≡ Some left → IsCut quantum machine left turns (turns_begun budget turns) before after
   cut_in stop turned left told =

@@ -1,12 +1,13 @@
 -- What a run has written to its files.
 use Rattle.std.proofs.Common.{◌≡◌, ℕ, ◌-◌, ◌<◌, ◌≤◌, List, [], ◌++◌, Option, Some, None, Result, Ok, Err, inl, inr, arith, refl, sym, ◌∙◌, subst, append-nil}
-use Rattle.std.specs.Prelude.{⊤, IsOk}
+use Rattle.std.specs.Prelude.{⊤, ◌+◌, ◌⊎◌, true, IsOk}
 use Rattle.kernel_core.specs.declared.core_error.Stop.{Stop}
 use Rattle.kernel_core.specs.declared.event.Event.TheVariants as event
 use Rattle.kernel_core.specs.declared.finish.Finish.{Finish}
 use Rattle.kernel_core.specs.declared.finish.Finish.TheVariants.{Budget}
 use Rattle.kernel_model.specs.State.{Kernel}
-use Rattle.native_log.specs.NativeLog.{NativeLog}
+use Rattle.native_log.specs.NativeLog.{NativeLog, first_log}
+use Rattle.o32_machine.specs.Answered.{turns_of}
 use Rattle.o32_machine.specs.Emulator.{Emulated}
 use Rattle.o32_machine.specs.declared.turn.Turn as code
 use Rattle.o32_machine.specs.declared.turn.Turn.TheVariants.{Went, Ended}
@@ -17,15 +18,37 @@ use Rattle.trace_text.specs.Trace.{trace_line}
 use Rattle.o32_runner.specs.NativeText.{HasCutLog, HasLog, IsCutLog, IsWholeLog, LogsAs}
 use Rattle.o32_runner.specs.Runs.{GoesSo, IsOver, RunsTo, WithinBudget}
 use Rattle.o32_runner.specs.Stored.{IfNamed, Stored}
-use Rattle.o32_runner.specs.Texts.{BeginsLog, Differ, WritesTexts}
+use Rattle.o32_runner.specs.Texts.{BeginsLog, Differ}
 use Rattle.o32_runner.specs.Trace.{next_lines, traced}
 use Rattle.o32_runner.specs.Traced.{IsTrace, TracesAs}
 use Rattle.o32_runner.specs.declared.told.Cut.{Cut}
-use Rattle.o32_runner.specs.inside.Told.{AddsBoth, EndsBudget, MakesBoth, MakesNone, MakesNotBoth, Takes, TakesTurns, native_of, trace_of}
+use Rattle.o32_runner.specs.inside.Told.{Adds, AddsBoth, AddsPart, AddsPartOfBoth, MakesBoth, MakesNone, MakesNotBoth, Takes, native_of, trace_of}
 use Rattle.o32_runner.proofs.Files.{Saves, SavesBoth, adds_first, both_more, saves_made, unmade}
 use Rattle.o32_runner.proofs.Histories.{SoLogged, begins, cut_log, ended_log, partly_log, stopped_log, went_log, whole_log}
 use Rattle.o32_runner.proofs.QuietTurns.{is_over_after, went_after}
 use Rattle.o32_runner.proofs.Telling.{SoTraced, before_it, cut_behind, cut_in, cut_run, done_partly, done_run, done_told, ended_told, none_traced, partly_told, untold, went_told, within_budget}
+
+-- Of the first two files
+
+-- the turns that an emulator took were told in them
+abbrev pub TakesTurns : ℕ → Result code.Turn Cut → Emulated → Emulated → Contents → Contents → Option (List ℕ) → Option (List ℕ) → Stored → Stored → Type 0
+TakesTurns limit (Ok turn) emulated became before after trace native old new =
+    Takes limit (Ok turn) emulated became became.turns before after × AddsBoth trace native (trace_of became turn) (native_of became turn) old new
+TakesTurns limit (Err cut) emulated became before after trace native old new =
+    (Takes limit (Err cut.stop) emulated became cut.turns before after × (new ≡ old))
+    ⊎ ((turn : code.Turn) × Takes limit (Ok turn) emulated became became.turns before after
+    × AddsPartOfBoth trace native (trace_of became turn) (native_of became turn) old new × (became.turns ≡ cut.turns + turns_of turn))
+
+-- the line that the budget's turns are done was added to the trace, or a part of it
+abbrev pub EndsTrace : Option (List ℕ) → ℕ → Result Finish Stop → Stored → Stored → Type 0
+EndsTrace trace turns (Ok finish) old new = (finish ≡ Budget) × Adds trace (trace_line turns event.Budget) old new
+EndsTrace trace turns (Err stop) old new = AddsPart trace (trace_line turns event.Budget) old new
+
+-- what a run makes of them
+pub record WritesBoth (trace native : Option (List ℕ)) (quantum : ℕ) (machine : Machine) (budget turns : ℕ) (end : Result Finish Stop) (told : Option (List ℕ)) (old new : Stored) : Type 0 where
+  pub middle : Stored
+  pub traces : IfNamed trace (λ name. TracesAs name quantum machine budget turns end told) old middle
+  pub logs : IfNamed native (λ name. LogsAs name quantum machine budget turns end told) middle new
 
 -- A fact for a file that is named
 
@@ -33,7 +56,7 @@ abbrev pub OnNamed : Option (List ℕ) → Type 0 → Type 0
 OnNamed None P = ⊤
 OnNamed (Some name) P = P
 
-on_named : (name : Option (List ℕ)) (P Q : Type 0) → (P → Q) → OnNamed name P → OnNamed name Q
+pub on_named : (name : Option (List ℕ)) (P Q : Type 0) → (P → Q) → OnNamed name P → OnNamed name Q
 on_named None P Q so p = tt
 on_named (Some name) P Q so p = so p
 
@@ -121,7 +144,7 @@ module _ (trace native : Option (List ℕ)) (differ : Differ trace native) (quan
         turn turned.turned became.native turned.logged is (goes_on is left told))
         takes.1
 
-    module _ (finish : Finish) (is : turn ≡ Ended finish) (below : emulated.turns < budget) (room : limit ≡ budget - emulated.turns) where
+    module _ (finish : Finish) (is : turn ≡ Ended finish) (below : emulated.turns < budget) (room : limit ≤ budget - emulated.turns) where
       pub ends : (left : List ℕ) → before.left ≡ Some left → IsOver quantum machine left budget became.turns finish before after became.machine
       ends left told =
           is_over_after quantum machine left emulated.turns emulated.quantum limit before at after emulated.machine became.machine became.turns became.events same (so left told)
@@ -138,7 +161,7 @@ module _ (trace native : Option (List ℕ)) (differ : Differ trace native) (quan
           turn turned.turned became.native turned.logged budget finish is (ends left told))
           takes.1
 
-  module _ (old new : Stored) (cut : Cut) (below : emulated.turns < budget) (room : limit ≡ budget - emulated.turns) where
+  module _ (old new : Stored) (cut : Cut) (below : emulated.turns < budget) (room : limit ≤ budget - emulated.turns) where
     pub cuts : TakesTurns limit (Err cut) emulated became at after trace native old new → (left : List ℕ) → before.left ≡ Some left → RunsTo quantum machine left budget cut.turns (Err cut.stop) before after became.machine
     cuts (inl stopped) =
         cut_in quantum machine budget emulated.turns emulated.quantum limit before at after emulated.machine became.machine cut.turns became.events same so below room cut.stop stopped.0.turned
@@ -175,7 +198,7 @@ module _ (trace native : Option (List ℕ)) (differ : Differ trace native) (quan
 module _ (trace native : Option (List ℕ)) (differ : Differ trace native) (quantum : ℕ) (machine : Machine) (budget turns result : ℕ) (before at : Contents) (emulated : Emulated)
     (so : GoesSo quantum machine emulated.turns before at emulated.machine) (old new : Stored)
     (full : emulated.turns ≡ budget) (counts : turns ≡ emulated.turns) (same : result ≡ turns) where
-  pub done : (end : Result Finish Stop) → EndsBudget trace turns end old new → (left : List ℕ) → before.left ≡ Some left → RunsTo quantum machine left budget result end before at emulated.machine
+  pub done : (end : Result Finish Stop) → EndsTrace trace turns end old new → (left : List ℕ) → before.left ≡ Some left → RunsTo quantum machine left budget result end before at emulated.machine
   done (Ok finish) ends left told =
       subst (λ (f : Finish). IsOver quantum machine left budget result f before at emulated.machine) (sym ends.0)
       (done_run quantum machine budget emulated.turns turns result before at emulated.machine so full counts same left told)
@@ -197,7 +220,7 @@ module _ (trace native : Option (List ℕ)) (differ : Differ trace native) (quan
         (subst (λ (t : List ℕ). HasCutLog quantum machine left budget emulated.turns t) (sym (append-nil was.logged))
         (cut_log quantum machine left emulated.turns emulated.native emulated.machine.kernel was.logged had budget))
 
-    pub written_done : (end : Result Finish Stop) → EndsBudget trace turns end old new → WrittenAs trace native quantum machine budget result end before.left start new
+    pub written_done : (end : Result Finish Stop) → EndsTrace trace turns end old new → WrittenAs trace native quantum machine budget result end before.left start new
     written_done (Ok finish) ends =
         subst (λ (f : Finish). WrittenAs trace native quantum machine budget result (Ok f) before.left start new) (sym ends.0)
         (grown trace native differ (SoTraced quantum machine emulated.turns before.left) (LogsSoFar quantum machine emulated.turns before.left emulated.native emulated.machine.kernel)
@@ -232,7 +255,7 @@ logs_so (Some name) quantum machine budget turns (Ok finish) told text old new h
 logs_so (Some name) quantum machine budget turns (Err stop) told text old new has saves = inl (text, has, saves)
 
 pub writes_so : (trace native : Option (List ℕ)) (quantum : ℕ) (machine : Machine) (budget turns : ℕ) (end : Result Finish Stop) (told : Option (List ℕ)) (start now : Stored) → WrittenAs trace native quantum machine budget turns end told start now
-    → WritesTexts trace native quantum machine budget turns end told start now
+    → WritesBoth trace native quantum machine budget turns end told start now
 writes_so trace native quantum machine budget turns end told start now wrote = record {
   middle = wrote.saves.middle;
   traces = traces_so trace quantum machine budget turns end told wrote.traced start wrote.saves.middle wrote.traces wrote.saves.first;
@@ -261,7 +284,18 @@ module _ (quantum : ℕ) (machine : Machine) (budget : ℕ) (stop : Stop) (told 
       traces_so name quantum machine budget 0 (Err stop) told [] old new
       (λ left is. ([], IsPrefix-empty (next_lines quantum machine left budget 0), none_traced quantum machine left 0 refl ∙ sym (append-nil (traced quantum machine left 0)))) made
 
-  pub writes_none : (trace native : Option (List ℕ)) (old new : Stored) → MakesNotBoth trace native old new → WritesTexts trace native quantum machine budget 0 (Err stop) told old new
+  empty_log : (name : Option (List ℕ)) (old new : Stored) → Saves name [] old new → Logs name old new
+  empty_log name old new made = logs_so name quantum machine budget 0 (Err stop) told [] old new (none_logged name) made
+    where
+      none_logged : (name : Option (List ℕ)) → OnNamed name (HasText quantum machine budget 0 (Err stop) told [])
+      none_logged None = tt
+      none_logged (Some name) = λ left is. cut_log quantum machine left 0 (first_log true) machine.kernel [] (begins quantum machine left 0 (first_log true) refl refl) budget
+
+  pub writes_empty : (trace native : Option (List ℕ)) (old new : Stored) → MakesBoth trace native old new → WritesBoth trace native quantum machine budget 0 (Err stop) told old new
+  writes_empty trace native old new made =
+      record { middle = made.middle; traces = empty_trace trace old made.middle made.first; logs = empty_log native made.middle new made.second }
+
+  pub writes_none : (trace native : Option (List ℕ)) (old new : Stored) → MakesNotBoth trace native old new → WritesBoth trace native quantum machine budget 0 (Err stop) told old new
   writes_none trace native old new (inl none) = record { middle = new; traces = no_trace trace old new none; logs = no_log native new new (unmade native new) }
   writes_none trace native old new (inr (middle, made, none)) =
       record { middle = middle; traces = empty_trace trace old middle made; logs = no_log native middle new none }

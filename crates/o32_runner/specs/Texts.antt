@@ -4,9 +4,11 @@ use Rattle.kernel_core.specs.declared.core_error.Stop.{Stop}
 use Rattle.kernel_core.specs.declared.finish.Finish.{Finish}
 use Rattle.native_log.specs.NativeLog.{NativeLog, first_log}
 use Rattle.o32_turns.specs.Machine.{Machine}
+use Rattle.o32_runner.specs.JournalText.{KeepsAs}
 use Rattle.o32_runner.specs.NativeText.{LogsAs}
 use Rattle.o32_runner.specs.Stored.{IfNamed, Stored}
 use Rattle.o32_runner.specs.Traced.{TracesAs}
+use Rattle.turn_records.specs.Keeping.{Records, first_records}
 
 -- two names, where both are there, are different ones
 abbrev pub Differ : Option (List ℕ) → Option (List ℕ) → Type 0
@@ -14,13 +16,26 @@ Differ None other = ⊤
 Differ (Some one) None = ⊤
 Differ (Some one) (Some other) = one ≢ other
 
+pub record AllDiffer (trace native journal : Option (List ℕ)) : Type 0 where
+  pub first : Differ trace native
+  pub second : Differ trace journal
+  pub third : Differ native journal
+
 -- where a file is named for the native log, it is kept, and has not begun
 abbrev pub BeginsLog : Option (List ℕ) → NativeLog → Type 0
 BeginsLog None native = ⊤
 BeginsLog (Some name) native = native ≡ first_log true
 
--- What a run makes of the file of its trace, and then of that of its native log: each has its own text, and no other file changes.
-pub record WritesTexts (trace native : Option (List ℕ)) (quantum : ℕ) (machine : Machine) (budget turns : ℕ) (end : Result Finish Stop) (told : Option (List ℕ)) (old new : Stored) : Type 0 where
-  pub middle : Stored
-  pub traces : IfNamed trace (λ name. TracesAs name quantum machine budget turns end told) old middle
-  pub logs : IfNamed native (λ name. LogsAs name quantum machine budget turns end told) middle new
+-- and so for the journal
+abbrev pub BeginsJournal : Option (List ℕ) → Records → Type 0
+BeginsJournal None records = ⊤
+BeginsJournal (Some name) records = records ≡ first_records true
+
+-- What a run makes of the file of its trace, then of that of its native log, and then of that of its journal, which begins with a front: each has its
+-- own text, and no other file changes.
+pub record WritesTexts (trace native journal : Option (List ℕ)) (front : List ℕ) (quantum : ℕ) (machine : Machine) (budget turns : ℕ) (end : Result Finish Stop) (told : Option (List ℕ)) (old new : Stored) : Type 0 where
+  pub traced : Stored
+  pub logged : Stored
+  pub traces : IfNamed trace (λ name. TracesAs name quantum machine budget turns end told) old traced
+  pub logs : IfNamed native (λ name. LogsAs name quantum machine budget turns end told) traced logged
+  pub keeps : IfNamed journal (λ name. KeepsAs name front quantum machine budget turns end told) logged new

@@ -1,21 +1,23 @@
-//! A run that writes its texts, the trace and the native log.
-ghost use Rattle.std.specs.Prelude.{◌≡◌, ◌+◌, ◌<◌, ◌≤◌, IfOk, IsOk, OnOk, OnErr, None, Some, false};
+//! A run that writes its texts, the trace, the native log and the journal.
+ghost use Rattle.std.specs.Prelude.{◌≡◌, ◌+◌, ◌<◌, ◌≤◌, ◌++◌, ◌⊎◌, [], IfOk, IsOk, OnOk, OnErr, None, Some, false};
 ghost use Rattle.std.specs.Option.{option_copied};
 ghost use Rattle.kernel_core.specs.declared.event.Event.TheVariants as event;
 ghost use Rattle.o32_machine.specs.Answered.{is_end, turns_of};
+ghost use Rattle.o32_runner.specs.JournalText.{front_to_come, records_text};
 ghost use Rattle.o32_runner.specs.NativeText.{entry_lines};
 ghost use Rattle.o32_runner.specs.Runs.{IsFresh, RunsAs, WithinBudget};
 ghost use Rattle.o32_runner.specs.Stored.{Stored, stored_of};
-ghost use Rattle.o32_runner.specs.Texts.{BeginsLog, Differ, WritesTexts};
+ghost use Rattle.o32_runner.specs.Texts.{AllDiffer, BeginsJournal, BeginsLog, WritesTexts};
 ghost use Rattle.o32_runner.specs.Traced.{StopsOnlyIfAnyRose};
-ghost use Rattle.o32_runner.specs.inside.Told.{Adds, AddsBoth, AddsPart, AddsPartOfBoth, EndsBudget, IsMade, Makes, MakesBoth, MakesNone, MakesNotBoth, TakesTurns, WritesOnlyIfRose, native_of, number_of, stop_in, stop_of, told_lines, trace_of};
+ghost use Rattle.o32_runner.specs.inside.Told.{Adds, AddsAll, AddsBoth, AddsPart, AddsPartOfAll, AddsPartOfBoth, EndsBudget, IsMade, Makes, MakesAll, MakesBoth, MakesNone, MakesNotAll, MakesNotBoth, TakesAll, WritesOnlyIfRose, budget_record, journal_of, native_of, number_of, stop_in, stop_of, told_lines, told_records, trace_of};
 ghost use Rattle.outside.specs.Causes.{FailsOnlyIfRose};
 ghost use Rattle.outside.specs.Streams.{NoCountFell, contents};
 ghost use Rattle.trace_text.specs.Trace.{trace_line};
 
 use crate::lines::{entry_lines, told_lines};
+use crate::records::{budget_record, told_records};
 use crate::untraced::Ran;
-use kernel_core::{Event, Finish, LogEntry, Stop};
+use kernel_core::{Event, Finish, LogEntry, Record, Stop};
 use o32_machine::{Emulator, Turn};
 use outside::{DevError, Devices, Sink, Source, Store};
 use std::alloc::Global;
@@ -28,6 +30,8 @@ pub struct Names<'a> {
     pub trace: Option<&'a str>,
     /// The file of the native log.
     pub native: Option<&'a str>,
+    /// The file of the journal.
+    pub journal: Option<&'a str>,
 }
 
 /// Where a run stopped early.
@@ -75,8 +79,8 @@ fn make<F: Store>(name: Option<&str>, files: &mut F) -> Result<(), DevError>
     }
 }
 
-/// Makes the files that are named, first that of the trace.
-fn make_all<F: Store>(names: Names<'_>, files: &mut F) -> Result<(), DevError>
+/// Makes the files of the trace and of the native log, where they are named, first that of the trace.
+fn make_both<F: Store>(names: Names<'_>, files: &mut F) -> Result<(), DevError>
     ensures made { OnOk result (MakesBoth (option_copied names.entry.trace) (option_copied names.entry.native)
         (stored_of F.files F.created F.loads F.turned_away F.write_faults files.old)
         (stored_of F.files F.created F.loads F.turned_away F.write_faults files.new)) }
@@ -89,6 +93,22 @@ fn make_all<F: Store>(names: Names<'_>, files: &mut F) -> Result<(), DevError>
 {
     make(names.trace, files)?;
     make(names.native, files)
+}
+
+/// Makes the files that are named: those of the trace, of the native log and of the journal, in this order.
+fn make_all<F: Store>(names: Names<'_>, files: &mut F) -> Result<(), DevError>
+    ensures made { OnOk result (MakesAll (option_copied names.entry.trace) (option_copied names.entry.native) (option_copied names.entry.journal)
+        (stored_of F.files F.created F.loads F.turned_away F.write_faults files.old)
+        (stored_of F.files F.created F.loads F.turned_away F.write_faults files.new)) }
+    ensures unmade { OnErr result (MakesNotAll (option_copied names.entry.trace) (option_copied names.entry.native) (option_copied names.entry.journal)
+        (stored_of F.files F.created F.loads F.turned_away F.write_faults files.old)
+        (stored_of F.files F.created F.loads F.turned_away F.write_faults files.new)) }
+    ensures cause { FailsOnlyIfRose result (F.write_faults files.old) (F.write_faults files.new) }
+    ensures later { F.write_faults files.old ≤ F.write_faults files.new }
+    ensures loads { F.load_faults files.new ≡ F.load_faults files.old }
+{
+    make_both(names, files)?;
+    make(names.journal, files)
 }
 
 /// Adds a text to a file that was made, where there is something to add.
@@ -171,6 +191,70 @@ fn tell_native<F: Store>(
     }
 }
 
+/// Adds the records of a turn that came to this to the file of the journal, where one is named: behind `front`, and before the end,
+/// where the run is over with it.
+fn tell_records<F: Store>(
+    alloc: Global,
+    name: Option<&str>,
+    front: &[u8],
+    records: &[Record],
+    turns: u64,
+    turn: Turn,
+    files: &mut F,
+) -> Result<(), DevError>
+    requires few { turns ≤ 1_000_000_000_000 }
+    requires made { IsMade (F.created files.old) (option_copied name) }
+    ensures added { OnOk result (Adds (option_copied name.entry) (front.now ++ records_text (told_records turns turn records.now))
+        (stored_of F.files F.created F.loads F.turned_away F.write_faults files.old)
+        (stored_of F.files F.created F.loads F.turned_away F.write_faults files.new)) }
+    ensures part { OnErr result (AddsPart (option_copied name.entry) (front.now ++ records_text (told_records turns turn records.now))
+        (stored_of F.files F.created F.loads F.turned_away F.write_faults files.old)
+        (stored_of F.files F.created F.loads F.turned_away F.write_faults files.new)) }
+    ensures created { F.created files.new ≡ F.created files.old }
+    ensures cause { FailsOnlyIfRose result (F.write_faults files.old) (F.write_faults files.new) }
+    ensures later { F.write_faults files.old ≤ F.write_faults files.new }
+    ensures loads { F.load_faults files.new ≡ F.load_faults files.old }
+{
+    let Some(name) = name else {
+        return Ok(());
+    };
+    match told_records(alloc, front, records, turns, turn) {
+        Ok(text) => add_text(name, &text, files),
+        Err(_) => Err(DevError::NoMemory),
+    }
+}
+
+/// Adds the end of a run whose budget's turns are done to the file of the journal, where one is named, behind `front`.
+fn tell_end<F: Store>(
+    alloc: Global,
+    name: Option<&str>,
+    front: &[u8],
+    turns: u64,
+    files: &mut F,
+) -> Result<(), DevError>
+    requires few { turns ≤ 1_000_000_000_000 }
+    requires made { IsMade (F.created files.old) (option_copied name) }
+    ensures added { OnOk result (Adds (option_copied name.entry) (budget_record front.now turns)
+        (stored_of F.files F.created F.loads F.turned_away F.write_faults files.old)
+        (stored_of F.files F.created F.loads F.turned_away F.write_faults files.new)) }
+    ensures part { OnErr result (AddsPart (option_copied name.entry) (budget_record front.now turns)
+        (stored_of F.files F.created F.loads F.turned_away F.write_faults files.old)
+        (stored_of F.files F.created F.loads F.turned_away F.write_faults files.new)) }
+    ensures created { F.created files.new ≡ F.created files.old }
+    ensures cause { FailsOnlyIfRose result (F.write_faults files.old) (F.write_faults files.new) }
+    ensures later { F.write_faults files.old ≤ F.write_faults files.new }
+    ensures loads { F.load_faults files.new ≡ F.load_faults files.old }
+    ensures unnamed { (option_copied name.entry ≡ None) → IsOk result }
+{
+    let Some(name) = name else {
+        return Ok(());
+    };
+    match budget_record(alloc, front, turns) {
+        Ok(text) => add_text(name, &text, files),
+        Err(_) => Err(DevError::NoMemory),
+    }
+}
+
 /// Adds the line that the budget's turns are done to the file of the trace, where one is named.
 fn tell_budget<F: Store>(
     alloc: Global,
@@ -201,7 +285,8 @@ fn tell_budget<F: Store>(
     }
 }
 
-/// Adds the lines of the last turn of an emulator, which came to this, to the files that are named: first those of the trace.
+/// Adds the lines of the last turn of an emulator, which came to this, to the files of the trace and of the native log, where
+/// they are named: first those of the trace.
 fn tell<F: Store>(
     alloc: Global,
     names: Names<'_>,
@@ -230,12 +315,54 @@ fn tell<F: Store>(
     tell_native(alloc, names.native, number, emulator.native(), files)
 }
 
-/// Takes turns up to the first that does more than an instruction, at most `limit`, and adds its lines to the files.
+/// Adds the texts of the last turn of an emulator, which came to this, to the files that are named: its lines, and then its
+/// records behind `front`.
+fn tell_all<F: Store>(
+    alloc: Global,
+    names: Names<'_>,
+    front: &[u8],
+    emulator: &Emulator,
+    turn: Turn,
+    files: &mut F,
+) -> Result<(), DevError>
+    requires few { emulator.now.turns ≤ 1_000_000_000_000 }
+    requires counted { turns_of turn ≤ emulator.now.turns }
+    requires trace { IsMade (F.created files.old) (option_copied names.trace) }
+    requires native { IsMade (F.created files.old) (option_copied names.native) }
+    requires journal { IsMade (F.created files.old) (option_copied names.journal) }
+    ensures added { OnOk result (AddsAll (option_copied names.entry.trace) (option_copied names.entry.native) (option_copied names.entry.journal)
+        (trace_of emulator.now turn) (native_of emulator.now turn) (journal_of front.now emulator.now turn)
+        (stored_of F.files F.created F.loads F.turned_away F.write_faults files.old)
+        (stored_of F.files F.created F.loads F.turned_away F.write_faults files.new)) }
+    ensures part { OnErr result (AddsPartOfAll (option_copied names.entry.trace) (option_copied names.entry.native) (option_copied names.entry.journal)
+        (trace_of emulator.now turn) (native_of emulator.now turn) (journal_of front.now emulator.now turn)
+        (stored_of F.files F.created F.loads F.turned_away F.write_faults files.old)
+        (stored_of F.files F.created F.loads F.turned_away F.write_faults files.new)) }
+    ensures created { F.created files.new ≡ F.created files.old }
+    ensures cause { FailsOnlyIfRose result (F.write_faults files.old) (F.write_faults files.new) }
+    ensures later { F.write_faults files.old ≤ F.write_faults files.new }
+    ensures loads { F.load_faults files.new ≡ F.load_faults files.old }
+{
+    tell(alloc, names, emulator, turn, files)?;
+    tell_records(
+        alloc,
+        names.journal,
+        front,
+        emulator.records(),
+        emulator.turns(),
+        turn,
+        files,
+    )
+}
+
+/// Takes turns up to the first that does more than an instruction, at most `limit`, and adds its texts to the files. `front` is
+/// what the journal begins with, as long as it stands in no file.
 fn take_turns<F: Store, I: Source, O: Sink, E: Sink>(
     alloc: Global,
     emulator: &mut Emulator,
     limit: u64,
     names: Names<'_>,
+    front: &[u8],
     files: &mut F,
     dev: &mut Devices<I, O, E>,
 ) -> Result<Turn, Cut>
@@ -244,9 +371,10 @@ fn take_turns<F: Store, I: Source, O: Sink, E: Sink>(
     requires few { emulator.old.turns + limit ≤ 1_000_000_000_000 }
     requires trace { IsMade (F.created files.old) (option_copied names.trace) }
     requires native { IsMade (F.created files.old) (option_copied names.native) }
-    ensures turns { TakesTurns limit result emulator.old emulator.new
+    requires journal { IsMade (F.created files.old) (option_copied names.journal) }
+    ensures turns { TakesAll front.now limit result emulator.old emulator.new
         (contents I.left O.written E.written dev.old) (contents I.left O.written E.written dev.new)
-        (option_copied names.entry.trace) (option_copied names.entry.native)
+        (option_copied names.entry.trace) (option_copied names.entry.native) (option_copied names.entry.journal)
         (stored_of F.files F.created F.loads F.turned_away F.write_faults files.old)
         (stored_of F.files F.created F.loads F.turned_away F.write_faults files.new) }
     ensures quantum { emulator.new.quantum ≡ emulator.old.quantum }
@@ -258,7 +386,7 @@ fn take_turns<F: Store, I: Source, O: Sink, E: Sink>(
     ensures loads { F.load_faults files.new ≡ F.load_faults files.old }
 {
     match emulator.next_turns(limit, dev) {
-        Ok(turn) => match tell(alloc, names, emulator, turn, files) {
+        Ok(turn) => match tell_all(alloc, names, front, emulator, turn, files) {
             Ok(()) => Ok(turn),
             Err(error) => Err(Cut {
                 stop: stop_of(error),
@@ -272,10 +400,27 @@ fn take_turns<F: Store, I: Source, O: Sink, E: Sink>(
     }
 }
 
-/// Runs a fresh emulator for at most `budget` turns, and writes its trace and its native log, each to the file that is named
-/// for it: the files are made before the first turn, that of the trace first, and the lines of each turn that has any are
-/// added in that turn, once for each file, first those of the trace. An emulator whose native log is written has to keep
-/// one. (Both texts are this project's own.)
+/// What is still to come of the front of a journal after so many turns: it is told with the first.
+fn front_to_come(front: &[u8], turns: u64) -> &[u8]
+    ensures { result.now ≡ front_to_come turns front.now }
+{
+    if turns == 0 { front } else { &[] }
+}
+
+/// How many turns are taken at most before the next are told: one where the front of the journal is still to come.
+fn limit_of(front: &[u8], left: u64) -> u64
+    requires { 0 < left }
+    ensures some { 0 < result }
+    ensures few { result ≤ left }
+    ensures first { (front.now ≡ []) ⊎ (result ≡ 1) }
+{
+    if front.is_empty() { left } else { 1 }
+}
+
+/// Runs a fresh emulator for at most `budget` turns, and writes its trace, its native log and its journal, each to the file
+/// that is named for it: the files are made before the first turn, in this order, and what each turn has for them is added in
+/// that turn, once for each file, in this order too. An emulator whose native log or journal is written has to keep it.
+/// `front` is what the journal begins with, and counts to its first turn. (The texts are this project's own.)
 ///
 /// # Errors
 ///
@@ -286,20 +431,22 @@ pub fn run_told<F: Store, I: Source, O: Sink, E: Sink>(
     emulator: &mut Emulator,
     budget: u64,
     names: Names<'_>,
+    front: &[u8],
     files: &mut F,
     dev: &mut Devices<I, O, E>,
 ) -> Ran
     requires fresh { IsFresh emulator.old }
     requires log { BeginsLog (option_copied names.native) emulator.old.native }
+    requires records { BeginsJournal (option_copied names.journal) emulator.old.records }
     requires budget { budget ≤ 1_000_000_000_000 }
-    requires differ { Differ (option_copied names.trace) (option_copied names.native) }
+    requires differ { AllDiffer (option_copied names.trace) (option_copied names.native) (option_copied names.journal) }
     ensures run { RunsAs emulator.old.quantum emulator.old.machine budget result.turns result.end
         (contents I.left O.written E.written dev.old) (contents I.left O.written E.written dev.new) emulator.new.machine }
-    ensures texts { WritesTexts (option_copied names.entry.trace) (option_copied names.entry.native) emulator.old.quantum emulator.old.machine budget result.turns result.end (I.left dev.old.input)
+    ensures texts { WritesTexts (option_copied names.entry.trace) (option_copied names.entry.native) (option_copied names.entry.journal) front.now emulator.old.quantum emulator.old.machine budget result.turns result.end (I.left dev.old.input)
         (stored_of F.files F.created F.loads F.turned_away F.write_faults files.old)
         (stored_of F.files F.created F.loads F.turned_away F.write_faults files.new) }
     ensures within { result.turns ≤ budget }
-    ensures early { (option_copied names.entry.trace ≡ None) → 0 < budget → WithinBudget result.end result.turns budget }
+    ensures early { (option_copied names.entry.trace ≡ None) → (option_copied names.entry.journal ≡ None) → 0 < budget → WithinBudget result.end result.turns budget }
     ensures turns { IfOk result.end (λ finish. emulator.new.turns ≡ result.turns) }
     ensures cause { StopsOnlyIfAnyRose I.faults O.faults E.faults result.end (F.write_faults files.old) (F.write_faults files.new) dev.old dev.new }
     ensures counts { NoCountFell I.faults O.faults E.faults dev.old dev.new }
@@ -307,7 +454,7 @@ pub fn run_told<F: Store, I: Source, O: Sink, E: Sink>(
     ensures loads { F.load_faults files.new ≡ F.load_faults files.old }
 {
     match make_all(names, files) {
-        Ok(()) => run_made(alloc, emulator, budget, names, files, dev),
+        Ok(()) => run_made(alloc, emulator, budget, names, front, files, dev),
         Err(error) => Ran {
             end: Err(stop_of(error)),
             turns: 0,
@@ -321,22 +468,25 @@ fn run_made<F: Store, I: Source, O: Sink, E: Sink>(
     emulator: &mut Emulator,
     budget: u64,
     names: Names<'_>,
+    front: &[u8],
     files: &mut F,
     dev: &mut Devices<I, O, E>,
 ) -> Ran
     requires fresh { IsFresh emulator.old }
     requires log { BeginsLog (option_copied names.native) emulator.old.native }
+    requires records { BeginsJournal (option_copied names.journal) emulator.old.records }
     requires budget { budget ≤ 1_000_000_000_000 }
-    requires differ { Differ (option_copied names.trace) (option_copied names.native) }
+    requires differ { AllDiffer (option_copied names.trace) (option_copied names.native) (option_copied names.journal) }
     requires trace { IsMade (F.created files.old) (option_copied names.trace) }
     requires native { IsMade (F.created files.old) (option_copied names.native) }
+    requires journal { IsMade (F.created files.old) (option_copied names.journal) }
     ensures run { RunsAs emulator.old.quantum emulator.old.machine budget result.turns result.end
         (contents I.left O.written E.written dev.old) (contents I.left O.written E.written dev.new) emulator.new.machine }
-    ensures texts { (start : Stored) → MakesBoth (option_copied names.entry.trace) (option_copied names.entry.native) start (stored_of F.files F.created F.loads F.turned_away F.write_faults files.old)
-        → WritesTexts (option_copied names.entry.trace) (option_copied names.entry.native) emulator.old.quantum emulator.old.machine budget result.turns result.end (I.left dev.old.input) start
+    ensures texts { (start : Stored) → MakesAll (option_copied names.entry.trace) (option_copied names.entry.native) (option_copied names.entry.journal) start (stored_of F.files F.created F.loads F.turned_away F.write_faults files.old)
+        → WritesTexts (option_copied names.entry.trace) (option_copied names.entry.native) (option_copied names.entry.journal) front.now emulator.old.quantum emulator.old.machine budget result.turns result.end (I.left dev.old.input) start
         (stored_of F.files F.created F.loads F.turned_away F.write_faults files.new) }
     ensures within { result.turns ≤ budget }
-    ensures early { (option_copied names.entry.trace ≡ None) → WithinBudget result.end result.turns budget }
+    ensures early { (option_copied names.entry.trace ≡ None) → (option_copied names.entry.journal ≡ None) → WithinBudget result.end result.turns budget }
     ensures turns { IfOk result.end (λ finish. emulator.new.turns ≡ result.turns) }
     ensures cause { StopsOnlyIfAnyRose I.faults O.faults E.faults result.end (F.write_faults files.old) (F.write_faults files.new) dev.old dev.new }
     ensures counts { NoCountFell I.faults O.faults E.faults dev.old dev.new }
@@ -344,8 +494,10 @@ fn run_made<F: Store, I: Source, O: Sink, E: Sink>(
     ensures loads { F.load_faults files.new ≡ F.load_faults files.old }
 {
     while emulator.turns() < budget {
-        let left = budget - emulator.turns();
-        match take_turns(alloc, emulator, left, names, files, dev) {
+        let turns = emulator.turns();
+        let coming = front_to_come(front, turns);
+        let limit = limit_of(coming, budget - turns);
+        match take_turns(alloc, emulator, limit, names, coming, files, dev) {
             Ok(Turn::Went) => {}
             Ok(Turn::Ended(finish)) => {
                 return Ran {
@@ -361,22 +513,58 @@ fn run_made<F: Store, I: Source, O: Sink, E: Sink>(
             }
         }
     }
-    end_of_budget(alloc, emulator.turns(), names.trace, files)
+    let turns = emulator.turns();
+    end_of_budget(alloc, turns, names, front_to_come(front, turns), files)
 }
 
-/// A run whose budget is done, once the line is added that it is.
-fn end_of_budget<F: Store>(alloc: Global, turns: u64, trace: Option<&str>, files: &mut F) -> Ran
-    requires made { IsMade (F.created files.old) (option_copied trace) }
+/// Adds to the files that are named that the budget's turns are done: the line to the trace, and the end to the journal, behind
+/// `front`.
+fn tell_done<F: Store>(
+    alloc: Global,
+    turns: u64,
+    names: Names<'_>,
+    front: &[u8],
+    files: &mut F,
+) -> Result<(), DevError>
+    requires few { turns ≤ 1_000_000_000_000 }
+    requires trace { IsMade (F.created files.old) (option_copied names.trace) }
+    requires journal { IsMade (F.created files.old) (option_copied names.journal) }
+    ensures added { OnOk result (AddsBoth (option_copied names.entry.trace) (option_copied names.entry.journal) (trace_line turns event.Budget) (budget_record front.now turns)
+        (stored_of F.files F.created F.loads F.turned_away F.write_faults files.old)
+        (stored_of F.files F.created F.loads F.turned_away F.write_faults files.new)) }
+    ensures part { OnErr result (AddsPartOfBoth (option_copied names.entry.trace) (option_copied names.entry.journal) (trace_line turns event.Budget) (budget_record front.now turns)
+        (stored_of F.files F.created F.loads F.turned_away F.write_faults files.old)
+        (stored_of F.files F.created F.loads F.turned_away F.write_faults files.new)) }
+    ensures cause { FailsOnlyIfRose result (F.write_faults files.old) (F.write_faults files.new) }
+    ensures later { F.write_faults files.old ≤ F.write_faults files.new }
+    ensures loads { F.load_faults files.new ≡ F.load_faults files.old }
+    ensures unnamed { (option_copied names.entry.trace ≡ None) → (option_copied names.entry.journal ≡ None) → IsOk result }
+{
+    tell_budget(alloc, names.trace, turns, files)?;
+    tell_end(alloc, names.journal, front, turns, files)
+}
+
+/// A run whose budget is done, once it is told that it is.
+fn end_of_budget<F: Store>(
+    alloc: Global,
+    turns: u64,
+    names: Names<'_>,
+    front: &[u8],
+    files: &mut F,
+) -> Ran
+    requires few { turns ≤ 1_000_000_000_000 }
+    requires trace { IsMade (F.created files.old) (option_copied names.trace) }
+    requires journal { IsMade (F.created files.old) (option_copied names.journal) }
     ensures turns { result.turns ≡ turns }
-    ensures end { EndsBudget (option_copied trace.entry) turns result.end
+    ensures end { EndsBudget (option_copied names.entry.trace) (option_copied names.entry.journal) front.now turns result.end
         (stored_of F.files F.created F.loads F.turned_away F.write_faults files.old)
         (stored_of F.files F.created F.loads F.turned_away F.write_faults files.new) }
-    ensures unnamed { (option_copied trace.entry ≡ None) → IsOk result.end }
+    ensures unnamed { (option_copied names.entry.trace ≡ None) → (option_copied names.entry.journal ≡ None) → IsOk result.end }
     ensures cause { WritesOnlyIfRose result.end (F.write_faults files.old) (F.write_faults files.new) }
     ensures later { F.write_faults files.old ≤ F.write_faults files.new }
     ensures loads { F.load_faults files.new ≡ F.load_faults files.old }
 {
-    match tell_budget(alloc, trace, turns, files) {
+    match tell_done(alloc, turns, names, front, files) {
         Ok(()) => Ran {
             end: Ok(Finish::Budget),
             turns,

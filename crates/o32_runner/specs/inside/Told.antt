@@ -1,11 +1,12 @@
 -- How turns are taken and told one after the other.
-use Rattle.std.specs.Prelude.{ℕ, ◌≡◌, ◌+◌, ◌-◌, ◌⊎◌, ⊤, List, [], ◌++◌, Contains, Option, None, Some, Result, Ok, Err, unwrap_or}
+use Rattle.std.specs.Prelude.{ℕ, ◌≡◌, ◌+◌, ◌-◌, ◌⊎◌, ⊤, List, [], ◌∷◌, ◌++◌, Contains, Option, None, Some, Result, Ok, Err, unwrap_or}
 use Rattle.kernel_core.specs.declared.core_error.Stop.{Stop}
 use Rattle.kernel_core.specs.declared.core_error.Stop.TheVariants as stops
 use Rattle.kernel_core.specs.declared.event.Event.{Event}
 use Rattle.kernel_core.specs.declared.event.Event.TheVariants as events
 use Rattle.kernel_core.specs.declared.finish.Finish.{Finish}
 use Rattle.kernel_core.specs.declared.finish.Finish.TheVariants.{Exited, Killed, Budget, Blocked}
+use Rattle.kernel_core.specs.declared.record.Record.{Record}
 use Rattle.o32_machine.specs.Answered.{turns_of}
 use Rattle.o32_machine.specs.Emulator.{Emulated}
 use Rattle.o32_machine.specs.Quiet.{IsTurnAfter}
@@ -18,11 +19,14 @@ use Rattle.outside.specs.Streams.{Contents}
 use Rattle.outside.specs.declared.errors.DevError.{DevError}
 use Rattle.outside.specs.declared.errors.DevError.TheVariants as device
 use Rattle.o32_machine.specs.Native.{LogsTurn}
+use Rattle.o32_machine.specs.Records.{RecordsTurns}
+use Rattle.o32_runner.specs.JournalText.{records_text}
 use Rattle.o32_runner.specs.NativeText.{entry_lines}
 use Rattle.o32_runner.specs.Stored.{IfNamed, IsUnmade, SavesText, Stored}
 use Rattle.o32_runner.specs.Trace.{turn_lines}
 use Rattle.o32_runner.specs.declared.told.Cut.{Cut}
 use Rattle.trace_text.specs.Trace.{trace_line}
+use Rattle.turn_records.specs.Run.{end_of}
 
 -- The lines of a turn
 
@@ -43,6 +47,22 @@ trace_of emulated turn = told_lines emulated.turns turn emulated.events
 
 abbrev pub native_of : Emulated → code.Turn → List ℕ
 native_of emulated turn = entry_lines (number_of emulated.turns turn) (unwrap_or emulated.native.entries [])
+
+-- The text of the journal that a turn adds: what stands before its records, its records, and the end, where the run is over with it
+
+abbrev pub end_told : ℕ → code.Turn → List Record
+end_told turns Went = []
+end_told turns (Ended finish) = end_of turns finish ∷ []
+
+abbrev pub told_records : ℕ → code.Turn → List Record → List Record
+told_records turns turn records = records ++ end_told turns turn
+
+abbrev pub journal_of : List ℕ → Emulated → code.Turn → List ℕ
+journal_of front emulated turn = front ++ records_text (told_records emulated.turns turn (unwrap_or emulated.records []))
+
+-- and that of a run whose budget is done
+abbrev pub budget_record : List ℕ → ℕ → List ℕ
+budget_record front turns = front ++ records_text (end_of turns Budget ∷ [])
 
 -- Files
 
@@ -88,6 +108,18 @@ pub record AddsPartOfBoth (trace native : Option (List ℕ)) (traced logged : Li
   pub native_begins : IsPrefix native_part logged
   pub adds : AddsBoth trace native trace_part native_part old new
 
+-- and one to the third
+pub record AddsAll (trace native journal : Option (List ℕ)) (traced logged kept : List ℕ) (old new : Stored) : Type 0 where
+  pub middle : Stored
+  pub lines : AddsBoth trace native traced logged old middle
+  pub records : Adds journal kept middle new
+
+-- a first part of each
+pub record AddsPartOfAll (trace native journal : Option (List ℕ)) (traced logged kept : List ℕ) (old new : Stored) : Type 0 where
+  pub middle : Stored
+  pub lines : AddsPartOfBoth trace native traced logged old middle
+  pub records : AddsPart journal kept middle new
+
 -- both files were made and are empty, where they are named
 pub record MakesBoth (trace native : Option (List ℕ)) (old new : Stored) : Type 0 where
   pub middle : Stored
@@ -97,6 +129,17 @@ pub record MakesBoth (trace native : Option (List ℕ)) (old new : Stored) : Typ
 -- one of them could not be made: the first, or the second behind it
 abbrev pub MakesNotBoth : Option (List ℕ) → Option (List ℕ) → Stored → Stored → Type 0
 MakesNotBoth trace native old new = MakesNone trace old new ⊎ ((middle : Stored) × Makes trace old middle × MakesNone native middle new)
+
+-- all three were made, or one of them could not be
+
+pub record MakesAll (trace native journal : Option (List ℕ)) (old new : Stored) : Type 0 where
+  pub middle : Stored
+  pub both : MakesBoth trace native old middle
+  pub third : Makes journal middle new
+
+abbrev pub MakesNotAll : Option (List ℕ) → Option (List ℕ) → Option (List ℕ) → Stored → Stored → Type 0
+MakesNotAll trace native journal old new =
+    MakesNotBoth trace native old new ⊎ ((middle : Stored) × MakesBoth trace native old middle × MakesNone journal middle new)
 
 -- Turns
 
@@ -114,20 +157,24 @@ stop_of device.NoMemory = stops.NoMemory
 pub record Takes (limit : ℕ) (result : Result code.Turn Stop) (old new : Emulated) (turns : ℕ) (before after : Contents) : Type 0 where
   pub turned : IsTurnAfter old.quantum limit old.machine old.turns result new.machine turns new.events before after
   pub logged : LogsTurn result old.machine.kernel new.machine.kernel old.native new.native before after
+  pub recorded : RecordsTurns result old.quantum old.machine old.turns turns old.records new.records before
 
--- and were told; or the run is cut: in a turn, or where its lines were added, which then does not count.
-abbrev pub TakesTurns : ℕ → Result code.Turn Cut → Emulated → Emulated → Contents → Contents → Option (List ℕ) → Option (List ℕ) → Stored → Stored → Type 0
-TakesTurns limit (Ok turn) emulated became before after trace native old new =
-    Takes limit (Ok turn) emulated became became.turns before after × AddsBoth trace native (trace_of became turn) (native_of became turn) old new
-TakesTurns limit (Err cut) emulated became before after trace native old new =
+-- and were told, in the journal behind this front; or the run is cut: in a turn, or where its texts were added, which then does not count.
+abbrev pub TakesAll : List ℕ → ℕ → Result code.Turn Cut → Emulated → Emulated → Contents → Contents → Option (List ℕ) → Option (List ℕ) → Option (List ℕ) → Stored → Stored → Type 0
+TakesAll front limit (Ok turn) emulated became before after trace native journal old new =
+    Takes limit (Ok turn) emulated became became.turns before after
+    × AddsAll trace native journal (trace_of became turn) (native_of became turn) (journal_of front became turn) old new
+TakesAll front limit (Err cut) emulated became before after trace native journal old new =
     (Takes limit (Err cut.stop) emulated became cut.turns before after × (new ≡ old))
     ⊎ ((turn : code.Turn) × Takes limit (Ok turn) emulated became became.turns before after
-    × AddsPartOfBoth trace native (trace_of became turn) (native_of became turn) old new × (became.turns ≡ cut.turns + turns_of turn))
+    × AddsPartOfAll trace native journal (trace_of became turn) (native_of became turn) (journal_of front became turn) old new × (became.turns ≡ cut.turns + turns_of turn))
 
--- the line that the budget's turns are done was added to the trace, or a part of it
-abbrev pub EndsBudget : Option (List ℕ) → ℕ → Result Finish Stop → Stored → Stored → Type 0
-EndsBudget trace turns (Ok finish) old new = (finish ≡ Budget) × Adds trace (trace_line turns events.Budget) old new
-EndsBudget trace turns (Err stop) old new = AddsPart trace (trace_line turns events.Budget) old new
+-- the line that the budget's turns are done was added to the trace, and the end to the journal, or a part of both
+abbrev pub EndsBudget : Option (List ℕ) → Option (List ℕ) → List ℕ → ℕ → Result Finish Stop → Stored → Stored → Type 0
+EndsBudget trace journal front turns (Ok finish) old new =
+    (finish ≡ Budget) × AddsBoth trace journal (trace_line turns events.Budget) (budget_record front turns) old new
+EndsBudget trace journal front turns (Err stop) old new =
+    AddsPartOfBoth trace journal (trace_line turns events.Budget) (budget_record front turns) old new
 
 -- the store's count of faulty writes rose where a fault is told, and in no other case
 abbrev pub WritesOnlyIfRose : Result Finish Stop → ℕ → ℕ → Type 0

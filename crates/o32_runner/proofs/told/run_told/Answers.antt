@@ -4,7 +4,7 @@ use Rattle.outside.specs.Streams.{contents}
 use Rattle.o32_runner.specs.Stored.{stored_of}
 use Rattle.o32_runner.proofs.RunLemmas.{at_start}
 use Rattle.o32_runner.proofs.Telling.{cut_here}
-use Rattle.o32_runner.proofs.Writing.{writes_none}
+use Rattle.o32_runner.proofs.Journals.{all_unmade}
 use Rattle.o32_runner.proofs.told.run_told.Goals as goal
 
 pub returns-in-Err-clause-run : goal.returns-in-Err-clause-run
@@ -15,9 +15,10 @@ returns-in-Err-clause-run g c = λ left told.
 
 pub returns-in-Err-clause-texts : goal.returns-in-Err-clause-texts
 returns-in-Err-clause-texts g c =
-    writes_none c.args.emulator.now.quantum c.args.emulator.now.machine c.args.budget c.stop_of.result (g.I.Source.left c.args.dev.now.input) (option_copied c.args.names.trace) (option_copied c.args.names.native)
+    all_unmade c.args.front.now c.args.emulator.now.quantum c.args.emulator.now.machine c.args.budget c.stop_of.result (g.I.Source.left c.args.dev.now.input)
+    (option_copied c.args.names.trace) (option_copied c.args.names.native) (option_copied c.args.names.journal)
     (stored_of g.F.Store.files g.F.Store.created g.F.Store.loads g.F.Store.turned_away g.F.Store.write_faults c.args.files.now)
     (stored_of g.F.Store.files g.F.Store.created g.F.Store.loads g.F.Store.turned_away g.F.Store.write_faults c.make_all.new.files) c.in-Err.ensures.unmade
 
 pub returns-in-Err-clause-early : goal.returns-in-Err-clause-early
-returns-in-Err-clause-early g c = λ none some. some
+returns-in-Err-clause-early g c = λ none unkept some. some

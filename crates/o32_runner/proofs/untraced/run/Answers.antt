@@ -1,4 +1,4 @@
-use Rattle.std.proofs.Common.{◌≡◌, ◌+◌, ◌-◌, ◌<◌, ℕ, ap, arith, refl, subst, sym, ◌∙◌}
+use Rattle.std.proofs.Common.{◌≡◌, ◌+◌, ◌-◌, ◌<◌, ◌≤◌, ℕ, ap, arith, refl, subst, sym, ◌∙◌}
 use Rattle.outside.specs.Streams.{contents}
 use Rattle.outside.proofs.StreamLemmas.{NoCountRose-refl, NoCountRose-trans}
 use Rattle.o32_machine.specs.Answered.{is_end, turns_of}
@@ -53,7 +53,7 @@ pub returns-in-Ok-Ended-clause-run : goal.returns-in-Ok-Ended-clause-run
 returns-in-Ok-Ended-clause-run g c = λ left told.
     let i = c.loop-emulator.invariant in
     let below : c.loop-emulator.emulator.turns < c.args.budget = omega arith in
-    let room : c.args.budget - c.turns-in-loop-emulator.result ≡ c.args.budget - c.loop-emulator.emulator.turns = ap (λ (n : ℕ). c.args.budget - n) c.turns-in-loop-emulator.ensures in
+    let room : c.args.budget - c.turns-in-loop-emulator.result ≤ c.args.budget - c.loop-emulator.emulator.turns = omega (arith, c.turns-in-loop-emulator.ensures) in
     subst (λ (n : ℕ). IsOver c.args.emulator.now.quantum c.args.emulator.now.machine left c.args.budget n c.in-Ok-Ended.finish (contents g.I.Source.left g.O.Sink.written g.E.Sink.written c.args.dev.now) (contents g.I.Source.left g.O.Sink.written g.E.Sink.written c.next_turns.new.dev) c.next_turns.new.self.machine) (sym c.turns-in-Ok-Ended.ensures)
     (is_over_after c.args.emulator.now.quantum c.args.emulator.now.machine left c.loop-emulator.emulator.turns c.loop-emulator.emulator.quantum (c.args.budget - c.turns-in-loop-emulator.result) (contents g.I.Source.left g.O.Sink.written g.E.Sink.written c.args.dev.now) (contents g.I.Source.left g.O.Sink.written g.E.Sink.written c.loop-emulator.dev) (contents g.I.Source.left g.O.Sink.written g.E.Sink.written c.next_turns.new.dev) c.loop-emulator.emulator.machine c.next_turns.new.self.machine c.next_turns.new.self.turns c.next_turns.new.self.events i.long (i.so left told)
     c.args.budget c.in-Ok-Ended.field-0 c.in-Ok-Ended.finish c.in-Ok-Ended.field-0-is below room c.in-Ok-Ended.ensures.turns)
@@ -63,7 +63,7 @@ returns-in-Err-clause-run g c = λ left told.
     let i = c.loop-emulator.invariant in
     let turned = c.in-Err.ensures.turns in
     let below : c.loop-emulator.emulator.turns < c.args.budget = omega arith in
-    let room : c.args.budget - c.turns-in-loop-emulator.result ≡ c.args.budget - c.loop-emulator.emulator.turns = ap (λ (n : ℕ). c.args.budget - n) c.turns-in-loop-emulator.ensures in
+    let room : c.args.budget - c.turns-in-loop-emulator.result ≤ c.args.budget - c.loop-emulator.emulator.turns = omega (arith, c.turns-in-loop-emulator.ensures) in
     let within : c.next_turns.new.self.turns < c.args.budget = omega (arith, below, room, turned.within, turned.counted) in
     subst (λ (n : ℕ). IsCut c.args.emulator.now.quantum c.args.emulator.now.machine left n (turns_begun c.args.budget n) (contents g.I.Source.left g.O.Sink.written g.E.Sink.written c.args.dev.now) (contents g.I.Source.left g.O.Sink.written g.E.Sink.written c.next_turns.new.dev)) (sym c.turns-in-Err.ensures)
     (cut_within c.args.emulator.now.quantum c.args.emulator.now.machine left c.next_turns.new.self.turns c.args.budget (contents g.I.Source.left g.O.Sink.written g.E.Sink.written c.args.dev.now) (contents g.I.Source.left g.O.Sink.written g.E.Sink.written c.next_turns.new.dev) within
