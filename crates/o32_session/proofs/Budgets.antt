@@ -8,7 +8,7 @@ use Rattle.std.specs.Option.{unwrap_or}
 use Rattle.std.specs.Str.{bytes_eq}
 use Rattle.std.specs.Char.{digit_value, is_ascii_digit}
 use Rattle.std.specs.Str.Parse.{digits_value, digits_value_after}
-use Rattle.o32_session.specs.Words.{Line, Options, Reading, Asks, WrongAt, Role, ImageOption, ScheduleOption, BudgetOption, TraceOption, NativeOption, SaveOption, EnvOption, ProgramName, NoOption, budget_of, up_to_greatest, default_budget, greatest_budget, is_plain_number, is_file_name, is_setting, has_nul, line_of, no_options, read_guest, read_last, read_pair, read_options, read_line, with_budget, with_names, compare_names, equal_name, read_words, role_of}
+use Rattle.o32_session.specs.Words.{Line, Options, Reading, Asks, WrongAt, Role, ImageOption, ScheduleOption, BudgetOption, TraceOption, NativeOption, JournalOption, SaveOption, EnvOption, ProgramName, NoOption, budget_of, up_to_greatest, default_budget, greatest_budget, is_plain_number, is_file_name, is_setting, has_nul, line_of, no_options, read_guest, read_last, read_pair, read_options, read_line, with_budget, with_names, compare_names, equal_name, read_words, role_of}
 
 abbrev Fits : Option ℕ → Type 0
 Fits None = ⊤
@@ -66,6 +66,7 @@ last_within at options ScheduleOption fits = either_within (is_some options.sche
 last_within at options BudgetOption fits = either_within (is_some options.budget) (WrongAt at) (WrongAt (at + 1)) tt tt
 last_within at options TraceOption fits = either_within (is_some options.trace) (WrongAt at) (WrongAt (at + 1)) tt tt
 last_within at options NativeOption fits = either_within (is_some options.native) (WrongAt at) (WrongAt (at + 1)) tt tt
+last_within at options JournalOption fits = either_within (is_some options.journal) (WrongAt at) (WrongAt (at + 1)) tt tt
 last_within at options SaveOption fits = either_within (is_some options.save) (WrongAt at) (WrongAt (at + 1)) tt tt
 last_within at options EnvOption fits = tt
 last_within at options ProgramName fits = line_within options at options.budget refl fits
@@ -87,6 +88,8 @@ pair_within at options TraceOption value guest go_on fits within each =
     either_within (is_some options.trace) (WrongAt at) _ tt (either_within (is_file_name value) (go_on (record options { trace = Some (at + 1) })) (WrongAt (at + 1)) (each (record options { trace = Some (at + 1) }) fits) tt)
 pair_within at options NativeOption value guest go_on fits within each =
     either_within (is_some options.native) (WrongAt at) _ tt (either_within (is_file_name value) (go_on (record options { native = Some (at + 1) })) (WrongAt (at + 1)) (each (record options { native = Some (at + 1) }) fits) tt)
+pair_within at options JournalOption value guest go_on fits within each =
+    either_within (is_some options.journal) (WrongAt at) _ tt (either_within (is_file_name value) (go_on (record options { journal = Some (at + 1) })) (WrongAt (at + 1)) (each (record options { journal = Some (at + 1) }) fits) tt)
 pair_within at options SaveOption value guest go_on fits within each =
     either_within (is_some options.save) (WrongAt at) _ tt (either_within (is_file_name value) (go_on (record options { save = Some (at + 1) })) (WrongAt (at + 1)) (each (record options { save = Some (at + 1) }) fits) tt)
 pair_within at options EnvOption value guest go_on fits within each =

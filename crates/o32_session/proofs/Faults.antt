@@ -1,5 +1,5 @@
 -- What an end says of the counts of faults.
-use Rattle.std.proofs.Common.{◌≡◌, ℕ, List, Option, Err, inl, inr, refl, sym, ◌∙◌, subst}
+use Rattle.std.proofs.Common.{◌≡◌, ℕ, List, Option, Err, inl, inr, sym, ◌∙◌, subst}
 use Rattle.outside.specs.Count.{Rose}
 use Rattle.outside.specs.declared.devices.Devices.{Devices}
 use Rattle.kernel_core.specs.declared.core_error.Stop.{Stop}
@@ -16,7 +16,7 @@ use Rattle.o32_session.specs.inside.Prepared.{EndsRefused, EndsWithoutRun, LineF
 use Rattle.o32_session.specs.inside.Runs.{AnswersRun}
 use Rattle.o32_session.specs.declared.answer.Answer.{Answer}
 use Rattle.o32_session.specs.declared.answer.End.{End}
-use Rattle.o32_session.specs.declared.answer.End.TheVariants.{Exited, Killed, Budget, Blocked, Refused, ReadFault, WriteFault, NoMemory}
+use Rattle.o32_session.specs.declared.answer.End.TheVariants.{Exited, Killed, Budget, Blocked, Replayed, Refused, Diverged, ReadFault, WriteFault, NoMemory}
 use Rattle.o32_session.specs.declared.answer.Refusal.{Refusal}
 use Rattle.o32_session.specs.declared.not_run.NotRun.{NotRun}
 use Rattle.o32_session.specs.declared.not_run.NotRun.TheVariants as reasons
@@ -56,10 +56,12 @@ tells_since (Exited status) old middle new first second = none_since old middle 
 tells_since (Killed signal) old middle new first second = none_since old middle new first second
 tells_since Budget old middle new first second = none_since old middle new first second
 tells_since Blocked old middle new first second = none_since old middle new first second
+tells_since (Replayed over) old middle new first second = none_since old middle new first second
+tells_since (Diverged turn wanted found) old middle new first second = none_since old middle new first second
 
 -- Nothing is run
 
-line_faults : (refusal : Refusal) (end : End) (old new : Seen) (text then : Option (List ℕ)) → EndsRefused refusal end text then → LineFailsOnlyIfRose end old.err_faults new.err_faults
+pub line_faults : (refusal : Refusal) (end : End) (old new : Seen) (text then : Option (List ℕ)) → EndsRefused refusal end text then → LineFailsOnlyIfRose end old.err_faults new.err_faults
     → new.read_faults ≡ old.read_faults → new.out_faults ≡ old.out_faults → new.load_faults ≡ old.load_faults → new.store.write_faults ≡ old.store.write_faults → TellsFaults end old new
 line_faults refusal (Refused given) old new text then so cause reads outs loads writes = record { reads = reads; outs = outs; errs = cause; loads = loads; writes = writes }
 line_faults refusal WriteFault old new text then so cause reads outs loads writes = inr (inl cause)
@@ -69,6 +71,8 @@ line_faults refusal (Exited status) old new text then so cause reads outs loads 
 line_faults refusal (Killed signal) old new text then so cause reads outs loads writes = absurd so
 line_faults refusal Budget old new text then so cause reads outs loads writes = absurd so
 line_faults refusal Blocked old new text then so cause reads outs loads writes = absurd so
+line_faults refusal (Replayed over) old new text then so cause reads outs loads writes = absurd so
+line_faults refusal (Diverged turn wanted found) old new text then so cause reads outs loads writes = absurd so
 
 pub unrun_faults : (reason : NotRun) (end : End) (old new : Seen) (text then : Option (List ℕ)) → EndsWithoutRun reason end text then → LineFailsOnlyIfRose end old.err_faults new.err_faults
     → ReasonOnlyIfRose {T = Ready} (Err reason) old.load_faults new.load_faults → new.read_faults ≡ old.read_faults → new.out_faults ≡ old.out_faults

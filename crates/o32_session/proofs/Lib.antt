@@ -9,5 +9,7 @@ pub mod Sessions
 pub mod SavedFiles
 pub mod Reading
 pub mod Budgets
+pub mod Plain
 pub mod Saves
 pub mod Chance
+pub mod Repeating

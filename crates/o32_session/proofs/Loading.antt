@@ -30,7 +30,7 @@ after_twice store first second turned =
     ap (λ (l : List (List ℕ)). let s : Stored = record store { loads = l; turned = (store.turned ++ []) ++ turned } in s) (append_assoc store.loads first second)
     ∙ ap (λ (t : List TurnedLoad). let s : Stored = record store { loads = store.loads ++ (first ++ second); turned = t ++ turned } in s) (append-nil store.turned)
 
-then_loaded : (old middle new : Stored) (first second : List (List ℕ)) (turned : List TurnedLoad) → middle ≡ after_loads old first [] → new ≡ after_loads middle second turned → new ≡ after_loads old (first ++ second) turned
+pub then_loaded : (old middle new : Stored) (first second : List (List ℕ)) (turned : List TurnedLoad) → middle ≡ after_loads old first [] → new ≡ after_loads middle second turned → new ≡ after_loads old (first ++ second) turned
 then_loaded old middle new first second turned before after =
     after ∙ (ap (λ (s : Stored). after_loads s second turned) before ∙ after_twice old first second turned)
 
@@ -205,6 +205,7 @@ started names asked (Refused (refusals.TooLong file)) old new why is = absurd wh
 started names asked (Refused (refusals.Elf rule)) old new why is = absurd why
 started names asked (Refused (refusals.Image broken)) old new why is = absurd why
 started names asked (Refused (refusals.Schedule broken)) old new why is = absurd why
+started names asked (Refused (refusals.Journal at)) old new why is = absurd why
 started names asked ReadFault old new why is = absurd why
 started names asked NoMemory old new why is = part_loaded names (loaded_names names) [] old new (all_names names) is
 

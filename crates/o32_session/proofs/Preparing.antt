@@ -16,10 +16,10 @@ use Rattle.elf_image.specs.Rules.{first_failure}
 use Rattle.elf_image.specs.Loading.{plan_of, IsValidPlan}
 use Rattle.elf_image.specs.declared.load_plan.Plan.{Plan}
 use Rattle.o32_session.specs.Words.{Line}
-use Rattle.o32_session.specs.Asked.{Asked, Refuse, Run, names_of, Absent, Long, Bytes, IsFound, IsOpened, IsScheduled, asked_of_schedule, AsksOfPlan, AsksUnless, AsksFor, arguments_of, first_machine, program_limit, stack_chance}
+use Rattle.o32_session.specs.Asked.{Asked, Refuse, Run, names_of, Absent, Long, Bytes, IsFound, IsOpened, IsScheduled, asked_of_schedule, AsksOfPlan, AsksUnless, AsksFor, arguments_of, first_machine, journal_front, program_limit, stack_chance}
 use Rattle.o32_session.specs.inside.Prepared.{IsLoaded, IsElfReason, IsRefusedFor, is_absent, is_long, is_broken, IsPlanOf, IsPlanned, IsTree, IsScheduledAs, IsStartReason, IsPreparedLine}
 use Rattle.o32_session.specs.declared.answer.Refusal.{Refusal}
-use Rattle.o32_session.specs.declared.answer.Refusal.TheVariants.{Usage, Missing, TooLong, Elf, Image, Start}
+use Rattle.o32_session.specs.declared.answer.Refusal.TheVariants.{Usage, Missing, TooLong, Elf, Image, Start, Journal}
 use Rattle.o32_session.specs.declared.answer.Refusal.TheVariants as refusals
 use Rattle.o32_session.specs.declared.load.SessionFile.TheVariants as which
 use Rattle.o32_session.specs.declared.not_run.NotRun.{NotRun}
@@ -41,6 +41,7 @@ planned told name bytes found (Err (Refused (TooLong file))) is reason = absurd 
 planned told name bytes found (Err (Refused (Image broken))) is reason = absurd reason
 planned told name bytes found (Err (Refused (refusals.Schedule broken))) is reason = absurd reason
 planned told name bytes found (Err (Refused Start)) is reason = absurd reason
+planned told name bytes found (Err (Refused (Journal at))) is reason = absurd reason
 planned told name bytes found (Err ReadFault) is reason = tt
 planned told name bytes found (Err NoMemory) is reason = tt
 
@@ -54,6 +55,7 @@ unplanned told name (Refused (Elf rule)) is = absurd is
 unplanned told name (Refused (Image broken)) is = absurd is
 unplanned told name (Refused (refusals.Schedule broken)) is = absurd is
 unplanned told name (Refused Start) is = absurd is
+unplanned told name (Refused (Journal at)) is = absurd is
 unplanned told name ReadFault is = tt
 unplanned told name NoMemory is = tt
 
@@ -98,6 +100,7 @@ start_prepared words line told plan tree schedule (Refused (TooLong file)) is im
 start_prepared words line told plan tree schedule (Refused (Elf rule)) is image scheduled reason = absurd reason
 start_prepared words line told plan tree schedule (Refused (Image broken)) is image scheduled reason = absurd reason
 start_prepared words line told plan tree schedule (Refused (refusals.Schedule broken)) is image scheduled reason = absurd reason
+start_prepared words line told plan tree schedule (Refused (Journal at)) is image scheduled reason = absurd reason
 start_prepared words line told plan tree schedule ReadFault is image scheduled reason = tt
 start_prepared words line told plan tree schedule NoMemory is image scheduled reason = tt
 
@@ -105,15 +108,15 @@ start_prepared words line told plan tree schedule NoMemory is image scheduled re
 pub prepared : (words : List (List ℕ)) (line : Line) (told : Option Files) (plan : Plan) (tree : Tree) (schedule : Schedule) (args : List (List ℕ)) →
     args ≡ arguments_of words line → IsPlanOf told (names_of words line).program plan →
     IsTree told (names_of words line).image (Ok tree) → IsScheduledAs told (names_of words line).schedule (Ok schedule) → (result : Result Ready NotRun) →
-    IfOk result (λ ready. asked_of_schedule args line plan tree schedule ≡ Run ready.emulator.quantum ready.emulator.machine ready.budget) →
-    IfOk result (λ ready. ready.save ≡ line.save) → IfOk result (λ ready. ready.trace ≡ line.trace) → IfOk result (λ ready. ready.native ≡ line.native) →
+    IfOk result (λ ready. asked_of_schedule args line plan tree schedule ≡ Run ready.emulator.quantum ready.emulator.machine ready.budget ready.front.items) →
+    IfOk result (λ ready. ready.save ≡ line.save) → IfOk result (λ ready. ready.trace ≡ line.trace) → IfOk result (λ ready. ready.native ≡ line.native) → IfOk result (λ ready. ready.journal ≡ line.journal) →
     IfErr result (IsStartReason (asked_of_schedule args line plan tree schedule)) → IsPreparedLine words line told result
-prepared words line told plan tree schedule args same is image scheduled (Ok ready) runs save trace native reason = (
-  asks_planned words line told plan (Ok tree) (Run ready.emulator.quantum ready.emulator.machine ready.budget) is image.0
+prepared words line told plan tree schedule args same is image scheduled (Ok ready) runs save trace native journal reason = (
+  asks_planned words line told plan (Ok tree) (Run ready.emulator.quantum ready.emulator.machine ready.budget ready.front.items) is image.0
       (Ok schedule, scheduled, sym (ap (λ a. asked_of_schedule a line plan tree schedule) (sym same) ∙ runs)),
-  (save, (trace, native)),
+  (save, (trace, (native, journal))),
 )
-prepared words line told plan tree schedule args same is image scheduled (Err reason) runs save trace native why =
+prepared words line told plan tree schedule args same is image scheduled (Err reason) runs save trace native journal why =
     start_prepared words line told plan tree schedule reason is image.0 scheduled
     (subst (λ a. IsStartReason (asked_of_schedule a line plan tree schedule) reason) same why)
 
@@ -137,15 +140,18 @@ unplanned_line words line told NoMemory is = tt
 -- The machine
 
 -- the emulator of a start that fits, over the kernel of this tree and schedule
-pub machine_ready : (args : List (List ℕ)) (line : Line) (plan : Plan) (tree : Tree) (schedule : Schedule) (cpu : Processor) (space : Memory) (quantum : ℕ) (machine : Machine)
+pub machine_ready : (args : List (List ℕ)) (line : Line) (plan : Plan) (tree : Tree) (schedule : Schedule) (cpu : Processor) (space : Memory) (quantum : ℕ) (machine : Machine) (front : List ℕ)
     → (start_limit < start_size args line.environment → ⊥) → cpu ≡ start_processor plan args line.environment → space ≡ start_memory plan args line.environment (stack_chance schedule) → quantum ≡ schedule.quantum
-    → machine ≡ emulators.first_machine cpu space (first_state tree (settings_of schedule)) (emulators.coming_of schedule) → asked_of_schedule args line plan tree schedule ≡ Run quantum machine line.budget
-machine_ready args line plan tree schedule cpu space quantum machine fits cpu_is space_is quantum_is machine_is =
+    → machine ≡ emulators.first_machine cpu space (first_state tree (settings_of schedule)) (emulators.coming_of schedule) → front ≡ journal_front args line.environment schedule
+    → asked_of_schedule args line plan tree schedule ≡ Run quantum machine line.budget front
+machine_ready args line plan tree schedule cpu space quantum machine front fits cpu_is space_is quantum_is machine_is front_is =
     let within : start_size args line.environment ≤ start_limit = omega arith in
     let same : first_machine plan args line.environment tree schedule ≡ machine =
     sym (machine_is
     ∙ ap (λ (p : Processor). emulators.first_machine p space (first_state tree (settings_of schedule)) (emulators.coming_of schedule)) cpu_is
     ∙ ap (λ (m : Memory). emulators.first_machine (start_processor plan args line.environment) m (first_state tree (settings_of schedule)) (emulators.coming_of schedule)) space_is) in
-    ap (λ (b : Bool). cond b (Refuse Start) (Run schedule.quantum (first_machine plan args line.environment tree schedule) line.budget))
+    ap (λ (b : Bool). cond b (Refuse Start) (Run schedule.quantum (first_machine plan args line.environment tree schedule) line.budget (journal_front args line.environment schedule)))
     (le-ltb start_limit (start_size args line.environment) within)
-    ∙ (ap (λ (m : Machine). Run schedule.quantum m line.budget) same ∙ ap (λ (q : ℕ). Run q machine line.budget) (sym quantum_is))
+    ∙ (ap (λ (m : Machine). Run schedule.quantum m line.budget (journal_front args line.environment schedule)) same
+    ∙ ap (λ (q : ℕ). Run q machine line.budget (journal_front args line.environment schedule)) (sym quantum_is)
+    ∙ ap (λ (text : List ℕ). Run quantum machine line.budget text) (sym front_is))

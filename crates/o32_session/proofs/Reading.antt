@@ -1,8 +1,8 @@
 -- Going over the words one by one reads what the grammar says.
 use Rattle.std.proofs.Common.{◌≡◌, ℕ, ◌+◌, ◌<◌, List, [], ◌∷◌, ◌++◌, length, get_or, drop, Bool, true, false, cond, Option, Some, None, is_some, String, string_bytes, codes, arith, refl, sym, ap, ◌∙◌}
 use Rattle.std.specs.Str.{bytes_eq}
-use Rattle.o32_session.specs.Words.{Role, ImageOption, ScheduleOption, BudgetOption, TraceOption, NativeOption, SaveOption, EnvOption, ProgramName, NoOption, role_of, is_file_name, budget_of, is_setting, Options, line_of, Reading, WrongAt, read_guest, read_last, with_budget, read_pair, read_options, read_line, no_options, texts}
-use Rattle.o32_session.specs.inside.Steps.{Expected, Option_or_program, Image_value, Schedule_value, Budget_value, Trace_value, Native_value, Save_value, Goes_on, Is_wrong, step_at_option, step_at_budget, after_step, read_from}
+use Rattle.o32_session.specs.Words.{Role, ImageOption, ScheduleOption, BudgetOption, TraceOption, NativeOption, JournalOption, SaveOption, EnvOption, ProgramName, NoOption, role_of, is_file_name, budget_of, is_setting, Options, line_of, Reading, WrongAt, read_guest, read_last, with_budget, read_pair, read_options, read_line, no_options, texts}
+use Rattle.o32_session.specs.inside.Steps.{Expected, Option_or_program, Image_value, Schedule_value, Budget_value, Trace_value, Native_value, Journal_value, Save_value, Goes_on, Is_wrong, step_at_option, step_at_budget, after_step, read_from}
 
 -- an option whose value is missing
 value_last : (at : ℕ) (options : Options) (guest : Reading) (value : Expected) (twice : Bool) →
@@ -19,6 +19,7 @@ last at options ScheduleOption = value_last at options (read_guest (line_of opti
 last at options BudgetOption = value_last at options (read_guest (line_of options at) (at + 1) []) Budget_value (is_some options.budget)
 last at options TraceOption = value_last at options (read_guest (line_of options at) (at + 1) []) Trace_value (is_some options.trace)
 last at options NativeOption = value_last at options (read_guest (line_of options at) (at + 1) []) Native_value (is_some options.native)
+last at options JournalOption = value_last at options (read_guest (line_of options at) (at + 1) []) Journal_value (is_some options.journal)
 last at options SaveOption = value_last at options (read_guest (line_of options at) (at + 1) []) Save_value (is_some options.save)
 last at options EnvOption = refl
 last at options ProgramName = refl
@@ -84,6 +85,15 @@ native_pair at options value rest guest false after =
     kept_value at (record options { native = Some (at + 1) }) rest (read_guest (line_of options (at + 1)) (at + 1 + 1) rest)
     (is_file_name value) after
 
+journal_pair : (at : ℕ) (options : Options) (value : List ℕ) (rest : List (List ℕ)) (guest : Reading) (twice : Bool) → GoesOn at rest →
+    after_step at guest (λ next read. read_from (at + 1) next read (value ∷ rest)) (cond twice Is_wrong (Goes_on Journal_value options))
+    ≡ cond twice (WrongAt at)
+    (cond (is_file_name value) (read_options (at + 1 + 1) (record options { journal = Some (at + 1) }) rest) (WrongAt (at + 1)))
+journal_pair at options value rest guest true after = refl
+journal_pair at options value rest guest false after =
+    kept_value at (record options { journal = Some (at + 1) }) rest (read_guest (line_of options (at + 1)) (at + 1 + 1) rest)
+    (is_file_name value) after
+
 save_pair : (at : ℕ) (options : Options) (value : List ℕ) (rest : List (List ℕ)) (guest : Reading) (twice : Bool) → GoesOn at rest →
     after_step at guest (λ next read. read_from (at + 1) next read (value ∷ rest)) (cond twice Is_wrong (Goes_on Save_value options))
     ≡ cond twice (WrongAt at)
@@ -107,6 +117,8 @@ pair at options TraceOption value rest after =
     trace_pair at options value rest (read_guest (line_of options at) (at + 1) (value ∷ rest)) (is_some options.trace) after
 pair at options NativeOption value rest after =
     native_pair at options value rest (read_guest (line_of options at) (at + 1) (value ∷ rest)) (is_some options.native) after
+pair at options JournalOption value rest after =
+    journal_pair at options value rest (read_guest (line_of options at) (at + 1) (value ∷ rest)) (is_some options.journal) after
 pair at options SaveOption value rest after =
     save_pair at options value rest (read_guest (line_of options at) (at + 1) (value ∷ rest)) (is_some options.save) after
 pair at options EnvOption value rest after =

@@ -1,5 +1,5 @@
 -- What an answer says of the files alone.
-use Rattle.std.proofs.Common.{◌≡◌, ℕ, List, [], Option, Some, None, Result, Ok, Err, ◌⊎◌, inl, inr, refl, sym, ap, subst}
+use Rattle.std.proofs.Common.{◌≡◌, ℕ, List, [], Option, Some, None, Ok, Err, ◌⊎◌, inl, inr, refl, sym, ap, subst}
 use Rattle.outside.specs.Files.{Files, ChangesFile, IsUnchangedOrEmptied}
 use Rattle.kernel_core.specs.declared.finish.Finish.{Finish}
 use Rattle.kernel_core.specs.declared.finish.Finish.TheVariants as finishes
@@ -11,9 +11,9 @@ use Rattle.o32_machine.specs.Emulator.{Emulated}
 use Rattle.o32_turns.specs.Machine.{Machine}
 use Rattle.o32_session.specs.Asked.{Asked, Refuse, Run, Names, names_of}
 use Rattle.o32_session.specs.Saved.{SavesPart, SavesTree, SavesTreeInPart, StandsOrBegins}
+use Rattle.o32_runner.specs.JournalText.{IsCutJournal, IsWholeJournal, KeepsAs}
 use Rattle.o32_runner.specs.NativeText.{IsCutLog, IsWholeLog, LogsAs}
 use Rattle.o32_runner.specs.Stored.{HasText, IfNamed, IsUnmade, Stored, WritesText}
-use Rattle.o32_runner.specs.Texts.{WritesTexts}
 use Rattle.o32_runner.specs.Traced.{IsCutTrace, IsWholeTrace, TracesAs}
 use Rattle.o32_session.specs.SavedFile.{HasTreeText, IsFileAfter, IsTextAfter, SavesReading, SavesTo, StandsOrHasPart, StandsOrIsThere, TextsTo, WritesFiles}
 use Rattle.o32_session.specs.Session.{Answers, AnswersReading, Finishes, Seen, StopsAfter, StopsAtSave, StopsInRun, final_tree, no_names, once_loaded}
@@ -21,7 +21,7 @@ use Rattle.o32_session.specs.Words.{Reading, Asks, WrongAt}
 use Rattle.o32_session.specs.declared.answer.Refusal.{Refusal}
 use Rattle.o32_session.specs.declared.answer.Refusal.TheVariants.{Usage}
 use Rattle.o32_session.specs.declared.answer.End.{End}
-use Rattle.o32_session.specs.declared.answer.End.TheVariants.{Exited, Killed, Budget, Blocked, Refused, ReadFault, WriteFault, NoMemory}
+use Rattle.o32_session.specs.declared.answer.End.TheVariants.{Exited, Killed, Budget, Blocked, Replayed, Refused, Diverged, ReadFault, WriteFault, NoMemory}
 
 -- One file
 
@@ -61,6 +61,8 @@ early_stands count names (Exited status) early = absurd early
 early_stands count names (Killed signal) early = absurd early
 early_stands count names Budget early = absurd early
 early_stands count names Blocked early = absurd early
+early_stands count names (Replayed over) early = absurd early
+early_stands count names (Diverged turn wanted found) early = absurd early
 early_stands count names (Refused given) early = absurd early
 early_stands count names WriteFault early = absurd early
 
@@ -74,10 +76,10 @@ text_stands end files stands (Some name) = unchanged_file files files name (IsTe
 
 stands_so : (end : End) (old new : Option Files) → IsNoFinish end → new ≡ old → (names : Names) → WritesFiles names end old new
 stands_so end old new stands same names =
-    (old, old, text_stands end old stands names.trace, text_stands end old stands names.native, save_stands end old new stands same names.save)
+    (old, old, old, text_stands end old stands names.trace, text_stands end old stands names.native, text_stands end old stands names.journal, save_stands end old new stands same names.save)
 
 -- what an answer to a refusal says of the end and of the store
-refused_stands : (refusal : Refusal) (names : Names) (old new : Seen) (turns : ℕ) (end : End) (host : Option Emulated) →
+pub refused_stands : (refusal : Refusal) (names : Names) (old new : Seen) (turns : ℕ) (end : End) (host : Option Emulated) →
     Answers (Refuse refusal) names old new turns end host → IsNoFinish end × (new.store.files ≡ old.store.files)
 refused_stands refusal names old new turns (Refused given) host answer = ((λ file. (refl, refl)), ap (λ (s : Stored). s.files) answer.stands)
 refused_stands refusal names old new turns WriteFault host answer = ((λ file. (inl refl, inl refl)), ap (λ (s : Stored). s.files) answer.0.stands)
@@ -87,6 +89,8 @@ refused_stands refusal names old new turns (Exited status) host answer = absurd 
 refused_stands refusal names old new turns (Killed signal) host answer = absurd answer
 refused_stands refusal names old new turns Budget host answer = absurd answer
 refused_stands refusal names old new turns Blocked host answer = absurd answer
+refused_stands refusal names old new turns (Replayed over) host answer = absurd answer
+refused_stands refusal names old new turns (Diverged turn wanted found) host answer = absurd answer
 
 -- A run
 
@@ -153,49 +157,68 @@ module _ (quantum : ℕ) (machine : Machine) (budget turns : ℕ) (told : Option
   logs_part None stop says wrote = ap (λ (s : Stored). s.files) wrote
   logs_part (Some name) stop says wrote = text_part name (IsCutLog quantum machine budget turns told) turns old new end says wrote
 
+module _ (front : List ℕ) (quantum : ℕ) (machine : Machine) (budget turns : ℕ) (told : Option (List ℕ)) (old new : Stored) (end : End) where
+  keeps_whole : (name : Option (List ℕ)) (finish : Finish) → ((before after : Option (List ℕ)) → (text : List ℕ) × (after ≡ Some text) → IsTextAfter end before after)
+      → IfNamed name (λ n. KeepsAs n front quantum machine budget turns (Ok finish) told) old new → TextsTo name end old.files new.files
+  keeps_whole None finish says wrote = ap (λ (s : Stored). s.files) wrote
+  keeps_whole (Some name) finish says wrote = text_whole name (IsWholeJournal front quantum machine budget turns finish told) old new end says wrote
+
+  keeps_part : (name : Option (List ℕ)) (stop : Stop) → ((before after : Option (List ℕ)) → StandsOrIsThere before after → IsTextAfter end before after)
+      → IfNamed name (λ n. KeepsAs n front quantum machine budget turns (Err stop) told) old new → TextsTo name end old.files new.files
+  keeps_part None stop says wrote = ap (λ (s : Stored). s.files) wrote
+  keeps_part (Some name) stop says wrote = text_part name (IsCutJournal front quantum machine budget turns told) turns old new end says wrote
+
 -- a run that stopped saves nothing
 stopped_saves : (save : Option (List ℕ)) (end : End) (files : Option Files) → ((file : Option (List ℕ)) → IsFileAfter end file file) → SavesTo save end files files
 stopped_saves None end files stands = refl
 stopped_saves (Some name) end files stands = unchanged_file files files name (IsFileAfter end) refl stands
 
-module _ (quantum : ℕ) (machine : Machine) (budget : ℕ) (names : Names) (old new : Seen) (turns : ℕ) where
+module _ (quantum : ℕ) (machine : Machine) (budget : ℕ) (front : List ℕ) (names : Names) (old new : Seen) (turns : ℕ) where
   finished : (finish : Finish) (end : End) (host : Option Emulated) → ((before after : Option (List ℕ)) → HasTreeText after → IsFileAfter end before after)
       → ((before after : Option (List ℕ)) → (text : List ℕ) × (after ≡ Some text) → IsTextAfter end before after)
-      → Finishes quantum machine budget names old new turns finish host → WritesFiles names end old.store.files new.store.files
+      → Finishes quantum machine budget front names old new turns finish host → WritesFiles names end old.store.files new.store.files
   finished finish end host saves texts answer = (
-    answer.texts.middle.files,
+    answer.texts.traced.files,
+    answer.texts.logged.files,
     answer.middle.files,
-    traces_whole quantum machine budget turns old.left old.store answer.texts.middle end names.trace finish texts answer.texts.traces,
-    logs_whole quantum machine budget turns old.left answer.texts.middle answer.middle end names.native finish texts answer.texts.logs,
+    traces_whole quantum machine budget turns old.left old.store answer.texts.traced end names.trace finish texts answer.texts.traces,
+    logs_whole quantum machine budget turns old.left answer.texts.traced answer.texts.logged end names.native finish texts answer.texts.logs,
+    keeps_whole front quantum machine budget turns old.left answer.texts.logged answer.middle end names.journal finish texts answer.texts.keeps,
     finish_saves names.save (final_tree answer.emulated.machine) answer.middle new.store end saves answer.saves,
   )
 
   in_run : (stop : Stop) (end : End) → ((file : Option (List ℕ)) → IsFileAfter end file file) → ((before after : Option (List ℕ)) → StandsOrIsThere before after → IsTextAfter end before after)
-      → StopsInRun quantum machine budget names stop old new turns → WritesFiles names end old.store.files new.store.files
+      → StopsInRun quantum machine budget front names stop old new turns → WritesFiles names end old.store.files new.store.files
   in_run stop end stands says answer = (
-    answer.texts.middle.files,
+    answer.texts.traced.files,
+    answer.texts.logged.files,
     new.store.files,
-    traces_part quantum machine budget turns old.left old.store answer.texts.middle end names.trace stop says answer.texts.traces,
-    logs_part quantum machine budget turns old.left answer.texts.middle new.store end names.native stop says answer.texts.logs,
+    traces_part quantum machine budget turns old.left old.store answer.texts.traced end names.trace stop says answer.texts.traces,
+    logs_part quantum machine budget turns old.left answer.texts.traced answer.texts.logged end names.native stop says answer.texts.logs,
+    keeps_part front quantum machine budget turns old.left answer.texts.logged new.store end names.journal stop says answer.texts.keeps,
     stopped_saves names.save end new.store.files stands,
   )
 
   at_save : (end : End) → ((tree : Tree) (before after : Option (List ℕ)) → StandsOrBegins (text_of tree) before after → IsFileAfter end before after)
       → ((before after : Option (List ℕ)) → (text : List ℕ) × (after ≡ Some text) → IsTextAfter end before after)
-      → StopsAtSave quantum machine budget names old new turns → WritesFiles names end old.store.files new.store.files
+      → StopsAtSave quantum machine budget front names old new turns → WritesFiles names end old.store.files new.store.files
   at_save end saves says answer = (
-    answer.texts.middle.files,
+    answer.texts.traced.files,
+    answer.texts.logged.files,
     answer.middle.files,
-    traces_whole quantum machine budget turns old.left old.store answer.texts.middle end names.trace answer.finish says answer.texts.traces,
-    logs_whole quantum machine budget turns old.left answer.texts.middle answer.middle end names.native answer.finish says answer.texts.logs,
+    traces_whole quantum machine budget turns old.left old.store answer.texts.traced end names.trace answer.finish says answer.texts.traces,
+    logs_whole quantum machine budget turns old.left answer.texts.traced answer.texts.logged end names.native answer.finish says answer.texts.logs,
+    keeps_whole front quantum machine budget turns old.left answer.texts.logged answer.middle end names.journal answer.finish says answer.texts.keeps,
     part_saves names.save (final_tree answer.final) answer.middle new.store end (saves (final_tree answer.final)) answer.saves,
   )
 
-  run_saves : (end : End) (host : Option Emulated) → Answers (Run quantum machine budget) names old new turns end host → WritesFiles names end old.store.files new.store.files
+  run_saves : (end : End) (host : Option Emulated) → Answers (Run quantum machine budget front) names old new turns end host → WritesFiles names end old.store.files new.store.files
   run_saves (Exited status) host answer = finished (finishes.Exited status) (Exited status) host (λ before after is. is) (λ before after is. is) answer
   run_saves (Killed signal) host answer = finished (finishes.Killed signal) (Killed signal) host (λ before after is. is) (λ before after is. is) answer
   run_saves Budget host answer = finished finishes.Budget Budget host (λ before after is. is) (λ before after is. is) answer
   run_saves Blocked host answer = finished finishes.Blocked Blocked host (λ before after is. is) (λ before after is. is) answer
+  run_saves (Replayed over) host answer = absurd answer
+  run_saves (Diverged turn wanted found) host answer = absurd answer
   run_saves (Refused given) host answer = absurd answer
   run_saves ReadFault host answer = in_run stops.ReadFault ReadFault (λ file. refl) (λ before after is. is) answer.0
   run_saves WriteFault host answer =
@@ -215,8 +238,8 @@ asked_saves : (names : Names) (old new : Seen) (turns : ℕ) (end : End) (host :
     → WritesFiles names end old.store.files new.store.files
 asked_saves names old new turns end host (Refuse refusal) answer =
     let stands = refused_stands refusal names (once_loaded (Refuse refusal) names old) new turns end host answer in stands_so end old.store.files new.store.files stands.0 stands.1 names
-asked_saves names old new turns end host (Run quantum machine budget) answer =
-    run_saves quantum machine budget names (once_loaded (Run quantum machine budget) names old) new turns end host answer
+asked_saves names old new turns end host (Run quantum machine budget front) answer =
+    run_saves quantum machine budget front names (once_loaded (Run quantum machine budget front) names old) new turns end host answer
 
 -- What an answer says, of the files alone.
 pub saves : (words : List (List ℕ)) (reading : Reading) (old new : Seen) (turns : ℕ) (end : End) (host : Option Emulated) → AnswersReading words reading old new turns end host

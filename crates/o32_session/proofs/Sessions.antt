@@ -22,7 +22,7 @@ use Rattle.start_stack.specs.Stack.{start_size, start_limit}
 use Rattle.o32_machine.specs.Emulator.{Emulated}
 use Rattle.o32_turns.specs.Machine.{Machine}
 use Rattle.o32_session.specs.Answers.{IsRefusal}
-use Rattle.o32_session.specs.Asked.{Asked, Refuse, Run, Names, names_of, Found, Bytes, found_at, IsOpened, IsOpenedBy, AsksOf, AsksOfPlan, AsksUnless, AsksFor, IsScheduled, arguments_of, asked_of_schedule, asked_of_tree, first_machine, empty_tree, image_limit, schedule_of_found}
+use Rattle.o32_session.specs.Asked.{Asked, Refuse, Run, Names, names_of, Found, Bytes, found_at, IsOpened, IsOpenedBy, AsksOf, AsksOfPlan, AsksUnless, AsksFor, IsScheduled, arguments_of, asked_of_schedule, asked_of_tree, first_machine, empty_tree, image_limit, schedule_of_found, journal_front}
 use Rattle.o32_session.specs.Saved.{SavesTree, SavesTreeInPart}
 use Rattle.o32_runner.specs.Stored.{Stored}
 use Rattle.o32_session.specs.Session.{Seen, DoesNothing, Answers, final_tree, StopsAfter, StopsEarly, first_loaded, once_loaded, Finishes, IsRun, IsPartOfRun, StopsAtSave, no_names, AnswersReading, AsksForRun, EndsAsRun, HasImage, HasSchedule, IsRunEnd}
@@ -34,7 +34,7 @@ use Rattle.o32_runner.specs.Texts.{WritesTexts}
 use Rattle.o32_session.specs.inside.Runs.{AnswersRun}
 use Rattle.o32_session.specs.declared.answer.Answer.{Answer}
 use Rattle.o32_session.specs.declared.answer.End.{End}
-use Rattle.o32_session.specs.declared.answer.End.TheVariants.{Exited, Killed, Budget, Blocked, Refused, ReadFault, WriteFault, NoMemory}
+use Rattle.o32_session.specs.declared.answer.End.TheVariants.{Exited, Killed, Budget, Blocked, Replayed, Refused, Diverged, ReadFault, WriteFault, NoMemory}
 use Rattle.o32_session.specs.declared.answer.Refusal.{Refusal}
 use Rattle.o32_session.specs.declared.answer.Refusal.TheVariants.{Usage, Start}
 use Rattle.o32_session.specs.declared.not_run.NotRun.{NotRun}
@@ -47,7 +47,7 @@ use Rattle.o32_session.specs.declared.prepare.Ready.{Ready}
 abbrev beside : Seen → Option (List ℕ) → ℕ → ℕ → Stored → Seen
 beside old err err_faults load_faults store = record old { err = err; err_faults = err_faults; load_faults = load_faults; store = store }
 
-unchanged : (old new : Option (List ℕ)) → new ≡ old → GainsText old new []
+pub unchanged : (old new : Option (List ℕ)) → new ≡ old → GainsText old new []
 unchanged old new same = subst (λ n. GainsText old n []) (sym same) (GainsText-nothing old)
 
 nothing_done : (old : Seen) (err : Option (List ℕ)) (faults loads : ℕ) (store : Stored) → err ≡ old.err → store ≡ old.store → DoesNothing old (beside old err faults loads store) 0
@@ -59,7 +59,7 @@ nothing_done old err faults loads store same stands = record {
 }
 
 -- a refusal with its line
-refused : (refusal : Refusal) (names : Names) (end : End) (old : Seen) (err : Option (List ℕ)) (faults loads : ℕ)
+pub refused : (refusal : Refusal) (names : Names) (end : End) (old : Seen) (err : Option (List ℕ)) (faults loads : ℕ)
     (store : Stored) (host : Option Emulated) → EndsRefused refusal end old.err err → LineFailsOnlyIfRose end old.err_faults faults →
     store ≡ old.store → Answers (Refuse refusal) names old (beside old err faults loads store) 0 end host
 refused refusal names (Refused given) old err faults loads store host so cause stands = record {
@@ -78,6 +78,8 @@ refused refusal names (Exited status) old err faults loads store host so cause s
 refused refusal names (Killed signal) old err faults loads store host so cause stands = absurd so
 refused refusal names Budget old err faults loads store host so cause stands = absurd so
 refused refusal names Blocked old err faults loads store host so cause stands = absurd so
+refused refusal names (Replayed over) old err faults loads store host so cause stands = absurd so
+refused refusal names (Diverged turn wanted found) old err faults loads store host so cause stands = absurd so
 
 -- a load failed, or memory ran out, after so many loads
 stopped : (names : Names) (count : ℕ) (end : End) (old : Seen) (err : Option (List ℕ)) (faults loads : ℕ) (store : Stored) → StopsAfter count names end → (end ≡ ReadFault → Rose old.load_faults loads) → err ≡ old.err →
@@ -124,40 +126,42 @@ cut_told quantum machine budget turns stop old new final runs left told =
     let so = runs left told in record { alive = so.alive; first = so.first; to_out = so.to_out; to_err = so.to_err; rest = so.rest }
 
 -- the texts of a run by other names of the same files
-pub texts_named : (quantum : ℕ) (machine : Machine) (budget turns : ℕ) (end : Result Finish Stop) (told : Option (List ℕ)) (old new : Stored) (trace other_trace native other_native : Option (List ℕ)) → trace ≡ other_trace → native ≡ other_native
-    → WritesTexts trace native quantum machine budget turns end told old new → WritesTexts other_trace other_native quantum machine budget turns end told old new
-texts_named quantum machine budget turns end told old new trace other_trace native other_native traced logged texts =
-    subst (λ (n : Option (List ℕ)). WritesTexts n other_native quantum machine budget turns end told old new) traced
-    (subst (λ (n : Option (List ℕ)). WritesTexts trace n quantum machine budget turns end told old new) logged texts)
+pub texts_named : (front : List ℕ) (quantum : ℕ) (machine : Machine) (budget turns : ℕ) (end : Result Finish Stop) (told : Option (List ℕ)) (old new : Stored) (trace other_trace native other_native journal other_journal : Option (List ℕ))
+    → trace ≡ other_trace → native ≡ other_native → journal ≡ other_journal
+    → WritesTexts trace native journal front quantum machine budget turns end told old new → WritesTexts other_trace other_native other_journal front quantum machine budget turns end told old new
+texts_named front quantum machine budget turns end told old new trace other_trace native other_native journal other_journal traced logged kept texts =
+    subst (λ (n : Option (List ℕ)). WritesTexts n other_native other_journal front quantum machine budget turns end told old new) traced
+    (subst (λ (n : Option (List ℕ)). WritesTexts trace n other_journal front quantum machine budget turns end told old new) logged
+    (subst (λ (n : Option (List ℕ)). WritesTexts trace native n front quantum machine budget turns end told old new) kept texts))
 
 -- the run stopped early
-pub cut_answer : (quantum : ℕ) (machine : Machine) (budget turns : ℕ) (names : Names) (stop : Stop) (old new : Seen) (final : Machine) (host : Option Emulated) → turns ≤ budget → (names.trace ≡ None → turns < budget)
-    → WritesTexts names.trace names.native quantum machine budget turns (Err stop) old.left old.store new.store
+pub cut_answer : (quantum : ℕ) (machine : Machine) (budget turns : ℕ) (front : List ℕ) (names : Names) (stop : Stop) (old new : Seen) (final : Machine) (host : Option Emulated) → turns ≤ budget → (names.trace ≡ None → names.journal ≡ None → turns < budget)
+    → WritesTexts names.trace names.native names.journal front quantum machine budget turns (Err stop) old.left old.store new.store
     → RunsAs quantum machine budget turns (Err stop) (contents_of old) (contents_of new) final
     → (stop ≡ stops.ReadFault → Rose old.read_faults new.read_faults) → (stop ≡ stops.WriteFault → Rose old.out_faults new.out_faults ⊎ (Rose old.err_faults new.err_faults ⊎ Rose old.store.write_faults new.store.write_faults))
-    → Answers (Run quantum machine budget) names old new turns (end_of_stop stop) host
-cut_answer quantum machine budget turns names stops.ReadFault old new final host within early texts runs read write =
+    → Answers (Run quantum machine budget front) names old new turns (end_of_stop stop) host
+cut_answer quantum machine budget turns front names stops.ReadFault old new final host within early texts runs read write =
     (record { within = within; early = early; texts = texts; told = cut_told quantum machine budget turns stops.ReadFault old new final runs }, read refl)
-cut_answer quantum machine budget turns names stops.WriteFault old new final host within early texts runs read write =
+cut_answer quantum machine budget turns front names stops.WriteFault old new final host within early texts runs read write =
     inl (record { within = within; early = early; texts = texts; told = cut_told quantum machine budget turns stops.WriteFault old new final runs }, write refl)
-cut_answer quantum machine budget turns names stops.NoMemory old new final host within early texts runs read write =
+cut_answer quantum machine budget turns front names stops.NoMemory old new final host within early texts runs read write =
     inl (record { within = within; early = early; texts = texts; told = cut_told quantum machine budget turns stops.NoMemory old new final runs })
 
-finish_answers : (quantum : ℕ) (machine : Machine) (budget turns : ℕ) (names : Names) (finish : Finish) (old new : Seen) (host : Option Emulated) → Finishes quantum machine budget names old new turns finish host
-    → Answers (Run quantum machine budget) names old new turns (end_of finish) host
-finish_answers quantum machine budget turns names (finishes.Exited status) old new host so = so
-finish_answers quantum machine budget turns names (finishes.Killed signal) old new host so = so
-finish_answers quantum machine budget turns names finishes.Budget old new host so = so
-finish_answers quantum machine budget turns names finishes.Blocked old new host so = so
+finish_answers : (quantum : ℕ) (machine : Machine) (budget turns : ℕ) (front : List ℕ) (names : Names) (finish : Finish) (old new : Seen) (host : Option Emulated) → Finishes quantum machine budget front names old new turns finish host
+    → Answers (Run quantum machine budget front) names old new turns (end_of finish) host
+finish_answers quantum machine budget turns front names (finishes.Exited status) old new host so = so
+finish_answers quantum machine budget turns front names (finishes.Killed signal) old new host so = so
+finish_answers quantum machine budget turns front names finishes.Budget old new host so = so
+finish_answers quantum machine budget turns front names finishes.Blocked old new host so = so
 
 -- the run is over, and what follows it says the answer
-pub run_answer : (quantum : ℕ) (machine : Machine) (budget turns : ℕ) (names : Names) (name : Option (List ℕ)) (finish : Finish) (emulated : Emulated) (answer : Answer) (old new : Seen) (middle : Stored) → names.save ≡ name → middle.write_faults ≡ old.store.write_faults → turns ≤ budget
-    → WritesTexts names.trace names.native quantum machine budget turns (Ok finish) old.left old.store middle → emulated.turns ≡ turns
+pub run_answer : (quantum : ℕ) (machine : Machine) (budget turns : ℕ) (front : List ℕ) (names : Names) (name : Option (List ℕ)) (finish : Finish) (emulated : Emulated) (answer : Answer) (old new : Seen) (middle : Stored) → names.save ≡ name → middle.write_faults ≡ old.store.write_faults → turns ≤ budget
+    → WritesTexts names.trace names.native names.journal front quantum machine budget turns (Ok finish) old.left old.store middle → emulated.turns ≡ turns
     → RunsAs quantum machine budget turns (Ok finish) (contents_of old) (contents_of new) emulated.machine → AnswersRun name emulated finish answer middle new.store
-    → Answers (Run quantum machine budget) names old new answer.turns answer.end answer.host
-run_answer quantum machine budget turns names name finish emulated answer old new middle named unfaulty within texts counted runs (inl done) =
+    → Answers (Run quantum machine budget front) names old new answer.turns answer.end answer.host
+run_answer quantum machine budget turns front names name finish emulated answer old new middle named unfaulty within texts counted runs (inl done) =
     let same : answer.turns ≡ turns = done.turns ∙ counted in
-    let so : Finishes quantum machine budget names old new turns finish answer.host = record {
+    let so : Finishes quantum machine budget front names old new turns finish answer.host = record {
       within = within;
       emulated = emulated;
       hosted = done.host;
@@ -167,11 +171,11 @@ run_answer quantum machine budget turns names name finish emulated answer old ne
       saves = subst (λ (n : Option (List ℕ)). SavesTree n (final_tree emulated.machine) middle new.store) (sym named) done.saves;
       told = run_told quantum machine budget turns finish old new emulated.machine runs;
     } in
-    subst (λ (n : ℕ). Answers (Run quantum machine budget) names old new n answer.end answer.host) (sym same)
-    (subst (λ (e : End). Answers (Run quantum machine budget) names old new turns e answer.host) (sym done.end) (finish_answers quantum machine budget turns names finish old new answer.host so))
-run_answer quantum machine budget turns names name finish emulated answer old new middle named unfaulty within texts counted runs (inr failed) =
+    subst (λ (n : ℕ). Answers (Run quantum machine budget front) names old new n answer.end answer.host) (sym same)
+    (subst (λ (e : End). Answers (Run quantum machine budget front) names old new turns e answer.host) (sym done.end) (finish_answers quantum machine budget turns front names finish old new answer.host so))
+run_answer quantum machine budget turns front names name finish emulated answer old new middle named unfaulty within texts counted runs (inr failed) =
     let same : answer.turns ≡ turns = failed.turns ∙ counted in
-    let so : StopsAtSave quantum machine budget names old new turns = record {
+    let so : StopsAtSave quantum machine budget front names old new turns = record {
       within = within;
       finish = finish;
       final = emulated.machine;
@@ -180,10 +184,10 @@ run_answer quantum machine budget turns names name finish emulated answer old ne
       saves = subst (λ (n : Option (List ℕ)). SavesTreeInPart n (final_tree emulated.machine) middle new.store) (sym named) failed.saves;
       told = run_told quantum machine budget turns finish old new emulated.machine runs;
     } in
-    subst (λ (n : ℕ). Answers (Run quantum machine budget) names old new n answer.end answer.host) (sym same)
-    (elim failed.end as (λ _. Answers (Run quantum machine budget) names old new turns answer.end answer.host) [
-      | inl fault ↦ subst (λ (e : End). Answers (Run quantum machine budget) names old new turns e answer.host) (sym fault.0) (inr (so, subst (λ (n : ℕ). Rose n new.store.write_faults) unfaulty fault.1))
-      | inr memory ↦ subst (λ (e : End). Answers (Run quantum machine budget) names old new turns e answer.host) (sym memory.0) (inr so)
+    subst (λ (n : ℕ). Answers (Run quantum machine budget front) names old new n answer.end answer.host) (sym same)
+    (elim failed.end as (λ _. Answers (Run quantum machine budget front) names old new turns answer.end answer.host) [
+      | inl fault ↦ subst (λ (e : End). Answers (Run quantum machine budget front) names old new turns e answer.host) (sym fault.0) (inr (so, subst (λ (n : ℕ). Rose n new.store.write_faults) unfaulty fault.1))
+      | inr memory ↦ subst (λ (e : End). Answers (Run quantum machine budget front) names old new turns e answer.host) (sym memory.0) (inr so)
     ])
 
 -- a device that stopped the run
@@ -198,28 +202,30 @@ write_cause input out err stop writes writes_then old new cause is = subst (λ (
 
 -- There is a run, and the answer is what it came to.
 pub run_answers : (words : List (List ℕ)) (reading : Reading) (ready : Ready) (old new : Seen) (turns : ℕ) (end : End) (host : Option Emulated) (faults : ℕ) (middle : Stored) → IsPrepared words reading old.store.files (Ok ready)
-    → ((names : Names) → names.save ≡ option_map (word_at words) ready.save → names.trace ≡ option_map (word_at words) ready.trace → names.native ≡ option_map (word_at words) ready.native → Answers (Run ready.emulator.quantum ready.emulator.machine ready.budget) names (record old { load_faults = faults; store = middle }) new turns end host)
+    → ((names : Names) → names.save ≡ option_map (word_at words) ready.save → names.trace ≡ option_map (word_at words) ready.trace → names.native ≡ option_map (word_at words) ready.native → names.journal ≡ option_map (word_at words) ready.journal → Answers (Run ready.emulator.quantum ready.emulator.machine ready.budget ready.front.items) names (record old { load_faults = faults; store = middle }) new turns end host)
     → LoadsReading {T = Ready} words reading (Ok ready) old.store middle → faults ≡ old.load_faults → AnswersReading words reading old new turns end host
 run_answers words (WrongAt word) ready old new turns end host faults middle is runs loads same = absurd is
 run_answers words (Asks line) ready old new turns end host faults middle is runs loads same = inr (
-  Run ready.emulator.quantum ready.emulator.machine ready.budget,
+  Run ready.emulator.quantum ready.emulator.machine ready.budget ready.front.items,
   is.0,
-  subst (λ (s : Stored). Answers (Run ready.emulator.quantum ready.emulator.machine ready.budget) (names_of words line) (record old { store = s }) new turns end host) loads
-      (subst (λ (n : ℕ). Answers (Run ready.emulator.quantum ready.emulator.machine ready.budget) (names_of words line) (record old { load_faults = n; store = middle }) new turns end host) same
+  subst (λ (s : Stored). Answers (Run ready.emulator.quantum ready.emulator.machine ready.budget ready.front.items) (names_of words line) (record old { store = s }) new turns end host) loads
+      (subst (λ (n : ℕ). Answers (Run ready.emulator.quantum ready.emulator.machine ready.budget ready.front.items) (names_of words line) (record old { load_faults = n; store = middle }) new turns end host) same
       (runs (names_of words line) (ap (λ (n : Option ℕ). option_map (word_at words) n) (sym is.1.0)) (ap (λ (n : Option ℕ). option_map (word_at words) n) (sym is.1.1.0))
-      (ap (λ (n : Option ℕ). option_map (word_at words) n) (sym is.1.1.1)))),
+      (ap (λ (n : Option ℕ). option_map (word_at words) n) (sym is.1.1.1.0)) (ap (λ (n : Option ℕ). option_map (word_at words) n) (sym is.1.1.1.1)))),
 )
 
 -- a run is not refused
-pub ran_on : (quantum : ℕ) (machine : Machine) (budget : ℕ) (names : Names) (old new : Seen) (turns : ℕ) (end : End) (host : Option Emulated) → Answers (Run quantum machine budget) names old new turns end host → IsRefusal end → ⊥
-ran_on quantum machine budget names old new turns (Exited status) host answer refused = refused
-ran_on quantum machine budget names old new turns (Killed signal) host answer refused = refused
-ran_on quantum machine budget names old new turns Budget host answer refused = refused
-ran_on quantum machine budget names old new turns Blocked host answer refused = refused
-ran_on quantum machine budget names old new turns (Refused given) host answer refused = answer
-ran_on quantum machine budget names old new turns ReadFault host answer refused = refused
-ran_on quantum machine budget names old new turns WriteFault host answer refused = refused
-ran_on quantum machine budget names old new turns NoMemory host answer refused = refused
+pub ran_on : (quantum : ℕ) (machine : Machine) (budget : ℕ) (front : List ℕ) (names : Names) (old new : Seen) (turns : ℕ) (end : End) (host : Option Emulated) → Answers (Run quantum machine budget front) names old new turns end host → IsRefusal end → ⊥
+ran_on quantum machine budget front names old new turns (Exited status) host answer refused = refused
+ran_on quantum machine budget front names old new turns (Killed signal) host answer refused = refused
+ran_on quantum machine budget front names old new turns Budget host answer refused = refused
+ran_on quantum machine budget front names old new turns Blocked host answer refused = refused
+ran_on quantum machine budget front names old new turns (Replayed over) host answer refused = refused
+ran_on quantum machine budget front names old new turns (Diverged turn wanted found) host answer refused = refused
+ran_on quantum machine budget front names old new turns (Refused given) host answer refused = answer
+ran_on quantum machine budget front names old new turns ReadFault host answer refused = refused
+ran_on quantum machine budget front names old new turns WriteFault host answer refused = refused
+ran_on quantum machine budget front names old new turns NoMemory host answer refused = refused
 
 -- A run is asked for
 
@@ -240,27 +246,31 @@ opens files None opened has is = (empty_tree, is)
 opens files (Some name) opened has is = opens_by files name is.0 opened is.1 has is.2
 
 -- where the answer is that of this run
-run_end_of : (quantum : ℕ) (machine : Machine) (budget : ℕ) (names : Names) (old new : Seen) (turns : ℕ) (end : End) (host : Option Emulated) (left : List ℕ) → old.left ≡ Some left →
-    Answers (Run quantum machine budget) names old new turns end host → (end ≡ ReadFault → ⊥) → (Rose old.store.write_faults new.store.write_faults → ⊥) →
+run_end_of : (quantum : ℕ) (machine : Machine) (budget : ℕ) (front : List ℕ) (names : Names) (old new : Seen) (turns : ℕ) (end : End) (host : Option Emulated) (left : List ℕ) → old.left ≡ Some left →
+    Answers (Run quantum machine budget front) names old new turns end host → (end ≡ ReadFault → ⊥) → (Rose old.store.write_faults new.store.write_faults → ⊥) →
     (Rose old.out_faults new.out_faults → ⊥) → (Rose old.err_faults new.err_faults → ⊥) → (end ≡ NoMemory) ⊎ IsRunEnd quantum machine left budget turns end
-run_end_of quantum machine budget names old new turns (Exited status) host left told answer read file out err = inr (answer.told left told).over
-run_end_of quantum machine budget names old new turns (Killed signal) host left told answer read file out err = inr (answer.told left told).over
-run_end_of quantum machine budget names old new turns Budget host left told answer read file out err = inr (answer.told left told).over
-run_end_of quantum machine budget names old new turns Blocked host left told answer read file out err = inr (answer.told left told).over
-run_end_of quantum machine budget names old new turns (Refused given) host left told answer read file out err = absurd answer
-run_end_of quantum machine budget names old new turns ReadFault host left told answer read file out err = absurd (read refl)
-run_end_of quantum machine budget names old new turns WriteFault host left told answer read file out err =
+run_end_of quantum machine budget front names old new turns (Exited status) host left told answer read file out err = inr (answer.told left told).over
+run_end_of quantum machine budget front names old new turns (Killed signal) host left told answer read file out err = inr (answer.told left told).over
+run_end_of quantum machine budget front names old new turns Budget host left told answer read file out err = inr (answer.told left told).over
+run_end_of quantum machine budget front names old new turns Blocked host left told answer read file out err = inr (answer.told left told).over
+run_end_of quantum machine budget front names old new turns (Replayed over) host left told answer read file out err = absurd answer
+run_end_of quantum machine budget front names old new turns (Diverged turn wanted found) host left told answer read file out err = absurd answer
+run_end_of quantum machine budget front names old new turns (Refused given) host left told answer read file out err = absurd answer
+run_end_of quantum machine budget front names old new turns ReadFault host left told answer read file out err = absurd (read refl)
+run_end_of quantum machine budget front names old new turns WriteFault host left told answer read file out err =
     elim answer as (λ _. (WriteFault ≡ NoMemory) ⊎ IsRunEnd quantum machine left budget turns WriteFault) [
       | inl in_run ↦ absurd (elim in_run.1 [ inl rose ↦ out rose | inr more ↦ elim more [ inl rose ↦ err rose | inr rose ↦ file rose ] ])
       | inr at_save ↦ absurd (file at_save.1)
     ]
-run_end_of quantum machine budget names old new turns NoMemory host left told answer read file out err = inl refl
+run_end_of quantum machine budget front names old new turns NoMemory host left told answer read file out err = inl refl
 
 early_end : (P : Type 0) (count : ℕ) (names : Names) (end : End) → StopsAfter count names end → (end ≡ ReadFault → ⊥) → (end ≡ NoMemory) ⊎ P
 early_end P count names (Exited status) early read = absurd early
 early_end P count names (Killed signal) early read = absurd early
 early_end P count names Budget early read = absurd early
 early_end P count names Blocked early read = absurd early
+early_end P count names (Replayed over) early read = absurd early
+early_end P count names (Diverged turn wanted found) early read = absurd early
 early_end P count names (Refused given) early read = absurd early
 early_end P count names ReadFault early read = absurd (read refl)
 early_end P count names WriteFault early read = absurd early
@@ -268,9 +278,9 @@ early_end P count names NoMemory early read = inl refl
 
 -- the arguments fit
 fits_run : (args : List (List ℕ)) (line : Line) (plan : Plan) (tree : Tree) (schedule : Schedule) → start_size args line.environment ≤ start_limit →
-    asked_of_schedule args line plan tree schedule ≡ Run schedule.quantum (first_machine plan args line.environment tree schedule) line.budget
+    asked_of_schedule args line plan tree schedule ≡ Run schedule.quantum (first_machine plan args line.environment tree schedule) line.budget (journal_front args line.environment schedule)
 fits_run args line plan tree schedule fits =
-    ap (λ (b : Bool). cond b (Refuse Start) (Run schedule.quantum (first_machine plan args line.environment tree schedule) line.budget))
+    ap (λ (b : Bool). cond b (Refuse Start) (Run schedule.quantum (first_machine plan args line.environment tree schedule) line.budget (journal_front args line.environment schedule)))
     (le-ltb start_limit (start_size args line.environment) fits)
 
 -- the schedule that is there is the one that is read
@@ -282,14 +292,14 @@ scheduled files (Some name) schedule read has is = is.2 ∙ (ap schedule_of_foun
 -- what is asked for beside a tree is the run under that schedule
 runs_so : (args : List (List ℕ)) (line : Line) (names : Names) (files : Files) (plan : Plan) (tree : Tree) (schedule : Schedule) (asked : Asked)
     → HasSchedule files names.schedule schedule → start_size args line.environment ≤ start_limit → AsksOfPlan args line names (Some files) plan (Ok tree) asked
-    → asked ≡ Run schedule.quantum (first_machine plan args line.environment tree schedule) line.budget
+    → asked ≡ Run schedule.quantum (first_machine plan args line.environment tree schedule) line.budget (journal_front args line.environment schedule)
 runs_so args line names files plan tree schedule asked has fits asks =
     asks.2 ∙ (ap (λ (r : Result Schedule Refusal). asked_of_tree args line plan tree r) (scheduled files names.schedule schedule asks.0 has asks.1) ∙ fits_run args line plan tree schedule fits)
 
 -- what is asked for is the run beside the tree that was opened
 asks_run : (words : List (List ℕ)) (told : Option Files) (run : AsksForRun words told) (asked : Asked) → AsksFor words run.line (Some run.files) asked
     → (tree : Tree) × IsOpened (Some run.files) (names_of words run.line).image (Ok tree)
-    × (asked ≡ Run run.schedule.quantum (first_machine (plan_of run.bytes) (arguments_of words run.line) run.line.environment tree run.schedule) run.line.budget)
+    × (asked ≡ Run run.schedule.quantum (first_machine (plan_of run.bytes) (arguments_of words run.line) run.line.environment tree run.schedule) run.line.budget (journal_front (arguments_of words run.line) run.line.environment run.schedule))
 asks_run words told run asked asks =
     let args = arguments_of words run.line in
     let names = names_of words run.line in
@@ -316,8 +326,9 @@ complete words old new turns end host run left answer told read file out err =
       | inr asked ↦
           let asks = asks_run words old.store.files run asked.0 (subst (λ f. AsksFor words run.line f asked.0) run.is_told asked.1) in
           let names = names_of words run.line in
-          let this : Asked = Run run.schedule.quantum (first_machine (plan_of run.bytes) (arguments_of words run.line) run.line.environment asks.0 run.schedule) run.line.budget in
-          elim (run_end_of run.schedule.quantum (first_machine (plan_of run.bytes) (arguments_of words run.line) run.line.environment asks.0 run.schedule) run.line.budget names (once_loaded this names old) new turns end host left told
+          let front = journal_front (arguments_of words run.line) run.line.environment run.schedule in
+          let this : Asked = Run run.schedule.quantum (first_machine (plan_of run.bytes) (arguments_of words run.line) run.line.environment asks.0 run.schedule) run.line.budget front in
+          elim (run_end_of run.schedule.quantum (first_machine (plan_of run.bytes) (arguments_of words run.line) run.line.environment asks.0 run.schedule) run.line.budget front names (once_loaded this names old) new turns end host left told
           (subst (λ a. Answers a names (once_loaded a names old) new turns end host) asks.2 asked.2) read file out err)
           as (λ _. (end ≡ NoMemory) ⊎ EndsAsRun words old.store.files run left turns end) [
             | inl memory ↦ inl memory

@@ -14,6 +14,7 @@ use Rattle.elf_image.specs.declared.refusal.ElfRefusal.{ElfRefusal}
 use Rattle.elf_image.specs.declared.load_plan.Plan.{Plan}
 use Rattle.start_stack.specs.Stack.{start_size, start_limit}
 use Rattle.start_stack.specs.Start.{start_memory, start_processor}
+use Rattle.journal.specs.Text.{head_text}
 use Rattle.o32_session.specs.Words.{Line, word_at}
 use Rattle.kernel_model.specs.Begin.{first_state}
 use Rattle.kernel_model.specs.System.{round}
@@ -39,6 +40,9 @@ image_file = 2
 abbrev pub schedule_file : ℕ
 schedule_file = 3
 
+abbrev pub journal_file : ℕ
+journal_file = 4
+
 -- the greatest length of a program's file: 64 MiB
 abbrev pub program_limit : ℕ
 program_limit = 67108864
@@ -51,14 +55,19 @@ image_limit = 671088640
 abbrev pub schedule_limit : ℕ
 schedule_limit = 16777216
 
--- the names of the files of a line: of the program, of the image, of the schedule, of the files of the trace and of the native log, and of the one
--- that the final tree is saved to
+-- the greatest length of a journal that is replayed: 256 MiB
+abbrev pub journal_limit : ℕ
+journal_limit = 268435456
+
+-- the names of the files of a line: of the program, of the image, of the schedule, of the files of the trace, of the native log and of the journal,
+-- and of the one that the final tree is saved to
 pub record Names : Type 0 where
   pub program : List ℕ
   pub image : Option (List ℕ)
   pub schedule : Option (List ℕ)
   pub trace : Option (List ℕ)
   pub native : Option (List ℕ)
+  pub journal : Option (List ℕ)
   pub save : Option (List ℕ)
 
 abbrev pub names_of : List (List ℕ) → Line → Names
@@ -68,6 +77,7 @@ names_of words line = record {
   schedule = option_map (word_at words) line.schedule;
   trace = option_map (word_at words) line.trace;
   native = option_map (word_at words) line.native;
+  journal = option_map (word_at words) line.journal;
   save = option_map (word_at words) line.save;
 }
 
@@ -158,17 +168,21 @@ first_machine plan args env tree schedule =
     emulators.first_machine (start_processor plan args env) (start_memory plan args env (stack_chance schedule))
     (first_state tree (settings_of schedule)) (emulators.coming_of schedule)
 
--- a refusal, or a run: how many nanoseconds of the clock a turn with an instruction takes, its machine, and its budget
+-- what its journal begins with
+abbrev pub journal_front : List (List ℕ) → List (List ℕ) → Schedule → List ℕ
+journal_front args env schedule = head_text args env (stack_chance schedule)
+
+-- a refusal, or a run: how many nanoseconds of the clock a turn with an instruction takes, its machine, its budget, and what its journal begins with
 pub data Asked : Type 0 where
   Refuse : Refusal → Asked
-  Run : ℕ → Machine → ℕ → Asked
+  Run : ℕ → Machine → ℕ → List ℕ → Asked
 
 -- what is asked for with this tree under this schedule
 abbrev pub asked_of_schedule : List (List ℕ) → Line → Plan → Tree → Schedule → Asked
 asked_of_schedule args line plan tree schedule =
     if nat_lt start_limit (start_size args line.environment)
     then Refuse Start
-    else Run schedule.quantum (first_machine plan args line.environment tree schedule) line.budget
+    else Run schedule.quantum (first_machine plan args line.environment tree schedule) line.budget (journal_front args line.environment schedule)
 
 -- the schedule is looked at where there is a tree, and before the start
 abbrev pub asked_of_tree : List (List ℕ) → Line → Plan → Tree → Result Schedule Refusal → Asked

@@ -4,6 +4,7 @@ pub mod Answers
 pub mod Asked
 pub mod Saved
 pub mod Session
+pub mod Replayed
 pub mod Faults
 pub mod SavedFile
 pub mod inside

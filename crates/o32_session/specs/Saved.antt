@@ -1,6 +1,6 @@
 -- What becomes of the store of a session: the loads that it answers and those of them that it turns away, and the file that the final tree is saved to. This project's own.
 use Rattle.std.specs.Prelude.{ℕ, ◌≡◌, ◌⊎◌, List, [], ◌∷◌, ◌++◌, unwrap_or, Option, Some, None, ◌==◌, if◌then◌else◌}
-use Rattle.outside.specs.Files.{Files, ChangesFile}
+use Rattle.outside.specs.Files.{ChangesFile}
 use Rattle.outside.specs.Output.{IsPrefix}
 use Rattle.outside.specs.Turned.{TurnedLoad}
 use Rattle.outside.specs.declared.errors.LoadError.{LoadError}
@@ -11,7 +11,7 @@ use Rattle.fs_image.specs.Text.{text_of}
 use Rattle.o32_runner.specs.Stored.{Stored, SavesText}
 use Rattle.o32_session.specs.Asked.{Names, program_file, image_file, schedule_file, program_limit, image_limit, schedule_limit}
 use Rattle.o32_session.specs.declared.answer.Refusal.{Refusal}
-use Rattle.o32_session.specs.declared.answer.Refusal.TheVariants.{Usage, Missing, TooLong, Elf, Image, Schedule, Start}
+use Rattle.o32_session.specs.declared.answer.Refusal.TheVariants.{Usage, Missing, TooLong, Elf, Image, Schedule, Start, Journal}
 
 -- the store answered loads of these names, turned these away, and else stands as it was
 abbrev pub after_loads : Stored → List (List ℕ) → List TurnedLoad → Stored
@@ -43,6 +43,7 @@ loaded_by names (Elf rule) = names_up_to names program_file
 loaded_by names (Image broken) = names_up_to names image_file
 loaded_by names (Schedule broken) = names_up_to names schedule_file
 loaded_by names Start = loaded_names names
+loaded_by names (Journal at) = []
 
 -- the load of a file by its number
 abbrev pub load_of : Names → ℕ → LoadError → TurnedLoad
@@ -62,6 +63,7 @@ turned_by names (Elf rule) = []
 turned_by names (Image broken) = []
 turned_by names (Schedule broken) = []
 turned_by names Start = []
+turned_by names (Journal at) = []
 
 -- the file stands as it was, or has a first part of this text
 abbrev pub StandsOrBegins : List ℕ → Option (List ℕ) → Option (List ℕ) → Type 0

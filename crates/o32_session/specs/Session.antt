@@ -28,7 +28,7 @@ use Rattle.kernel_core.specs.declared.finish.Finish.TheVariants as finishes
 use Rattle.kernel_core.specs.declared.core_error.Stop.{Stop}
 use Rattle.kernel_core.specs.declared.core_error.Stop.TheVariants as stops
 use Rattle.o32_session.specs.declared.answer.End.{End}
-use Rattle.o32_session.specs.declared.answer.End.TheVariants.{Exited, Killed, Budget, Blocked, Refused, ReadFault, WriteFault, NoMemory}
+use Rattle.o32_session.specs.declared.answer.End.TheVariants.{Exited, Killed, Budget, Blocked, Replayed, Refused, Diverged, ReadFault, WriteFault, NoMemory}
 
 -- what is seen of the devices, the counts of faults, and the store: what is left of the input, and what the outputs have
 pub record Seen : Type 0 where
@@ -105,33 +105,34 @@ pub record IsPartOfRun (quantum : ℕ) (machine : Machine) (left : List ℕ) (bu
   pub to_err : GainsBetween old.err new.err (reached quantum machine left turns).sent.err (reached quantum machine left (turns_begun budget turns)).sent.err
   pub rest : (new.left ≡ Some (reached quantum machine left turns).left) ⊎ (new.left ≡ Some (reached quantum machine left (turns_begun budget turns)).left)
 
--- A run ended so, within the budget. Its trace and its native log were written to the files that are named for them, the emulator is handed out, and
--- its final tree was saved. Where the input tells what is left of it, the run is the machine's.
-pub record Finishes (quantum : ℕ) (machine : Machine) (budget : ℕ) (names : Names) (old new : Seen) (turns : ℕ) (finish : Finish) (host : Option Emulated) :
+-- A run ended so, within the budget. Its trace, its native log and its journal were written to the files that are named for them, the emulator is
+-- handed out, and its final tree was saved. Where the input tells what is left of it, the run is the machine's.
+pub record Finishes (quantum : ℕ) (machine : Machine) (budget : ℕ) (front : List ℕ) (names : Names) (old new : Seen) (turns : ℕ) (finish : Finish) (host : Option Emulated) :
     Type 0 where
   pub within : turns ≤ budget
   pub emulated : Emulated
   pub hosted : host ≡ Some emulated
   pub turned : emulated.turns ≡ turns
   pub middle : Stored
-  pub texts : WritesTexts names.trace names.native quantum machine budget turns (Ok finish) old.left old.store middle
+  pub texts : WritesTexts names.trace names.native names.journal front quantum machine budget turns (Ok finish) old.left old.store middle
   pub saves : SavesTree names.save (final_tree emulated.machine) middle new.store
   pub told : (left : List ℕ) → old.left ≡ Some left → IsRun quantum machine left budget old new turns finish emulated.machine
 
--- A run stopped early after these turns, and had written parts of its texts. Where a trace is written, it may also stop once the budget's turns are done.
-pub record StopsInRun (quantum : ℕ) (machine : Machine) (budget : ℕ) (names : Names) (stop : Stop) (old new : Seen) (turns : ℕ) : Type 0 where
+-- A run stopped early after these turns, and had written parts of its texts. Where a trace or a journal is written, it may also stop once
+-- the budget's turns are done.
+pub record StopsInRun (quantum : ℕ) (machine : Machine) (budget : ℕ) (front : List ℕ) (names : Names) (stop : Stop) (old new : Seen) (turns : ℕ) : Type 0 where
   pub within : turns ≤ budget
-  pub early : names.trace ≡ None → turns < budget
-  pub texts : WritesTexts names.trace names.native quantum machine budget turns (Err stop) old.left old.store new.store
+  pub early : names.trace ≡ None → names.journal ≡ None → turns < budget
+  pub texts : WritesTexts names.trace names.native names.journal front quantum machine budget turns (Err stop) old.left old.store new.store
   pub told : (left : List ℕ) → old.left ≡ Some left → IsPartOfRun quantum machine left budget old new turns
 
 -- a run ended, and at most a part of its final tree was saved
-pub record StopsAtSave (quantum : ℕ) (machine : Machine) (budget : ℕ) (names : Names) (old new : Seen) (turns : ℕ) : Type 0 where
+pub record StopsAtSave (quantum : ℕ) (machine : Machine) (budget : ℕ) (front : List ℕ) (names : Names) (old new : Seen) (turns : ℕ) : Type 0 where
   pub within : turns ≤ budget
   pub finish : Finish
   pub final : Machine
   pub middle : Stored
-  pub texts : WritesTexts names.trace names.native quantum machine budget turns (Ok finish) old.left old.store middle
+  pub texts : WritesTexts names.trace names.native names.journal front quantum machine budget turns (Ok finish) old.left old.store middle
   pub saves : SavesTreeInPart names.save (final_tree final) middle new.store
   pub told : (left : List ℕ) → old.left ≡ Some left → IsRun quantum machine left budget old new turns finish final
 
@@ -147,26 +148,30 @@ Answers (Refuse refusal) names old new turns (Exited status) host = ⊥
 Answers (Refuse refusal) names old new turns (Killed signal) host = ⊥
 Answers (Refuse refusal) names old new turns Budget host = ⊥
 Answers (Refuse refusal) names old new turns Blocked host = ⊥
-Answers (Run quantum machine budget) names old new turns (Exited status) host =
-    Finishes quantum machine budget names old new turns (finishes.Exited status) host
-Answers (Run quantum machine budget) names old new turns (Killed signal) host =
-    Finishes quantum machine budget names old new turns (finishes.Killed signal) host
-Answers (Run quantum machine budget) names old new turns Budget host = Finishes quantum machine budget names old new turns finishes.Budget host
-Answers (Run quantum machine budget) names old new turns Blocked host = Finishes quantum machine budget names old new turns finishes.Blocked host
-Answers (Run quantum machine budget) names old new turns (Refused given) host = ⊥
-Answers (Run quantum machine budget) names old new turns ReadFault host =
-    StopsInRun quantum machine budget names stops.ReadFault old new turns × Rose old.read_faults new.read_faults
-Answers (Run quantum machine budget) names old new turns WriteFault host =
-    (StopsInRun quantum machine budget names stops.WriteFault old new turns
+Answers (Refuse refusal) names old new turns (Replayed finish) host = ⊥
+Answers (Refuse refusal) names old new turns (Diverged turn wanted found) host = ⊥
+Answers (Run quantum machine budget front) names old new turns (Exited status) host =
+    Finishes quantum machine budget front names old new turns (finishes.Exited status) host
+Answers (Run quantum machine budget front) names old new turns (Killed signal) host =
+    Finishes quantum machine budget front names old new turns (finishes.Killed signal) host
+Answers (Run quantum machine budget front) names old new turns Budget host = Finishes quantum machine budget front names old new turns finishes.Budget host
+Answers (Run quantum machine budget front) names old new turns Blocked host = Finishes quantum machine budget front names old new turns finishes.Blocked host
+Answers (Run quantum machine budget front) names old new turns (Replayed finish) host = ⊥
+Answers (Run quantum machine budget front) names old new turns (Diverged turn wanted found) host = ⊥
+Answers (Run quantum machine budget front) names old new turns (Refused given) host = ⊥
+Answers (Run quantum machine budget front) names old new turns ReadFault host =
+    StopsInRun quantum machine budget front names stops.ReadFault old new turns × Rose old.read_faults new.read_faults
+Answers (Run quantum machine budget front) names old new turns WriteFault host =
+    (StopsInRun quantum machine budget front names stops.WriteFault old new turns
     × (Rose old.out_faults new.out_faults ⊎ (Rose old.err_faults new.err_faults ⊎ Rose old.store.write_faults new.store.write_faults)))
-    ⊎ (StopsAtSave quantum machine budget names old new turns × Rose old.store.write_faults new.store.write_faults)
-Answers (Run quantum machine budget) names old new turns NoMemory host =
-    StopsInRun quantum machine budget names stops.NoMemory old new turns ⊎ StopsAtSave quantum machine budget names old new turns
+    ⊎ (StopsAtSave quantum machine budget front names old new turns × Rose old.store.write_faults new.store.write_faults)
+Answers (Run quantum machine budget front) names old new turns NoMemory host =
+    StopsInRun quantum machine budget front names stops.NoMemory old new turns ⊎ StopsAtSave quantum machine budget front names old new turns
 
 -- The loads that come before what is asked for: each is answered once, in the order of the names, up to the first that a refusal comes of.
 abbrev pub once_loaded : Asked → Names → Seen → Seen
 once_loaded (Refuse refusal) names seen = record seen { store = after_loads seen.store (loaded_by names refusal) (turned_by names refusal) }
-once_loaded (Run quantum machine budget) names seen = record seen { store = after_loads seen.store (loaded_names names) [] }
+once_loaded (Run quantum machine budget front) names seen = record seen { store = after_loads seen.store (loaded_names names) [] }
 
 -- the same where only so many of them are answered, and none is turned away
 abbrev pub first_loaded : ℕ → Names → Seen → Seen
@@ -180,6 +185,8 @@ StopsAfter count names (Exited status) = ⊥
 StopsAfter count names (Killed signal) = ⊥
 StopsAfter count names Budget = ⊥
 StopsAfter count names Blocked = ⊥
+StopsAfter count names (Replayed finish) = ⊥
+StopsAfter count names (Diverged turn wanted found) = ⊥
 StopsAfter count names (Refused given) = ⊥
 StopsAfter count names WriteFault = ⊥
 
@@ -192,7 +199,7 @@ pub record StopsEarly (names : Names) (old new : Seen) (turns : ℕ) (end : End)
 
 -- a line that names no file
 abbrev pub no_names : Names
-no_names = record { program = []; image = None; schedule = None; trace = None; native = None; save = None }
+no_names = record { program = []; image = None; schedule = None; trace = None; native = None; journal = None; save = None }
 
 -- The same by the reading of the words. Wrong words are refused before any load, so that want of memory alone may come
 -- first. Else a fault of a load or want of memory may come before all is loaded; or the answer is that of what the line
@@ -214,6 +221,8 @@ IsRunEnd quantum machine left budget turns (Exited status) = IsOverAt quantum ma
 IsRunEnd quantum machine left budget turns (Killed signal) = IsOverAt quantum machine left budget turns (finishes.Killed signal)
 IsRunEnd quantum machine left budget turns Budget = IsOverAt quantum machine left budget turns finishes.Budget
 IsRunEnd quantum machine left budget turns Blocked = IsOverAt quantum machine left budget turns finishes.Blocked
+IsRunEnd quantum machine left budget turns (Replayed finish) = ⊥
+IsRunEnd quantum machine left budget turns (Diverged turn wanted found) = ⊥
 IsRunEnd quantum machine left budget turns (Refused given) = ⊥
 IsRunEnd quantum machine left budget turns ReadFault = ⊥
 IsRunEnd quantum machine left budget turns WriteFault = ⊥

@@ -1,12 +1,14 @@
 -- The words after the emulator's own name, as this project defines them:
 --
---     run [--image F] [--schedule F] [--budget N] [--trace F] [--native F] [--save F] [--env K=V].. PROGRAM [WORD..]
+--     run [--image F] [--schedule F] [--budget N] [--trace F] [--native F] [--journal F] [--save F]
+--         [--env K=V].. PROGRAM [WORD..]
+--     replay PROGRAM JOURNAL
 --
 -- Square brackets hold what may be absent, and `..` follows what may stand any number of times. Options stand before
 -- PROGRAM in any order, each at most once but `--env`; a value is the next word, whatever it is. A word is given by its
 -- bytes. What is wrong is named by the index, from 0, of the first word at which a reading from the left fails, or by
 -- the number of words where one is missing. The names of files are compared last.
-use Rattle.std.specs.Prelude.{ℕ, ◌+◌, List, [], ◌∷◌, ◌++◌, map, Bool, false, ◌&&◌, not, if◌then◌else◌, nat_lt, nat_le, max, min, ◌==◌, slice_index, slice_index_or, drop, is_some, option_and_then, Option, Some, None, codes}
+use Rattle.std.specs.Prelude.{◌≡◌, ℕ, ◌+◌, List, [], ◌∷◌, ◌++◌, length, map, Bool, false, ◌&&◌, not, if◌then◌else◌, nat_lt, nat_le, max, min, ◌==◌, slice_index, slice_index_or, drop, is_some, option_and_then, Option, Some, None, codes}
 use Rattle.std.specs.List.{list_any, list_all}
 use Rattle.std.specs.Option.{unwrap_or}
 use Rattle.std.specs.Str.{bytes_eq}
@@ -22,6 +24,9 @@ texts words = map string_bytes words
 -- no word holds a NUL
 abbrev pub has_nul : List ℕ → Bool
 has_nul word = list_any (λ byte. byte == 0) word
+
+abbrev pub IsPlain : List ℕ → Type 0
+IsPlain word = has_nul word ≡ false
 
 -- decimal digits without a sign or a leading zero
 abbrev pub is_plain_number : List ℕ → Bool
@@ -41,7 +46,8 @@ budget_of text = if is_plain_number text then up_to_greatest (digits_value 10 te
 abbrev pub is_setting : List ℕ → Bool
 is_setting text = not (has_nul text) && list_any (λ byte. byte == 61) (drop 1 text)
 
--- the name of a file: F of `--image F`, of `--schedule F`, of `--trace F`, of `--native F` and of `--save F`
+-- the name of a file: F of `--image F`, of `--schedule F`, of `--trace F`, of `--native F`, of `--journal F` and of
+-- `--save F`
 abbrev pub is_file_name : List ℕ → Bool
 is_file_name [] = false
 is_file_name (first ∷ rest) = not (has_nul (first ∷ rest))
@@ -53,6 +59,7 @@ pub data Role : Type 0 where
   BudgetOption : Role
   TraceOption : Role
   NativeOption : Role
+  JournalOption : Role
   SaveOption : Role
   EnvOption : Role
   ProgramName : Role
@@ -70,27 +77,29 @@ role_of word =
     else (if bytes_eq word (codes "--budget") then BudgetOption
     else (if bytes_eq word (codes "--trace") then TraceOption
     else (if bytes_eq word (codes "--native") then NativeOption
+    else (if bytes_eq word (codes "--journal") then JournalOption
     else (if bytes_eq word (codes "--save") then SaveOption
     else (if bytes_eq word (codes "--env") then EnvOption
-    else (if is_program word then ProgramName else NoOption)))))))
+    else (if is_program word then ProgramName else NoOption))))))))
 
 -- the options that were read: N of `--budget`, each K=V in their order, and the indices of the names of `--image`,
--- `--schedule`, `--trace`, `--native` and `--save`
+-- `--schedule`, `--trace`, `--native`, `--journal` and `--save`
 pub record Options : Type 0 where
   pub image : Option ℕ
   pub schedule : Option ℕ
   pub budget : Option ℕ
   pub trace : Option ℕ
   pub native : Option ℕ
+  pub journal : Option ℕ
   pub save : Option ℕ
   pub environment : List (List ℕ)
 
 abbrev pub no_options : Options
-no_options = record { image = None; schedule = None; budget = None; trace = None; native = None; save = None; environment = [] }
+no_options = record { image = None; schedule = None; budget = None; trace = None; native = None; journal = None; save = None; environment = [] }
 
 -- what the words ask for: the budget, the environment, the index of PROGRAM, the first of the guest's arguments, and the
--- indices of the names of the image, of the schedule, of the files of the trace and of the native log and of the one that
--- is saved, where there are
+-- indices of the names of the image, of the schedule, of the files of the trace, of the native log and of the journal and
+-- of the one that is saved, where there are
 pub record Line : Type 0 where
   pub budget : ℕ
   pub environment : List (List ℕ)
@@ -99,6 +108,7 @@ pub record Line : Type 0 where
   pub schedule : Option ℕ
   pub trace : Option ℕ
   pub native : Option ℕ
+  pub journal : Option ℕ
   pub save : Option ℕ
 
 -- the budget of a run whose words give none
@@ -123,6 +133,7 @@ line_of options program = record {
   schedule = options.schedule;
   trace = options.trace;
   native = options.native;
+  journal = options.journal;
   save = options.save;
 }
 
@@ -133,6 +144,7 @@ read_last at options ScheduleOption = if is_some options.schedule then WrongAt a
 read_last at options BudgetOption = if is_some options.budget then WrongAt at else WrongAt (at + 1)
 read_last at options TraceOption = if is_some options.trace then WrongAt at else WrongAt (at + 1)
 read_last at options NativeOption = if is_some options.native then WrongAt at else WrongAt (at + 1)
+read_last at options JournalOption = if is_some options.journal then WrongAt at else WrongAt (at + 1)
 read_last at options SaveOption = if is_some options.save then WrongAt at else WrongAt (at + 1)
 read_last at options EnvOption = WrongAt (at + 1)
 read_last at options ProgramName = Asks (line_of options at)
@@ -142,8 +154,8 @@ abbrev pub with_budget : ℕ → Options → Option ℕ → (Options → Reading
 with_budget at options None go_on = WrongAt (at + 1)
 with_budget at options (Some n) go_on = go_on (record options { budget = Some n })
 
--- A word with another after it, one case for each form of the line: `--image`, `--schedule`, `--budget`, `--trace`, `--native` or
--- `--save` and its value, each at most once; `--env` and its value; PROGRAM with the guest's words. Any other word is wrong, and so
+-- A word with another after it, one case for each form of the line: `--image`, `--schedule`, `--budget`, `--trace`, `--native`,
+-- `--journal` or `--save` and its value, each at most once; `--env` and its value; PROGRAM with the guest's words. Any other word is wrong, and so
 -- is a value that is none, at its own index. After a value the reading goes on.
 abbrev pub read_pair : ℕ → Options → Role → List ℕ → Reading → (Options → Reading) → Reading
 read_pair at options ImageOption value guest go_on =
@@ -160,6 +172,9 @@ read_pair at options TraceOption value guest go_on =
 read_pair at options NativeOption value guest go_on =
     if is_some options.native then WrongAt at
     else (if is_file_name value then go_on (record options { native = Some (at + 1) }) else WrongAt (at + 1))
+read_pair at options JournalOption value guest go_on =
+    if is_some options.journal then WrongAt at
+    else (if is_file_name value then go_on (record options { journal = Some (at + 1) }) else WrongAt (at + 1))
 read_pair at options SaveOption value guest go_on =
     if is_some options.save then WrongAt at
     else (if is_file_name value then go_on (record options { save = Some (at + 1) }) else WrongAt (at + 1))
@@ -199,7 +214,7 @@ first_of (Some one) None = Some one
 first_of (Some one) (Some other) = Some (min one other)
 
 -- The first name of a file that equals an earlier one, where at least one of the two is written. The files of `--trace`, of
--- `--native` and of `--save` are written; the others are the image, the schedule and PROGRAM.
+-- `--native`, of `--journal` and of `--save` are written; the others are the image, the schedule and PROGRAM.
 
 abbrev pub equal_to_written : List (List ℕ) → Line → ℕ → Option ℕ
 equal_to_written words line written =
@@ -212,14 +227,20 @@ equal_to_native words line native =
     first_of (equal_to_written words line native) (option_and_then (later_of_equal words native) line.trace)
 
 -- and with that of `--native`
+abbrev pub equal_to_journal : List (List ℕ) → Line → ℕ → Option ℕ
+equal_to_journal words line journal =
+    first_of (equal_to_native words line journal) (option_and_then (later_of_equal words journal) line.native)
+
+-- and with that of `--journal`
 abbrev pub equal_to_saved : List (List ℕ) → Line → ℕ → Option ℕ
 equal_to_saved words line saved =
-    first_of (equal_to_native words line saved) (option_and_then (later_of_equal words saved) line.native)
+    first_of (equal_to_journal words line saved) (option_and_then (later_of_equal words saved) line.journal)
 
 abbrev pub equal_name : List (List ℕ) → Line → Option ℕ
 equal_name words line =
     first_of (option_and_then (equal_to_written words line) line.trace)
-    (first_of (option_and_then (equal_to_native words line) line.native) (option_and_then (equal_to_saved words line) line.save))
+    (first_of (option_and_then (equal_to_native words line) line.native)
+    (first_of (option_and_then (equal_to_journal words line) line.journal) (option_and_then (equal_to_saved words line) line.save)))
 
 -- a line without such a name
 abbrev pub with_names : Line → Option ℕ → Reading
@@ -234,3 +255,29 @@ compare_names words (Asks line) = with_names line (equal_name words line)
 -- all words
 abbrev pub read_words : List (List ℕ) → Reading
 read_words words = compare_names words (read_line words)
+
+-- The command that the words begin with. Words that begin with none are those of a run that are wrong.
+
+pub data Command : Type 0 where
+  RunCommand : Command
+  ReplayCommand : Command
+
+abbrev pub command_of : List (List ℕ) → Command
+command_of words = if bytes_eq (word_at words 0) (codes "replay") then ReplayCommand else RunCommand
+
+-- what `replay PROGRAM JOURNAL` asks for: the names of both files, which may be one, since none is written
+pub record ReplayLine : Type 0 where
+  pub program : List ℕ
+  pub journal : List ℕ
+
+pub data ReplayReading : Type 0 where
+  AsksReplay : ReplayLine → ReplayReading
+  WrongReplayAt : ℕ → ReplayReading
+
+-- Two names of files and no more; none of these words is an option. A word that is missing is no name.
+abbrev pub read_replay : List (List ℕ) → ReplayReading
+read_replay words =
+    if not (is_file_name (word_at words 1)) then WrongReplayAt 1
+    else (if not (is_file_name (word_at words 2)) then WrongReplayAt 2
+    else (if nat_lt 3 (length words) then WrongReplayAt 3
+    else AsksReplay (record { program = word_at words 1; journal = word_at words 2 })))

@@ -3,3 +3,4 @@ pub mod Steps
 pub mod Reader
 pub mod Prepared
 pub mod Runs
+pub mod Repeated

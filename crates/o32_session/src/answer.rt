@@ -1,7 +1,7 @@
 //! What a session answers.
 ghost use Rattle.std.specs.Prelude.{◌≡◌, Some};
 ghost use Rattle.o32_session.specs.Lines.{text_of};
-ghost use Rattle.o32_session.specs.Answers.{status_of};
+ghost use Rattle.o32_session.specs.Answers.{status_of, status_of_finish};
 ghost use Rattle.o32_session.specs.inside.Ends.{end_of};
 
 use elf_image::ElfRefusal;
@@ -17,10 +17,10 @@ pub enum Refusal {
     /// The words are not in the grammar: the index, from 0, of the first word at which a reading from the left fails,
     /// or the number of words where one is missing.
     Usage { word: usize },
-    /// There is no such file: 1 is the program, 2 the image, 3 the schedule.
+    /// There is no such file: 1 is the program, 2 the image, 3 the schedule, 4 the journal.
     Missing { file: u8 },
     /// The file is longer than its limit: 1 is the program, which has at most 64 MiB, 2 the image, which has at most
-    /// 640 MiB, and 3 the schedule, which has at most 16 MiB.
+    /// 640 MiB, 3 the schedule, which has at most 16 MiB, and 4 the journal, which has at most 256 MiB.
     TooLong { file: u8 },
     /// The program breaks this rule on executables.
     Elf(ElfRefusal),
@@ -30,6 +30,8 @@ pub enum Refusal {
     Schedule(ScheduleRefusal),
     /// The guest's arguments and environment, with the words of its first stack, pass 131,072 bytes.
     Start,
+    /// The journal breaks its form at the field that begins at this byte, or ends early there.
+    Journal { at: u64 },
 }
 
 /// How a session ends. (The kinds of ends are this project's own; exit and signal are those of wait(2).)
@@ -43,8 +45,12 @@ pub enum End {
     Budget,
     /// A call of the guest waits, and nothing can come any more that would end its wait.
     Blocked,
+    /// A journal was replayed to the end of its run, which was over so.
+    Replayed(Finish),
     /// Nothing was run.
     Refused(Refusal),
+    /// Journal and machine differ first in this turn of a replay: what the journal has there, and what the machine has.
+    Diverged { turn: u64, wanted: u64, found: u64 },
     /// The store's count of faulty loads rose, or the input's count of faults.
     ReadFault,
     /// A count of faults of standard output or standard error, or the store's count of faulty writes, rose.
@@ -89,7 +95,20 @@ impl fmt::Display for Refusal {
                 write!(f, "o32run: schedule rule {rule} line {line}")
             }
             Refusal::Start => write!(f, "o32run: arguments too long"),
+            Refusal::Journal { at } => write!(f, "o32run: journal at {at}"),
         }
+    }
+}
+
+/// The status of a run that is over so.
+fn status_of_finish(finish: Finish) -> u8
+    ensures { result ≡ status_of_finish finish }
+{
+    match finish {
+        Finish::Exited(status) => status,
+        Finish::Killed(signal) => signal.saturating_add(128),
+        Finish::Budget => 124,
+        Finish::Blocked => 123,
     }
 }
 
@@ -108,8 +127,9 @@ impl From<Finish> for End {
 
 impl End {
     /// The exit status of the emulator: that of the guest, the lesser of 128 and the signal's number or 255, 124 where
-    /// the budget is done, 123 where the guest is blocked, 125 where nothing was run, 122 and 119 for faults, and 121 for want of memory. The numbers are
-    /// this project's own, after those of a shell and of timeout(1).
+    /// the budget is done, 123 where the guest is blocked, 125 where nothing was run, 120 where a replay differs from its journal, 122 and 119 for
+    /// faults, and 121 for want of memory. A replay has the status of its run. The numbers are this project's own, after those of a shell and of
+    /// timeout(1).
     pub fn status(self) -> u8
         ensures status { result ≡ status_of self }
     {
@@ -118,7 +138,9 @@ impl End {
             End::Killed(signal) => signal.saturating_add(128),
             End::Budget => 124,
             End::Blocked => 123,
+            End::Replayed(finish) => status_of_finish(finish),
             End::Refused(_) => 125,
+            End::Diverged { .. } => 120,
             End::ReadFault => 122,
             End::WriteFault => 119,
             End::NoMemory => 121,

@@ -1,11 +1,13 @@
-//! One run of the emulator, from words and devices to an answer.
+//! One run of the emulator, or the replay of one, from words and devices to an answer.
 #![tactic(auto)]
 
 mod answer;
 mod image;
+mod lines;
 mod load;
 mod not_run;
 mod prepare;
+mod replay;
 mod run;
 mod save;
 mod settings;

@@ -16,6 +16,8 @@ pub(crate) enum SessionFile {
     Image,
     /// The schedule.
     Schedule,
+    /// The journal of a replay.
+    Journal,
 }
 
 impl SessionFile {
@@ -27,10 +29,12 @@ impl SessionFile {
             SessionFile::Program => 1,
             SessionFile::Image => 2,
             SessionFile::Schedule => 3,
+            SessionFile::Journal => 4,
         }
     }
 
-    /// Its greatest length: 64 MiB for the program, 640 MiB for the image, 16 MiB for the schedule.
+    /// Its greatest length: 64 MiB for the program, 640 MiB for the image, 16 MiB for the schedule, 256 MiB for
+    /// the journal.
     fn limit(self) -> usize
         ensures { result ≡ limit_of self }
     {
@@ -38,6 +42,7 @@ impl SessionFile {
             SessionFile::Program => 67_108_864,
             SessionFile::Image => 671_088_640,
             SessionFile::Schedule => 16_777_216,
+            SessionFile::Journal => 268_435_456,
         }
     }
 }

@@ -1,11 +1,12 @@
 //! Why nothing is run.
 ghost use Rattle.std.specs.Prelude.{◌≡◌};
-ghost use Rattle.o32_session.specs.inside.Prepared.{of_words, of_load, of_elf, of_image, of_schedule, of_start};
+ghost use Rattle.o32_session.specs.inside.Prepared.{of_words, of_load, of_elf, of_image, of_schedule, of_start, of_journal};
 
 use crate::answer::Refusal;
 use crate::words::WordsError;
 use elf_image::ElfError;
 use fs_image::ImageError;
+use journal::JournalError;
 use kernel_core::NoMemory;
 use outside::LoadError;
 use schedule::ScheduleError;
@@ -15,7 +16,7 @@ use std::alloc::AllocError;
 /// Why nothing is run.
 #[derive(Clone, Copy)]
 pub(crate) enum NotRun {
-    /// The words, the program, the image, the schedule or the arguments are refused.
+    /// The words, a file or the arguments are refused.
     Refused(Refusal),
     /// The store failed, and its count of faulty loads rose.
     ReadFault,
@@ -108,6 +109,17 @@ impl From<StartError> for NotRun {
         match error {
             StartError::TooLong => NotRun::Refused(Refusal::Start),
             StartError::NoMemory => NotRun::NoMemory,
+        }
+    }
+}
+
+impl From<JournalError> for NotRun {
+    ghost from_gives = { λ error reason. reason ≡ of_journal error };
+
+    fn from(error: JournalError) -> NotRun {
+        match error {
+            JournalError::Bad { at } => NotRun::Refused(Refusal::Journal { at }),
+            JournalError::NoMemory => NotRun::NoMemory,
         }
     }
 }

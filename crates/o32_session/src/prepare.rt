@@ -1,11 +1,13 @@
 //! The steps before a run: words, the program's plan, the tree of files, the schedule, and the first machine.
-ghost use Rattle.std.specs.Prelude.{◌≡◌, ◌≤◌, ◌<◌, length, drop, is_some, IfOk, IfErr, None, Some};
+ghost use Rattle.std.specs.Prelude.{All, ◌≡◌, ◌≤◌, ◌<◌, length, drop, is_some, IfOk, IfErr, None, Some};
 ghost use Rattle.elf_image.specs.Rules.{first_failure};
 ghost use Rattle.elf_image.specs.Loading.{plan_of};
 ghost use Rattle.elf_image.specs.Loading as plans;
 ghost use Rattle.kernel_core.specs.ValidTree as trees;
+ghost use Rattle.journal.specs.Form.{AreTexts};
+ghost use Rattle.journal.specs.Text.{head_text};
 ghost use Rattle.native_log.specs.NativeLog.{first_log};
-ghost use Rattle.o32_session.specs.Words.{texts, read_words};
+ghost use Rattle.o32_session.specs.Words.{IsPlain, texts, read_words};
 ghost use Rattle.o32_session.specs.inside.Reader.{line_seen};
 ghost use Rattle.schedule.specs.Ranges.{IsGivenSchedule};
 ghost use Rattle.o32_session.specs.Asked.{asked_of_schedule, names_of, Run};
@@ -13,6 +15,7 @@ ghost use Rattle.o32_runner.specs.Runs.{IsFresh};
 ghost use Rattle.o32_session.specs.inside.Prepared.{IsElfReason, IsPlanned, IsStartReason, IsPrepared, IsPreparedLine, LoadsFile, LoadsFiles, LoadsReading, ReasonOnlyIfRose};
 ghost use Rattle.o32_runner.specs.Stored.{stored_of};
 ghost use Rattle.o32_session.specs.declared.load.SessionFile.TheVariants as which;
+ghost use Rattle.turn_records.specs.Keeping.{first_records};
 
 use crate::image::first_tree;
 use crate::load::{SessionFile, load_file};
@@ -20,7 +23,8 @@ use crate::not_run::NotRun;
 use crate::settings::{run_schedule, stack_chance};
 use crate::words::{RunLine, read, word_at};
 use elf_image::{Plan, parse};
-use kernel_core::Tree;
+use journal::head;
+use kernel_core::{NoMemory, Tree};
 use o32_machine::Emulator;
 use outside::Store;
 use schedule::Schedule;
@@ -38,6 +42,10 @@ pub(crate) struct Ready {
     pub trace: Option<usize>,
     /// The index of the name of the file of the native log, where one is written. The emulator keeps a log then, and no other does.
     pub native: Option<usize>,
+    /// The index of the name of the file of the journal, where one is written. The emulator keeps one then, and no other does.
+    pub journal: Option<usize>,
+    /// What a journal of the run begins with.
+    pub front: Vec<u8>,
     /// The index of the name of the file that the final tree is saved to, where it is saved.
     pub save: Option<usize>,
 }
@@ -51,7 +59,7 @@ fn plan_of_file(alloc: Global, bytes: &[u8]) -> Result<Plan, NotRun>
 }
 
 /// The plan of the program of this name.
-fn load_plan<F: Store>(alloc: Global, name: &str, files: &mut F) -> Result<Plan, NotRun>
+pub(crate) fn load_plan<F: Store>(alloc: Global, name: &str, files: &mut F) -> Result<Plan, NotRun>
     ensures plan { IsPlanned (F.files files.old) name.now result }
     ensures loads { LoadsFile which.Program (Some name.now) result
         (stored_of F.files F.created F.loads F.turned_away F.write_faults files.old)
@@ -61,6 +69,21 @@ fn load_plan<F: Store>(alloc: Global, name: &str, files: &mut F) -> Result<Plan,
 {
     let bytes = load_file(alloc, SessionFile::Program, name, files)?;
     plan_of_file(alloc, &bytes)
+}
+
+/// What the journal of a run with these arguments, this environment and these bytes of chance begins with.
+fn journal_front(
+    alloc: Global,
+    args: &[String],
+    environment: &[String],
+    chance: [u8; 16],
+) -> Result<Vec<u8>, NoMemory>
+    requires { AreTexts (texts args.now) (texts environment.now) }
+    ensures { IfOk result (λ front. front.items ≡ head_text (texts args.now) (texts environment.now) chance) }
+{
+    let mut front = Vec::new(alloc);
+    head(args, environment, chance, &mut front)?;
+    Ok(front)
 }
 
 /// The emulator of a plan with these arguments, beside this tree of files, under this schedule.
@@ -73,29 +96,37 @@ fn machine_of_plan(
     schedule: Schedule,
 ) -> Result<Ready, NotRun>
     requires named { 0 < length args.now }
+    requires args { All IsPlain (texts args.now) }
+    requires environment { All IsPlain (texts line.environment.items) }
     requires plan { plans.IsValidPlan plan.now }
     requires tree { trees.IsValidTree tree }
     requires schedule { IsGivenSchedule schedule }
     requires some { 0 < line.budget }
     requires bounded { line.budget ≤ 1_000_000_000_000 }
-    ensures ready { IfOk result (λ ready. asked_of_schedule (texts args.now) (line_seen line) plan.now tree schedule ≡ Run ready.emulator.quantum ready.emulator.machine ready.budget) }
+    ensures ready { IfOk result (λ ready. asked_of_schedule (texts args.now) (line_seen line) plan.now tree schedule ≡ Run ready.emulator.quantum ready.emulator.machine ready.budget ready.front.items) }
     ensures fresh { IfOk result (λ ready. IsFresh ready.emulator) }
     ensures some { IfOk result (λ ready. 0 < ready.budget) }
     ensures bounded { IfOk result (λ ready. ready.budget ≤ 1_000_000_000_000) }
     ensures log { IfOk result (λ ready. ready.emulator.native ≡ first_log (is_some ready.native)) }
+    ensures records { IfOk result (λ ready. ready.emulator.records ≡ first_records (is_some ready.journal)) }
     ensures trace { IfOk result (λ ready. ready.trace ≡ line.trace) }
     ensures native { IfOk result (λ ready. ready.native ≡ line.native) }
+    ensures journal { IfOk result (λ ready. ready.journal ≡ line.journal) }
     ensures save { IfOk result (λ ready. ready.save ≡ line.save) }
     ensures reason { IfErr result (IsStartReason (asked_of_schedule (texts args.now) (line_seen line) plan.now tree schedule)) }
 {
     let environment = line.environment.as_slice();
     let chance = stack_chance(schedule.random.as_slice());
     let start = build(alloc, plan, args, environment, chance)?;
+    let front = journal_front(alloc, args, environment, chance)?;
+    let (log, journal) = (line.native.is_some(), line.journal.is_some());
     Ok(Ready {
-        emulator: Emulator::new(alloc, start, tree, schedule, line.native.is_some())?,
+        emulator: Emulator::new(alloc, start, tree, schedule, log, journal)?,
         budget: line.budget,
         trace: line.trace,
         native: line.native,
+        journal: line.journal,
+        front,
         save: line.save,
     })
 }
@@ -109,6 +140,7 @@ pub(crate) fn prepare<F: Store>(
     ensures prepared { IsPrepared (texts words.now) (read_words (texts words.now)) (F.files files.old) result }
     ensures fresh { IfOk result (λ ready. IsFresh ready.emulator) }
     ensures log { IfOk result (λ ready. ready.emulator.native ≡ first_log (is_some ready.native)) }
+    ensures records { IfOk result (λ ready. ready.emulator.records ≡ first_records (is_some ready.journal)) }
     ensures some { IfOk result (λ ready. 0 < ready.budget) }
     ensures bounded { IfOk result (λ ready. ready.budget ≤ 1_000_000_000_000) }
     ensures loads { LoadsReading (texts words.now) (read_words (texts words.now)) result
@@ -129,11 +161,14 @@ fn prepare_line<F: Store>(
     files: &mut F,
 ) -> Result<Ready, NotRun>
     requires program { line.program < length words.now }
+    requires words { All IsPlain (drop line.program (texts words.now)) }
+    requires environment { All IsPlain (texts line.environment.items) }
     requires some { 0 < line.budget }
     requires bounded { line.budget ≤ 1_000_000_000_000 }
     ensures prepared { IsPreparedLine (texts words.now) (line_seen line) (F.files files.old) result }
     ensures fresh { IfOk result (λ ready. IsFresh ready.emulator) }
     ensures log { IfOk result (λ ready. ready.emulator.native ≡ first_log (is_some ready.native)) }
+    ensures records { IfOk result (λ ready. ready.emulator.records ≡ first_records (is_some ready.journal)) }
     ensures some { IfOk result (λ ready. 0 < ready.budget) }
     ensures bounded { IfOk result (λ ready. ready.budget ≤ 1_000_000_000_000) }
     ensures loads { LoadsFiles (names_of (texts words.now) (line_seen line)) result

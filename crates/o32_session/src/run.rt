@@ -4,7 +4,7 @@ ghost use Rattle.std.specs.Option.{option_copied};
 ghost use Rattle.outside.specs.Streams.{NoCountFell, contents};
 ghost use Rattle.o32_runner.specs.Runs.{IsFresh, RunsAs, WithinBudget};
 ghost use Rattle.o32_runner.specs.Stored.{stored_of};
-ghost use Rattle.o32_runner.specs.Texts.{BeginsLog, Differ, WritesTexts};
+ghost use Rattle.o32_runner.specs.Texts.{AllDiffer, BeginsJournal, BeginsLog, WritesTexts};
 ghost use Rattle.o32_runner.specs.Traced.{StopsOnlyIfAnyRose};
 
 use o32_machine::Emulator;
@@ -12,36 +12,38 @@ use o32_runner::{Names, Ran, run, run_told};
 use outside::{Devices, Sink, Source, Store};
 use std::alloc::Global;
 
-/// Runs a fresh emulator for at most `budget` turns, and writes its trace and its native log to the files of these names, where
-/// they are named. Where none is, the run has no store and no text.
+/// Runs a fresh emulator for at most `budget` turns, and writes its trace, its native log and its journal, which begins with
+/// `front`, to the files of these names, where they are named. Where none is, the run has no store and no text.
 pub(crate) fn run_named<F: Store, I: Source, O: Sink, E: Sink>(
     alloc: Global,
     emulator: &mut Emulator,
     budget: u64,
     names: Names<'_>,
+    front: &[u8],
     files: &mut F,
     dev: &mut Devices<I, O, E>,
 ) -> Ran
     requires fresh { IsFresh emulator.old }
     requires log { BeginsLog (option_copied names.native) emulator.old.native }
+    requires records { BeginsJournal (option_copied names.journal) emulator.old.records }
     requires some { 0 < budget }
     requires bounded { budget ≤ 1_000_000_000_000 }
-    requires differ { Differ (option_copied names.trace) (option_copied names.native) }
+    requires differ { AllDiffer (option_copied names.trace) (option_copied names.native) (option_copied names.journal) }
     ensures run { RunsAs emulator.old.quantum emulator.old.machine budget result.turns result.end
         (contents I.left O.written E.written dev.old) (contents I.left O.written E.written dev.new) emulator.new.machine }
-    ensures texts { WritesTexts (option_copied names.entry.trace) (option_copied names.entry.native) emulator.old.quantum emulator.old.machine budget result.turns result.end (I.left dev.old.input)
+    ensures texts { WritesTexts (option_copied names.entry.trace) (option_copied names.entry.native) (option_copied names.entry.journal) front.now emulator.old.quantum emulator.old.machine budget result.turns result.end (I.left dev.old.input)
         (stored_of F.files F.created F.loads F.turned_away F.write_faults files.old)
         (stored_of F.files F.created F.loads F.turned_away F.write_faults files.new) }
     ensures within { result.turns ≤ budget }
-    ensures early { (option_copied names.entry.trace ≡ None) → WithinBudget result.end result.turns budget }
+    ensures early { (option_copied names.entry.trace ≡ None) → (option_copied names.entry.journal ≡ None) → WithinBudget result.end result.turns budget }
     ensures turns { IfOk result.end (λ finish. emulator.new.turns ≡ result.turns) }
     ensures cause { StopsOnlyIfAnyRose I.faults O.faults E.faults result.end (F.write_faults files.old) (F.write_faults files.new) dev.old dev.new }
     ensures counts { NoCountFell I.faults O.faults E.faults dev.old dev.new }
     ensures writes_later { F.write_faults files.old ≤ F.write_faults files.new }
     ensures loads { F.load_faults files.new ≡ F.load_faults files.old }
 {
-    match (names.trace, names.native) {
-        (None, None) => run(emulator, budget, dev),
-        _ => run_told(alloc, emulator, budget, names, files, dev),
+    match (names.trace, names.native, names.journal) {
+        (None, None, None) => run(emulator, budget, dev),
+        _ => run_told(alloc, emulator, budget, names, front, files, dev),
     }
 }

@@ -1,34 +1,33 @@
 //! The top call: from words and devices to an answer.
-ghost use Rattle.std.specs.Prelude.{ℕ, List, ◌≡◌, ◌<◌, ◌≤◌, ◌⊎◌, [], OnOk, OnErr, Some, None, is_some, option_map};
-ghost use Rattle.outside.specs.Causes.{FailsOnlyIfRose};
+ghost use Rattle.std.specs.Prelude.{ℕ, List, ◌≡◌, ◌<◌, ◌≤◌, ◌⊎◌, Some, None, is_some, option_map};
 ghost use Rattle.outside.specs.Count.{Rose};
-ghost use Rattle.outside.specs.Output.{GainsText, GainsBetween};
 ghost use Rattle.outside.specs.Streams.{NoCountFell};
 ghost use Rattle.native_log.specs.NativeLog.{first_log};
 ghost use Rattle.o32_session.specs.Answers.{IsRefusal, finish_of, status_of};
 ghost use Rattle.o32_session.specs.Asked.{Names, Run};
 ghost use Rattle.o32_session.specs.inside.Ends.{end_of_error, end_of_stop};
 ghost use Rattle.o32_session.specs.Faults.{TellsFaults};
-ghost use Rattle.o32_session.specs.Lines.{line_of};
-ghost use Rattle.o32_session.specs.inside.Prepared.{EndsRefused, EndsWithoutRun, LineFailsOnlyIfRose};
 ghost use Rattle.o32_runner.specs.Runs.{IsFresh};
 ghost use Rattle.o32_session.specs.inside.Runs.{AnswersRun};
+ghost use Rattle.o32_session.specs.Replayed.{AnswersReplayWords, AnswersSession, AsksForReplay, EndsAsReplay};
 ghost use Rattle.o32_session.specs.Session.{Answers, AnswersWords, AsksForRun, EndsAsRun, seen_of};
 ghost use Rattle.o32_runner.specs.Stored.{stored_of};
-ghost use Rattle.o32_runner.specs.Texts.{Differ};
+ghost use Rattle.o32_runner.specs.Texts.{AllDiffer};
 ghost use Rattle.o32_session.specs.SavedFile.{SavesWords};
-ghost use Rattle.o32_session.specs.Words.{texts, word_at};
+ghost use Rattle.turn_records.specs.Keeping.{first_records};
+ghost use Rattle.o32_session.specs.Words.{ReplayCommand, command_of, texts, word_at};
 
-use crate::answer::{Answer, End, Refusal};
-use crate::not_run::NotRun;
+use crate::answer::{Answer, End};
+use crate::lines::end_without_run;
 use crate::prepare::{Ready, prepare};
+use crate::replay::replay_words;
 use crate::run::run_named;
 use crate::save::{SaveError, save_final};
-use crate::words::word_of;
+use crate::words::{Command, command_of, word_of};
 use kernel_core::{Finish, Stop};
 use o32_machine::Emulator;
 use o32_runner::Names as TextNames;
-use outside::{DevError, Devices, Sink, Source, Store};
+use outside::{Devices, Sink, Source, Store};
 use std::alloc::Global;
 
 impl From<Stop> for End {
@@ -69,70 +68,35 @@ fn answer_of(end: End, turns: u64, host: Option<Emulator>) -> Answer
     }
 }
 
-/// Writes the line of a refusal.
-fn put_line<E: Sink>(alloc: Global, refusal: Refusal, err: &mut E) -> Result<(), DevError>
-    ensures line { OnOk result (GainsText (E.written err.old) (E.written err.new) (line_of refusal)) }
-    ensures part { OnErr result (GainsBetween (E.written err.old) (E.written err.new) [] (line_of refusal)) }
-    ensures cause { FailsOnlyIfRose result (E.faults err.old) (E.faults err.new) }
-    ensures later { E.faults err.old ≤ E.faults err.new }
-{
-    let line = format!(in alloc; "{refusal}\n")?;
-    err.put(line.as_bytes())
-}
-
-/// Answers a refusal with its line.
-fn refuse<E: Sink>(alloc: Global, refusal: Refusal, err: &mut E) -> End
-    ensures line { EndsRefused refusal result (E.written err.old) (E.written err.new) }
-    ensures cause { LineFailsOnlyIfRose result (E.faults err.old) (E.faults err.new) }
-    ensures later { E.faults err.old ≤ E.faults err.new }
-{
-    match put_line(alloc, refusal, err) {
-        Ok(()) => End::Refused(refusal),
-        Err(DevError::Failed) => End::WriteFault,
-        Err(DevError::NoMemory) => End::NoMemory,
-    }
-}
-
-/// Answers where nothing is run.
-fn end_without_run<E: Sink>(alloc: Global, reason: NotRun, err: &mut E) -> End
-    ensures line { EndsWithoutRun reason result (E.written err.old) (E.written err.new) }
-    ensures cause { LineFailsOnlyIfRose result (E.faults err.old) (E.faults err.new) }
-    ensures later { E.faults err.old ≤ E.faults err.new }
-{
-    match reason {
-        NotRun::Refused(refusal) => refuse(alloc, refusal, err),
-        NotRun::ReadFault => End::ReadFault,
-        NotRun::NoMemory => End::NoMemory,
-    }
-}
-
 /// One run of the emulator: reads the words after its own name, loads the program, the image and the schedule that
-/// they name from `files`, runs the program over the devices, writes its trace and its native log where the words name files
-/// for them, and saves the final tree of files where they name one for that.
+/// they name from `files`, runs the program over the devices, writes its trace, its native log and its journal where the
+/// words name files for them, and saves the final tree of files where they name one for that. Or the replay of a run, from the program and the
+/// journal that the words name, with no kernel behind it.
 /// Every list of words, every file and every budget has an answer.
 ///
-/// What the program writes to standard output goes to `dev.out`, and the line of a refusal to `dev.err`. The answers,
-/// their statuses and the lines are this project's own.
+/// What the program writes to standard output goes to `dev.out`, and the line of a refusal or of a divergence to `dev.err`. The
+/// answers, their statuses and the lines are this project's own.
 pub fn session<F: Store, I: Source, O: Sink, E: Sink>(
     alloc: Global,
     words: &[String],
     files: &mut F,
     dev: &mut Devices<I, O, E>,
 ) -> Answer
-    // What the words, the files, the input and the machine say: each refusal and its line; the run's end, turns, outputs and what it leaves of the
-    // input, the files of the trace, of the native log and of the final tree, and the emulator in its last state; the moment of the run at an early stop. Each says
+    // What the words, the files, the input and the machine say, and of a replay the words, the program and the journal alone: each refusal and its line; the run's end, turns, outputs and what it leaves of the
+    // input, the files of the trace, of the native log, of the journal and of the final tree, and the emulator in its last state; the moment of the run at an early stop. Each says
     // what became of the whole store.
-    ensures answer { AnswersWords (texts words.now)
+    ensures answer { AnswersSession (texts words.now)
         (seen_of I.left O.written E.written I.faults O.faults E.faults dev.old (F.load_faults files.old) (stored_of F.files F.created F.loads F.turned_away F.write_faults files.old))
         (seen_of I.left O.written E.written I.faults O.faults E.faults dev.new (F.load_faults files.new) (stored_of F.files F.created F.loads F.turned_away F.write_faults files.new))
         result.turns result.end result.host }
     ensures status { result.status ≡ status_of result.end }
     ensures no_host { finish_of result.end ≡ None → result.host ≡ None }
 
-    // A refusal leaves the input as it was.
+    // A refusal leaves the input as it was, and so does every replay.
     ensures input { IsRefusal result.end → dev.new.input ≡ dev.old.input }
+    ensures untaken { command_of (texts words.now) ≡ ReplayCommand → dev.new.input ≡ dev.old.input }
 
-    // The same of the files alone: after each finish those of `--trace` and `--native` are there, that of `--save` holds the image of a tree, and no other changes.
+    // The same of the files alone: after each finish those of `--trace`, `--native` and `--journal` are there, that of `--save` holds the image of a tree, and no other changes.
     ensures saved { SavesWords (texts words.now) result.end (F.files files.old) (F.files files.new) }
 
     // Where a run is asked for, the input tells what is left of it, and no device failed, the answer is the run's end, unless memory ran out.
@@ -144,6 +108,13 @@ pub fn session<F: Store, I: Source, O: Sink, E: Sink>(
         → (Rose (E.faults dev.old.err) (E.faults dev.new.err) → ⊥)
         → (result.end ≡ End.NoMemory) ⊎ EndsAsRun (texts words.now) (F.files files.old) run left result.turns result.end }
 
+    // The same of a replay, of any input: the answer is how the replay is over.
+    ensures replays { (replay : AsksForReplay (texts words.now) (F.files files.old))
+        → (Rose (F.load_faults files.old) (F.load_faults files.new) → ⊥)
+        → (Rose (O.faults dev.old.out) (O.faults dev.new.out) → ⊥)
+        → (Rose (E.faults dev.old.err) (E.faults dev.new.err) → ⊥)
+        → (result.end ≡ End.NoMemory) ⊎ EndsAsReplay (texts words.now) (F.files files.old) replay result.turns result.end }
+
     // A count of faults rose where a fault is told, and nowhere else: want of memory is told for no device that failed.
     ensures faults { TellsFaults result.end
         (seen_of I.left O.written E.written I.faults O.faults E.faults dev.old (F.load_faults files.old) (stored_of F.files F.created F.loads F.turned_away F.write_faults files.old))
@@ -154,7 +125,60 @@ pub fn session<F: Store, I: Source, O: Sink, E: Sink>(
     ensures loads_later { F.load_faults files.old ≤ F.load_faults files.new }
     ensures writes_later { F.write_faults files.old ≤ F.write_faults files.new }
 {
-    answer_words(alloc, words, files, dev)
+    answer_command(alloc, words, files, dev)
+}
+
+/// The answer, by the command that the words begin with.
+fn answer_command<F: Store, I: Source, O: Sink, E: Sink>(
+    alloc: Global,
+    words: &[String],
+    files: &mut F,
+    dev: &mut Devices<I, O, E>,
+) -> Answer
+    ensures answer { AnswersSession (texts words.now)
+        (seen_of I.left O.written E.written I.faults O.faults E.faults dev.old (F.load_faults files.old) (stored_of F.files F.created F.loads F.turned_away F.write_faults files.old))
+        (seen_of I.left O.written E.written I.faults O.faults E.faults dev.new (F.load_faults files.new) (stored_of F.files F.created F.loads F.turned_away F.write_faults files.new))
+        result.turns result.end result.host }
+    ensures status { result.status ≡ status_of result.end }
+    ensures no_host { finish_of result.end ≡ None → result.host ≡ None }
+    ensures input { IsRefusal result.end → dev.new.input ≡ dev.old.input }
+    ensures untaken { command_of (texts words.now) ≡ ReplayCommand → dev.new.input ≡ dev.old.input }
+    ensures faults { TellsFaults result.end
+        (seen_of I.left O.written E.written I.faults O.faults E.faults dev.old (F.load_faults files.old) (stored_of F.files F.created F.loads F.turned_away F.write_faults files.old))
+        (seen_of I.left O.written E.written I.faults O.faults E.faults dev.new (F.load_faults files.new) (stored_of F.files F.created F.loads F.turned_away F.write_faults files.new)) }
+    ensures later { NoCountFell I.faults O.faults E.faults dev.old dev.new }
+    ensures loads_later { F.load_faults files.old ≤ F.load_faults files.new }
+    ensures writes_later { F.write_faults files.old ≤ F.write_faults files.new }
+{
+    match command_of(words) {
+        Command::Run => answer_words(alloc, words, files, dev),
+        Command::Replay => answer_replay(alloc, words, files, dev),
+    }
+}
+
+/// The answer to the words of a replay.
+fn answer_replay<F: Store, I: Source, O: Sink, E: Sink>(
+    alloc: Global,
+    words: &[String],
+    files: &mut F,
+    dev: &mut Devices<I, O, E>,
+) -> Answer
+    ensures answer { AnswersReplayWords (texts words.now)
+        (seen_of I.left O.written E.written I.faults O.faults E.faults dev.old (F.load_faults files.old) (stored_of F.files F.created F.loads F.turned_away F.write_faults files.old))
+        (seen_of I.left O.written E.written I.faults O.faults E.faults dev.new (F.load_faults files.new) (stored_of F.files F.created F.loads F.turned_away F.write_faults files.new))
+        result.turns result.end }
+    ensures status { result.status ≡ status_of result.end }
+    ensures no_host { result.host ≡ None }
+    ensures input { dev.new.input ≡ dev.old.input }
+    ensures faults { TellsFaults result.end
+        (seen_of I.left O.written E.written I.faults O.faults E.faults dev.old (F.load_faults files.old) (stored_of F.files F.created F.loads F.turned_away F.write_faults files.old))
+        (seen_of I.left O.written E.written I.faults O.faults E.faults dev.new (F.load_faults files.new) (stored_of F.files F.created F.loads F.turned_away F.write_faults files.new)) }
+    ensures later { NoCountFell I.faults O.faults E.faults dev.old dev.new }
+    ensures loads_later { F.load_faults files.old ≤ F.load_faults files.new }
+    ensures writes_later { F.write_faults files.old ≤ F.write_faults files.new }
+{
+    let replied = replay_words(alloc, words, files, dev);
+    answer_of(replied.end, replied.turns, None)
 }
 
 /// The answer, by what the words, the files and the run say.
@@ -194,12 +218,14 @@ fn run_ready<F: Store, I: Source, O: Sink, E: Sink>(
 ) -> Answer
     requires fresh { IsFresh ready.emulator }
     requires log { ready.emulator.native ≡ first_log (is_some ready.native) }
+    requires records { ready.emulator.records ≡ first_records (is_some ready.journal) }
     requires some { 0 < ready.budget }
     requires bounded { ready.budget ≤ 1_000_000_000_000 }
-    requires differ { Differ (option_map (word_at (texts words.now)) ready.trace) (option_map (word_at (texts words.now)) ready.native) }
+    requires differ { AllDiffer (option_map (word_at (texts words.now)) ready.trace) (option_map (word_at (texts words.now)) ready.native) (option_map (word_at (texts words.now)) ready.journal) }
     ensures run { (names : Names) → names.save ≡ option_map (word_at (texts words.now)) ready.save
         → names.trace ≡ option_map (word_at (texts words.now)) ready.trace
-        → names.native ≡ option_map (word_at (texts words.now)) ready.native → Answers (Run ready.emulator.quantum ready.emulator.machine ready.budget) names
+        → names.native ≡ option_map (word_at (texts words.now)) ready.native
+        → names.journal ≡ option_map (word_at (texts words.now)) ready.journal → Answers (Run ready.emulator.quantum ready.emulator.machine ready.budget ready.front.items) names
         (seen_of I.left O.written E.written I.faults O.faults E.faults dev.old (F.load_faults files.old) (stored_of F.files F.created F.loads F.turned_away F.write_faults files.old))
         (seen_of I.left O.written E.written I.faults O.faults E.faults dev.new (F.load_faults files.new) (stored_of F.files F.created F.loads F.turned_away F.write_faults files.new))
         result.turns result.end result.host }
@@ -217,13 +243,24 @@ fn run_ready<F: Store, I: Source, O: Sink, E: Sink>(
         budget,
         trace,
         native,
+        journal,
+        front,
         save,
     } = ready;
     let names = TextNames {
         trace: word_of(words, trace),
         native: word_of(words, native),
+        journal: word_of(words, journal),
     };
-    let ran = run_named(alloc, &mut emulator, budget, names, files, dev);
+    let ran = run_named(
+        alloc,
+        &mut emulator,
+        budget,
+        names,
+        front.as_slice(),
+        files,
+        dev,
+    );
     match ran.end {
         Ok(finish) => answer_run(alloc, words, save, emulator, finish, files),
         Err(stop) => answer_of(End::from(stop), ran.turns, None),

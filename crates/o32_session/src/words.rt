@@ -1,18 +1,37 @@
 //! The words after the emulator's own name: `run [--image F] [--schedule F] [--budget N] [--trace F] [--native F]
-//! [--save F] [--env K=V].. PROGRAM [WORD..]`.
+//! [--journal F] [--save F] [--env K=V].. PROGRAM [WORD..]`, or `replay PROGRAM JOURNAL`.
 
 ghost use Rattle.std.specs.Prelude.{◌≡◌, ◌+◌, ◌<◌, ◌^◌, ◌==◌, length, drop, if◌then◌else◌, IfOk, IfErr, IfSome, Some, None, option_and_then, option_map};
 ghost use Rattle.std.specs.List.{list_any, list_all, position};
 ghost use Rattle.std.specs.Option.{option_copied};
 ghost use Rattle.std.specs.String.{string_bytes};
 ghost use Rattle.std.specs.Char.{is_ascii_digit};
-ghost use Rattle.o32_session.specs.Words.{texts, read_words, read_line, read_guest, budget_of, is_setting, is_program, is_file_name, is_plain_number, has_nul, no_options, Line, line_of, Asks, word_at, later_of_equal, equal_to_native, equal_to_saved, equal_to_written, equal_name, first_of};
+ghost use Rattle.o32_session.specs.Words.{texts, read_words, read_line, read_guest, budget_of, is_setting, is_program, is_file_name, is_plain_number, has_nul, no_options, Line, line_of, Asks, word_at, later_of_equal, equal_to_journal, equal_to_native, equal_to_saved, equal_to_written, equal_name, first_of, command_of, read_replay};
 ghost use Rattle.o32_session.specs.inside.Steps.{read_from, step_of, step_at_option, step_at_setting, Option_or_program};
 ghost use Rattle.o32_session.specs.declared.words.Expected.TheVariants.{OptionOrProgram};
 ghost use Rattle.o32_session.specs.declared.words.Step.TheVariants.{GoesOn, IsWrong};
+ghost use Rattle.o32_session.specs.inside.Repeated.{command_seen, reading_seen};
 ghost use Rattle.o32_session.specs.inside.Reader.{IsRole, role_seen, guest_reading, options_seen, line_seen, IsReason};
 
 use std::alloc::{AllocError, AllocFailed, Global};
+
+/// What the words begin with.
+#[derive(Clone, Copy)]
+pub(crate) enum Command {
+    /// A run, or no command.
+    Run,
+    /// A replay.
+    Replay,
+}
+
+/// What the words of a replay ask for.
+#[derive(Clone, Copy)]
+pub(crate) struct ReplayLine<'a> {
+    /// The name of the program.
+    pub program: &'a str,
+    /// The name of the journal.
+    pub journal: &'a str,
+}
 
 /// What the words of a run ask for.
 #[derive(Drop)]
@@ -31,6 +50,8 @@ pub(crate) struct RunLine {
     pub trace: Option<usize>,
     /// The index of the name of the file of the native log, where there is one.
     pub native: Option<usize>,
+    /// The index of the name of the file of the journal, where there is one.
+    pub journal: Option<usize>,
     /// The index of the name of the file that the final tree is saved to, where it is saved.
     pub save: Option<usize>,
 }
@@ -77,6 +98,7 @@ enum Role {
     Budget,
     Trace,
     Native,
+    Journal,
     Save,
     Environment,
     Program,
@@ -92,6 +114,7 @@ enum Expected {
     BudgetValue,
     TraceValue,
     NativeValue,
+    JournalValue,
     SaveValue,
     EnvironmentValue,
 }
@@ -168,6 +191,8 @@ fn role_of(word: &str) -> Role
         Role::Trace
     } else if word == "--native" {
         Role::Native
+    } else if word == "--journal" {
+        Role::Journal
     } else if word == "--save" {
         Role::Save
     } else if word == "--env" {
@@ -194,6 +219,7 @@ struct Options {
     budget: Option<u64>,
     trace: Option<usize>,
     native: Option<usize>,
+    journal: Option<usize>,
     save: Option<usize>,
     environment: Vec<String>,
 }
@@ -229,6 +255,7 @@ impl Options {
             budget: None,
             trace: None,
             native: None,
+            journal: None,
             save: None,
             environment: Vec::new(alloc),
         }
@@ -251,6 +278,7 @@ impl Options {
             Expected::BudgetValue => Ok(keep(&mut self.budget, budget(word))),
             Expected::TraceValue => Ok(keep(&mut self.trace, file_name(at, word))),
             Expected::NativeValue => Ok(keep(&mut self.native, file_name(at, word))),
+            Expected::JournalValue => Ok(keep(&mut self.journal, file_name(at, word))),
             Expected::SaveValue => Ok(keep(&mut self.save, file_name(at, word))),
             Expected::EnvironmentValue => self.step_at_setting(alloc, word),
         }
@@ -270,6 +298,8 @@ impl Options {
             Role::Trace => Step::GoesOn(Expected::TraceValue),
             Role::Native if self.native.is_some() => Step::IsWrong,
             Role::Native => Step::GoesOn(Expected::NativeValue),
+            Role::Journal if self.journal.is_some() => Step::IsWrong,
+            Role::Journal => Step::GoesOn(Expected::JournalValue),
             Role::Save if self.save.is_some() => Step::IsWrong,
             Role::Save => Step::GoesOn(Expected::SaveValue),
             Role::Environment => Step::GoesOn(Expected::EnvironmentValue),
@@ -373,13 +403,23 @@ fn equal_to_native(words: &[String], line: &RunLine, native: usize) -> Option<us
     )
 }
 
+/// The same where the other may be that of `--native` too.
+fn equal_to_journal(words: &[String], line: &RunLine, journal: usize) -> Option<usize>
+    ensures { result ≡ equal_to_journal (texts words.now) (line_seen line.now) journal }
+{
+    first_of(
+        equal_to_native(words, line, journal),
+        later_of_named(words, journal, line.native),
+    )
+}
+
 /// The same where the written one is that of `--save`, at index `saved`, and the other any.
 fn equal_to_saved(words: &[String], line: &RunLine, saved: usize) -> Option<usize>
     ensures { result ≡ equal_to_saved (texts words.now) (line_seen line.now) saved }
 {
     first_of(
-        equal_to_native(words, line, saved),
-        later_of_named(words, saved, line.native),
+        equal_to_journal(words, line, saved),
+        later_of_named(words, saved, line.journal),
     )
 }
 
@@ -397,6 +437,13 @@ fn equal_to_logged(words: &[String], line: &RunLine) -> Option<usize>
     equal_to_native(words, line, line.native?)
 }
 
+/// The same where the written one is that of `--journal`.
+fn equal_to_kept(words: &[String], line: &RunLine) -> Option<usize>
+    ensures { result ≡ option_and_then (equal_to_journal (texts words.now) (line_seen line.now)) line.now.journal }
+{
+    equal_to_journal(words, line, line.journal?)
+}
+
 /// The same where the written one is that of `--save`, where there is one.
 fn equal_to_any_saved(words: &[String], line: &RunLine) -> Option<usize>
     ensures { result ≡ option_and_then (equal_to_saved (texts words.now) (line_seen line.now)) line.now.save }
@@ -412,9 +459,38 @@ fn equal_name(words: &[String], line: &RunLine) -> Option<usize>
         equal_to_traced(words, line),
         first_of(
             equal_to_logged(words, line),
-            equal_to_any_saved(words, line),
+            first_of(equal_to_kept(words, line), equal_to_any_saved(words, line)),
         ),
     )
+}
+
+/// The command that the words begin with.
+pub(crate) fn command_of(words: &[String]) -> Command
+    ensures { command_seen result ≡ command_of (texts words.now) }
+{
+    if word_at(words, 0) == "replay" {
+        Command::Replay
+    } else {
+        Command::Run
+    }
+}
+
+/// Reads the words of a replay. The index of the first word that is wrong is given where they are not in the grammar, or the number of
+/// words where one is missing. (The grammar is this project's own.)
+pub(crate) fn read_replay(words: &[String]) -> Result<ReplayLine<'_>, usize>
+    ensures { reading_seen result ≡ read_replay (texts words.now) }
+{
+    let program = word_at(words, 1);
+    let journal = word_at(words, 2);
+    if !is_name_of_file(program) {
+        Err(1)
+    } else if !is_name_of_file(journal) {
+        Err(2)
+    } else if words.len() > 3 {
+        Err(3)
+    } else {
+        Ok(ReplayLine { program, journal })
+    }
 }
 
 /// Reads the words of a run, the emulator's own name left out.
@@ -488,6 +564,7 @@ fn finish(options: Options, program: usize, guest: &[String]) -> Result<RunLine,
         schedule: options.schedule,
         trace: options.trace,
         native: options.native,
+        journal: options.journal,
         save: options.save,
     })
 }

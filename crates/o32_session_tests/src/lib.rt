@@ -8,6 +8,8 @@ mod native;
 #[cfg(test)]
 mod programs;
 #[cfg(test)]
+mod replays;
+#[cfg(test)]
 mod saves;
 #[cfg(test)]
 mod schedules;

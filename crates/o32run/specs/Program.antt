@@ -3,7 +3,8 @@ use Rattle.std.specs.Prelude.{ℕ, ◌≡◌, List, Option}
 use Rattle.o32_machine.specs.Emulator.{Emulated}
 use Rattle.o32_session.specs.Answers.{status_of}
 use Rattle.o32_session.specs.Faults.{TellsFaults}
-use Rattle.o32_session.specs.Session.{Seen, AnswersWords}
+use Rattle.o32_session.specs.Replayed.{AnswersSession}
+use Rattle.o32_session.specs.Session.{Seen}
 use Rattle.o32_session.specs.declared.answer.End.{End}
 
 -- A session of these words was carried out, with what its answer says of the input, outputs and files and of the counts of faults, and the
@@ -12,6 +13,6 @@ pub record EndsAs (words : List (List ℕ)) (old new : Seen) (status : ℕ) : Ty
   pub turns : ℕ
   pub end : End
   pub host : Option Emulated
-  pub answered : AnswersWords words old new turns end host
+  pub answered : AnswersSession words old new turns end host
   pub faults : TellsFaults end old new
   pub ended : status ≡ status_of end

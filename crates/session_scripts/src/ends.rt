@@ -3,13 +3,36 @@ use crate::reading::Words;
 use crate::sessions::Outcome;
 use elf_image::ElfRefusal;
 use fs_image::ImageRefusal;
-use o32_session::{End, Refusal};
+use o32_session::{End, Finish, Refusal};
 use schedule::ScheduleRefusal;
 use std::alloc::Global;
 use std::test::Fail;
 
 /// The status of a session that is refused.
 const REFUSED: u8 = 125;
+
+/// How a run was over that is replayed.
+fn finish_of(words: &mut Words) -> Result<Finish, Fail> {
+    match words.next()? {
+        "exited" => Ok(Finish::Exited(words.byte()?)),
+        "killed" => Ok(Finish::Killed(words.byte()?)),
+        "budget" => Ok(Finish::Budget),
+        "blocked" => Ok(Finish::Blocked),
+        _ => Err(Fail::from("no finish")),
+    }
+}
+
+/// The turn of a difference, what the journal has there, and what the machine has.
+fn divergence(words: &mut Words) -> Result<End, Fail> {
+    let turn = words.number()?;
+    let wanted = words.number()?;
+    let found = words.number()?;
+    Ok(End::Diverged {
+        turn,
+        wanted,
+        found,
+    })
+}
 
 /// An end that is no refusal.
 fn end_of(words: &mut Words) -> Result<End, Fail> {
@@ -18,6 +41,8 @@ fn end_of(words: &mut Words) -> Result<End, Fail> {
         "killed" => Ok(End::Killed(words.byte()?)),
         "budget" => Ok(End::Budget),
         "blocked" => Ok(End::Blocked),
+        "replayed" => Ok(End::Replayed(finish_of(words)?)),
+        "diverged" => divergence(words),
         "read_fault" => Ok(End::ReadFault),
         "write_fault" => Ok(End::WriteFault),
         _ => Err(Fail::from("no end")),
@@ -75,6 +100,9 @@ fn refusal_of(words: &mut Words) -> Result<Refusal, Fail> {
         "image" => Ok(Refusal::Image(image_refusal(words)?)),
         "schedule" => Ok(Refusal::Schedule(schedule_refusal(words)?)),
         "start" => Ok(Refusal::Start),
+        "journal" => Ok(Refusal::Journal {
+            at: words.number()?,
+        }),
         _ => Err(Fail::from("no refusal")),
     }
 }

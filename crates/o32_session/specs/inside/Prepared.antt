@@ -19,11 +19,13 @@ use Rattle.elf_image.specs.declared.refusal.ElfError.TheVariants as elf
 use Rattle.schedule.specs.declared.Schedule.{Schedule}
 use Rattle.schedule.specs.declared.refusal.ScheduleError.{ScheduleError}
 use Rattle.schedule.specs.declared.refusal.ScheduleError.TheVariants as schedules
+use Rattle.journal.specs.declared.refusal.JournalError.{JournalError}
+use Rattle.journal.specs.declared.refusal.JournalError.TheVariants as journals
 use Rattle.start_stack.specs.declared.error.StartError.{StartError}
 use Rattle.start_stack.specs.declared.error.StartError.TheVariants as start
 use Rattle.o32_session.specs.Lines.{line_of}
 use Rattle.o32_session.specs.Words.{Line, Reading, Asks, WrongAt}
-use Rattle.o32_session.specs.Asked.{Asked, Names, Refuse, Run, Absent, Long, Bytes, IsFound, IsReadAs, IsOpened, IsScheduled, AsksFor, names_of, schedule_of_text, program_file, image_file, schedule_file, program_limit, image_limit, schedule_limit}
+use Rattle.o32_session.specs.Asked.{Asked, Names, Refuse, Run, Absent, Long, Bytes, IsFound, IsReadAs, IsOpened, IsScheduled, AsksFor, names_of, schedule_of_text, program_file, image_file, schedule_file, journal_file, program_limit, image_limit, schedule_limit, journal_limit}
 use Rattle.o32_session.specs.Saved.{after_loads, loaded_by, loaded_names, named, turned_by}
 use Rattle.o32_runner.specs.Stored.{Stored}
 use Rattle.o32_session.specs.declared.answer.Refusal.{Refusal}
@@ -65,6 +67,10 @@ abbrev pub of_start : StartError → NotRun
 of_start start.TooLong = Refused refusals.Start
 of_start start.NoMemory = NoMemory
 
+abbrev pub of_journal : JournalError → NotRun
+of_journal (journals.Bad at) = Refused (refusals.Journal at)
+of_journal journals.NoMemory = NoMemory
+
 -- a read fault comes only where the count rose, which rises in no other case
 abbrev pub ReasonOnlyIfRose : {T : Type 0} → Result T NotRun → ℕ → ℕ → Type 0
 ReasonOnlyIfRose (Ok value) before now = now ≡ before
@@ -78,11 +84,13 @@ abbrev pub number_of : SessionFile → ℕ
 number_of files.Program = program_file
 number_of files.Image = image_file
 number_of files.Schedule = schedule_file
+number_of files.Journal = journal_file
 
 abbrev pub limit_of : SessionFile → ℕ
 limit_of files.Program = program_limit
 limit_of files.Image = image_limit
 limit_of files.Schedule = schedule_limit
+limit_of files.Journal = journal_limit
 
 -- what was loaded, or what was found in its place; a fault or want of memory says nothing of the file
 abbrev pub IsLoaded : {A : Type 0} → Option Files → SessionFile → List ℕ → Result (Vec ℕ A) NotRun → Type 0
@@ -96,6 +104,7 @@ IsLoaded told file name (Err (Refused (refusals.Elf rule))) = ⊥
 IsLoaded told file name (Err (Refused (refusals.Image broken))) = ⊥
 IsLoaded told file name (Err (Refused (refusals.Schedule broken))) = ⊥
 IsLoaded told file name (Err (Refused refusals.Start)) = ⊥
+IsLoaded told file name (Err (Refused (refusals.Journal at))) = ⊥
 IsLoaded told file name (Err ReadFault) = ⊤
 IsLoaded told file name (Err NoMemory) = ⊤
 
@@ -108,6 +117,7 @@ turned_at file name (refusals.Elf rule) = []
 turned_at file name (refusals.Image broken) = []
 turned_at file name (refusals.Schedule broken) = []
 turned_at file name refusals.Start = []
+turned_at file name (refusals.Journal at) = []
 
 -- the same of a file that is loaded where it has a name
 abbrev pub turned_with : SessionFile → Option (List ℕ) → Refusal → List TurnedLoad
@@ -204,7 +214,8 @@ IsStartReason asked NoMemory = ⊤
 -- what is asked for by a line is ready, with the indices of the files that its tree is saved to and that its texts are written to
 abbrev pub IsPreparedLine : List (List ℕ) → Line → Option Files → Result Ready NotRun → Type 0
 IsPreparedLine words line told (Ok ready) =
-    AsksFor words line told (Run ready.emulator.quantum ready.emulator.machine ready.budget) × ((ready.save ≡ line.save) × ((ready.trace ≡ line.trace) × (ready.native ≡ line.native)))
+    AsksFor words line told (Run ready.emulator.quantum ready.emulator.machine ready.budget ready.front.items)
+    × ((ready.save ≡ line.save) × ((ready.trace ≡ line.trace) × ((ready.native ≡ line.native) × (ready.journal ≡ line.journal))))
 IsPreparedLine words line told (Err (Refused refusal)) = AsksFor words line told (Refuse refusal)
 IsPreparedLine words line told (Err ReadFault) = ⊤
 IsPreparedLine words line told (Err NoMemory) = ⊤
@@ -234,6 +245,8 @@ EndsRefused refusal (ends.Exited status) old new = ⊥
 EndsRefused refusal (ends.Killed signal) old new = ⊥
 EndsRefused refusal ends.Budget old new = ⊥
 EndsRefused refusal ends.Blocked old new = ⊥
+EndsRefused refusal (ends.Replayed finish) old new = ⊥
+EndsRefused refusal (ends.Diverged turn wanted found) old new = ⊥
 
 -- the count of what the line is written to rose only in a write fault
 abbrev pub LineFailsOnlyIfRose : End → ℕ → ℕ → Type 0
@@ -245,6 +258,8 @@ LineFailsOnlyIfRose (ends.Exited status) before now = now ≡ before
 LineFailsOnlyIfRose (ends.Killed signal) before now = now ≡ before
 LineFailsOnlyIfRose ends.Budget before now = now ≡ before
 LineFailsOnlyIfRose ends.Blocked before now = now ≡ before
+LineFailsOnlyIfRose (ends.Replayed finish) before now = now ≡ before
+LineFailsOnlyIfRose (ends.Diverged turn wanted found) before now = now ≡ before
 
 -- where nothing is run, a refusal writes its line, and a fault or want of memory nothing
 abbrev pub EndsWithoutRun : NotRun → End → Option (List ℕ) → Option (List ℕ) → Type 0

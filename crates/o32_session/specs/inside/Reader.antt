@@ -1,13 +1,13 @@
 -- How the values of the reader of words stand for the definitions of `Words`.
 use Rattle.std.specs.Prelude.{ℕ, ◌≡◌, ⊤, List, Option, Some, None}
-use Rattle.o32_session.specs.Words.{role_of, ImageOption, ScheduleOption, BudgetOption, TraceOption, NativeOption, SaveOption, EnvOption, ProgramName, NoOption, Line, Reading, Asks, WrongAt, texts}
-use Rattle.o32_session.specs.inside.Steps.{Option_or_program, Image_value, Schedule_value, Budget_value, Trace_value, Native_value, Save_value, Env_value, Goes_on, Is_program, Is_wrong}
+use Rattle.o32_session.specs.Words.{role_of, ImageOption, ScheduleOption, BudgetOption, TraceOption, NativeOption, JournalOption, SaveOption, EnvOption, ProgramName, NoOption, Line, Reading, Asks, WrongAt, texts}
+use Rattle.o32_session.specs.inside.Steps.{Option_or_program, Image_value, Schedule_value, Budget_value, Trace_value, Native_value, Journal_value, Save_value, Env_value, Goes_on, Is_program, Is_wrong}
 use Rattle.o32_session.specs.Words as Words
 use Rattle.o32_session.specs.inside.Steps as Steps
 use Rattle.o32_session.specs.declared.words.Role.{Role}
-use Rattle.o32_session.specs.declared.words.Role.TheVariants.{Image, Schedule, Budget, Trace, Native, Save, Environment, Program, Unknown}
+use Rattle.o32_session.specs.declared.words.Role.TheVariants.{Image, Schedule, Budget, Trace, Native, Journal, Save, Environment, Program, Unknown}
 use Rattle.o32_session.specs.declared.words.Expected.{Expected}
-use Rattle.o32_session.specs.declared.words.Expected.TheVariants.{OptionOrProgram, ImageValue, ScheduleValue, BudgetValue, TraceValue, NativeValue, SaveValue, EnvironmentValue}
+use Rattle.o32_session.specs.declared.words.Expected.TheVariants.{OptionOrProgram, ImageValue, ScheduleValue, BudgetValue, TraceValue, NativeValue, JournalValue, SaveValue, EnvironmentValue}
 use Rattle.o32_session.specs.declared.words.Step.{Step}
 use Rattle.o32_session.specs.declared.words.Step.TheVariants.{GoesOn, IsProgram, IsWrong}
 use Rattle.o32_session.specs.declared.words.Options.{Options}
@@ -21,6 +21,7 @@ role_seen Schedule = ScheduleOption
 role_seen Budget = BudgetOption
 role_seen Trace = TraceOption
 role_seen Native = NativeOption
+role_seen Journal = JournalOption
 role_seen Save = SaveOption
 role_seen Environment = EnvOption
 role_seen Program = ProgramName
@@ -36,6 +37,7 @@ expected_seen ScheduleValue = Schedule_value
 expected_seen BudgetValue = Budget_value
 expected_seen TraceValue = Trace_value
 expected_seen NativeValue = Native_value
+expected_seen JournalValue = Journal_value
 expected_seen SaveValue = Save_value
 expected_seen EnvironmentValue = Env_value
 
@@ -46,6 +48,7 @@ options_seen options = record {
   budget = options.budget;
   trace = options.trace;
   native = options.native;
+  journal = options.journal;
   save = options.save;
   environment = texts options.environment.items;
 }
@@ -71,6 +74,7 @@ line_seen line = record {
   schedule = line.schedule;
   trace = line.trace;
   native = line.native;
+  journal = line.journal;
   save = line.save;
 }
 

@@ -1,6 +1,6 @@
 -- How the reader goes over the words one by one. Only the private parts of the crate cite this.
 use Rattle.std.specs.Prelude.{ℕ, ◌+◌, List, [], ◌∷◌, ◌++◌, if◌then◌else◌, is_some, Option, Some, None}
-use Rattle.o32_session.specs.Words.{Role, ImageOption, ScheduleOption, BudgetOption, TraceOption, NativeOption, SaveOption, EnvOption, ProgramName, NoOption, role_of, is_file_name, budget_of, is_setting, Options, line_of, Reading, WrongAt, read_guest}
+use Rattle.o32_session.specs.Words.{Role, ImageOption, ScheduleOption, BudgetOption, TraceOption, NativeOption, JournalOption, SaveOption, EnvOption, ProgramName, NoOption, role_of, is_file_name, budget_of, is_setting, Options, line_of, Reading, WrongAt, read_guest}
 
 -- what is looked for next: an option or PROGRAM, or the value of the option before
 pub data Expected : Type 0 where
@@ -10,6 +10,7 @@ pub data Expected : Type 0 where
   Budget_value : Expected
   Trace_value : Expected
   Native_value : Expected
+  Journal_value : Expected
   Save_value : Expected
   Env_value : Expected
 
@@ -26,6 +27,7 @@ step_at_option options ScheduleOption = if is_some options.schedule then Is_wron
 step_at_option options BudgetOption = if is_some options.budget then Is_wrong else Goes_on Budget_value options
 step_at_option options TraceOption = if is_some options.trace then Is_wrong else Goes_on Trace_value options
 step_at_option options NativeOption = if is_some options.native then Is_wrong else Goes_on Native_value options
+step_at_option options JournalOption = if is_some options.journal then Is_wrong else Goes_on Journal_value options
 step_at_option options SaveOption = if is_some options.save then Is_wrong else Goes_on Save_value options
 step_at_option options EnvOption = Goes_on Env_value options
 step_at_option options ProgramName = Is_program
@@ -52,6 +54,10 @@ abbrev pub step_at_native : ℕ → Options → List ℕ → Step
 step_at_native at options word =
     if is_file_name word then Goes_on Option_or_program (record options { native = Some at }) else Is_wrong
 
+abbrev pub step_at_journal : ℕ → Options → List ℕ → Step
+step_at_journal at options word =
+    if is_file_name word then Goes_on Option_or_program (record options { journal = Some at }) else Is_wrong
+
 abbrev pub step_at_save : ℕ → Options → List ℕ → Step
 step_at_save at options word =
     if is_file_name word then Goes_on Option_or_program (record options { save = Some at }) else Is_wrong
@@ -70,6 +76,7 @@ step_of at Schedule_value options word = step_at_schedule at options word
 step_of at Budget_value options word = step_at_budget options (budget_of word)
 step_of at Trace_value options word = step_at_trace at options word
 step_of at Native_value options word = step_at_native at options word
+step_of at Journal_value options word = step_at_journal at options word
 step_of at Save_value options word = step_at_save at options word
 step_of at Env_value options word = step_at_setting options word
 

@@ -1,6 +1,7 @@
 use Rattle.o32_session.specs.Words.{texts}
 use Rattle.o32_session.specs.inside.Reader.{line_seen}
 use Rattle.o32_session.proofs.Budgets.{budget_within}
+use Rattle.o32_session.proofs.Plain.{asked_plain}
 use Rattle.o32_session.proofs.prepare.prepare.Goals as goal
 
 pub prepare_line-requires-clause-bounded : goal.prepare_line-requires-clause-bounded
@@ -8,3 +9,9 @@ prepare_line-requires-clause-bounded g c = (budget_within (texts c.args.words.no
 
 pub prepare_line-requires-clause-some : goal.prepare_line-requires-clause-some
 prepare_line-requires-clause-some g c = (budget_within (texts c.args.words.now) (line_seen c.in_ok-line.line) c.in_ok-line.ensures.line).0
+
+pub prepare_line-requires-clause-words : goal.prepare_line-requires-clause-words
+prepare_line-requires-clause-words g c = (asked_plain (texts c.args.words.now) (line_seen c.in_ok-line.line) c.in_ok-line.ensures.line).args
+
+pub prepare_line-requires-clause-environment : goal.prepare_line-requires-clause-environment
+prepare_line-requires-clause-environment g c = (asked_plain (texts c.args.words.now) (line_seen c.in_ok-line.line) c.in_ok-line.ensures.line).env

@@ -32,7 +32,7 @@ returns-clause-prepared g c =
     c.in_ok-tree.ensures.tree)
     (subst (λ f. IsScheduledAs f (names_of (texts c.args.words.now) (line_seen c.args.line)).schedule (Ok c.in_ok-schedule.schedule)) (same_too ∙ same)
     c.in_ok-schedule.ensures.scheduled)
-    c.machine_of_plan.result c.machine_of_plan.ensures.ready c.machine_of_plan.ensures.save c.machine_of_plan.ensures.trace c.machine_of_plan.ensures.native c.machine_of_plan.ensures.reason
+    c.machine_of_plan.result c.machine_of_plan.ensures.ready c.machine_of_plan.ensures.save c.machine_of_plan.ensures.trace c.machine_of_plan.ensures.native c.machine_of_plan.ensures.journal c.machine_of_plan.ensures.reason
 
 pub returns-in_err-plan-clause-loads : goal.returns-in_err-plan-clause-loads
 returns-in_err-plan-clause-loads g c =

@@ -1,4 +1,4 @@
-use Rattle.std.proofs.Common.{ℕ, [], None, Ok, Err, option_map, refl, subst, sym}
+use Rattle.std.proofs.Common.{ℕ, ◌≤◌, [], None, Ok, Err, option_map, refl, subst, sym}
 use Rattle.o32_session.specs.Asked.{Names}
 use Rattle.o32_session.specs.Words.{texts, read_words, word_at}
 use Rattle.o32_session.specs.Faults.{NoneRose, TellsFaults}
@@ -53,12 +53,17 @@ returns-in-Err-clause-faults g c =
 
 pub returns-in-Ok-clause-input : goal.returns-in-Ok-clause-input
 returns-in-Ok-clause-input g c refused =
-    let names : Names = record { program = []; image = None; schedule = None; trace = option_map (word_at (texts c.args.words.now)) c.in-Ok.ready.trace; native = option_map (word_at (texts c.args.words.now)) c.in-Ok.ready.native; save = option_map (word_at (texts c.args.words.now)) c.in-Ok.ready.save } in
-    absurd (ran_on c.in-Ok.ready.emulator.quantum c.in-Ok.ready.emulator.machine c.in-Ok.ready.budget names
+    let names : Names = record { program = []; image = None; schedule = None; trace = option_map (word_at (texts c.args.words.now)) c.in-Ok.ready.trace; native = option_map (word_at (texts c.args.words.now)) c.in-Ok.ready.native; journal = option_map (word_at (texts c.args.words.now)) c.in-Ok.ready.journal; save = option_map (word_at (texts c.args.words.now)) c.in-Ok.ready.save } in
+    absurd (ran_on c.in-Ok.ready.emulator.quantum c.in-Ok.ready.emulator.machine c.in-Ok.ready.budget c.in-Ok.ready.front.items names
     (seen_of g.I.Source.left g.O.Sink.written g.E.Sink.written g.I.Source.faults g.O.Sink.faults g.E.Sink.faults c.args.dev.now (g.F.Store.load_faults c.prepare.new.files) (stored_of g.F.Store.files g.F.Store.created g.F.Store.loads g.F.Store.turned_away g.F.Store.write_faults c.prepare.new.files))
     (seen_of g.I.Source.left g.O.Sink.written g.E.Sink.written g.I.Source.faults g.O.Sink.faults g.E.Sink.faults c.run_ready.new.dev (g.F.Store.load_faults c.run_ready.new.files) (stored_of g.F.Store.files g.F.Store.created g.F.Store.loads g.F.Store.turned_away g.F.Store.write_faults c.run_ready.new.files))
-    c.run_ready.result.turns c.run_ready.result.end c.run_ready.result.host (c.run_ready.ensures.run names refl refl refl) refused)
+    c.run_ready.result.turns c.run_ready.result.end c.run_ready.result.host (c.run_ready.ensures.run names refl refl refl refl) refused)
 
 pub run_ready-requires-clause-differ : goal.run_ready-requires-clause-differ
 run_ready-requires-clause-differ g c =
     ready_differ (texts c.args.words.now) (read_words (texts c.args.words.now)) (g.F.Store.files c.args.files.now) c.in-Ok.ready refl c.in-Ok.ensures.prepared
+
+pub returns-in-Ok-clause-writes_later : goal.returns-in-Ok-clause-writes_later
+returns-in-Ok-clause-writes_later g c =
+    let same = reading_writes (texts c.args.words.now) (read_words (texts c.args.words.now)) (Ok c.in-Ok.ready) (stored_of g.F.Store.files g.F.Store.created g.F.Store.loads g.F.Store.turned_away g.F.Store.write_faults c.args.files.now) (stored_of g.F.Store.files g.F.Store.created g.F.Store.loads g.F.Store.turned_away g.F.Store.write_faults c.prepare.new.files) c.in-Ok.ensures.loads in
+    subst (λ (n : ℕ). n ≤ g.F.Store.write_faults c.run_ready.new.files) same c.run_ready.ensures.writes_later

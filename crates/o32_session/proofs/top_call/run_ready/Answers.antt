@@ -17,42 +17,50 @@ use Rattle.o32_session.proofs.Sessions.{cut_answer, read_cause, run_answer, text
 use Rattle.o32_session.proofs.top_call.run_ready.Goals as goal
 
 pub returns-in-Ok-clause-run : goal.returns-in-Ok-clause-run
-returns-in-Ok-clause-run g c = λ names named traced logged.
+returns-in-Ok-clause-run g c = λ names named traced logged kept.
     let quantum = c.args.ready.emulator.quantum in
     let machine = c.args.ready.emulator.machine in
     let budget = c.args.ready.budget in
     let turns = c.run_named-ran.result.turns in
     let trace_is = c.word_of.ensures in
     let native_is = c.word_of-2.ensures in
-    run_answer quantum machine budget turns names (option_map (word_at (texts c.args.words.now)) c.args.ready.save) c.in-Ok.finish c.run_named-ran.new.emulator c.answer_run.result
+    let journal_is = c.word_of-3.ensures in
+    let front = c.args.ready.front.items in
+    let front_is = c.as_slice.ensures.value in
+    run_answer quantum machine budget turns front names (option_map (word_at (texts c.args.words.now)) c.args.ready.save) c.in-Ok.finish c.run_named-ran.new.emulator c.answer_run.result
     (seen_of g.I.Source.left g.O.Sink.written g.E.Sink.written g.I.Source.faults g.O.Sink.faults g.E.Sink.faults c.args.dev.now (g.F.Store.load_faults c.args.files.now) (stored_of g.F.Store.files g.F.Store.created g.F.Store.loads g.F.Store.turned_away g.F.Store.write_faults c.args.files.now)) (seen_of g.I.Source.left g.O.Sink.written g.E.Sink.written g.I.Source.faults g.O.Sink.faults g.E.Sink.faults c.run_named-ran.new.dev (g.F.Store.load_faults c.answer_run.new.files) (stored_of g.F.Store.files g.F.Store.created g.F.Store.loads g.F.Store.turned_away g.F.Store.write_faults c.answer_run.new.files)) (stored_of g.F.Store.files g.F.Store.created g.F.Store.loads g.F.Store.turned_away g.F.Store.write_faults c.run_named-ran.new.files) named
     (subst (λ (e : Result Finish Stop). StopsOnlyIfAnyRose {T = Finish} g.I.Source.faults g.O.Sink.faults g.E.Sink.faults e (g.F.Store.write_faults c.args.files.now) (g.F.Store.write_faults c.run_named-ran.new.files) c.args.dev.now c.run_named-ran.new.dev) c.in-Ok.is c.run_named-ran.ensures.cause).1
     c.run_named-ran.ensures.within
-    (texts_named quantum machine budget turns (Ok c.in-Ok.finish) (g.I.Source.left c.args.dev.now.input) (stored_of g.F.Store.files g.F.Store.created g.F.Store.loads g.F.Store.turned_away g.F.Store.write_faults c.args.files.now) (stored_of g.F.Store.files g.F.Store.created g.F.Store.loads g.F.Store.turned_away g.F.Store.write_faults c.run_named-ran.new.files) (option_copied c.word_of.result) names.trace (option_copied c.word_of-2.result) names.native (trace_is ∙ sym traced) (native_is ∙ sym logged)
-    (subst (λ (e : Result Finish Stop). WritesTexts (option_copied c.word_of.result) (option_copied c.word_of-2.result) quantum machine budget turns e (g.I.Source.left c.args.dev.now.input) (stored_of g.F.Store.files g.F.Store.created g.F.Store.loads g.F.Store.turned_away g.F.Store.write_faults c.args.files.now) (stored_of g.F.Store.files g.F.Store.created g.F.Store.loads g.F.Store.turned_away g.F.Store.write_faults c.run_named-ran.new.files)) c.in-Ok.is c.run_named-ran.ensures.texts))
+    (texts_named front quantum machine budget turns (Ok c.in-Ok.finish) (g.I.Source.left c.args.dev.now.input) (stored_of g.F.Store.files g.F.Store.created g.F.Store.loads g.F.Store.turned_away g.F.Store.write_faults c.args.files.now) (stored_of g.F.Store.files g.F.Store.created g.F.Store.loads g.F.Store.turned_away g.F.Store.write_faults c.run_named-ran.new.files) (option_copied c.word_of.result) names.trace (option_copied c.word_of-2.result) names.native (option_copied c.word_of-3.result) names.journal (trace_is ∙ sym traced) (native_is ∙ sym logged) (journal_is ∙ sym kept)
+    (subst (λ (text : List ℕ). WritesTexts (option_copied c.word_of.result) (option_copied c.word_of-2.result) (option_copied c.word_of-3.result) text quantum machine budget turns (Ok c.in-Ok.finish) (g.I.Source.left c.args.dev.now.input) (stored_of g.F.Store.files g.F.Store.created g.F.Store.loads g.F.Store.turned_away g.F.Store.write_faults c.args.files.now) (stored_of g.F.Store.files g.F.Store.created g.F.Store.loads g.F.Store.turned_away g.F.Store.write_faults c.run_named-ran.new.files)) front_is
+    (subst (λ (e : Result Finish Stop). WritesTexts (option_copied c.word_of.result) (option_copied c.word_of-2.result) (option_copied c.word_of-3.result) c.as_slice.result.now quantum machine budget turns e (g.I.Source.left c.args.dev.now.input) (stored_of g.F.Store.files g.F.Store.created g.F.Store.loads g.F.Store.turned_away g.F.Store.write_faults c.args.files.now) (stored_of g.F.Store.files g.F.Store.created g.F.Store.loads g.F.Store.turned_away g.F.Store.write_faults c.run_named-ran.new.files)) c.in-Ok.is c.run_named-ran.ensures.texts)))
     (subst (λ (e : Result Finish Stop). IfOk e (λ finish. c.run_named-ran.new.emulator.turns ≡ turns)) c.in-Ok.is c.run_named-ran.ensures.turns)
     (subst (λ (e : Result Finish Stop). RunsAs quantum machine budget turns e (contents g.I.Source.left g.O.Sink.written g.E.Sink.written c.args.dev.now) (contents g.I.Source.left g.O.Sink.written g.E.Sink.written c.run_named-ran.new.dev) c.run_named-ran.new.emulator.machine) c.in-Ok.is c.run_named-ran.ensures.run)
     c.answer_run.ensures.answer
 
 pub returns-in-Err-clause-run : goal.returns-in-Err-clause-run
-returns-in-Err-clause-run g c = λ names named traced logged.
+returns-in-Err-clause-run g c = λ names named traced logged kept.
     let quantum = c.args.ready.emulator.quantum in
     let machine = c.args.ready.emulator.machine in
     let budget = c.args.ready.budget in
     let turns = c.run_named-ran.result.turns in
     let trace_is = c.word_of.ensures in
     let native_is = c.word_of-2.ensures in
+    let journal_is = c.word_of-3.ensures in
+    let front = c.args.ready.front.items in
+    let front_is = c.as_slice.ensures.value in
     let old = (seen_of g.I.Source.left g.O.Sink.written g.E.Sink.written g.I.Source.faults g.O.Sink.faults g.E.Sink.faults c.args.dev.now (g.F.Store.load_faults c.args.files.now) (stored_of g.F.Store.files g.F.Store.created g.F.Store.loads g.F.Store.turned_away g.F.Store.write_faults c.args.files.now)) in
     let new = (seen_of g.I.Source.left g.O.Sink.written g.E.Sink.written g.I.Source.faults g.O.Sink.faults g.E.Sink.faults c.run_named-ran.new.dev (g.F.Store.load_faults c.run_named-ran.new.files) (stored_of g.F.Store.files g.F.Store.created g.F.Store.loads g.F.Store.turned_away g.F.Store.write_faults c.run_named-ran.new.files)) in
     let answer = c.answer_of.result in
     let cause = subst (λ (e : Result Finish Stop). StopsOnlyIfAnyRose {T = Finish} g.I.Source.faults g.O.Sink.faults g.E.Sink.faults e (g.F.Store.write_faults c.args.files.now) (g.F.Store.write_faults c.run_named-ran.new.files) c.args.dev.now c.run_named-ran.new.dev) c.in-Err.is c.run_named-ran.ensures.cause in
-    subst (λ (n : ℕ). Answers (Run quantum machine budget) names old new n answer.end answer.host) (sym c.answer_of.ensures.turns)
-    (subst (λ (e : End). Answers (Run quantum machine budget) names old new turns e answer.host) (sym (c.answer_of.ensures.end ∙ c.from.ensures))
-    (cut_answer quantum machine budget turns names c.in-Err.stop old new c.run_named-ran.new.emulator.machine answer.host
+    subst (λ (n : ℕ). Answers (Run quantum machine budget front) names old new n answer.end answer.host) (sym c.answer_of.ensures.turns)
+    (subst (λ (e : End). Answers (Run quantum machine budget front) names old new turns e answer.host) (sym (c.answer_of.ensures.end ∙ c.from.ensures))
+    (cut_answer quantum machine budget turns front names c.in-Err.stop old new c.run_named-ran.new.emulator.machine answer.host
     c.run_named-ran.ensures.within
-    (λ none. subst (λ (e : Result Finish Stop). WithinBudget e turns budget) c.in-Err.is (c.run_named-ran.ensures.early (trace_is ∙ (sym traced ∙ none))))
-    (texts_named quantum machine budget turns (Err c.in-Err.stop) (g.I.Source.left c.args.dev.now.input) (stored_of g.F.Store.files g.F.Store.created g.F.Store.loads g.F.Store.turned_away g.F.Store.write_faults c.args.files.now) (stored_of g.F.Store.files g.F.Store.created g.F.Store.loads g.F.Store.turned_away g.F.Store.write_faults c.run_named-ran.new.files) (option_copied c.word_of.result) names.trace (option_copied c.word_of-2.result) names.native (trace_is ∙ sym traced) (native_is ∙ sym logged)
-    (subst (λ (e : Result Finish Stop). WritesTexts (option_copied c.word_of.result) (option_copied c.word_of-2.result) quantum machine budget turns e (g.I.Source.left c.args.dev.now.input) (stored_of g.F.Store.files g.F.Store.created g.F.Store.loads g.F.Store.turned_away g.F.Store.write_faults c.args.files.now) (stored_of g.F.Store.files g.F.Store.created g.F.Store.loads g.F.Store.turned_away g.F.Store.write_faults c.run_named-ran.new.files)) c.in-Err.is c.run_named-ran.ensures.texts))
+    (λ none unkept. subst (λ (e : Result Finish Stop). WithinBudget e turns budget) c.in-Err.is (c.run_named-ran.ensures.early (trace_is ∙ (sym traced ∙ none)) (journal_is ∙ (sym kept ∙ unkept))))
+    (texts_named front quantum machine budget turns (Err c.in-Err.stop) (g.I.Source.left c.args.dev.now.input) (stored_of g.F.Store.files g.F.Store.created g.F.Store.loads g.F.Store.turned_away g.F.Store.write_faults c.args.files.now) (stored_of g.F.Store.files g.F.Store.created g.F.Store.loads g.F.Store.turned_away g.F.Store.write_faults c.run_named-ran.new.files) (option_copied c.word_of.result) names.trace (option_copied c.word_of-2.result) names.native (option_copied c.word_of-3.result) names.journal (trace_is ∙ sym traced) (native_is ∙ sym logged) (journal_is ∙ sym kept)
+    (subst (λ (text : List ℕ). WritesTexts (option_copied c.word_of.result) (option_copied c.word_of-2.result) (option_copied c.word_of-3.result) text quantum machine budget turns (Err c.in-Err.stop) (g.I.Source.left c.args.dev.now.input) (stored_of g.F.Store.files g.F.Store.created g.F.Store.loads g.F.Store.turned_away g.F.Store.write_faults c.args.files.now) (stored_of g.F.Store.files g.F.Store.created g.F.Store.loads g.F.Store.turned_away g.F.Store.write_faults c.run_named-ran.new.files)) front_is
+    (subst (λ (e : Result Finish Stop). WritesTexts (option_copied c.word_of.result) (option_copied c.word_of-2.result) (option_copied c.word_of-3.result) c.as_slice.result.now quantum machine budget turns e (g.I.Source.left c.args.dev.now.input) (stored_of g.F.Store.files g.F.Store.created g.F.Store.loads g.F.Store.turned_away g.F.Store.write_faults c.args.files.now) (stored_of g.F.Store.files g.F.Store.created g.F.Store.loads g.F.Store.turned_away g.F.Store.write_faults c.run_named-ran.new.files)) c.in-Err.is c.run_named-ran.ensures.texts)))
     (subst (λ (e : Result Finish Stop). RunsAs quantum machine budget turns e (contents g.I.Source.left g.O.Sink.written g.E.Sink.written c.args.dev.now) (contents g.I.Source.left g.O.Sink.written g.E.Sink.written c.run_named-ran.new.dev) c.run_named-ran.new.emulator.machine) c.in-Err.is c.run_named-ran.ensures.run)
     (read_cause g.I.Source.faults g.O.Sink.faults g.E.Sink.faults c.in-Err.stop (g.F.Store.write_faults c.args.files.now) (g.F.Store.write_faults c.run_named-ran.new.files) c.args.dev.now c.run_named-ran.new.dev cause)
     (write_cause g.I.Source.faults g.O.Sink.faults g.E.Sink.faults c.in-Err.stop (g.F.Store.write_faults c.args.files.now) (g.F.Store.write_faults c.run_named-ran.new.files) c.args.dev.now c.run_named-ran.new.dev cause)))

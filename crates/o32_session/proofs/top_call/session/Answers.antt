@@ -1,23 +1,29 @@
-use Rattle.std.proofs.Common.{inl, inr, subst}
-use Rattle.o32_session.specs.Words.{texts, read_words}
+use Rattle.std.proofs.Common.{inl, inr, refl, subst}
+use Rattle.o32_session.specs.Words.{texts, command_of}
 use Rattle.o32_session.specs.Faults.{TellsFaults}
 use Rattle.o32_runner.specs.Stored.{stored_of}
 use Rattle.o32_session.specs.Session.{seen_of}
 use Rattle.o32_session.specs.declared.answer.End.{End}
-use Rattle.o32_session.proofs.Sessions.{complete}
-use Rattle.o32_session.proofs.SavedFiles.{saves}
+use Rattle.o32_session.proofs.Repeating.{command_saves, replay_complete, run_complete}
 use Rattle.o32_session.proofs.top_call.session.Goals as goal
 
 pub returns-clause-complete : goal.returns-clause-complete
 returns-clause-complete g c run left told no_load no_read no_file no_out no_err =
     let old = seen_of g.I.Source.left g.O.Sink.written g.E.Sink.written g.I.Source.faults g.O.Sink.faults g.E.Sink.faults c.args.dev.now (g.F.Store.load_faults c.args.files.now) (stored_of g.F.Store.files g.F.Store.created g.F.Store.loads g.F.Store.turned_away g.F.Store.write_faults c.args.files.now) in
-    let new = seen_of g.I.Source.left g.O.Sink.written g.E.Sink.written g.I.Source.faults g.O.Sink.faults g.E.Sink.faults c.answer_words.new.dev (g.F.Store.load_faults c.answer_words.new.files) (stored_of g.F.Store.files g.F.Store.created g.F.Store.loads g.F.Store.turned_away g.F.Store.write_faults c.answer_words.new.files) in
-    complete (texts c.args.words.now) old new
-    c.answer_words.result.turns c.answer_words.result.end c.answer_words.result.host run left c.answer_words.ensures.answer told
-    (λ fault. elim (subst (λ (e : End). TellsFaults e old new) fault c.answer_words.ensures.faults) [ inl rose ↦ no_load rose | inr rose ↦ no_read rose ]) no_file no_out no_err
+    let new = seen_of g.I.Source.left g.O.Sink.written g.E.Sink.written g.I.Source.faults g.O.Sink.faults g.E.Sink.faults c.answer_command.new.dev (g.F.Store.load_faults c.answer_command.new.files) (stored_of g.F.Store.files g.F.Store.created g.F.Store.loads g.F.Store.turned_away g.F.Store.write_faults c.answer_command.new.files) in
+    run_complete (command_of (texts c.args.words.now)) (texts c.args.words.now) old new
+    c.answer_command.result.turns c.answer_command.result.end c.answer_command.result.host run left refl c.answer_command.ensures.answer told
+    (λ fault. elim (subst (λ (e : End). TellsFaults e old new) fault c.answer_command.ensures.faults) [ inl rose ↦ no_load rose | inr rose ↦ no_read rose ]) no_file no_out no_err
 
 pub returns-clause-saved : goal.returns-clause-saved
 returns-clause-saved g c =
-    saves (texts c.args.words.now) (read_words (texts c.args.words.now)) (seen_of g.I.Source.left g.O.Sink.written g.E.Sink.written g.I.Source.faults g.O.Sink.faults g.E.Sink.faults c.args.dev.now (g.F.Store.load_faults c.args.files.now) (stored_of g.F.Store.files g.F.Store.created g.F.Store.loads g.F.Store.turned_away g.F.Store.write_faults c.args.files.now))
-    (seen_of g.I.Source.left g.O.Sink.written g.E.Sink.written g.I.Source.faults g.O.Sink.faults g.E.Sink.faults c.answer_words.new.dev (g.F.Store.load_faults c.answer_words.new.files) (stored_of g.F.Store.files g.F.Store.created g.F.Store.loads g.F.Store.turned_away g.F.Store.write_faults c.answer_words.new.files))
-    c.answer_words.result.turns c.answer_words.result.end c.answer_words.result.host c.answer_words.ensures.answer
+    command_saves (command_of (texts c.args.words.now)) (texts c.args.words.now) (seen_of g.I.Source.left g.O.Sink.written g.E.Sink.written g.I.Source.faults g.O.Sink.faults g.E.Sink.faults c.args.dev.now (g.F.Store.load_faults c.args.files.now) (stored_of g.F.Store.files g.F.Store.created g.F.Store.loads g.F.Store.turned_away g.F.Store.write_faults c.args.files.now))
+    (seen_of g.I.Source.left g.O.Sink.written g.E.Sink.written g.I.Source.faults g.O.Sink.faults g.E.Sink.faults c.answer_command.new.dev (g.F.Store.load_faults c.answer_command.new.files) (stored_of g.F.Store.files g.F.Store.created g.F.Store.loads g.F.Store.turned_away g.F.Store.write_faults c.answer_command.new.files))
+    c.answer_command.result.turns c.answer_command.result.end c.answer_command.result.host c.answer_command.ensures.answer
+
+pub returns-clause-replays : goal.returns-clause-replays
+returns-clause-replays g c replay no_load no_out no_err =
+    let old = seen_of g.I.Source.left g.O.Sink.written g.E.Sink.written g.I.Source.faults g.O.Sink.faults g.E.Sink.faults c.args.dev.now (g.F.Store.load_faults c.args.files.now) (stored_of g.F.Store.files g.F.Store.created g.F.Store.loads g.F.Store.turned_away g.F.Store.write_faults c.args.files.now) in
+    let new = seen_of g.I.Source.left g.O.Sink.written g.E.Sink.written g.I.Source.faults g.O.Sink.faults g.E.Sink.faults c.answer_command.new.dev (g.F.Store.load_faults c.answer_command.new.files) (stored_of g.F.Store.files g.F.Store.created g.F.Store.loads g.F.Store.turned_away g.F.Store.write_faults c.answer_command.new.files) in
+    replay_complete (texts c.args.words.now) old new c.answer_command.result.turns c.answer_command.result.end c.answer_command.result.host replay c.answer_command.ensures.answer
+    no_load no_out no_err

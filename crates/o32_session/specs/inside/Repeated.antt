@@ -1,0 +1,108 @@
+-- How the steps of a replay stand for what is asked for.
+use Rattle.std.specs.Prelude.{ℕ, ◌≡◌, ◌<◌, ⊤, ◌↔◌, List, [], take, Result, Ok, Err, Option}
+use Rattle.outside.specs.Files.{Files}
+use Rattle.outside.specs.Output.{GainsText, GainsBetween}
+use Rattle.elf_image.specs.Loading.{IsValidPlan}
+use Rattle.elf_image.specs.declared.load_plan.Plan.{Plan}
+use Rattle.start_stack.specs.Stack.{start_size, start_limit}
+use Rattle.journal.specs.Text.{Kept}
+use Rattle.journal.specs.Reading.{reading_of}
+use Rattle.replay_core.specs.Answered.{Written, AnswersBy, CountsStay, StopsOnlyIfRose}
+use Rattle.replay_core.specs.Whole.{last_of, start_of}
+use Rattle.replay_core.specs.declared.answer.ReplayAnswer.{ReplayAnswer}
+use Rattle.replay_core.specs.declared.answer.ReplayEnd.{ReplayEnd}
+use Rattle.replay_core.specs.declared.answer.ReplayEnd.TheVariants as replays
+use Rattle.o32_runner.specs.Stored.{Stored}
+use Rattle.o32_session.specs.Lines.{divergence_line}
+use Rattle.o32_session.specs.Saved.{after_loads}
+use Rattle.o32_session.specs.Words as Words
+use Rattle.o32_session.specs.Words.{Command, RunCommand, ReplayCommand, ReplayReading, AsksReplay, WrongReplayAt}
+use Rattle.o32_session.specs.Replayed.{RefuseReplay, ReplayAsksFor, asked_of_reading, both_names, replay_loaded_by, replay_turned_by}
+use Rattle.o32_session.specs.inside.Prepared.{EndsRefused, LineFailsOnlyIfRose}
+use Rattle.o32_session.specs.declared.words.Command as code
+use Rattle.o32_session.specs.declared.words.Command.TheVariants as commands
+use Rattle.o32_session.specs.declared.words.ReplayLine.{ReplayLine}
+use Rattle.o32_session.specs.declared.replay.Loaded.{Loaded}
+use Rattle.o32_session.specs.declared.not_run.NotRun.{NotRun}
+use Rattle.o32_session.specs.declared.not_run.NotRun.TheVariants.{Refused, ReadFault, NoMemory}
+use Rattle.o32_session.specs.declared.answer.Refusal.TheVariants as refusals
+use Rattle.o32_session.specs.declared.answer.End.{End}
+use Rattle.o32_session.specs.declared.answer.End.TheVariants as ends
+
+-- The words
+
+abbrev pub command_seen : code.Command → Command
+command_seen commands.Run = RunCommand
+command_seen commands.Replay = ReplayCommand
+
+abbrev pub replay_line_seen : ReplayLine → Words.ReplayLine
+replay_line_seen line = record { program = line.program.now; journal = line.journal.now }
+
+abbrev pub reading_seen : Result ReplayLine ℕ → ReplayReading
+reading_seen (Ok line) = AsksReplay (replay_line_seen line)
+reading_seen (Err word) = WrongReplayAt word
+
+-- The files
+
+-- what was loaded for a line is what it asks for; a fault or want of memory says nothing
+abbrev pub IsLoadedFor : Words.ReplayLine → Option Files → Result Loaded NotRun → Type 0
+IsLoadedFor line told (Ok loaded) = IsValidPlan loaded.plan × ReplayAsksFor line told (asked_of_reading loaded.plan (reading_of loaded.bytes.items))
+IsLoadedFor line told (Err (Refused refusal)) = ReplayAsksFor line told (RefuseReplay refusal)
+IsLoadedFor line told (Err ReadFault) = ⊤
+IsLoadedFor line told (Err NoMemory) = ⊤
+
+-- what the loads of a line make of the store
+abbrev pub LoadsBoth : {T : Type 0} → Words.ReplayLine → Result T NotRun → Stored → Stored → Type 0
+LoadsBoth line (Ok value) old new = new ≡ after_loads old (both_names line) []
+LoadsBoth line (Err (Refused refusal)) old new = new ≡ after_loads old (replay_loaded_by line refusal) (replay_turned_by line refusal)
+LoadsBoth line (Err ReadFault) old new = (count : ℕ) × (count < 2) × (new ≡ after_loads old (take count (both_names line)) [])
+LoadsBoth line (Err NoMemory) old new = (count : ℕ) × (new ≡ after_loads old (take count (both_names line)) [])
+
+-- The replay
+
+-- a journal was replayed, or its bytes are bad; where it was not replayed nothing was written
+abbrev pub Replays : Plan → Result Kept ℕ → Result ReplayAnswer NotRun → Written → Written → Type 0
+Replays plan reading (Ok answer) before after =
+    (journal : Kept) × (reading ≡ Ok journal)
+    × AnswersBy (start_of plan journal) (last_of journal.records).turn (last_of journal.records).finish answer.end answer.turns before after
+    × ((answer.end ≡ replays.Start) ↔ (start_limit < start_size journal.args journal.env))
+Replays plan reading (Err (Refused (refusals.Journal at))) before after = (reading ≡ Err at) × (after ≡ before)
+Replays plan reading (Err (Refused _)) before after = ⊥
+Replays plan reading (Err ReadFault) before after = ⊥
+Replays plan reading (Err NoMemory) before after = after ≡ before
+
+abbrev pub ReplayFailsOnlyIfRose : Result ReplayAnswer NotRun → ℕ → ℕ → ℕ → ℕ → Type 0
+ReplayFailsOnlyIfRose (Ok answer) out out_then err err_then = StopsOnlyIfRose answer.end out out_then err err_then
+ReplayFailsOnlyIfRose (Err reason) out out_then err err_then = CountsStay out out_then err err_then
+
+-- The end
+
+-- a divergence wrote its line, or a part of it where the device or memory gave out
+abbrev pub EndsDiverged : ℕ → ℕ → ℕ → End → Option (List ℕ) → Option (List ℕ) → Type 0
+EndsDiverged turn wanted found (ends.Diverged t w f) old new =
+    (ends.Diverged t w f ≡ ends.Diverged turn wanted found) × GainsText old new (divergence_line turn wanted found)
+EndsDiverged turn wanted found ends.WriteFault old new = GainsBetween old new [] (divergence_line turn wanted found)
+EndsDiverged turn wanted found ends.NoMemory old new = GainsBetween old new [] (divergence_line turn wanted found)
+EndsDiverged turn wanted found ends.ReadFault old new = ⊥
+EndsDiverged turn wanted found (ends.Refused refusal) old new = ⊥
+EndsDiverged turn wanted found (ends.Replayed finish) old new = ⊥
+EndsDiverged turn wanted found (ends.Exited status) old new = ⊥
+EndsDiverged turn wanted found (ends.Killed signal) old new = ⊥
+EndsDiverged turn wanted found ends.Budget old new = ⊥
+EndsDiverged turn wanted found ends.Blocked old new = ⊥
+
+-- the end of a session whose replay came to this, and what it wrote on standard error behind what the replay sent
+abbrev pub EndsReplay : ReplayEnd → End → Option (List ℕ) → Option (List ℕ) → Type 0
+EndsReplay (replays.Finished finish) end old new = (end ≡ ends.Replayed finish) × (new ≡ old)
+EndsReplay (replays.Diverged turn wanted found) end old new = EndsDiverged turn wanted found end old new
+EndsReplay replays.Start end old new = EndsRefused refusals.Start end old new
+EndsReplay replays.WriteFault end old new = (end ≡ ends.WriteFault) × (new ≡ old)
+EndsReplay replays.NoMemory end old new = (end ≡ ends.NoMemory) × (new ≡ old)
+
+-- when the count of standard error rose by it
+abbrev pub EndFailsOnlyIfRose : ReplayEnd → End → ℕ → ℕ → Type 0
+EndFailsOnlyIfRose (replays.Finished finish) end before now = now ≡ before
+EndFailsOnlyIfRose (replays.Diverged turn wanted found) end before now = LineFailsOnlyIfRose end before now
+EndFailsOnlyIfRose replays.Start end before now = LineFailsOnlyIfRose end before now
+EndFailsOnlyIfRose replays.WriteFault end before now = now ≡ before
+EndFailsOnlyIfRose replays.NoMemory end before now = now ≡ before
