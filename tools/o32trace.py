@@ -1,5 +1,5 @@
 #!/usr/bin/env python3
-"""Reads the traces that `o32run run --trace F` writes, and shows them as strace does.
+"""Reads the traces that `o32run run --trace F` writes, and shows them as strace does; and finds places in journals.
 
 This is a tool beside the product: plain Python, run by hand and by the gate's tests, and not proved.
 
@@ -7,6 +7,7 @@ This is a tool beside the product: plain Python, run by hand and by the gate's t
     o32trace.py missing TRACE
     o32trace.py summary TRACE
     o32trace.py diff [--ignore-turns] [--ignore-addresses] A B
+    o32trace.py where [--addr2line TOOL] PROGRAM JOURNAL [TURN]
 
 `decode` writes a line for each of the trace, with the number of its turn: calls with names, flags and errors, signals as
 `--- SIGALRM (handler) ---`, ends as `+++ exited with 7 +++`. A trace has four words of a call's arguments; where it has more,
@@ -27,11 +28,19 @@ call before. What the program did before it exited counts to `exit`, and before 
 of turns out. --ignore-addresses compares of the words that a call takes those that are no addresses, and of an address
 whether it is 0. The status is 0 where the traces are the same, 1 where they differ.
 
+`where` shows the last record of the journal that `o32run run --journal F` wrote of PROGRAM, with the function of the program
+that it stands in, and how the run ended; with TURN the last one up to that turn. A record stands at each call, as
+`6 write(1, 0x400100, 3) at 0x400014, main+0x14`; where the kernel changed registers or memory before an instruction, as for a
+handler; and where the program waits or is stopped. Between two records the journal has no places: a fault that kills stands
+behind the last record. Functions are those of the program's symbols; a stripped program has addresses alone. With TOOL, such as
+addr2line or llvm-addr2line, lines of the source are shown, where the program was built with -g. A journal that is damaged gives
+what stands in front of the damage.
+
 A line that is none of a trace is passed over. Where there is one, or where the trace ends before its run does, the first
 place is told on standard error, by line (from 1) and byte (from 0), and the status is 2. So it is after any other trouble.
 
-The lines of a trace are described in docs/RULES.md, "The trace". The names are in calls.txt, flags.txt, errors.txt and
-signals.txt beside this script; native_log.py is a part of it.
+The lines of a trace are described in docs/RULES.md, "The trace", and journals in "The journal". The names are in calls.txt,
+flags.txt, errors.txt and signals.txt beside this script; native_log.py, journal.py and symbols.py are parts of it.
 """
 import collections
 import functools
@@ -40,7 +49,9 @@ import pathlib
 import re
 import sys
 
+import journal
 import native_log
+import symbols
 
 HERE = pathlib.Path(__file__).resolve().parent
 # A line of a trace is shorter than this.
@@ -721,12 +732,74 @@ def print_side(names, trace, kept, each):
     print(f"  ({each[0].line.decode('ascii')})")
 
 
-# Each command with the number of its names, and its options: whether they take a value.
+# The places of a journal
+
+
+class Places:
+    """The addresses of a program as texts."""
+
+    def __init__(self, path, tool):
+        self.program, self.tool = symbols.Program(path), tool
+
+    def text(self, address):
+        name = self.program.name_of(address)
+        line = symbols.line_of(self.tool, self.program.path, address) if self.tool else None
+        return f"{address:#x}{f', {name}' if name else ''}{f' ({line})' if line else ''}"
+
+
+def where(program, path, turn=None, addr2line=None):
+    names, places, wanted = read_names(), Places(program, addr2line), LAST_TURN if turn is None else a_turn(turn)
+    with open(path, "rb") as source:
+        found = journal.Journal(source)
+        last, final = None, None
+        for record in found.records():
+            if record.kind == journal.END:
+                final = record
+            elif record.turn <= wanted:
+                last = record
+    if turn is not None and final and wanted > final.turn:
+        raise Trouble(f"{path}: the run has no turn {wanted}: it ended with turn {final.turn}")
+    if last or not found.bad or found.random is not None:
+        print(record_text(names, places, last) if last else f"0 begins at {places.text(places.program.entry)}")
+    if final and (turn is None or wanted == final.turn):
+        print(f"{final.turn} {finish_text(names, final)}")
+    sys.stdout.flush()
+    if found.bad:
+        print(f"o32trace: {path}: byte {found.bad.at}: {found.bad.why}", file=sys.stderr)
+    return 2 if found.bad else 0
+
+
+def record_text(names, places, record):
+    """A record with its place, behind the number of its turn."""
+    pc, number, *words = record.words
+    if record.kind == journal.CALL:
+        return f"{record.turn} {call_text(names, call_numbered(names, number), words)} at {places.text(pc)}"
+    if record.kind == journal.IDLE:
+        return f"{record.turn} waits or is stopped at {places.text(pc)}"
+    moved = [value for tag, register, value, *_ in record.effects if (tag, register) == (journal.REGISTER, journal.PC)]
+    onward = f", goes on at {places.text(moved[-1])}" if moved else ""
+    return f"{record.turn} changed by the kernel at {places.text(pc)}{onward}"
+
+
+def finish_text(names, record):
+    """An end, as that of a trace is shown."""
+    kind = {journal.EXITED: "exit", journal.KILLED: "killed", journal.BUDGET: "budget", journal.BLOCKED: "blocked"}[record.finish]
+    return SHOWN[kind](names, Event(record.turn, kind, [record.value], b""), None)
+
+
+def a_turn(text):
+    if not re.fullmatch("[1-9][0-9]{0,12}", text) or int(text) > LAST_TURN:
+        raise Trouble(f"{text!r} is no turn")
+    return int(text)
+
+
+# Each command with its names, of which those in brackets may be absent, and its options: whether they take a value.
 COMMANDS = {
     "decode": (decode, ["TRACE"], {"calls": "LIST", "failed": None, "fd": "N", "native": "LOG"}),
     "missing": (missing, ["TRACE"], {}),
     "summary": (summary, ["TRACE"], {}),
     "diff": (differ, ["A", "B"], {"ignore-turns": None, "ignore-addresses": None}),
+    "where": (where, ["PROGRAM", "JOURNAL", "[TURN]"], {"addr2line": "TOOL"}),
 }
 
 
@@ -750,7 +823,8 @@ def read_words(words):
         else:
             chosen[option.replace("-", "_")] = rest.pop(0) if options[option] else True
     else:
-        if command and len(given) == len(files):
+        least = sum(not name.startswith("[") for name in files)
+        if command and least <= len(given) <= len(files):
             return command, given, chosen
     uses = [use(name) for name in COMMANDS if command is None or name == words[0]]
     raise Trouble(f"use: o32trace.py {', or '.join(uses)}")
@@ -778,7 +852,7 @@ if __name__ == "__main__":
     except BrokenPipeError:
         # Whoever read has enough.
         let_go_of_output()
-    except (Trouble, OSError) as error:
+    except (Trouble, symbols.Trouble, OSError) as error:
         print(f"o32trace: {error}", file=sys.stderr)
         let_go_of_output()
         sys.exit(2)
