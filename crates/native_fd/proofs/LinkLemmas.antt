@@ -6,7 +6,7 @@ use Rattle.std.specs.Ordering.{nat_cmp, eq_by_cmp}
 use Rattle.std.specs.Cmp.{nat_cmp_total}
 use Rattle.std.specs.FinMap.{FinMap, get, insert, len, empty, get-insert, len-insert, len-empty}
 use Rattle.std.proofs.Math.ListN.{length-set, length-replicate}
-use Rattle.std.proofs.lemmas.Bool.{cases_eq, cases_lt, eqb-true}
+use Rattle.std.proofs.lemmas.Bool.{cases_eq, cases_lt}
 use Rattle.std.proofs.lemmas.Bool.Decides.{nat_tests}
 use Rattle.std.proofs.lemmas.List.{get_or-replicate, get_or_past, get_or-set_same, get_or-set_other}
 use Rattle.std.proofs.lemmas.Option.{same_Some}
@@ -52,14 +52,14 @@ no_count zero number = refl
 no_count (suc count) zero = refl
 no_count (suc count) (suc number) = no_count count number
 
-pub AreLinks-none : AreLinks (free_places 1024) (replicate 1024 0) none_taken none_taken
+pub AreLinks-none : AreLinks (free_places 1024) (replicate 1024 0) (none_taken 1024) (none_taken 1024)
 AreLinks-none = record {
   fds_sized = length-free Descriptor 1024;
   counts_sized = length-replicate {A = ℕ} 1024 0;
   numbers = λ fd descriptor at. absurd (let bad : None ≡ Some descriptor = sym (slot-free 1024 fd) ∙ at in cc);
   counted = λ number small. no_count 1024 number ∙ sym (leading-free 1024 number);
-  fds_pool = λ fd. none_taken-at fd ∙ ap (λ o. is_some o) (sym (slot-free 1024 fd));
-  numbers_pool = λ number. none_taken-at number ∙ ap (λ n. nat_lt 0 n) (sym (leading-free 1024 number));
+  fds_pool = λ fd. none_taken-at 1024 fd ∙ ap (λ o. is_some o) (sym (slot-free 1024 fd));
+  numbers_pool = λ number. none_taken-at 1024 number ∙ ap (λ n. nat_lt 0 n) (sym (leading-free 1024 number));
 }
 
 -- One descriptor more or less
@@ -77,27 +77,6 @@ leading_small (d ∷ fds) number = by (leads_to number d) (leading_small fds num
     by : (b : Bool) → leading fds number ≤ length fds → cond b 1 0 + leading fds number ≤ suc (length fds)
     by true rest = omega arith
     by false rest = omega arith
-
--- a number that some descriptor leads to
-record Leads (fds : List (Option Descriptor)) (number : ℕ) : Type 0 where
-  fd : ℕ
-  descriptor : Descriptor
-  at : slot fds fd ≡ Some descriptor
-  is : descriptor.number ≡ number
-
-leads_by : (d : Option Descriptor) (fds : List (Option Descriptor)) (number : ℕ) → 0 < leading (d ∷ fds) number → (0 < leading fds number → Leads fds number) → Leads (d ∷ fds) number
-leads_by None fds number some rest = let l = rest (omega arith) in record { fd = suc l.fd; descriptor = l.descriptor; at = l.at; is = l.is }
-leads_by (Some descriptor) fds number some rest = by (descriptor.number == number) refl
-  where
-    by : (b : Bool) → (descriptor.number == number) ≡ b → Leads (Some descriptor ∷ fds) number
-    by true same = record { fd = 0; descriptor = descriptor; at = refl; is = eqb-true descriptor.number number same }
-    by false other =
-        let l = rest (let e : leading (Some descriptor ∷ fds) number ≡ 0 + leading fds number = ap (λ b. cond b 1 0 + leading fds number) other in omega (arith, e, some)) in
-        record { fd = suc l.fd; descriptor = l.descriptor; at = l.at; is = l.is }
-
-leads : (fds : List (Option Descriptor)) (number : ℕ) → 0 < leading fds number → Leads fds number
-leads [] number some = absurd (omega arith)
-leads (d ∷ fds) number some = leads_by d fds number some (leads fds number)
 
 -- whether some descriptor leads to a number is whether any does
 pub leading-any : (fds : List (Option Descriptor)) (number : ℕ) → list_any (leads_to number) fds ≡ nat_lt 0 (leading fds number)
@@ -133,7 +112,7 @@ module _ (fds : List (Option Descriptor)) (counts : List ℕ) (fds_taken numbers
   count-small number small = omega (arith, count_room number small)
 
   -- Another descriptor that leads to a number.
-  pub AreLinks-linked : (fd number : ℕ) → fd < 1024 → number < 1024 → slot fds fd ≡ None → length fds_taken ≡ 65536 → length numbers_taken ≡ 65536
+  pub AreLinks-linked : (fd number : ℕ) → fd < 1024 → number < 1024 → slot fds fd ≡ None → length fds_taken ≡ 1024 → length numbers_taken ≡ 1024
       → AreLinks (set fds fd (Some (new number))) (set counts number (get_or counts number 0 + 1)) (set fds_taken fd true) (set numbers_taken number true)
   AreLinks-linked fd number within small free fds_long numbers_long = record {
     fds_sized = length-set fds fd _ ∙ are.fds_sized;
@@ -205,7 +184,7 @@ module _ (fds : List (Option Descriptor)) (counts : List ℕ) (fds_taken numbers
     pub count-less : get_or counts descriptor.number 0 - 1 ≡ leading (set fds fd None) descriptor.number
     count-less = omega (arith, are.counted descriptor.number small, less-here)
 
-    pub AreLinks-unlinked : (now : List Bool) → length fds_taken ≡ 65536
+    pub AreLinks-unlinked : (now : List Bool) → length fds_taken ≡ 1024
         → ((n : ℕ) → n ≢ descriptor.number → is_taken_at now n ≡ is_taken_at numbers_taken n)
         → is_taken_at now descriptor.number ≡ nat_lt 0 (leading (set fds fd None) descriptor.number)
         → AreLinks (set fds fd None) (set counts descriptor.number (get_or counts descriptor.number 0 - 1)) (set fds_taken fd false) now
@@ -234,7 +213,7 @@ module _ (fds : List (Option Descriptor)) (counts : List ℕ) (fds_taken numbers
     }
 
     -- some still lead to the number
-    pub AreLinks-shared : length fds_taken ≡ 65536 → 0 < get_or counts descriptor.number 0 - 1
+    pub AreLinks-shared : length fds_taken ≡ 1024 → 0 < get_or counts descriptor.number 0 - 1
         → AreLinks (set fds fd None) (set counts descriptor.number (get_or counts descriptor.number 0 - 1)) (set fds_taken fd false) numbers_taken
     AreLinks-shared fds_long more =
         let some : 0 < leading (set fds fd None) descriptor.number = omega (arith, count-less, more) in
@@ -246,7 +225,7 @@ module _ (fds : List (Option Descriptor)) (counts : List ℕ) (fds_taken numbers
         both p q = grind (arith, nat_tests)
 
     -- none leads to it any more
-    pub AreLinks-alone : length fds_taken ≡ 65536 → length numbers_taken ≡ 65536 → get_or counts descriptor.number 0 - 1 ≡ 0
+    pub AreLinks-alone : length fds_taken ≡ 1024 → length numbers_taken ≡ 1024 → get_or counts descriptor.number 0 - 1 ≡ 0
         → AreLinks (set fds fd None) (set counts descriptor.number (get_or counts descriptor.number 0 - 1)) (set fds_taken fd false) (set numbers_taken descriptor.number false)
     AreLinks-alone fds_long numbers_long none =
         let zero_left : leading (set fds fd None) descriptor.number ≡ 0 = omega (arith, count-less, none) in
@@ -355,14 +334,14 @@ module _ (fds : List (Option Descriptor)) (counts : List ℕ) (fds_taken numbers
   none_of : (n : ℕ) → nat_lt 0 n ≡ false → n ≡ 0
   none_of n is = grind (arith, nat_tests)
 
-  -- some number is free: none from 1024 on is ever taken
-  pub some-number : length numbers_taken ≡ 65536 → AreAllTaken numbers_taken → ⊥
-  some-number long all =
-      let taken : is_taken_at numbers_taken 2000 ≡ true = all 2000 (omega (arith, long)) in
-      let some : 0 < leading fds 2000 = positive_of _ (sym (are.numbers_pool 2000) ∙ taken) in
-      let l = leads fds 2000 some in
-      let low = are.numbers l.fd l.descriptor l.at in
-      omega (arith, low, l.is)
+  -- where a descriptor is free, some number is
+  pub some-number : (fd : ℕ) → fd < 1024 → slot fds fd ≡ None → length numbers_taken ≡ 1024 → AreAllTaken numbers_taken → ⊥
+  some-number fd within free long all =
+      let run : 1024 ≤ len (numbers_of fds) =
+      run_fits (numbers_of fds) 0 1024 (λ n _ below. has_number fds n (positive_of _ (sym (are.numbers_pool n) ∙ all n (omega (arith, long, below))))) in
+      let few = numbers_few fds in
+      let fewer = open_fewer fds fd (omega (arith, are.fds_sized, within)) free in
+      omega (arith, run, few, fewer, are.fds_sized)
 
   -- where a descriptor is free, the least number that none leads to is below 1024
   pub unused : (fd number : ℕ) → fd < 1024 → slot fds fd ≡ None → IsLeastFree numbers_taken number → IsUnused fds number

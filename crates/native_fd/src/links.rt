@@ -14,14 +14,17 @@ use std::marker::Model;
 /// its usual soft limit).
 pub const DESCRIPTORS: u32 = 1024;
 
+/// The levels of a pool of as many places as there are descriptors: 2^10 is 1,024.
+const LEVELS: u32 = 10;
+
 /// The descriptors, how many of them lead to the description of each number, and which descriptors and
 /// numbers are taken.
 #[derive(Drop)]
 pub(crate) struct Links {
     fds: Vec<Option<Descriptor>>,
     counts: Vec<u32>,
-    fds_taken: NumberPool,
-    numbers_taken: NumberPool,
+    fds_taken: NumberPool<LEVELS>,
+    numbers_taken: NumberPool<LEVELS>,
 }
 
 impl Model for Links {
@@ -75,8 +78,9 @@ impl Links {
         if fd < DESCRIPTORS { Some(fd) } else { None }
     }
 
-    /// The least number to which no descriptor leads, below 1,024 as long as a descriptor is free.
+    /// The least number to which no descriptor leads, below 1,024 where a descriptor is free.
     pub(crate) fn unused_number(&self) -> u32
+        requires { (fd : ℕ) × (fd < descriptor_limit) × (slot self.now fd ≡ None) }
         ensures unused { (fd : ℕ) → fd < descriptor_limit → slot self.now fd ≡ None → IsUnused self.now result }
         ensures sized { length self.now ≡ 1024 }
     {

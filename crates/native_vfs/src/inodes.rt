@@ -3,6 +3,7 @@ ghost use Rattle.std.specs.Prelude.{◌≡◌};
 ghost use Rattle.kernel_core.specs.Totals.{live_blocks};
 ghost use Rattle.native_vfs.specs.inside.Stored.{nodes_of, HasDistinctNumbers, AgreesPool};
 
+use crate::numbers::NUMBER_LEVELS;
 use crate::stored::Stored;
 use number_pool::NumberPool;
 use slab::Slab;
@@ -14,7 +15,7 @@ use slab::Slab;
 pub(crate) struct Inodes {
     pub(crate) table: Slab<Stored>,
     /// A place is taken where a node has its number.
-    pub(crate) numbers: NumberPool,
+    pub(crate) numbers: NumberPool<NUMBER_LEVELS>,
     /// How many entries all directories have.
     pub(crate) entries: u32,
     /// How many blocks all files keep.

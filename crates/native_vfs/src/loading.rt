@@ -16,7 +16,7 @@ ghost use Rattle.native_vfs.specs.inside.Steps.{IsAddition};
 ghost use Rattle.native_vfs.specs.inside.Stored.{Table, nodes_of, inode_of, content_of, listing_of, HasDistinctNumbers, ContentLeads, DirectoryLeads, AgreesPool, Leads};
 
 use crate::inodes::Inodes;
-use crate::numbers::place_of;
+use crate::numbers::{NUMBER_LEVELS, place_of};
 use crate::seconds::nanoseconds;
 use crate::steps::insert;
 use crate::stored::{ROOT, Stored, StoredContent, StoredDirectory, copied};
@@ -104,7 +104,7 @@ fn block_count(nodes: &[Node]) -> u32
 }
 
 /// A pool from which the numbers of the nodes are taken.
-fn taken_numbers(alloc: Global, nodes: &[Node]) -> Result<NumberPool, NoMemory>
+fn taken_numbers(alloc: Global, nodes: &[Node]) -> Result<NumberPool<NUMBER_LEVELS>, NoMemory>
     ensures { IfOk result (λ p. AgreesPool (from_entries (map (load.loaded_entry nodes.now) nodes.now)) p) }
 {
     let mut numbers = NumberPool::new(alloc)?;

@@ -15,7 +15,7 @@ ghost use Rattle.native_vfs.specs.inside.Steps.{IsSame};
 ghost use Rattle.native_vfs.specs.inside.Stored.{ContentLeads, content_of, keyed_of, nodes_of, number_of_key};
 
 use crate::inodes::Inodes;
-use crate::numbers::number_of;
+use crate::numbers::{NUMBER_LEVELS, number_of};
 use crate::place::Place;
 use crate::refusals::{link_refusal, make_refusal, symlink_refusal};
 use crate::steps::{add_link, add_name, insert, link, reserve_name};
@@ -250,7 +250,7 @@ fn name_again(
 }
 
 /// The least free place of a pool that has one.
-fn free_place(numbers: &NumberPool) -> u32
+fn free_place(numbers: &NumberPool<NUMBER_LEVELS>) -> u32
     requires { length numbers.now ≡ 65536 → AreAllTaken numbers.now → ⊥ }
     ensures least { IsLeastFree numbers.now result }
     ensures whole { length numbers.now ≡ 65536 }

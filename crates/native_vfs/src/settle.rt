@@ -8,7 +8,7 @@ ghost use Rattle.native_vfs.specs.inside.Steps.{IsSettled, IsUnnamed, GivesBack}
 ghost use Rattle.native_vfs.specs.inside.Stored.{nodes_of, content_of, number_of_key};
 
 use crate::inodes::Inodes;
-use crate::numbers::place_of;
+use crate::numbers::{NUMBER_LEVELS, place_of};
 use crate::steps;
 use crate::stored::StoredContent;
 use number_pool::NumberPool;
@@ -43,7 +43,7 @@ fn kept_blocks(content: &StoredContent) -> u32
 }
 
 /// Gives back a number that has a place in the pool.
-fn give_back(numbers: &mut NumberPool, number: u64)
+fn give_back(numbers: &mut NumberPool<NUMBER_LEVELS>, number: u64)
     ensures { GivesBack numbers.old numbers.new number }
 {
     if let Some(place) = place_of(number) {

@@ -86,13 +86,13 @@ pub halved : (height : ℕ) → (height ≡ 0 → ⊥) → 2 ^ height ≡ 2 * 2 
 halved height some = ap (λ k. 2 ^ k) (let e : height ≡ height - 1 + 1 = omega arith in e) ∙ power_more (height - 1)
 
 -- The places of the pool, whose leaves begin at node `size`.
-module _ (size : ℕ) (flags : List Bool) (tree : IsTree size flags) (from : ℕ) where
-  pub taken_from : AreFullFrom flags size (size + size) (size + from) → AreTakenFrom (leaves size flags) from
+module _ (size : ℕ) (flags : List Bool) (tree : IsTree size flags) (from first end start : ℕ) (begins : first ≡ size) (ends : end ≡ size + size) (starts : start ≡ size + from) where
+  pub taken_from : AreFullFrom flags first end start → AreTakenFrom (leaves size flags) from
   taken_from full = λ place there inside.
       leaf_at size flags place
       ∙ full (size + place) (omega arith) (omega arith) (let long = length-leaves size flags tree.sized in omega arith)
 
-  pub least_from : (leaf : ℕ) → IsLeastNode flags size (size + size) (size + from) leaf → IsLeastFreeFrom (leaves size flags) from (leaf - size)
+  pub least_from : (leaf : ℕ) → IsLeastNode flags first end start leaf → IsLeastFreeFrom (leaves size flags) from (leaf - size)
   least_from leaf least =
       let low = least.low in
       let high = least.high in

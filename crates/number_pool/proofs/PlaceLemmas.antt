@@ -11,13 +11,13 @@ free_at size place =
       | inr past ↦ get_or_past (replicate size false) place false (omega (arith, length-replicate size false))
     ]
 
-pub none_taken-at : (place : ℕ) → is_taken_at none_taken place ≡ false
+pub none_taken-at : (size place : ℕ) → is_taken_at (none_taken size) place ≡ false
 unfolding none_taken
-none_taken-at place = free_at 65536 place
+none_taken-at size place = free_at size place
 
-pub length-none_taken : length none_taken ≡ 65536
+pub length-none_taken : (size : ℕ) → length (none_taken size) ≡ size
 unfolding none_taken
-length-none_taken = length-replicate 65536 false
+length-none_taken size = length-replicate size false
 
 -- the place of the call, and each other place
 pub set-at : (taken : List Bool) (place : ℕ) (is : Bool) → place < length taken → is_taken_at (set taken place is) place ≡ is

@@ -1,11 +1,11 @@
--- A pool of 65,536 places, seen as the list that says of each place whether it is taken, and the least
+-- A pool of places, seen as the list that says of each place whether it is taken, and the least
 -- free place of it. (This project's own rule; POSIX asks no more of a file's serial number, st_ino of
 -- sys/stat.h, than that no two live files of a file system have the same.)
 use Rattle.std.specs.Prelude.{◌≡◌, ℕ, ◌<◌, ◌≤◌, Bool, true, false, List, length, replicate, slice_index_or}
 
--- no place is taken
-unfoldable pub none_taken : List Bool
-none_taken = replicate 65536 false
+-- no place is taken, of so many
+unfoldable pub none_taken : ℕ → List Bool
+none_taken size = replicate size false
 
 -- whether the place is taken; a number past the last place is not
 abbrev pub is_taken_at : List Bool → ℕ → Bool

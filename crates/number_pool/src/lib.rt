@@ -1,11 +1,11 @@
-//! Which of 65,536 places are taken, and the least free one in a logarithm of steps.
+//! Which of so many places, a power of two, are taken, and the least free one in a logarithm of steps.
 #![tactic(auto)]
 
 mod pool;
 mod tree;
 
 pub use kernel_core::NoMemory;
-pub use pool::{NumberPool, PLACES};
+pub use pool::NumberPool;
 
 #[cfg(test)]
 mod tests;

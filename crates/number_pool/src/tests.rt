@@ -1,10 +1,12 @@
 //! Each call once with ample memory: the least free place after places were taken and given back, and in
 //! a full pool.
-use super::{NumberPool, PLACES};
+use super::NumberPool;
 use std::alloc::Global;
 use std::test::Fail;
 
-fn empty_pool(alloc: Global) -> Result<NumberPool, Fail> {
+const PLACES: u32 = 65_536;
+
+fn empty_pool(alloc: Global) -> Result<NumberPool<16>, Fail> {
     Ok(NumberPool::new(alloc).ok().ok_or("no memory")?)
 }
 
@@ -72,5 +74,34 @@ fn a_full_pool_has_no_free_place(rt: HostRuntime) -> Result<(), Fail> {
     pool.give_back(65_535);
     assert_eq!(rt; pool.least_free(), Some(65_535));
     assert!(rt; pool.is_taken(40_000));
+    Ok(())
+}
+
+#[test]
+fn a_small_pool_has_as_many_places_as_asked(rt: HostRuntime) -> Result<(), Fail> {
+    let mut pool: NumberPool<10> = NumberPool::new(rt.alloc()).ok().ok_or("no memory")?;
+    for place in 0..1024 {
+        assert_eq!(rt; pool.least_free(), Some(place));
+        pool.take(place);
+    }
+    assert_eq!(rt; pool.least_free(), None);
+    assert_eq!(rt; pool.least_free_from(0), None);
+    assert!(rt; !pool.is_taken(1024));
+    pool.give_back(1023);
+    assert_eq!(rt; pool.least_free_from(7), Some(1023));
+    assert_eq!(rt; pool.least_free_from(1024), None);
+    Ok(())
+}
+
+#[test]
+fn a_pool_of_one_place(rt: HostRuntime) -> Result<(), Fail> {
+    let mut pool: NumberPool<0> = NumberPool::new(rt.alloc()).ok().ok_or("no memory")?;
+    assert_eq!(rt; pool.least_free(), Some(0));
+    pool.take(0);
+    assert_eq!(rt; pool.least_free(), None);
+    assert_eq!(rt; pool.least_free_from(0), None);
+    assert!(rt; pool.is_taken(0));
+    pool.give_back(0);
+    assert_eq!(rt; pool.least_free_from(0), Some(0));
     Ok(())
 }

@@ -22,7 +22,7 @@ pub record AreTaken (nodes : List Node) (taken : List Bool) : Type 0 where
   pub whole : length taken ≡ 65536
   pub agrees : (place : ℕ) → place < 65536 → is_taken_at taken place ≡ has_number nodes (place + 2)
 
-pub taken-none : (taken : List Bool) → taken ≡ none_taken → length taken ≡ 65536 → AreTaken [] taken
+pub taken-none : (taken : List Bool) → taken ≡ none_taken 65536 → length taken ≡ 65536 → AreTaken [] taken
 unfolding none_taken
 taken-none taken none whole = record {
   whole = whole;

@@ -10,4 +10,4 @@ invariant_of-result c =
     subst (λ f. AreLinks f c.in_ok-no_counts.field-0.items c.in_ok-new.field-0 c.in_ok-new-2.field-0) (sym c.in_ok-no_fds.ensures)
     (subst (λ k. AreLinks (free_places 1024) k c.in_ok-new.field-0 c.in_ok-new-2.field-0) (sym c.in_ok-no_counts.ensures)
     (subst (λ a. AreLinks (free_places 1024) (replicate 1024 0) a c.in_ok-new-2.field-0) (sym c.in_ok-new.ensures.free)
-    (subst (λ b. AreLinks (free_places 1024) (replicate 1024 0) none_taken b) (sym c.in_ok-new-2.ensures.free) AreLinks-none)))
+    (subst (λ b. AreLinks (free_places 1024) (replicate 1024 0) (none_taken 1024) b) (sym c.in_ok-new-2.ensures.free) AreLinks-none)))

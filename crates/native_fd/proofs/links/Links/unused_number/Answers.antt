@@ -12,8 +12,9 @@ some_of P Q (Some n) is never = refl
 
 pub unwrap-requires : goal.unwrap-requires
 unwrap-requires c =
+    let free = ap (λ l. slot l c.requires.0) c.self.view_is ∙ c.requires.2 in
     some_of _ _ c.least_free.result c.least_free.ensures.least
-    (some-number c.self.inside.fds.items c.self.inside.counts.items c.self.inside.fds_taken c.self.inside.numbers_taken c.self.invariant c.least_free.ensures.whole)
+    (some-number c.self.inside.fds.items c.self.inside.counts.items c.self.inside.fds_taken c.self.inside.numbers_taken c.self.invariant c.requires.0 c.requires.1 free c.least_free.ensures.whole)
 
 pub returns-clause-unused : goal.returns-clause-unused
 returns-clause-unused c = λ fd within is_free.

@@ -6,6 +6,10 @@ use Rattle.native_fd.proofs.LinkLemmas.{new}
 use Rattle.native_fd.proofs.TableLemmas.{AreLive-inserted, new_place-unused, number-free}
 use Rattle.native_fd.proofs.table.Table.insert.Goals as goal
 
+pub unused_number-number-requires : goal.unused_number-number-requires
+unused_number-number-requires g c =
+    (c.args.fd, c.requires.within, ap (λ (t : Descriptors g.row.T.Denot). slot t.fds c.args.fd) c.self.view_is ∙ c.requires.free)
+
 pub insert-requires-clause-within : goal.insert-requires-clause-within
 insert-requires-clause-within g c =
     let free : slot c.self.inside.links c.args.fd ≡ None = ap (λ (t : Descriptors g.row.T.Denot). slot t.fds c.args.fd) c.self.view_is ∙ c.requires.free in
