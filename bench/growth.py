@@ -36,11 +36,11 @@ def best(command, printed):
     return min(seconds(command, printed) for _ in range(REPETITIONS))
 
 
-def compare(document, program_of, counts, limit, taken):
+def compare(document, program_of, counts, limit, taken, things="names"):
     """Prints what each count takes, of which each is twice the one before. The status: 1 where one takes more than `limit` times
     as long as the one before.
 
-    `program_of` builds the program; `taken` has the seconds that the program takes for a count.
+    `program_of` builds the program; `taken` has the seconds that the program takes for a count of these things.
     """
     if len(sys.argv) > 1:
         print(document.strip())
@@ -53,7 +53,7 @@ def compare(document, program_of, counts, limit, taken):
         time = taken(program, count)
         ratio = "" if last is None else f", {time / last:.2f} times as long as for half as many"
         grows = grows or (last is not None and time / last > limit)
-        print(f"{count:7,} names: {time:.4f} seconds{ratio}", flush=True)
+        print(f"{count:7,} {things}: {time:.4f} seconds{ratio}", flush=True)
         last = time
     print(f"load at the end {os.getloadavg()[0]:.1f}")
     return 1 if grows else 0

@@ -1,16 +1,16 @@
 -- Ranges of pages that are taken away, that are free, and that move.
-use Rattle.std.proofs.Common.{◌≡◌, ◌≢◌, ◌≤◌, ◌<◌, ◌+◌, ◌-◌, zero, suc, ℕ, Bool, true, false, cond, eqb, ltb, leb, ◌&&◌, Option, Some, None, IsSome, is_some, refl, sym, ap, ◌∙◌, arith, inl, inr, ◌⊎◌}
+use Rattle.std.proofs.Common.{◌≡◌, ◌≢◌, ◌≤◌, ◌<◌, ◌+◌, ◌-◌, zero, suc, ℕ, Bool, true, false, cond, eqb, ltb, leb, ◌&&◌, Option, Some, None, IsSome, is_some, refl, sym, ap, ◌∙◌, arith, inl, inr, ◌⊎◌, ◌↔◌, not, IsTrue}
 use Rattle.std.proofs.lemmas.Bool.{cases_lt}
 use Rattle.std.proofs.lemmas.Bool.Decides.{nat_tests, eqb_tells}
 use Rattle.std.specs.Option.{unwrap_or, option_map}
 use Rattle.std.specs.Ordering.{nat_cmp, eq_by_cmp}
 use Rattle.std.specs.Cmp.{nat_cmp_total}
 use Rattle.std.specs.FinMap.{get, remove, get-insert, get-remove, same_map, nat_cmp-IsAntisymmetric}
-use Rattle.raw_pages.specs.Pages.{pages_moved}
+use Rattle.raw_pages.specs.Pages.{pages_moved, IsLastMapped}
 use Rattle.guest_space.specs.Memory.{MappedPage, Pages, IsValid}
 use Rattle.guest_space.specs.Remapping.{is_in, without, AreMoved, protection_of}
 use Rattle.guest_space.specs.Mapping.{mapped_run, absent_count}
-use Rattle.guest_space.proofs.MappingLemmas.{absent_count-le}
+use Rattle.guest_space.proofs.MappingLemmas.{absent_count-le, mapped_run-same, mapped_run-step}
 use Rattle.guest_space.specs.Places.{IsFree}
 use Rattle.guest_space.proofs.Validity.{get-without}
 
@@ -228,3 +228,42 @@ free-absent pages first (suc count) free =
     let one : absent_count pages first count + cond (is_some (get pages (first + count))) 0 1 ≡ absent_count pages first count + 1 =
     ap (λ o. absent_count pages first count + cond (is_some o) 0 1) (free count (omega arith)) in
     omega (arith, one, free-absent pages first count (λ k below. free k (omega arith)))
+
+-- a free run below an end, near which a page is mapped, ends where that page lies
+pub run-below : (pages : Pages) (first count last end : ℕ) → IsFree pages first count → first + count ≤ end → end - count ≤ last → IsSome (get pages last) → first + count ≤ last
+run-below pages first count last end free to_end near there =
+    elim (cases_lt last (first + count)) [
+      | inl reaches ↦ absurd (not_free pages first count last free (omega arith) reaches there)
+      | inr ends ↦ ends
+    ]
+
+-- a free run below a row of mapped pages ends where that row begins
+pub run-below-row : (pages : Pages) (first count begin last : ℕ) → 0 < count → IsFree pages first count → first + count ≤ last
+    → ((number : ℕ) → begin ≤ number → number < last → IsSome (get pages number)) → first + count ≤ begin
+run-below-row pages first count begin last some free ends row =
+    elim (cases_lt begin (first + count)) [
+      | inr low ↦ low
+      | inl reaches ↦ absurd (not_free pages first count (first + count - 1) free (omega arith) (omega arith) (row (first + count - 1) (omega arith) (omega arith)))
+    ]
+
+-- mapped pages at the begin of a range are passed over together
+pub run-together : (pages : Pages) (step first count : ℕ) → step ≤ count → ((number : ℕ) → first ≤ number → number < first + step → IsSome (get pages number))
+    → mapped_run pages first count ≡ mapped_run pages (first + step) (count - step) + step
+run-together pages zero first count within row =
+    let same = mapped_run-same pages {a = first} {b = first + 0} {m = count} {n = count - 0} (omega arith) (omega arith) in omega (arith, same)
+run-together pages (suc step) first count within row =
+    let one = mapped_run-step pages first count (row first (omega arith) (omega arith)) (omega arith) in
+    let rest = run-together pages step (first + 1) (count - 1) (omega arith) (λ number from below. row number (omega arith) (omega arith)) in
+    let same = mapped_run-same pages {a = first + 1 + step} {b = first + suc step} {m = count - 1 - step} {n = count - suc step} (omega arith) (omega arith) in
+    omega (arith, one, rest, same)
+
+-- a range with no last mapped page is a free one
+pub free-told : (pages : Pages) (first count : ℕ) (o : Option ℕ) (free : Bool) → is_some o ≡ not free → IsLastMapped pages first (first + count) o
+    → (IsTrue free ↔ IsFree pages first count)
+free-told pages first count None false told it = absurd (cc)
+free-told pages first count None true told it = (λ _ k below. it (first + k) (omega arith) (omega arith), λ _. refl)
+free-told pages first count (Some last) true told it = absurd (cc)
+free-told pages first count (Some last) false told it = (
+  λ no. absurd (cc),
+  λ free. absurd (not_free pages first count last free it.0 it.1 it.2),
+)

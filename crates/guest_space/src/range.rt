@@ -1,5 +1,6 @@
 //! Ranges of pages of a page store.
-ghost use Rattle.std.specs.Prelude.{◌≡◌, ◌+◌, ◌<◌, ◌≤◌, ◌⊎◌, ◌↔◌, ℕ, IsTrue, OnOk, OnErr};
+ghost use Rattle.std.specs.Prelude.{◌≡◌, ◌+◌, ◌<◌, ◌≤◌, ◌⊎◌, ◌↔◌, ℕ, IsTrue, IsSome, OnOk, OnErr, true};
+ghost use Rattle.std.specs.FinMap as map;
 ghost use Rattle.guest_space.specs.Mapping.{with_zeros, with_protection, mapped_run, absent_count};
 ghost use Rattle.guest_space.specs.Memory.{IsValid};
 ghost use Rattle.guest_space.specs.Places.{IsFree, IsGreatestPlace};
@@ -48,8 +49,34 @@ pub(crate) fn map_zeros(
     Ok(())
 }
 
-/// The number of pages that are mapped from `first` on before the first absent one, at most `count`.
+/// How many pages are looked at together, where all of them may be mapped.
+const TOGETHER: u32 = 1024;
+
+/// The number of pages that are mapped from `first` on before the first absent one, at most `count`. So many
+/// together as a table of pages has are passed over where they are all mapped.
 pub(crate) fn mapped_pages(pages: &PageStore, first: u32, count: u32) -> u32
+    requires { first + count ≤ 524280 }
+    ensures value { result ≡ mapped_run pages.now first count }
+    ensures bound { result ≤ count }
+{
+    let mut done = 0;
+    while begins_mapped(pages, first + done, count - done) {
+        done += TOGETHER;
+    }
+    done + leading_pages(pages, first + done, count - done)
+}
+
+/// Whether the range begins with so many mapped pages.
+fn begins_mapped(pages: &PageStore, first: u32, count: u32) -> bool
+    requires { first + count ≤ 524280 }
+    ensures enough { result ≡ true → 1024 ≤ count }
+    ensures mapped { result ≡ true → (number : ℕ) → first ≤ number → number < first + 1024 → IsSome (map.get pages.now number) }
+{
+    count >= TOGETHER && pages.last_free(first, first + TOGETHER).is_none()
+}
+
+/// The same, page by page.
+fn leading_pages(pages: &PageStore, first: u32, count: u32) -> u32
     requires { first + count ≤ 524280 }
     ensures value { result ≡ mapped_run pages.now first count }
     ensures bound { result ≤ count }
@@ -84,33 +111,28 @@ pub(crate) fn unmap_pages(pages: &mut PageStore, first: u32, count: u32)
     }
 }
 
-/// Whether none of the pages is mapped. Absent tables are passed over whole.
+/// Whether none of the pages is mapped. Tables with no page are passed over whole.
 pub(crate) fn is_free(pages: &PageStore, first: u32, count: u32) -> bool
     requires { first + count ≤ 1048576 }
     ensures { IsTrue result ↔ IsFree pages.now first count }
 {
-    match pages.last_below(first + count) {
-        Some(last) => last < first,
-        None => true,
-    }
+    pages.last_mapped(first, first + count).is_none()
 }
 
-/// The greatest first page of a free run of so many pages for a mapping. Free pages are not looked at one by
-/// one.
+/// The greatest first page of a free run of so many pages for a mapping. It is sought from the top down, a run of
+/// mapped pages at a time.
 pub(crate) fn greatest_place(pages: &PageStore, count: u32) -> Option<u32>
     requires { 0 < count }
     ensures { IsGreatestPlace pages.now count result }
 {
     let mut end = PLACES_END;
     while end - PLACES_BEGIN >= count {
-        match pages.last_below(end) {
+        match pages.last_mapped(end - count, end) {
             None => return Some(end - count),
-            Some(last) => {
-                if last < end - count {
-                    return Some(end - count);
-                }
-                end = last;
-            }
+            Some(last) => match pages.last_free(PLACES_BEGIN, last) {
+                None => return None,
+                Some(free) => end = free + 1,
+            },
         }
     }
     None

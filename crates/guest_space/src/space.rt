@@ -296,7 +296,8 @@ impl Space {
 
     /// The greatest first page of a free run of so many pages that lies between 0x10000000 and 0x70000000, and
     /// None where there is none. (The rule is this project's own; mmap(2) leaves the choice to the kernel.)
-    /// It costs by the mapped pages and the tables that hold them, not by the free ones, and takes no memory.
+    /// It costs by the runs of mapped pages and the tables of 1024 pages, not by the single pages, and takes no
+    /// memory.
     pub fn place(&self, pages: u32) -> Option<u32>
         requires { 0 < pages }
         ensures { IsGreatestPlace self.now.pages pages result }

@@ -325,6 +325,27 @@ fn the_greatest_place_in(rt: &impl Abort, space: &mut Space) -> Result<(), Fail>
 }
 
 #[test]
+fn places_go_down_page_by_page(rt: HostRuntime) -> Result<(), Fail> {
+    let mut space = sample(rt.alloc())?;
+    places_go_down_page_by_page_in(&rt, &mut space)
+}
+
+fn places_go_down_page_by_page_in(rt: &impl Abort, space: &mut Space) -> Result<(), Fail> {
+    for mapped in 0..3000 {
+        assert_eq!(rt; space.place(1), Some(0x6_FFFF - mapped));
+        assert_eq!(rt; map_answer(space.map(0x6_FFFF - mapped, 1, 3)), "mapped");
+    }
+    space.unmap(0x6_FA00, 2);
+    for (pages, first) in [(1, 0x6_FA01), (2, 0x6_FA00), (3, 0x6_F445)] {
+        assert_eq!(rt; space.place(pages), Some(first));
+    }
+    assert!(rt; space.is_free(0x1_0000, 0x5_F448));
+    assert!(rt; !space.is_free(0x1_0000, 0x5_F449));
+    assert_eq!(rt; space.mapped(0x6_F448, 0xBB8), 0x5B8);
+    Ok(())
+}
+
+#[test]
 fn ranges_get_another_size(rt: HostRuntime) -> Result<(), Fail> {
     let mut space = sample(rt.alloc())?;
     ranges_get_another_size_in(&rt, &mut space)

@@ -199,3 +199,51 @@ fn the_last_page_below_a_number_is_found_in(
     assert_eq!(rt; store.last_below(1023), None);
     Ok(())
 }
+
+/// Maps all pages of the second table of 1024, to read.
+fn fill_second_table(store: &mut PageStore) -> Result<(), Fail> {
+    for page in 1024..2048 {
+        store.map(page, 1).ok().ok_or("not mapped")?;
+    }
+    Ok(())
+}
+
+#[test]
+fn the_last_number_of_a_range_is_found(rt: HostRuntime) -> Result<(), Fail> {
+    let mut store = sample(rt.alloc())?;
+    fill_second_table(&mut store)?;
+    the_last_number_of_a_range_is_found_in(&rt, &mut store)
+}
+
+fn the_last_number_of_a_range_is_found_in(
+    rt: &impl Abort,
+    store: &mut PageStore,
+) -> Result<(), Fail> {
+    for (first, end, mapped, free) in [
+        (0, 3000, Some(2047), Some(2999)),
+        (0, 2048, Some(2047), Some(1022)),
+        (1023, 2048, Some(2047), None),
+        (1024, 1500, Some(1499), None),
+        (1, 1023, None, Some(1022)),
+        (5, 5, None, None),
+        (7, 5, None, None),
+        (2048, LAST, None, Some(LAST - 1)),
+        (0, 1_048_576, Some(LAST), Some(1_048_575)),
+    ] {
+        assert_eq!(rt;
+            store.last_mapped(first, end),
+            mapped,
+            "from {first} to {end}"
+        );
+        assert_eq!(rt; store.last_free(first, end), free, "from {first} to {end}");
+    }
+    store.unmap(1500);
+    assert_eq!(rt; store.last_free(1024, 2048), Some(1500));
+    assert_eq!(rt; store.last_mapped(1024, 1501), Some(1499));
+    for page in 1024..2048 {
+        store.unmap(page);
+    }
+    assert_eq!(rt; store.last_mapped(0, 2048), Some(1023));
+    assert_eq!(rt; store.last_free(0, 2048), Some(2047));
+    Ok(())
+}

@@ -1,3 +1,5 @@
+pub mod Counts
 pub mod Puts
+pub mod Searches
 pub mod Tables
 pub mod Zeros

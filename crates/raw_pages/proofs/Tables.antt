@@ -7,7 +7,7 @@ use Rattle.std.proofs.Math.Seq.{take-append_seam}
 use Rattle.std.specs.Ordering.{nat_cmp, eq_by_cmp}
 use Rattle.std.specs.Cmp.{nat_cmp_total}
 use Rattle.std.specs.FinMap.{FinMap, get, insert, remove, len, empty, empty_of_len, get-empty, get-insert, get-remove, len-empty, len-insert, len-remove, same_map, nat_cmp-IsAntisymmetric}
-use Rattle.raw_pages.specs.inside.Tables.{entry_in, entry_of, with_found, changed, map_of_first, map_of, moved, SetsEntry, MovesEntry, IsStore, IsLastNumber, IsLastKey}
+use Rattle.raw_pages.specs.inside.Tables.{entry_in, entry_of, with_found, changed, map_of_first, map_of, moved, SetsEntry, MovesEntry, IsStore}
 
 eqb-eq_by_cmp : (a b : ℕ) → eqb a b ≡ eq_by_cmp nat_cmp a b
 eqb-eq_by_cmp a b = grind (arith, nat_tests)
@@ -451,16 +451,6 @@ module _ {X : Type 0} where
 
     pub view-moved : map_of (take long (after ++ drop (length after) before)) ≡ moved view n m (get view n)
     view-moved = ap map_of is_after ∙ moved_as
-
-  -- the greatest number that has an entry is that of the greatest page of the map
-  pub last-view : (before old : List (Option (List (Option X)))) (view : FinMap nat_cmp X) → length before ≡ 1024 → map_of before ≡ view → old ≡ before
-      → (end : ℕ) (o : Option ℕ) → IsLastNumber old end o → IsLastKey view end o
-  last-view before old view whole is same end None none = λ number below. found-old before old view whole is same number ∙ none number below
-  last-view before old view whole is same end (Some last) found = (
-    found.0,
-    subst IsSome (sym (found-old before old view whole is same last)) found.1,
-    λ number above below. found-old before old view whole is same number ∙ found.2 number above below,
-  )
 
 -- a table's place and the place in it are those of a number
 pub number_at : (at place number : ℕ) → place < 1024 → number ≡ at * 1024 + place → (number / 1024 ≡ at) × (number % 1024 ≡ place)

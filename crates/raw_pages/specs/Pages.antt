@@ -1,6 +1,6 @@
 -- The pages of a store as contracts see them: a finite map from page numbers to pages.
 -- A page has 4096 bytes. (Linux manual page mmap(2); the sizes are this project's own.)
-use Rattle.std.specs.Prelude.{◌≡◌, ◌<◌, ℕ, suc, ◌/◌, ◌%◌, ◌==◌, Bool, true, false, Result, Ok, Err, List, [], ◌∷◌, slice_set, replicate, Option, Some, None, IsSome, refl}
+use Rattle.std.specs.Prelude.{◌≡◌, ◌<◌, ◌≤◌, ℕ, suc, ◌/◌, ◌%◌, ◌==◌, Bool, true, false, Result, Ok, Err, List, [], ◌∷◌, slice_set, replicate, Option, Some, None, IsSome, refl}
 use Rattle.std.specs.Coded.{Coded, code_by, coded×, coded_ℕ, coded_bool, coded_list}
 use Rattle.std.specs.Ordering.{nat_cmp}
 use Rattle.std.specs.FinMap.{FinMap, code, get, insert, remove}
@@ -94,6 +94,18 @@ abbrev pub IsLastBelow : Pages → ℕ → Option ℕ → Type 0
 IsLastBelow pages end None = (number : ℕ) → number < end → get pages number ≡ None
 IsLastBelow pages end (Some last) =
     (last < end) × IsSome (get pages last) × ((number : ℕ) → last < number → number < end → get pages number ≡ None)
+
+-- the greatest number from `first` up to the end at which a page is mapped, or None where there is none
+abbrev pub IsLastMapped : Pages → ℕ → ℕ → Option ℕ → Type 0
+IsLastMapped pages first end None = (number : ℕ) → first ≤ number → number < end → get pages number ≡ None
+IsLastMapped pages first end (Some last) =
+    (first ≤ last) × (last < end) × IsSome (get pages last) × ((number : ℕ) → last < number → number < end → get pages number ≡ None)
+
+-- the greatest number from `first` up to the end at which no page is mapped, or None where there is none
+abbrev pub IsLastFree : Pages → ℕ → ℕ → Option ℕ → Type 0
+IsLastFree pages first end None = (number : ℕ) → first ≤ number → number < end → IsSome (get pages number)
+IsLastFree pages first end (Some last) =
+    (first ≤ last) × (last < end) × (get pages last ≡ None) × ((number : ℕ) → last < number → number < end → IsSome (get pages number))
 
 -- the pages with one of them, where it is mapped, at another number
 abbrev pub pages_moved : Pages → ℕ → ℕ → Option MappedPage → Pages

@@ -1,5 +1,5 @@
 //! A table of 1024 neighbouring pages.
-ghost use Rattle.std.specs.Prelude.{◌≡◌, ◌+◌, ◌<◌, ◌≤◌, length, replicate, None, IfOk, OnOk, OnErr, IsOk, option_copied, option_map, slice_index_or, slice_set, true};
+ghost use Rattle.std.specs.Prelude.{◌≡◌, ◌+◌, ◌<◌, ◌≤◌, ℕ, length, replicate, Some, None, not, is_some, IfOk, OnOk, OnErr, IsOk, option_copied, option_map, slice_index_or, slice_set, true, false};
 ghost use Rattle.raw_pages.specs.inside.Tables.{IsLastEntry};
 ghost use Rattle.raw_pages.specs.Pages.{with_piece, with_protection, cleared_page, is_ready, IsWriteAnswer};
 
@@ -12,16 +12,19 @@ use std::mem::replace;
 /// The number of entries of a table.
 pub(crate) const ENTRIES: usize = 1024;
 
-/// The entries of 1024 neighbouring page numbers. An entry is empty where no page is mapped.
+/// The entries of 1024 neighbouring page numbers, and how many of them have a page. An entry is empty where
+/// no page is mapped.
 #[derive(Drop)]
 pub(crate) struct Leaf {
     entries: Vec<Option<Page>>,
+    mapped: usize,
 }
 
 impl Model for Leaf {
     ghost use Rattle.std.specs.Prelude.{◌≡◌, List, Option, length};
     ghost use Rattle.std.specs.Coded.{coded_list, coded_option};
     ghost use Rattle.raw_pages.specs.Pages.{MappedPage, mapped_page_code};
+    ghost use Rattle.raw_pages.specs.inside.Tables.{IsLeaf};
 
     ghost Value = { List (Option MappedPage) };
 
@@ -29,7 +32,7 @@ impl Model for Leaf {
 
     ghost view = { λ l. l.entries.items };
 
-    ghost invariant = { λ l. length l.entries.items ≡ 1024 };
+    ghost invariant = { λ l. IsLeaf l.entries.items l.mapped };
 }
 
 impl Leaf {
@@ -38,7 +41,7 @@ impl Leaf {
         ensures { IfOk result (λ l. l ≡ replicate 1024 None) }
     {
         let entries = empty_entries(alloc, ENTRIES)?;
-        Ok(Leaf { entries })
+        Ok(Leaf { entries, mapped: 0 })
     }
 
     #[inline(always)]
@@ -49,22 +52,55 @@ impl Leaf {
         self.entries[place].as_ref()
     }
 
-    /// The greatest place below the end at which a page is mapped.
-    pub(crate) fn last_below(&self, end: usize) -> Option<usize>
+    /// The greatest place from `first` up to the end at which a page is mapped, or at which none is. The entries of
+    /// a table that has no such place at all are not looked at.
+    pub(crate) fn last(&self, mapped: bool, first: usize, end: usize) -> Option<usize>
         requires { end ≤ 1024 }
-        ensures { IsLastEntry self.now end result }
+        ensures { IsLastEntry self.now mapped first end result }
     {
-        last_entry(self.entries.as_slice(), end)
+        if self.has(mapped) {
+            return last_entry(self.entries.as_slice(), mapped, first, end);
+        }
+        None
     }
 
-    /// Puts the entry at the place, and gives the one that stood there.
-    pub(crate) fn replace(&mut self, place: usize, entry: Option<Page>) -> Option<Page>
+    /// Whether any entry has a page, or any has none.
+    fn has(&self, mapped: bool) -> bool
+        ensures { result ≡ false → (place : ℕ) → place < 1024 → is_some (slice_index_or self.now place None) ≡ not mapped }
+    {
+        if mapped {
+            self.mapped > 0
+        } else {
+            self.mapped < ENTRIES
+        }
+    }
+
+    /// Puts the page at the place, and gives the one that stood there.
+    pub(crate) fn put(&mut self, place: usize, page: Page) -> Option<Page>
         requires { place < 1024 }
         ensures was { result ≡ slice_index_or self.old place None }
-        ensures now { self.new ≡ slice_set self.old place entry }
+        ensures now { self.new ≡ slice_set self.old place (Some page) }
         ensures whole { length self.old ≡ 1024 }
     {
-        replace(&mut self.entries[place], entry)
+        let before = replace(&mut self.entries[place], Some(page));
+        if before.is_none() {
+            self.mapped += 1;
+        }
+        before
+    }
+
+    /// Takes the place's page out.
+    pub(crate) fn take(&mut self, place: usize) -> Option<Page>
+        requires { place < 1024 }
+        ensures was { result ≡ slice_index_or self.old place None }
+        ensures now { self.new ≡ slice_set self.old place None }
+        ensures whole { length self.old ≡ 1024 }
+    {
+        let before = replace(&mut self.entries[place], None);
+        if before.is_some() {
+            self.mapped -= 1;
+        }
+        before
     }
 
     /// Writes the bytes into the page from a place in it on, where it is mapped.
@@ -148,14 +184,14 @@ fn empty_entries(alloc: Global, count: usize) -> Result<Vec<Option<Page>>, Alloc
     Ok(entries)
 }
 
-fn last_entry(entries: &[Option<Page>], end: usize) -> Option<usize>
+fn last_entry(entries: &[Option<Page>], mapped: bool, first: usize, end: usize) -> Option<usize>
     requires { end ≤ length entries.now }
-    ensures { IsLastEntry entries.now end result }
+    ensures { IsLastEntry entries.now mapped first end result }
 {
     let mut at = end;
-    while at > 0 {
+    while at > first {
         at -= 1;
-        if entries[at].is_some() {
+        if entries[at].is_some() == mapped {
             return Some(at);
         }
     }

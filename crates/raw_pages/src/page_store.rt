@@ -1,7 +1,7 @@
 //! The mapped pages by their numbers.
 ghost use Rattle.std.specs.Prelude.{◌≡◌, ◌+◌, ◌<◌, ◌≤◌, ◌^◌, length, IfOk, OnOk, OnErr, IsOk, option_copied, option_map, is_some, slice_range, replicate, None, true, false};
 ghost use Rattle.std.specs.FinMap as map;
-ghost use Rattle.raw_pages.specs.Pages.{zero_page, zero_bytes, pages_cleared, pages_moved, IsLastBelow, pages_with_piece, pages_with_protection, is_ready, shown_bytes, IsWriteAnswer};
+ghost use Rattle.raw_pages.specs.Pages.{zero_page, zero_bytes, pages_cleared, pages_moved, IsLastBelow, IsLastMapped, IsLastFree, pages_with_piece, pages_with_protection, is_ready, shown_bytes, IsWriteAnswer};
 
 use crate::leaf::Leaf;
 use crate::page::Page;
@@ -108,13 +108,31 @@ impl PageStore {
         Ok(())
     }
 
-    /// The greatest number below the end at which a page is mapped. Numbers of absent tables are not looked
-    /// at one by one.
+    /// The greatest number below the end at which a page is mapped. Numbers of tables with no page are not
+    /// looked at one by one.
     pub fn last_below(&self, end: u32) -> Option<u32>
         requires { end ≤ 1048576 }
         ensures { IsLastBelow self.now end result }
     {
-        table::last_below(self.leaves.as_slice(), end)
+        self.last_mapped(0, end)
+    }
+
+    /// The greatest number from `first` up to the end at which a page is mapped. Numbers of tables with no page
+    /// are not looked at one by one.
+    pub fn last_mapped(&self, first: u32, end: u32) -> Option<u32>
+        requires { end ≤ 1048576 }
+        ensures { IsLastMapped self.now first end result }
+    {
+        table::last(self.leaves.as_slice(), true, first, end)
+    }
+
+    /// The greatest number from `first` up to the end at which no page is mapped. Numbers of tables with a page
+    /// at each are not looked at one by one.
+    pub fn last_free(&self, first: u32, end: u32) -> Option<u32>
+        requires { end ≤ 1048576 }
+        ensures { IsLastFree self.now first end result }
+    {
+        table::last(self.leaves.as_slice(), false, first, end)
     }
 
     /// The protection of the page, where it is mapped.

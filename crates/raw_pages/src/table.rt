@@ -1,5 +1,5 @@
 //! The entries of page numbers in a table of tables.
-ghost use Rattle.std.specs.Prelude.{◌≡◌, ◌+◌, ◌*◌, ◌/◌, ◌%◌, ◌<◌, ◌≤◌, ℕ, length, IsSome, Some, None, not, is_some, IfOk, OnOk, OnErr, IsOk, option_copied, option_map, slice_index_or, true};
+ghost use Rattle.std.specs.Prelude.{◌≡◌, ◌+◌, ◌-◌, ◌*◌, ◌/◌, ◌%◌, ◌<◌, ◌≤◌, ℕ, length, IsSome, Some, None, not, is_some, IfOk, OnOk, OnErr, IsOk, option_copied, option_map, slice_index_or, true};
 ghost use Rattle.raw_pages.specs.Pages.{zero_page, with_piece, with_protection, cleared_page, is_ready, IsWriteAnswer};
 ghost use Rattle.raw_pages.specs.inside.Tables.{entry_of, SetsEntry, MovesEntry, IsLastNumber};
 
@@ -75,7 +75,7 @@ fn put(leaves: &mut [Option<Leaf>], number: u32, page: Page) -> Option<Page>
     ensures now { SetsEntry leaves.old leaves.new number (Some page) }
 {
     match &mut leaves[leaf_of(number)] {
-        Some(leaf) => leaf.replace(place_of(number), Some(page)),
+        Some(leaf) => leaf.put(place_of(number), page),
         None => Some(page),
     }
 }
@@ -88,7 +88,7 @@ pub(crate) fn take(leaves: &mut [Option<Leaf>], number: u32) -> Option<Page>
     ensures tables { (at : ℕ) → IsSome (slice_index_or leaves.old at None) → IsSome (slice_index_or leaves.new at None) }
 {
     match &mut leaves[leaf_of(number)] {
-        Some(leaf) => leaf.replace(place_of(number), None),
+        Some(leaf) => leaf.take(place_of(number)),
         None => None,
     }
 }
@@ -159,22 +159,51 @@ pub(crate) fn protect(leaves: &mut [Option<Leaf>], number: u32, protection: u8)
     }
 }
 
-/// The greatest number below the end at which a page is mapped. Absent tables are passed over whole.
-pub(crate) fn last_below(leaves: &[Option<Leaf>], end: u32) -> Option<u32>
+/// The greatest number from `first` up to the end at which a page is mapped, or at which none is. Tables that have
+/// no such number are passed over whole.
+pub(crate) fn last(leaves: &[Option<Leaf>], mapped: bool, first: u32, end: u32) -> Option<u32>
     requires { end ≤ 1024 * length leaves.now }
-    ensures { IsLastNumber leaves.now end result }
+    ensures { IsLastNumber leaves.now mapped first end result }
 {
     let mut past = end;
-    while past > 0 {
-        let at = leaf_of(past - 1);
-        if let Some(leaf) = &leaves[at] {
-            if let Some(place) = leaf.last_below(place_of(past - 1) + 1) {
-                return Some((at * ENTRIES + place) as u32);
-            }
+    while past > first {
+        let begin = begin_in_table(first, past);
+        let found = last_in_table(leaves, mapped, begin, past);
+        if found.is_some() {
+            return found;
         }
-        past = (at * ENTRIES) as u32;
+        past = begin;
     }
     None
+}
+
+/// The least number from `first` on in the table of the last number below the end.
+fn begin_in_table(first: u32, end: u32) -> u32
+    requires { first < end }
+    ensures begin { first ≤ result }
+    ensures end { result < end }
+    ensures table { result / 1024 ≡ (end - 1) / 1024 }
+{
+    let begin = (end - 1) / 1024 * 1024;
+    if begin < first { first } else { begin }
+}
+
+/// The same of the numbers of one table.
+fn last_in_table(leaves: &[Option<Leaf>], mapped: bool, first: u32, end: u32) -> Option<u32>
+    requires some { first < end }
+    requires one { first / 1024 ≡ (end - 1) / 1024 }
+    requires room { end ≤ 1024 * length leaves.now }
+    ensures { IsLastNumber leaves.now mapped first end result }
+{
+    let at = leaf_of(first);
+    match &leaves[at] {
+        Some(leaf) => match leaf.last(mapped, place_of(first), place_of(end - 1) + 1) {
+            Some(place) => Some((at * ENTRIES + place) as u32),
+            None => None,
+        },
+        None if mapped => None,
+        None => Some(end - 1),
+    }
 }
 
 /// Moves the page of one number to another one, at which none is mapped.

@@ -1,8 +1,8 @@
 -- The table of tables that a store keeps, against the finite map that contracts see. The page of a number stands in the
 -- table number / 1024 at the place number % 1024, and there are 1024 tables.
-use Rattle.std.specs.Prelude.{◌≡◌, ◌<◌, ℕ, zero, suc, ◌/◌, ◌%◌, ◌==◌, List, length, slice_index_or, Option, Some, None, IsSome, is_some, if◌then◌else◌}
+use Rattle.std.specs.Prelude.{◌≡◌, ◌<◌, ◌≤◌, ℕ, zero, suc, ◌+◌, ◌/◌, ◌%◌, ◌==◌, Bool, not, List, [], ◌∷◌, length, slice_index_or, Option, Some, None, is_some, if◌then◌else◌}
 use Rattle.std.specs.Ordering.{nat_cmp}
-use Rattle.std.specs.FinMap.{FinMap, empty, get, insert, remove, len}
+use Rattle.std.specs.FinMap.{FinMap, empty, insert, remove, len}
 
 -- the entry at a place of a table that may be absent
 abbrev pub entry_in : {X : Type 0} → Option (List (Option X)) → ℕ → Option X
@@ -46,26 +46,34 @@ pub record IsStore {X : Type 0} (leaves : List (Option (List (Option X)))) (mapp
   pub whole : length leaves ≡ 1024
   pub counted : mapped ≡ len (map_of leaves)
 
--- the greatest place below the end that has an entry, or None where there is none
-abbrev pub IsLastEntry : {X : Type 0} → List (Option X) → ℕ → Option ℕ → Type 0
-IsLastEntry entries end None = (place : ℕ) → place < end → slice_index_or entries place None ≡ None
-IsLastEntry entries end (Some last) =
-    (last < end) × IsSome (slice_index_or entries last None) × ((place : ℕ) → last < place → place < end → slice_index_or entries place None ≡ None)
+-- how many entries there are in a table
+unfoldable pub entry_count : {X : Type 0} → List (Option X) → ℕ
+entry_count [] = 0
+entry_count (entry ∷ entries) = entry_count entries + (if is_some entry then 1 else 0)
 
--- the greatest number below the end that has an entry, or None where there is none
-abbrev pub IsLastNumber : {X : Type 0} → List (Option (List (Option X))) → ℕ → Option ℕ → Type 0
-IsLastNumber leaves end None = (number : ℕ) → number < end → entry_of leaves number ≡ None
-IsLastNumber leaves end (Some last) =
-    (last < end) × IsSome (entry_of leaves last) × ((number : ℕ) → last < number → number < end → entry_of leaves number ≡ None)
+-- a table has 1024 places, and the number of its entries is known
+pub record IsLeaf {X : Type 0} (entries : List (Option X)) (mapped : ℕ) : Type 0 where
+  pub whole : length entries ≡ 1024
+  pub counted : mapped ≡ entry_count entries
+
+-- the greatest place from `first` up to the end that has an entry (or that has none), or None where there is none
+abbrev pub IsLastEntry : {X : Type 0} → List (Option X) → Bool → ℕ → ℕ → Option ℕ → Type 0
+IsLastEntry entries mapped first end None =
+    (place : ℕ) → first ≤ place → place < end → is_some (slice_index_or entries place None) ≡ not mapped
+IsLastEntry entries mapped first end (Some last) =
+    (first ≤ last) × (last < end) × (is_some (slice_index_or entries last None) ≡ mapped)
+    × ((place : ℕ) → last < place → place < end → is_some (slice_index_or entries place None) ≡ not mapped)
+
+-- the greatest number from `first` up to the end that has an entry (or that has none), or None where there is none
+abbrev pub IsLastNumber : {X : Type 0} → List (Option (List (Option X))) → Bool → ℕ → ℕ → Option ℕ → Type 0
+IsLastNumber leaves mapped first end None =
+    (number : ℕ) → first ≤ number → number < end → is_some (entry_of leaves number) ≡ not mapped
+IsLastNumber leaves mapped first end (Some last) =
+    (first ≤ last) × (last < end) × (is_some (entry_of leaves last) ≡ mapped)
+    × ((number : ℕ) → last < number → number < end → is_some (entry_of leaves number) ≡ not mapped)
 
 -- the entry of one number, where it has one, stands at another number in place of what stood there
 abbrev pub MovesEntry : {X : Type 0} → List (Option (List (Option X))) → List (Option (List (Option X))) → ℕ → ℕ → Type 0
 MovesEntry before after from to =
     (other : ℕ) → entry_of after other ≡
     (if is_some (entry_of before from) then (if other == to then entry_of before from else (if other == from then None else entry_of before other)) else entry_of before other)
-
--- the greatest key below the end, or None where there is none
-abbrev pub IsLastKey : {X : Type 0} → FinMap nat_cmp X → ℕ → Option ℕ → Type 0
-IsLastKey pages end None = (number : ℕ) → number < end → get pages number ≡ None
-IsLastKey pages end (Some last) =
-    (last < end) × IsSome (get pages last) × ((number : ℕ) → last < number → number < end → get pages number ≡ None)

@@ -1,22 +1,15 @@
-use Rattle.std.proofs.Common.{◌≡◌, ◌+◌, ◌-◌, true, false, arith, is_some}
-use Rattle.std.specs.FinMap.{get}
-use Rattle.guest_space.proofs.MappingLemmas.{mapped_run-step, mapped_run-stop, mapped_run-same, mapped_run-zero}
+use Rattle.std.proofs.Common.{◌+◌, ◌-◌, arith}
+use Rattle.guest_space.proofs.MappingLemmas.{mapped_run-same}
+use Rattle.guest_space.proofs.Ranges.{run-together}
 use Rattle.guest_space.proofs.range.mapped_pages.Goals as goal
-
-pub returns-then-not-is_mapped-clause-value : goal.returns-then-not-is_mapped-clause-value
-returns-then-not-is_mapped-clause-value c =
-    let missing : is_some (get c.args.pages.now (c.args.first + c.loop-done.done)) ≡ false = cc in
-    let stop = mapped_run-stop c.args.pages.now (c.args.first + c.loop-done.done) (c.args.count - c.loop-done.done) missing in
-    omega (arith, c.loop-done.invariant, stop)
 
 pub loop-done-preserved : goal.loop-done-preserved
 loop-done-preserved c =
-    let found : is_some (get c.args.pages.now (c.args.first + c.loop-done.done)) ≡ true = cc in
-    let step = mapped_run-step c.args.pages.now (c.args.first + c.loop-done.done) (c.args.count - c.loop-done.done) found (omega arith) in
-    let next = mapped_run-same c.args.pages.now {a = c.args.first + c.loop-done.done + 1} {b = c.args.first + (c.loop-done.done + 1)} {m = c.args.count - c.loop-done.done - 1} {n = c.args.count - (c.loop-done.done + 1)} (omega arith) (omega arith) in
-    omega (arith, c.loop-done.invariant, step, next)
-
-pub returns-clause-value : goal.returns-clause-value
-returns-clause-value c =
-    let none = mapped_run-same c.args.pages.now {a = c.args.first + c.loop-done.done} {b = c.args.first + c.loop-done.done} {m = c.args.count - c.loop-done.done} {n = 0} (omega arith) (omega arith) in
-    omega (arith, c.loop-done.invariant, none, mapped_run-zero c.args.pages.now (c.args.first + c.loop-done.done))
+    let pages = c.args.pages.now in
+    let enough = c.begins_mapped.ensures.enough c.loop-done-test.true in
+    let row = run-together pages 1024 (c.args.first + c.loop-done.done) (c.args.count - c.loop-done.done) enough (c.begins_mapped.ensures.mapped c.loop-done-test.true) in
+    let same = mapped_run-same pages {a = c.args.first + c.loop-done.done + 1024} {b = c.args.first + (c.loop-done.done + 1024)} {m = c.args.count - c.loop-done.done - 1024} {n = c.args.count - (c.loop-done.done + 1024)} (omega arith) (omega arith) in
+    record {
+      within = omega (arith, enough, c.loop-done.invariant.within);
+      counted = omega (arith, c.loop-done.invariant.counted, row, same);
+    }

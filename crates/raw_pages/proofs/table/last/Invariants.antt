@@ -1,11 +1,11 @@
-use Rattle.std.proofs.Common.{◌≡◌, ◌≤◌, ◌<◌, ℕ, None}
+use Rattle.std.proofs.Common.{◌≡◌, ◌≤◌, ◌<◌, ℕ, is_some, not}
 use Rattle.raw_pages.specs.inside.Tables.{entry_of}
-use Rattle.raw_pages.proofs.table.last_below.Given as goal
+use Rattle.raw_pages.proofs.table.last.Given as goal
 
 abbrev pub invariant-loop-past : goal.invariant-loop-past
 invariant-loop-past l = record {
   within : l.past ≤ l.end;
-  none : (number : ℕ) → l.past ≤ number → number < l.end → entry_of l.leaves number ≡ None;
+  none : (number : ℕ) → l.past ≤ number → number < l.end → is_some (entry_of l.leaves number) ≡ not l.mapped;
 }
 
 abbrev pub decreases-loop-past : goal.decreases-loop-past

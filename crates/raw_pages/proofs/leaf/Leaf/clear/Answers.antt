@@ -1,0 +1,20 @@
+use Rattle.std.proofs.Common.{Some, None, is_some, refl, sym, ap, subst, ◌∙◌, arith}
+use Rattle.std.proofs.lemmas.List.{get_or_read}
+use Rattle.raw_pages.specs.inside.Tables.{IsLeaf}
+use Rattle.raw_pages.proofs.Counts.{leaf-same}
+use Rattle.raw_pages.proofs.leaf.Leaf.clear.Goals as goal
+use Rattle.raw_pages.proofs.leaf.Leaf.clear.Goals.{in-Some, in_default}
+
+pub invariant_of-self : goal.invariant_of-self
+invariant_of-self c =
+    let read = get_or_read c.self.inside.entries.items c.args.place c.index_mut.result.now (omega (arith, c.requires, c.self.invariant.whole)) c.index_mut.ensures.value None in
+    elim c.match-index_mut.branch [
+      | in-Some w ↦
+          subst (λ s. IsLeaf s.entries.items s.mapped) (sym w.self-inside-is)
+          (leaf-same c.self.inside.entries.items _ c.self.inside.mapped c.args.place (Some w.clear.new.self) c.self.invariant c.requires refl
+          (ap is_some (sym read) ∙ ap is_some w.in-Some.is))
+      | in_default w ↦
+          subst (λ s. IsLeaf s.entries.items s.mapped) (sym w.self-inside-is)
+          (leaf-same c.self.inside.entries.items _ c.self.inside.mapped c.args.place c.index_mut.result.now c.self.invariant c.requires refl
+          (ap is_some (sym read)))
+    ]
