@@ -17,12 +17,12 @@ ghost use Rattle.outside.specs.Streams.{NoCountFell, contents};
 
 use crate::asked::{Wanted, asked, is_timed};
 use crate::waiting::wait;
+use bridge_log::NativeKernel;
 use bridge_signal_state::{pending, take};
 use guest_space::Space;
 use host_mem::HostMem;
 use kernel_core::{Errno, Info, Sig, Stop};
 use kernel_model::TimeSpec;
-use native_kernel::NativeKernel;
 use o32_model::Log;
 use outside::{Devices, Sink, Source};
 use signal_choice::accepted;

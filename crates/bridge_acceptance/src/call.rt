@@ -9,11 +9,11 @@ ghost use Rattle.outside.specs.Streams.{NoCountFell, contents};
 
 use crate::accepting::accept;
 use crate::telling::{outcome_of, tell};
+use bridge_log::NativeKernel;
 use guest_space::Space;
 use host_mem::HostMem;
 use kernel_core::Stop;
 use mips_exec::Cpu;
-use native_kernel::NativeKernel;
 use o32_model::{CallWords, Log, Outcome, Seen};
 use outside::{Devices, Sink, Source};
 

@@ -11,11 +11,11 @@ ghost use Rattle.o32_model.specs.SignalWaitEnds.{named_signals};
 ghost use Rattle.outside.specs.Streams.{NoCountFell, contents};
 
 use crate::structures::set_in_program;
+use bridge_log::NativeKernel;
 use bridge_signal_state::pending;
 use guest_space::Space;
 use host_mem::HostMem;
 use kernel_core::{Sig, Stop};
-use native_kernel::NativeKernel;
 use o32_model::{Log, Wait};
 use outside::{Devices, Sink, Source};
 use signal_choice::{accepted, is_named};

@@ -10,8 +10,7 @@ ghost use Rattle.o32_model.specs.Step as o32_step;
 
 use crate::accepting::Accepted;
 use crate::infos::info_bytes;
-use bridge_log::put;
-use bridge_mem::six_words;
+use bridge_log::{put, six_words};
 use guest_space::Space;
 use kernel_core::{Errno, Info, NoMemory};
 use number_tables::O32Number;

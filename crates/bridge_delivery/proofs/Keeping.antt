@@ -1,6 +1,6 @@
 -- What is kept over the parts of a delivery.
 use Rattle.std.proofs.Common.{◌≡◌, ℕ, List, Option, Some, ap, subst, sym, ◌∙◌, Result, Ok, Err, OnOk}
-use Rattle.bridge_acceptance.specs.Ends.{Keeps}
+use Rattle.bridge_ends.specs.Ends.{Keeps}
 use Rattle.bridge_log.proofs.Histories.{logged_none, logged_then}
 use Rattle.bridge_log.proofs.Journals.{effected_none, effected_then}
 use Rattle.bridge_log.specs.Keeping.{Logged, reached}

@@ -1,6 +1,6 @@
 //! The delivery of signals, round by round.
 ghost use Rattle.std.specs.Prelude.{◌≡◌, Some};
-ghost use Rattle.bridge_acceptance.specs.Ends.{KeepsEnd};
+ghost use Rattle.bridge_ends.specs.Ends.{KeepsEnd};
 ghost use Rattle.bridge_delivery.specs.inside.Standings.{Finds, is_over};
 ghost use Rattle.guest_space.specs.Memory.{Pages};
 ghost use Rattle.kernel_model.specs.Stops.{StopsOnlyIfRose};
@@ -13,13 +13,13 @@ ghost use Rattle.outside.specs.Streams.{NoCountFell, contents};
 use crate::dispositions::{dispose, has_handler, kill};
 use crate::handling::handle;
 use crate::quiet::is_quiet;
+use bridge_log::NativeKernel;
 use bridge_signal_state::{action, mask, pending, take};
 use guest_space::Space;
 use host_mem::HostMem;
 use kernel_core::{Info, Sig, Stop};
 use kernel_model::Action;
 use mips_exec::Cpu;
-use native_kernel::NativeKernel;
 use o32_model::Log;
 use o32_turns::Going;
 use outside::{Devices, Sink, Source};

@@ -1,6 +1,6 @@
 //! A handler begins.
 ghost use Rattle.std.specs.Prelude.{◌≡◌};
-ghost use Rattle.bridge_acceptance.specs.Ends.{KeepsEnd};
+ghost use Rattle.bridge_ends.specs.Ends.{KeepsEnd};
 ghost use Rattle.bridge_delivery.specs.inside.Standings.{Becomes};
 ghost use Rattle.guest_space.specs.Memory.{Pages};
 ghost use Rattle.kernel_model.specs.Stops.{StopsOnlyIfRose};
@@ -14,13 +14,13 @@ use crate::dispositions::{after_frame, keep_mask, tell};
 use crate::frames::enter;
 use crate::sets::handling_mask;
 use bridge_ends::end_wait;
+use bridge_log::NativeKernel;
 use bridge_signal_state::{mask, set_default, set_mask, stack};
 use guest_space::Space;
 use host_mem::HostMem;
 use kernel_core::{Delivery, Info, Sig, Stop};
 use kernel_model::{Action, SigStack};
 use mips_exec::Cpu;
-use native_kernel::NativeKernel;
 use o32_model::{Cause, Log};
 use o32_turns::Going;
 use outside::{Devices, Sink, Source};

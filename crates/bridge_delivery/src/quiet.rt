@@ -2,7 +2,7 @@
 ghost use Rattle.std.specs.Prelude.{◌≡◌, is_none};
 ghost use Rattle.o32_turns.specs.Delivering.{next_signal};
 
-use native_kernel::NativeKernel;
+use bridge_log::NativeKernel;
 
 /// Whether no unblocked signal pends. It takes no memory and makes no native call.
 #[tactic(auto, using(crate::proofs::Nothing::quiet))]

@@ -14,6 +14,7 @@ ghost use Rattle.outside.specs.Streams.{NoCountFell, contents};
 
 use crate::closing::close;
 use bridge_acceptance::{acceptance_end, is_acceptance_call};
+use bridge_log::NativeKernel;
 use bridge_poll::{is_poll_call, poll_end};
 use bridge_select::select_end;
 use bridge_signal_state::set_mask;
@@ -22,7 +23,6 @@ use guest_space::Space;
 use host_mem::HostMem;
 use kernel_core::{Errno, Stop};
 use mips_exec::Cpu;
-use native_kernel::NativeKernel;
 use o32_model::{Cause, Close, Log, Wait};
 use o32_turns::Going;
 use outside::{Devices, Sink, Source};

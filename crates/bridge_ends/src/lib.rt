@@ -5,5 +5,9 @@ mod closing;
 mod ends;
 mod posting;
 
+// Passed on, so that who makes the calls that wait for descriptors or signals, and ends their waits, names one crate.
+pub use bridge_acceptance::{acceptance_call, accepts, is_acceptance_call};
+pub use bridge_poll::{is_poll_call, poll_call};
+pub use bridge_select::{is_select_call, select_call};
 pub use ends::end_wait;
 pub use posting::{event_info, post_event, post_timer};

@@ -15,10 +15,10 @@ ghost use Rattle.o32_turns.specs.Posting.{event_info, let_go, post_event, sent_t
 ghost use Rattle.schedule.specs.declared.events.Due.{Due};
 
 use bridge_acceptance::awaits;
+use bridge_log::NativeKernel;
 use guest_space::Space;
 use kernel_core::{Event, Info, NoMemory, Sig};
 use kernel_model::Post;
-use native_kernel::NativeKernel;
 use number_tables::{O32Number, SI_QUEUE, SI_USER};
 use o32_turns::Going;
 use schedule::Due;

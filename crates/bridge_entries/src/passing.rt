@@ -13,15 +13,13 @@ ghost use Rattle.kernel_model.specs.Transfers.{moved_to};
 ghost use Rattle.kernel_model.specs.Whole.{with_files};
 ghost use Rattle.kernel_model.specs.declared.descriptor.Description.{Description};
 ghost use Rattle.native_calls.specs.Table.{native_call};
-ghost use Rattle.native_kernel.specs.Built.{built_call};
+ghost use Rattle.bridge_log.specs.Built.{built_call};
 ghost use Rattle.outside.specs.Streams.{NoCountFell, contents};
 
 use crate::numbers::{GETDENTS64, LSEEK, SEEK_CUR, SEEK_SET};
-use bridge_log::native;
-use bridge_mem::fresh_room;
+use bridge_log::{NativeKernel, fresh_room, native};
 use host_mem::{FIRST_ADDRESS, HostMem};
 use kernel_core::{Reply, Stop};
-use native_kernel::NativeKernel;
 use o32_model::Log;
 use outside::{Devices, Sink, Source};
 

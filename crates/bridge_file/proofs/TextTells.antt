@@ -7,8 +7,8 @@ use Rattle.std.proofs.lemmas.Int.{to_z_pos}
 use Rattle.std.proofs.lemmas.List.{length-append, length-replicate, length-take-le}
 use Rattle.std.specs.Int.{cast_signed, w32}
 use Rattle.std.specs.Prelude.{Bool, true, false, ◌&&◌, is_none, nat_le, nat_lt, nat_abs, int_lt, pos, if◌then◌else◌}
-use Rattle.bridge_mem.proofs.Denials.{denied-join, first_or}
-use Rattle.bridge_mem.proofs.Ranges.{prefix-stores}
+use Rattle.bridge_log.proofs.Memory.{denied-join, first_or}
+use Rattle.bridge_log.proofs.Memory.{prefix-stores}
 use Rattle.guest_space.proofs.Prefixes.{denied-stands}
 use Rattle.guest_space.specs.Access.{bytes_before, first_denied, writable_prefix}
 use Rattle.guest_space.specs.Bytes.{copied_out}

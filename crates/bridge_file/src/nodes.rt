@@ -12,11 +12,10 @@ ghost use Rattle.outside.specs.Streams.{NoCountFell, contents};
 
 use crate::calls::path_call;
 use crate::numbers::{CHDIR, FACCESSAT, FCHDIR, FCHMOD, FCHMODAT, FDATASYNC, FSYNC, UMASK};
-use bridge_log::number_call;
+use bridge_log::{NativeKernel, number_call};
 use guest_space::Space;
 use host_mem::{FIRST_ADDRESS, HostMem};
 use kernel_core::Stop;
-use native_kernel::NativeKernel;
 use o32_model::{CallWords, Log, Outcome};
 use outside::{Devices, Sink, Source};
 use std::alloc::Global;

@@ -14,12 +14,11 @@ ghost use Rattle.bridge_file.specs.inside.Tells.{size_room};
 
 use crate::numbers::{GETCWD, READLINKAT};
 use crate::telling::{Told, tell_call};
-use bridge_mem::fresh_room;
+use bridge_log::{NativeKernel, fresh_room};
 use bridge_paths::{put_room, read_path};
 use guest_space::Space;
 use host_mem::{FIRST_ADDRESS, HostMem};
 use kernel_core::{Bytes, Stop};
-use native_kernel::NativeKernel;
 use o32_model::{CallWords, Log, Outcome};
 use outside::{Devices, Sink, Source};
 use std::alloc::Global;

@@ -25,8 +25,7 @@ ghost use Rattle.bridge_file.specs.inside.BothTimes.{
 };
 
 use crate::numbers::UTIMENSAT;
-use bridge_log::number_call;
-use bridge_mem::load_structure;
+use bridge_log::{NativeKernel, load_structure, number_call};
 use bridge_paths::{put_path, read_path};
 use byteorder::{BigEndian, ByteOrder};
 use guest_space::Space;
@@ -34,7 +33,6 @@ use host_mem::HostMem;
 use kernel_core::{Bytes, Errno, NoMemory, Stop};
 use kernel_model::TimeSpec;
 use layouts::{NativeStructure, native_layout, put_record};
-use native_kernel::NativeKernel;
 use o32_model::{CallWords, Log, Outcome};
 use outside::{Devices, Sink, Source};
 use std::alloc::Global;

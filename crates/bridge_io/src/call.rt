@@ -17,11 +17,11 @@ use crate::reading::{pread, read};
 use crate::terminal::ioctl;
 use crate::vectors::readv;
 use crate::writing::write;
+use bridge_log::NativeKernel;
 use guest_space::Space;
 use host_mem::HostMem;
 use kernel_core::Stop;
 use mips_exec::Cpu;
-use native_kernel::NativeKernel;
 use o32_model::{CallWords, Log, Outcome, Seen};
 use outside::{Devices, Sink, Source};
 

@@ -7,7 +7,7 @@ ghost use Rattle.bridge_log.specs.Mirrors.{Mirrors};
 ghost use Rattle.kernel_core.specs.Bits as bits;
 ghost use Rattle.kernel_model.specs.Stops.{StopsOnlyIfRose};
 ghost use Rattle.native_calls.specs.Table.{native_call};
-ghost use Rattle.native_kernel.specs.Built.{built_call};
+ghost use Rattle.bridge_log.specs.Built.{built_call};
 ghost use Rattle.number_tables.specs.OpenNumbers.{o32_open, native_open_read, access_of};
 ghost use Rattle.number_tables.specs.OpenNumbers as numbers;
 ghost use Rattle.o32_model.specs.Answered.{IsCall};
@@ -16,10 +16,9 @@ ghost use Rattle.o32_model.specs.Step.{Guest, O32Step};
 ghost use Rattle.outside.specs.Streams.{NoCountFell, contents};
 
 use crate::numbers::{F_GETFL, F_SETFL, FCNTL};
-use bridge_log::{native, number_call, outcome_of};
+use bridge_log::{NativeKernel, native, number_call, outcome_of};
 use host_mem::HostMem;
 use kernel_core::{Reply, Stop};
-use native_kernel::NativeKernel;
 use o32_model::{CallWords, Log, Outcome};
 use outside::{Devices, Sink, Source};
 

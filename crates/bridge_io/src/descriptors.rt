@@ -6,17 +6,16 @@ ghost use Rattle.bridge_log.specs.Keeping.{KeepsCall};
 ghost use Rattle.bridge_log.specs.Mirrors.{Mirrors};
 ghost use Rattle.kernel_model.specs.Stops.{StopsOnlyIfRose};
 ghost use Rattle.native_calls.specs.Table.{native_call};
-ghost use Rattle.native_kernel.specs.Built.{built_call};
+ghost use Rattle.bridge_log.specs.Built.{built_call};
 ghost use Rattle.o32_model.specs.Answered.{IsCall};
 ghost use Rattle.o32_model.specs.Descriptors.{close_row, dup_row, dup2_row, dup3_row};
 ghost use Rattle.o32_model.specs.Step.{Guest, O32Step};
 ghost use Rattle.outside.specs.Streams.{NoCountFell, contents};
 
 use crate::numbers::{CLOSE, DUP, DUP3, F_GETFD, FCNTL};
-use bridge_log::{native, number_call, outcome_of};
+use bridge_log::{NativeKernel, native, number_call, outcome_of};
 use host_mem::HostMem;
 use kernel_core::{Reply, Stop};
-use native_kernel::NativeKernel;
 use o32_model::{CallWords, Log, Outcome};
 use outside::{Devices, Sink, Source};
 

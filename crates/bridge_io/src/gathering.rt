@@ -12,12 +12,10 @@ use crate::looking::room;
 use crate::numbers::WRITEV;
 use crate::vectors::wrong_count;
 use crate::writing::{send_loaded, write_loaded};
-use bridge_log::number_call;
-use bridge_mem::Vector;
+use bridge_log::{NativeKernel, Vector, number_call};
 use guest_space::Space;
 use host_mem::HostMem;
 use kernel_core::Stop;
-use native_kernel::NativeKernel;
 use o32_model::{CallWords, Log, Outcome};
 use outside::{Devices, Sink, Source};
 

@@ -17,11 +17,9 @@ ghost use Rattle.outside.specs.Streams.{NoCountFell, contents};
 use crate::numbers::{F_GETFL, FCNTL, FIONREAD, FSTAT, IOCTL, LSEEK, SEEK_CUR};
 use crate::room::{Room, WriteFlags};
 use crate::telling::{flags_in, is_fault, number_in, size_in};
-use bridge_log::look;
-use bridge_mem::fresh_room;
+use bridge_log::{NativeKernel, fresh_room, look};
 use host_mem::{FIRST_ADDRESS, HostMem};
 use kernel_core::Stop;
-use native_kernel::NativeKernel;
 use o32_model::Log;
 use outside::{Devices, Sink, Source};
 

@@ -18,12 +18,10 @@ use crate::looking::{SMALL_FILE_LIMIT, is_ready, size, write_flags};
 use crate::numbers::PWRITE64;
 use crate::room::{Plan, WriteFlags};
 use crate::telling::past_outcome;
-use bridge_log::number_call;
-use bridge_mem::{load_buffer, stack_pair};
+use bridge_log::{NativeKernel, load_buffer, number_call, stack_pair};
 use guest_space::Space;
 use host_mem::{FIRST_ADDRESS, HostMem};
 use kernel_core::{Errno, Stop};
-use native_kernel::NativeKernel;
 use o32_model::{CallWords, Log, Outcome};
 use outside::{Devices, Sink, Source};
 

@@ -9,12 +9,10 @@ ghost use Rattle.o32_model.specs.Words.{stack_pair};
 ghost use Rattle.outside.specs.Streams.{NoCountFell, contents};
 
 use crate::numbers::{PREAD64, READ};
-use bridge_log::fill_call;
-use bridge_mem::stack_pair;
+use bridge_log::{NativeKernel, fill_call, stack_pair};
 use guest_space::Space;
 use host_mem::{FIRST_ADDRESS, HostMem};
 use kernel_core::{Errno, Stop};
-use native_kernel::NativeKernel;
 use o32_model::{CallWords, Log, Outcome};
 use outside::{Devices, Sink, Source};
 

@@ -14,12 +14,10 @@ ghost use Rattle.o32_model.specs.Transfers.{readv_row};
 ghost use Rattle.outside.specs.Streams.{NoCountFell, contents};
 
 use crate::numbers::{READ, READV};
-use bridge_log::{native, number_call, outcome_of, put};
-use bridge_mem::{Vector, fresh_room};
+use bridge_log::{NativeKernel, Vector, fresh_room, native, number_call, outcome_of, put};
 use guest_space::Space;
 use host_mem::{FIRST_ADDRESS, HostMem};
 use kernel_core::{Errno, NoMemory, Reply, Stop};
-use native_kernel::NativeKernel;
 use o32_model::{CallWords, Log, Outcome, Range};
 use outside::{Devices, Sink, Source};
 

@@ -14,12 +14,10 @@ use crate::looking::room;
 use crate::numbers::WRITE;
 use crate::room::Room;
 use crate::telling::past_outcome;
-use bridge_log::{native, number_call, outcome_of, sent_back};
-use bridge_mem::load_buffer;
+use bridge_log::{NativeKernel, load_buffer, native, number_call, outcome_of, sent_back};
 use guest_space::Space;
 use host_mem::{FIRST_ADDRESS, HostMem};
 use kernel_core::Stop;
-use native_kernel::NativeKernel;
 use o32_model::{CallWords, Log, Outcome};
 use outside::{Devices, Sink, Source};
 

@@ -19,11 +19,11 @@ ghost use Rattle.outside.specs.Streams.{NoCountFell, contents};
 
 use crate::lefts::{Left, put_left};
 use crate::times::TimePlace;
+use bridge_log::NativeKernel;
 use bridge_signal_state::set_mask;
 use guest_space::Space;
 use host_mem::HostMem;
 use kernel_core::{Errno, NoMemory, Stop};
-use native_kernel::NativeKernel;
 use o32_model::{Cause, Close, Log, Wait};
 use outside::{Devices, Sink, Source};
 

@@ -9,11 +9,10 @@ ghost use Rattle.o32_model.specs.Step as o32_step;
 ghost use Rattle.outside.specs.Streams.{NoCountFell, contents};
 
 use crate::masks::OwnMask;
-use bridge_mem::six_words;
+use bridge_log::{NativeKernel, six_words};
 use bridge_signal_state::{mask, set_mask};
 use host_mem::HostMem;
 use kernel_core::Stop;
-use native_kernel::NativeKernel;
 use o32_model::{CallWords, Log, Outcome, Wait};
 use outside::{Devices, Sink, Source};
 

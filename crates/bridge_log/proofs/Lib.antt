@@ -2,7 +2,9 @@ pub mod Ends
 pub mod Filling
 pub mod Histories
 pub mod Journals
+pub mod Kernel
 pub mod Looking
+pub mod Memory
 pub mod Mirroring
 pub mod Replies
 pub mod Stores

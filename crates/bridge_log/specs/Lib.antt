@@ -1,5 +1,6 @@
 pub mod Arguments
 pub mod Bounds
+pub mod Built
 pub mod Fills
 pub mod Keeping
 pub mod Looks

@@ -10,10 +10,15 @@ mod mirrored;
 mod outcomes;
 mod storing;
 
+// Passed on: who makes native calls for a program names one crate for the kernel, for its host's rooms and for the program's memory.
+pub use bridge_mem::{
+    PathError, Vector, fresh_room, load_buffer, load_structure, path, six_words, stack_pair,
+};
 pub use calls::native;
 pub use effects::{sent, wrote};
 pub use filled::fill_call;
 pub use looks::look;
 pub use mirrored::number_call;
+pub use native_kernel::NativeKernel;
 pub use outcomes::outcome_of;
 pub use storing::{put, sent_back};

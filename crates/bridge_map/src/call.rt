@@ -12,12 +12,12 @@ use crate::mmap_file::mmap_file;
 use crate::program_break::brk;
 use crate::ranges_mapped::{madvise, mprotect, msync, munmap};
 use crate::remap::mremap;
+use bridge_log::NativeKernel;
 use guest_space::Space;
 use host_mem::HostMem;
 use kernel_core::address_space::PAGE_SIZE;
 use kernel_core::{NoMemory, Stop};
 use mips_exec::Cpu;
-use native_kernel::NativeKernel;
 use o32_model::{CallWords, Log, Outcome, Seen};
 use outside::{Devices, Sink, Source};
 

@@ -15,11 +15,11 @@ use crate::effects::{map, protect};
 use crate::filling::fill;
 use crate::place::place_for;
 use crate::shown::refusal;
+use bridge_log::NativeKernel;
 use guest_space::Space;
 use host_mem::HostMem;
 use kernel_core::address_space::{PAGE_SIZE, PROT_READ, PROT_WRITE};
 use kernel_core::{Errno, Stop};
-use native_kernel::NativeKernel;
 use o32_model::{CallWords, Log, Outcome};
 use outside::{Devices, Sink, Source};
 

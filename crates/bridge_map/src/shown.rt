@@ -7,11 +7,9 @@ ghost use Rattle.kernel_model.specs.declared.descriptor.Description.{Description
 ghost use Rattle.outside.specs.Streams.{NoCountFell, contents};
 
 use crate::numbers::{F_GETFL, FCNTL, O_WRONLY, PREAD64};
-use bridge_log::native;
-use bridge_mem::fresh_room;
+use bridge_log::{NativeKernel, fresh_room, native};
 use host_mem::{FIRST_ADDRESS, HostMem};
 use kernel_core::{Errno, MapKind, Reply, Stop};
-use native_kernel::NativeKernel;
 use o32_model::Log;
 use outside::{Devices, Sink, Source};
 

@@ -9,12 +9,11 @@ ghost use Rattle.o32_model.specs.Paths.{is_nul, path_limit};
 ghost use Rattle.outside.specs.Streams.{NoCountFell, contents};
 
 use crate::numbers::NEWFSTATAT;
-use bridge_log::look;
+use bridge_log::{NativeKernel, look};
 use bridge_paths::put_behind;
 use byteorder::{ByteOrder, LittleEndian};
 use host_mem::{FIRST_ADDRESS, HostMem};
 use kernel_core::{Bytes, Reply, Stop};
-use native_kernel::NativeKernel;
 use o32_model::Log;
 use outside::{Devices, Sink, Source};
 

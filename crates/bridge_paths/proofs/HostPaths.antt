@@ -3,7 +3,7 @@ use Rattle.std.proofs.Common.{◌≡◌, ℕ, zero, suc, ◌+◌, ◌-◌, ◌<�
 use Rattle.std.proofs.Math.Seq.{take-append-add}
 use Rattle.std.proofs.lemmas.Bool.Decides.{nat_tests}
 use Rattle.std.proofs.lemmas.List.{length-append, length-drop, drop-append-le}
-use Rattle.bridge_mem.proofs.Nul.{position-after}
+use Rattle.bridge_log.proofs.Memory.{position-after}
 use Rattle.host_mem.specs.Memory.{first_address, end_address, room_from, padded}
 use Rattle.native_calls.specs.HostBytes.{accessible, loadable}
 use Rattle.native_calls.specs.Paths.{is_nul, path_at, path_in, path_limit}

@@ -5,7 +5,7 @@ ghost use Rattle.native_calls.specs.Paths as host;
 ghost use Rattle.o32_model.specs.Paths.{is_nul, path_at, path_limit};
 ghost use Rattle.bridge_paths.specs.HostPaths.{BeginsWith, HasPath, HasRoom};
 
-use bridge_mem::{PathError, fresh_room, path};
+use bridge_log::{PathError, fresh_room, path};
 use guest_space::Space;
 use host_mem::HostMem;
 use kernel_core::{Bytes, Errno, NoMemory};

@@ -21,7 +21,7 @@ use Rattle.o32_model.specs.declared.wait.Cause.TheVariants.{Due, Accepted, Handl
 use Rattle.o32_model.specs.declared.wait.Close.{Close}
 use Rattle.o32_model.specs.declared.wait.Close.TheVariants as closes
 use Rattle.o32_model.specs.declared.wait.Wait.{Wait}
-use Rattle.bridge_acceptance.specs.Ends.{Keeps}
+use Rattle.bridge_limits.specs.Ends.{Keeps}
 use Rattle.bridge_limits.proofs.Storing.{alike_is, alike_pieces, alike_same, alike_then}
 use Rattle.bridge_limits.specs.Limits.{StoresAlike, unmasked_kernel}
 use Rattle.bridge_log.proofs.Journals.{effected_then}

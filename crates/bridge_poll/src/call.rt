@@ -15,11 +15,11 @@ ghost use Rattle.outside.specs.Streams.{NoCountFell, contents};
 use crate::entries::Entries;
 use crate::limited::{Limits, limited};
 use bridge_limits::{OwnMask, TimeForm, TimePlace, mask_at, wait_at};
+use bridge_log::NativeKernel;
 use guest_space::Space;
 use host_mem::HostMem;
 use kernel_core::{Errno, Stop};
 use mips_exec::Cpu;
-use native_kernel::NativeKernel;
 use o32_model::{CallWords, Log, Outcome, Seen};
 use outside::{Devices, Sink, Source};
 

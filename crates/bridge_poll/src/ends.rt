@@ -1,6 +1,6 @@
 //! How the waits of these calls end.
 ghost use Rattle.std.specs.Prelude.{◌≡◌, ◌⊎◌, IfOk, OnOk};
-ghost use Rattle.bridge_acceptance.specs.Ends.{Closes, KeepsEnd};
+ghost use Rattle.bridge_limits.specs.Ends.{Closes, KeepsEnd};
 ghost use Rattle.bridge_log.specs.Keeping.{reached};
 ghost use Rattle.bridge_poll.specs.inside.Ending.{ended_so, told_if};
 ghost use Rattle.kernel_model.specs.Pipes.{Sent};
@@ -15,10 +15,10 @@ ghost use Rattle.outside.specs.Streams.{NoCountFell, contents};
 use crate::entries::Entries;
 use crate::telling::store_told;
 use bridge_limits::{TimeForm, TimePlace, again_or_interrupted, end_limited};
+use bridge_log::NativeKernel;
 use guest_space::Space;
 use host_mem::HostMem;
 use kernel_core::{Errno, NoMemory, Stop};
-use native_kernel::NativeKernel;
 use o32_model::{Cause, Close, Log, Wait};
 use outside::{Devices, Sink, Source};
 

@@ -16,10 +16,10 @@ use crate::asking::{Answer, Came, ask};
 use crate::entries::Entries;
 use crate::telling::{native_entries, number_if, store_told};
 use bridge_limits::{OwnMask, TimePlace, sleep, store_left};
+use bridge_log::NativeKernel;
 use guest_space::Space;
 use host_mem::HostMem;
 use kernel_core::{Errno, NoMemory, Stop};
-use native_kernel::NativeKernel;
 use o32_model::{CallWords, Log, Outcome};
 use outside::{Devices, Sink, Source};
 

@@ -18,7 +18,7 @@ use Rattle.o32_model.specs.declared.wait.Cause.{Cause}
 use Rattle.o32_model.specs.declared.wait.Cause.TheVariants.{Due, Accepted, Handler, Stopped}
 use Rattle.o32_model.specs.declared.wait.Close.{Close}
 use Rattle.o32_model.specs.declared.wait.Wait.{Wait}
-use Rattle.bridge_acceptance.specs.Ends.{Keeps}
+use Rattle.bridge_limits.specs.Ends.{Keeps}
 use Rattle.bridge_limits.specs.Limits.{unmasked_kernel}
 use Rattle.bridge_log.proofs.Journals.{effected_then}
 use Rattle.bridge_log.specs.Keeping.{Logged, reached}

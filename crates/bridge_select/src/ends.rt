@@ -1,6 +1,6 @@
 //! How the waits of these calls end.
 ghost use Rattle.std.specs.Prelude.{◌≡◌, IfOk, OnOk, if◌then◌else◌};
-ghost use Rattle.bridge_acceptance.specs.Ends.{Closes, KeepsEnd};
+ghost use Rattle.bridge_limits.specs.Ends.{Closes, KeepsEnd};
 ghost use Rattle.bridge_limits.specs.Limits.{StoresAlike, left_form, unmasked_kernel};
 ghost use Rattle.bridge_log.specs.Keeping.{reached};
 ghost use Rattle.bridge_select.specs.Ends.{select_ended};
@@ -23,10 +23,10 @@ use crate::fd_sets::WORDS;
 use crate::numbers::NEWSELECT;
 use crate::telling::{FdSets, store_sets};
 use bridge_limits::{TimeForm, TimePlace, again_or_interrupted, end_limited};
+use bridge_log::NativeKernel;
 use guest_space::Space;
 use host_mem::HostMem;
 use kernel_core::{Errno, NoMemory, Stop};
-use native_kernel::NativeKernel;
 use o32_model::{Cause, Close, Log, Wait};
 use outside::{Devices, Sink, Source};
 

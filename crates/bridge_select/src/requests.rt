@@ -10,7 +10,7 @@ ghost use Rattle.o32_model.specs.Words.{stack_word};
 use crate::asked::Asked;
 use crate::numbers::NEWSELECT;
 use bridge_limits::{OwnMask, TimeForm, TimePlace, mask_at, wait_at};
-use bridge_mem::load_structure;
+use bridge_log::load_structure;
 use byteorder::{BigEndian, ByteOrder};
 use guest_space::Space;
 use kernel_core::Errno;

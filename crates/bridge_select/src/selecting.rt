@@ -16,11 +16,10 @@ use crate::requests::Request;
 use crate::rooms::put_request;
 use crate::telling::{Answer, tell};
 use bridge_limits::sleep;
-use bridge_log::look;
+use bridge_log::{NativeKernel, look};
 use guest_space::Space;
 use host_mem::HostMem;
 use kernel_core::{Reply, Stop};
-use native_kernel::NativeKernel;
 use o32_model::{CallWords, Log, Outcome};
 use outside::{Devices, Sink, Source};
 

@@ -9,11 +9,11 @@ ghost use Rattle.outside.specs.Streams.{NoCountFell, contents};
 
 use crate::asked::ActionSetting;
 use crate::setting::set_action;
+use bridge_log::NativeKernel;
 use bridge_signal_state::action;
 use host_mem::HostMem;
 use kernel_core::{Errno, Sig, Stop};
 use kernel_model::Action;
-use native_kernel::NativeKernel;
 use o32_model::Log;
 use outside::{Devices, Sink, Source};
 

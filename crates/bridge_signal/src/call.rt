@@ -12,11 +12,11 @@ use crate::returning::{rt_sigreturn, sigreturn};
 use crate::sending::{kill, rt_sigqueueinfo, tgkill, tkill};
 use crate::suspending::{pause, restart_syscall, rt_sigsuspend};
 use crate::telling::{rt_sigaction, rt_sigpending, rt_sigprocmask, sigaltstack};
+use bridge_log::NativeKernel;
 use guest_space::Space;
 use host_mem::HostMem;
 use kernel_core::Stop;
 use mips_exec::Cpu;
-use native_kernel::NativeKernel;
 use o32_model::{CallWords, Log, Outcome, Seen};
 use outside::{Devices, Sink, Source};
 

@@ -10,13 +10,13 @@ ghost use Rattle.o32_model.specs.Step.{Guest};
 ghost use Rattle.outside.specs.Streams.{NoCountFell, contents};
 
 use crate::stacks::replace_stack;
+use bridge_log::NativeKernel;
 use bridge_signal_state::set_mask;
 use guest_space::Space;
 use host_mem::HostMem;
 use kernel_core::Stop;
 use kernel_model::SigStack;
 use mips_exec::Cpu;
-use native_kernel::NativeKernel;
 use o32_model::{Log, Outcome};
 use outside::{Devices, Sink, Source};
 use signal_frames::{AltStack, Return, read_frame, read_rt_frame};

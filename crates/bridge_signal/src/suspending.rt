@@ -14,12 +14,11 @@ ghost use Rattle.outside.specs.Streams.{NoCountFell, contents};
 use crate::asked::asked_mask;
 use crate::numbers::{RT_SIGSUSPEND, SIGSETSIZE};
 use crate::sets::put_set;
-use bridge_log::{look, outcome_of};
+use bridge_log::{NativeKernel, look, outcome_of};
 use bridge_signal_state::{mask, set_mask};
 use guest_space::Space;
 use host_mem::{FIRST_ADDRESS, HostMem};
 use kernel_core::{Errno, Stop};
-use native_kernel::NativeKernel;
 use o32_model::{CallWords, Log, Outcome, Wait};
 use outside::{Devices, Sink, Source};
 

@@ -17,12 +17,12 @@ use crate::stacks::{asked_stack, change_stack};
 use crate::storing::{
     store_action_unless_null, store_set, store_set_unless_null, store_stack_unless_null,
 };
+use bridge_log::NativeKernel;
 use bridge_signal_state::pending;
 use guest_space::Space;
 use host_mem::HostMem;
 use kernel_core::{Errno, Stop};
 use mips_exec::Cpu;
-use native_kernel::NativeKernel;
 use o32_model::{Log, Outcome};
 use outside::{Devices, Sink, Source};
 

@@ -1,6 +1,7 @@
 -- The set of one signal, and the first of it that pends.
 use Rattle.std.proofs.Common.{◌≡◌, ◌≢◌, ℕ, zero, suc, ◌+◌, ◌/◌, ◌%◌, ◌^◌, ◌<◌, ◌≤◌, Bool, true, false, ◌&&◌, List, [], ◌∷◌, get_or, Option, Some, None, refl, sym, ap, ◌∙◌, arith, lit<, if◌then◌else◌}
-use Rattle.std.specs.Prelude.{◌==◌, find}
+use Rattle.std.specs.Prelude.{◌==◌, filter_map, find}
+use Rattle.layouts.specs.Termios.{count_up}
 use Rattle.std.specs.Int.{bit_at}
 use Rattle.std.specs.List.{cons_option}
 use Rattle.std.proofs.Math.Nat.{pow-succ'}
@@ -15,10 +16,8 @@ use Rattle.kernel_model.specs.SignalRows.{first_pending, pends}
 use Rattle.kernel_model.specs.SignalSets.{has, only, place}
 use Rattle.kernel_model.specs.State.{Signals}
 use Rattle.native_calls.specs.Signals.{native_order}
-use Rattle.native_kernel.proofs.SignalOrder.{whole_order}
-use Rattle.native_kernel.specs.inside.Signals.{order_from}
 use Rattle.native_signal.proofs.PlaceNumbers.{number_of_place}
-use Rattle.number_tables.specs.Signals.{native_signal, o32_signal, signal_of_native, signal_of_o32}
+use Rattle.number_tables.specs.Signals.{native_signal, o32_signal, real_time, real_time_if, signal_of_native, signal_of_o32}
 use Rattle.number_tables.specs.inside.SignalLaws.{native_signal_found, o32_signal_found}
 use Rattle.signal_sets.proofs.SameSets.{real_time_range}
 use Rattle.signal_sets.proofs.Turned.{four_words_small}
@@ -137,8 +136,15 @@ none_passes : (test : Sig → Bool) (signals : List Sig) → ((signal : Sig) →
 none_passes test [] none = refl
 none_passes test (first ∷ rest) none = rw (none first) (none_passes test rest none)
 
+-- the signals of so many native numbers from one on
+abbrev order_from : ℕ → ℕ → List Sig
+order_from first count = filter_map signal_of_native (count_up first count)
+
+whole_order : order_from 1 128 ≡ native_order
+unfolding native_order real_time real_time_if
+whole_order = refl
+
 one_more : (first count : ℕ) → order_from first (suc count) ≡ cons_option (signal_of_native first) (order_from (suc first) count)
-unfolding order_from
 one_more first count = refl
 
 module _ (test : Sig → Bool) (signal : Sig) (passes : test signal ≡ true) (alone : (other : Sig) → test other ≡ true → other ≡ signal) where

@@ -18,7 +18,7 @@ use Rattle.layouts.specs.Shape.{are_in_range, record_bytes, record_values}
 use Rattle.layouts.proofs.RecordLaws.{record_bytes-read_back}
 use Rattle.layouts.proofs.SoundTables.{sound_from_test}
 use Rattle.native_calls.specs.SignalBytes.{action_bytes, action_in, action_of, set_bytes, set_in, stack_bytes, stack_in, stack_of}
-use Rattle.native_kernel.proofs.SignalFields.{action_fits}
+use Rattle.bridge_log.proofs.Kernel.{action_fits}
 use Rattle.native_signal.specs.Fitting.{IsNumberedStack}
 use Rattle.number_tables.specs.SaNumbers.{native_sa, native_sa_read}
 use Rattle.number_tables.specs.inside.SaLaws.{native_sa_found}

@@ -29,7 +29,7 @@ use Rattle.native_calls.specs.Signals.{accepts, native_order, rt_sigtimedwait_ro
 use Rattle.native_calls.specs.Step.{memory_after, reply_to, told_unless_null}
 use Rattle.native_calls.specs.Table.{native_call}
 use Rattle.native_calls.specs.Times.{time_at}
-use Rattle.native_kernel.proofs.SignalFields.{info_fits}
+use Rattle.bridge_log.proofs.Kernel.{info_fits}
 use Rattle.number_tables.specs.Codes.{native_code, o32_code}
 use Rattle.number_tables.specs.Signals.{native_signal}
 use Rattle.number_tables.specs.inside.SignalLaws.{native_signal_found}

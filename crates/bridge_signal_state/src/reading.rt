@@ -10,12 +10,10 @@ use crate::numbers::{
     STACK_SIZE,
 };
 use crate::showing::{action_shown, set_shown, stack_shown};
-use bridge_log::look;
-use bridge_mem::fresh_room;
+use bridge_log::{NativeKernel, fresh_room, look};
 use host_mem::{FIRST_ADDRESS, HostMem};
 use kernel_core::{Sig, Stop};
 use kernel_model::{Action, SigStack};
-use native_kernel::NativeKernel;
 use number_tables::NativeNumber;
 use o32_model::Log;
 use outside::{Devices, Sink, Source};

@@ -13,11 +13,10 @@ use crate::numbers::{
 };
 use crate::showing::is_fine;
 use crate::words::{is_set, stack_fits};
-use bridge_mem::fresh_room;
+use bridge_log::{NativeKernel, fresh_room};
 use host_mem::{FIRST_ADDRESS, HostMem};
 use kernel_core::{Sig, Stop};
 use kernel_model::SigStack;
-use native_kernel::NativeKernel;
 use number_tables::NativeNumber;
 use o32_model::Log;
 use outside::{Devices, Sink, Source};

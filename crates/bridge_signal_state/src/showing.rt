@@ -20,7 +20,7 @@ use signal_sets::of_native;
 pub(crate) const INFO_PLACE: u64 = FIRST_ADDRESS + SET_SIZE as u64;
 
 /// The set at the beginning of host memory; none where there are too few bytes.
-#[tactic(auto, using(native_kernel::proofs::Read::length_read))]
+#[tactic(auto, using(bridge_log::proofs::Kernel::length_read))]
 pub(crate) fn set_shown(mem: &HostMem) -> [u32; 4]
     ensures { result ≡ set_shown mem.now }
 {
@@ -38,7 +38,7 @@ fn set_in(bytes: &[u8]) -> [u32; 4]
 }
 
 /// The action at the beginning of host memory; the default one where there are too few bytes.
-#[tactic(auto, using(native_kernel::proofs::Read::length_read))]
+#[tactic(auto, using(bridge_log::proofs::Kernel::length_read))]
 pub(crate) fn action_shown(mem: &HostMem) -> Action
     ensures { result ≡ action_shown mem.now }
 {
@@ -64,7 +64,7 @@ fn action_in(bytes: &[u8]) -> Action
 }
 
 /// The alternate stack at the beginning of host memory; a disabled one where there are too few bytes.
-#[tactic(auto, using(native_kernel::proofs::Read::length_read))]
+#[tactic(auto, using(bridge_log::proofs::Kernel::length_read))]
 pub(crate) fn stack_shown(mem: &HostMem) -> SigStack
     ensures { result ≡ stack_shown mem.now }
 {
@@ -90,7 +90,7 @@ fn stack_in(bytes: &[u8]) -> SigStack
 }
 
 /// What is known of the signal that a call took with this reply; None after an error.
-#[tactic(auto, using(native_kernel::proofs::Read::length_read))]
+#[tactic(auto, using(bridge_log::proofs::Kernel::length_read))]
 pub(crate) fn info_shown(mem: &HostMem, reply: Reply) -> Option<Info>
     ensures { result ≡ info_shown mem.now reply }
 {

@@ -9,9 +9,9 @@ use crate::acting::act;
 use crate::filling::put_taking;
 use crate::numbers::{INFO_SIZE, RT_SIGTIMEDWAIT, SIGSETSIZE};
 use crate::showing::{INFO_PLACE, info_shown};
+use bridge_log::NativeKernel;
 use host_mem::{FIRST_ADDRESS, HostMem};
 use kernel_core::{Info, Sig, Stop};
-use native_kernel::NativeKernel;
 use o32_model::Log;
 use outside::{Devices, Sink, Source};
 

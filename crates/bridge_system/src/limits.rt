@@ -12,12 +12,10 @@ ghost use Rattle.outside.specs.Streams.{NoCountFell, contents};
 use crate::numbers::PRLIMIT64;
 use crate::rlimit::{limit_in, native_limit_bytes, native_number};
 use crate::telling::{Told, tell_call};
-use bridge_log::number_call;
-use bridge_mem::{fresh_room, load_structure};
+use bridge_log::{NativeKernel, fresh_room, load_structure, number_call};
 use guest_space::Space;
 use host_mem::{FIRST_ADDRESS, HostMem};
 use kernel_core::{NoMemory, Stop};
-use native_kernel::NativeKernel;
 use o32_model::{CallWords, Log, Outcome};
 use outside::{Devices, Sink, Source};
 

@@ -9,11 +9,10 @@ ghost use Rattle.outside.specs.Streams.{NoCountFell, contents};
 
 use crate::numbers::UNAME;
 use crate::telling::{Told, tell_call};
-use bridge_mem::fresh_room;
+use bridge_log::{NativeKernel, fresh_room};
 use guest_space::Space;
 use host_mem::{FIRST_ADDRESS, HostMem};
 use kernel_core::Stop;
-use native_kernel::NativeKernel;
 use o32_model::{CallWords, Log, Outcome};
 use outside::{Devices, Sink, Source};
 

@@ -11,11 +11,11 @@ use crate::chance::getrandom;
 use crate::limits::{getrlimit, prlimit};
 use crate::names::uname;
 use crate::plain::plain_call;
+use bridge_log::NativeKernel;
 use guest_space::Space;
 use host_mem::HostMem;
 use kernel_core::Stop;
 use mips_exec::Cpu;
-use native_kernel::NativeKernel;
 use o32_model::{CallWords, Log, Outcome};
 use outside::{Devices, Sink, Source};
 

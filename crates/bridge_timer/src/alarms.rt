@@ -10,9 +10,9 @@ ghost use Rattle.outside.specs.Streams.{NoCountFell, contents};
 
 use crate::setting::set_timer;
 use crate::settings::once_after;
+use bridge_log::NativeKernel;
 use host_mem::HostMem;
 use kernel_core::Stop;
-use native_kernel::NativeKernel;
 use o32_model::{Log, Outcome};
 use outside::{Devices, Sink, Source};
 

@@ -10,11 +10,11 @@ ghost use Rattle.outside.specs.Streams.{NoCountFell, contents};
 
 use crate::alarms::alarm;
 use crate::intervals::{getitimer, setitimer};
+use bridge_log::NativeKernel;
 use guest_space::Space;
 use host_mem::HostMem;
 use kernel_core::Stop;
 use mips_exec::Cpu;
-use native_kernel::NativeKernel;
 use o32_model::{CallWords, Log, Outcome, Seen};
 use outside::{Devices, Sink, Source};
 

@@ -14,10 +14,10 @@ use crate::setting::set_timer;
 use crate::settings::take_setting;
 use crate::shown::Shown;
 use crate::storing::{store_before, store_there};
+use bridge_log::NativeKernel;
 use guest_space::Space;
 use host_mem::HostMem;
 use kernel_core::{Errno, Stop};
-use native_kernel::NativeKernel;
 use o32_model::{CallWords, Log, Outcome};
 use outside::{Devices, Sink, Source};
 

@@ -7,12 +7,10 @@ ghost use Rattle.outside.specs.Streams.{NoCountFell, contents};
 
 use crate::numbers::GETITIMER;
 use crate::shown::{MicroTime, Shown};
-use bridge_log::look;
-use bridge_mem::fresh_room;
+use bridge_log::{NativeKernel, fresh_room, look};
 use byteorder::{ByteOrder, LittleEndian};
 use host_mem::{FIRST_ADDRESS, HostMem};
 use kernel_core::{Reply, Stop};
-use native_kernel::NativeKernel;
 use o32_model::Log;
 use outside::{Devices, Sink, Source};
 

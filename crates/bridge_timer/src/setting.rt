@@ -8,10 +8,9 @@ ghost use Rattle.native_calls.specs.HostBytes.{unless_null};
 ghost use Rattle.outside.specs.Streams.{NoCountFell, contents};
 
 use crate::numbers::{ITIMER_REAL, SETITIMER};
-use bridge_log::native;
+use bridge_log::{NativeKernel, native};
 use host_mem::HostMem;
 use kernel_core::{Reply, Stop};
-use native_kernel::NativeKernel;
 use o32_model::Log;
 use outside::{Devices, Sink, Source};
 

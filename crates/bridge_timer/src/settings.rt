@@ -7,7 +7,7 @@ ghost use Rattle.native_calls.specs.HostBytes.{unless_null};
 ghost use Rattle.o32_model.specs.Sleeps as o32;
 
 use crate::shown::PROGRAM_SIZE;
-use bridge_mem::load_structure;
+use bridge_log::load_structure;
 use byteorder::{BigEndian, ByteOrder};
 use guest_space::Space;
 use host_mem::HostMem;

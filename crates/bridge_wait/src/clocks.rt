@@ -11,10 +11,10 @@ use crate::looking::clock_resolution;
 use crate::numbers::CLOCK_REALTIME;
 use crate::showing::shown_time;
 use crate::storing::{store_day, store_resolution, store_seconds, store_time};
+use bridge_log::NativeKernel;
 use guest_space::Space;
 use host_mem::HostMem;
 use kernel_core::Stop;
-use native_kernel::NativeKernel;
 use o32_model::{Log, Outcome};
 use outside::{Devices, Sink, Source};
 

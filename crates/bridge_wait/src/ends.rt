@@ -11,11 +11,10 @@ ghost use Rattle.o32_model.specs.Effects.{Effected};
 ghost use Rattle.o32_model.specs.WaitEnds.{ends_with, sleep_ended, sleep_interrupted, wait_ended};
 
 use crate::clock_times::ClockTime;
-use bridge_log::put;
+use bridge_log::{NativeKernel, put};
 use guest_space::Space;
 use host_mem::HostMem;
 use kernel_core::{Errno, NoMemory, Stop};
-use native_kernel::NativeKernel;
 use o32_model::{Cause, Close, Log, Wait};
 
 /// Ends the wait of a sleep for a cause, at a time of the clock in nanoseconds: nanosleep(2) and

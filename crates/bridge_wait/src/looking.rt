@@ -7,7 +7,7 @@ ghost use Rattle.kernel_core.specs.declared.reply.Reply.{Reply};
 ghost use Rattle.kernel_model.specs.Clock.{clock_time};
 ghost use Rattle.kernel_model.specs.Stops.{StopsOnlyIfRose};
 ghost use Rattle.native_calls.specs.Table.{native_call};
-ghost use Rattle.native_kernel.specs.Built.{built_call};
+ghost use Rattle.bridge_log.specs.Built.{built_call};
 ghost use Rattle.o32_model.specs.Clocks.{is_late};
 ghost use Rattle.outside.specs.Streams.{NoCountFell, contents};
 
@@ -16,12 +16,10 @@ use crate::numbers::{
     CLOCK_GETRES, CLOCK_GETTIME, CLOCK_MONOTONIC, CLOCK_NANOSLEEP, CLOCK_REALTIME, TIMER_ABSTIME,
 };
 use crate::times::push_time;
-use bridge_log::native;
-use bridge_mem::fresh_room;
+use bridge_log::{NativeKernel, fresh_room, native};
 use byteorder::{ByteOrder, LittleEndian};
 use host_mem::{FIRST_ADDRESS, HostMem};
 use kernel_core::{Reply, Stop};
-use native_kernel::NativeKernel;
 use o32_model::Log;
 use outside::{Devices, Sink, Source};
 

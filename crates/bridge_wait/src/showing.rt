@@ -12,9 +12,9 @@ use crate::looking::{clock_shown, is_late};
 use crate::numbers::{
     CLOCK_PROCESS_CPUTIME_ID, CLOCK_REALTIME, CLOCK_REALTIME_COARSE, CLOCK_THREAD_CPUTIME_ID,
 };
+use bridge_log::NativeKernel;
 use host_mem::HostMem;
 use kernel_core::{Errno, Stop};
-use native_kernel::NativeKernel;
 use o32_model::Log;
 use outside::{Devices, Sink, Source};
 

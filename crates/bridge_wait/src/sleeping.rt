@@ -9,11 +9,10 @@ ghost use Rattle.outside.specs.Streams.{NoCountFell, contents};
 
 use crate::numbers::{CLOCK_NANOSLEEP, NANOSLEEP};
 use crate::times::take_time;
-use bridge_log::number_call;
+use bridge_log::{NativeKernel, number_call};
 use guest_space::Space;
 use host_mem::HostMem;
 use kernel_core::Stop;
-use native_kernel::NativeKernel;
 use o32_model::{CallWords, Log, Outcome};
 use outside::{Devices, Sink, Source};
 

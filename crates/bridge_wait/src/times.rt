@@ -5,7 +5,7 @@ ghost use Rattle.native_calls.specs.Times.{time_at, time_in};
 ghost use Rattle.o32_model.specs.Times.{spec_at, spec_in};
 
 use crate::clock_times::PROGRAM_SIZE;
-use bridge_mem::load_structure;
+use bridge_log::load_structure;
 use byteorder::{BigEndian, ByteOrder};
 use guest_space::Space;
 use host_mem::HostMem;

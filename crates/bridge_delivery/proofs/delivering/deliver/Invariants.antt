@@ -1,5 +1,5 @@
 use Rattle.std.proofs.Common.{◌≡◌, ℕ, ◌-◌, List, Some}
-use Rattle.bridge_acceptance.specs.Ends.{Keeps}
+use Rattle.bridge_ends.specs.Ends.{Keeps}
 use Rattle.o32_turns.specs.Closing.{whole_end}
 use Rattle.o32_turns.specs.Delivering.{most_rounds, rounds}
 use Rattle.o32_turns.specs.Going.{within_of}

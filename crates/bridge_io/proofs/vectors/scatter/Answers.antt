@@ -1,7 +1,7 @@
 use Rattle.std.proofs.Common.{◌+◌, drop, get_or, subst, ◌∙◌}
 use Rattle.o32_model.specs.declared.range.Range.{Range}
 use Rattle.bridge_log.proofs.Journals.{effected_then}
-use Rattle.bridge_mem.proofs.Ranges.{Scattered, scattered-next, split}
+use Rattle.bridge_log.proofs.Memory.{Scattered, scattered-next, split}
 use Rattle.bridge_io.proofs.vectors.scatter.Goals as goal
 
 abbrev no_range : Range

@@ -4,7 +4,7 @@ use Rattle.mips_exec.specs.Processor.{Processor}
 use Rattle.o32_model.specs.Effects.{Effected}
 use Rattle.o32_model.specs.GuestBytes.{all_accessible}
 use Rattle.bridge_log.specs.Keeping.{reached}
-use Rattle.bridge_mem.proofs.Ranges.{Scattered}
+use Rattle.bridge_log.proofs.Memory.{Scattered}
 use Rattle.bridge_io.proofs.vectors.scatter.Given as goal
 
 -- where all bytes may be stored, the memory so far with the rest in the buffers to come is the memory with all of them; and the effects so far

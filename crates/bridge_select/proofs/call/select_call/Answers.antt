@@ -6,7 +6,7 @@ use Rattle.o32_model.specs.Table.{machine_call}
 use Rattle.outside.specs.Streams.{contents}
 use Rattle.bridge_limits.proofs.Endings.{ends_called, ends_quietly}
 use Rattle.bridge_log.specs.Keeping.{Keeps}
-use Rattle.bridge_signal_state.proofs.Moving.{moves_none}
+use Rattle.bridge_limits.proofs.Moving.{moves_none}
 use Rattle.bridge_select.specs.Found.{found}
 use Rattle.bridge_select.specs.inside.Requests.{requested}
 use Rattle.bridge_select.proofs.Rows.{called_row}

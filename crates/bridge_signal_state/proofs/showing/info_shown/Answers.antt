@@ -1,4 +1,4 @@
-use Rattle.native_kernel.proofs.Read.{length_read}
+use Rattle.bridge_log.proofs.Kernel.{length_read}
 use Rattle.bridge_signal_state.proofs.showing.info_shown.Goals as goal
 
 pub info_in-requires : goal.info_in-requires
