@@ -143,6 +143,7 @@ impl NativeLog {
     /// # Errors
     ///
     /// `NoMemory`. The log is not used again then.
+    #[inline(always)]
     pub fn add(&mut self, part: Log, clock: u64) -> Result<(), NoMemory>
         requires behind { self.old.told ≤ clock }
         ensures leads { OnOk result ((kernel became : Kernel) (left rest : List ℕ) (before after : Sent) → kernel.clock ≡ clock → became.clock ≡ clock
@@ -165,7 +166,8 @@ impl NativeLog {
         }
     }
 
-    /// The same of calls that were kept.
+    /// The same of calls that were kept. It stands apart from the path of a part of which nothing is kept.
+    #[inline(never)]
     fn add_calls(&mut self, mut calls: Vec<LogEntry>, clock: u64) -> Result<(), NoMemory>
         ensures kept { OnOk result (self.new ≡ with_calls clock calls.items self.old) }
         ensures told { self.old.told ≤ clock → self.new.told ≤ clock }

@@ -1,7 +1,7 @@
 -- What the steps of a turn keep in the native log.
-use Rattle.std.proofs.Common.{◌≡◌, ◌≤◌, ◌∙◌, ℕ, Bool, true, false, List, [], Option, Some, None, Result, Ok, Err, OnOk, refl, sym, ap, subst, inr}
+use Rattle.std.proofs.Common.{◌≡◌, ◌+◌, ◌≤◌, ◌∙◌, ℕ, Bool, true, false, List, [], Option, Some, None, Result, Ok, Err, OnOk, refl, sym, ap, subst, inr, arith}
 use Rattle.std.specs.Prelude.{◌&&◌, ◌||◌, if◌then◌else◌}
-use Rattle.bridge_acceptance.specs.Ends.{KeepsEnd}
+use Rattle.bridge_delivery.specs.Ended.{KeepsEnd}
 use Rattle.bridge_log.proofs.Histories.{logged_none, logged_then}
 use Rattle.bridge_log.specs.Keeping.{Logged}
 use Rattle.bridge_log.specs.Looks.{LooksFor}
@@ -20,14 +20,17 @@ use Rattle.mips_exec.specs.Processor.{Processor}
 use Rattle.native_calls.specs.History.{FollowsPost, moment, opening}
 use Rattle.native_log.specs.NativeLog.{IsReady, NativeLog, as_told, at_time, emptied}
 use Rattle.o32_machine.specs.Emulator.{Emulated, ProcessState, at_clock, machine_at, machine_of}
-use Rattle.o32_machine.specs.Native.{TurnLogged}
+use Rattle.o32_machine.specs.Answered.{turns_done}
+use Rattle.o32_machine.specs.Native.{LogsTurn, LogsTurns, TurnLogged, TurnsLogged}
+use Rattle.o32_machine.specs.declared.turn.Turn as code
 use Rattle.o32_machine.specs.inside.Logging.{KeepsNative, LastLogged, LogsLast, PostsLogged, SettledLogged}
 use Rattle.o32_model.specs.Logs.{Kept}
 use Rattle.o32_model.specs.Step.{O32Step}
 use Rattle.o32_turns.specs.Going.{Standing, within_of}
-use Rattle.o32_turns.specs.Machine.{Within, happens, with_machine}
+use Rattle.o32_turns.specs.Machine.{Machine, Turn, Within, happens, with_machine}
 use Rattle.o32_turns.specs.Posting.{after_post, event_info, is_kill, sent_to, timer_posted, waits_for}
-use Rattle.o32_turns.specs.Turn.{whole}
+use Rattle.o32_turns.specs.Runs.{reached}
+use Rattle.o32_turns.specs.Turn.{turn_of, whole}
 use Rattle.turn_records.specs.Keeping.{Records}
 use Rattle.outside.specs.Streams.{Contents}
 use Rattle.schedule.specs.declared.events.Due.{Due}
@@ -162,25 +165,23 @@ module _ (clock : ℕ) (kernel first posted became : Kernel) (left : List ℕ) (
 
 -- The last steps
 
-pub nothing_logged : (kernel became : Kernel) (left : List ℕ) (after : Contents) (log : NativeLog) → became ≡ kernel → after.left ≡ Some left → LastLogged kernel became left after log log
-nothing_logged kernel became left after log same told = record {
-  rest = left;
-  sent = nothing;
-  taken = told;
-  leads =
-      subst (λ (k : Kernel). Logged log.entries log.entries (as_told log kernel left nothing) (as_told log k left nothing)) (sym same)
-      (logged_none log.entries (as_told log kernel left nothing));
-}
+-- where nothing is taken and nothing is sent
+pub nothing_logged : (kernel became : Kernel) (left : List ℕ) (log : NativeLog) → became ≡ kernel
+    → Logged log.entries log.entries (as_told log kernel left nothing) (as_told log became left nothing)
+nothing_logged kernel became left log same =
+    subst (λ (k : Kernel). Logged log.entries log.entries (as_told log kernel left nothing) (as_told log k left nothing)) (sym same)
+    (logged_none log.entries (as_told log kernel left nothing))
 
--- from the same kernel
-pub last_from : {A : Type 0} (result : Result A Stop) (clock : ℕ) (kernel first became : Kernel) (old new : NativeLog) (before after : Contents) → first ≡ kernel
-    → LogsLast clock result first became old new before after → LogsLast clock result kernel became old new before after
-last_from result clock kernel first became old new before after is = subst (λ (k : Kernel). LogsLast clock result k became old new before after) is
+-- by a turn that is the same
+pub last_so : {A : Type 0} (result : Result A Stop) (clock : ℕ) (defined other : List ℕ → Turn) (kernel became : Kernel) (old new : NativeLog) (before : Contents)
+    → ((left : List ℕ) → defined left ≡ other left) → LogsLast defined clock result kernel became old new before → LogsLast other clock result kernel became old new before
+last_so result clock defined other kernel became old new before same logs = λ left told ready.
+    subst (λ (t : Turn). OnOk result (LastLogged kernel became left t old new)) (same left) (logs left told ready)
 
 -- A call
 
-module _ (clock : ℕ) (kernel first became final : Kernel) (left : List ℕ) (after : Contents) (log new : NativeLog) (step : O32Step) (part kept : Option (List LogEntry))
-    (is : first ≡ kernel) (stays : final ≡ became) (made : became ≡ step.kernel) (taken : after.left ≡ Some step.left) (empty : part ≡ emptied log.entries)
+module _ (clock : ℕ) (kernel first became final : Kernel) (left : List ℕ) (log new : NativeLog) (step : O32Step) (part kept : Option (List LogEntry))
+    (is : first ≡ kernel) (stays : final ≡ became) (made : became ≡ step.kernel) (empty : part ≡ emptied log.entries)
     (calls : Logged part kept (opening first left) (moment step.kernel step.left step.sent)) where
   calls_from_none : Logged (emptied log.entries) kept (moment first left nothing) (moment became step.left step.sent)
   calls_from_none =
@@ -190,35 +191,27 @@ module _ (clock : ℕ) (kernel first became final : Kernel) (left : List ℕ) (a
   pub call_logged : IsReady clock log kernel
       → (IsReady clock log first → Logged (emptied log.entries) kept (moment first left nothing) (moment became step.left step.sent)
       → Logged log.entries new.entries (as_told log first left nothing) (as_told new became step.left step.sent))
-      → LastLogged kernel final left after log new
-  call_logged ready leads = record {
-    rest = step.left;
-    sent = step.sent;
-    taken = taken;
-    leads =
-        subst (λ (k : Kernel). Logged log.entries new.entries (as_told log k left nothing) (as_told new final step.left step.sent)) is
-        (subst (λ (k : Kernel). Logged log.entries new.entries (as_told log first left nothing) (as_told new k step.left step.sent)) (sym stays)
-        (leads (subst (λ (k : Kernel). IsReady clock log k) (sym is) ready) calls_from_none));
-  }
+      → Logged log.entries new.entries (as_told log kernel left nothing) (as_told new final step.left step.sent)
+  call_logged ready leads =
+      subst (λ (k : Kernel). Logged log.entries new.entries (as_told log k left nothing) (as_told new final step.left step.sent)) is
+      (subst (λ (k : Kernel). Logged log.entries new.entries (as_told log first left nothing) (as_told new k step.left step.sent)) (sym stays)
+      (leads (subst (λ (k : Kernel). IsReady clock log k) (sym is) ready) calls_from_none))
 
 -- A whole turn
 
 module _ (emulated : Emulated) (clock quantum turns : ℕ) (over : Bool) (native : NativeLog) (records : Records) (process : ProcessState)
     (is : record { machine = machine_at clock (machine_of process); quantum = quantum; turns = turns; over = over; events = process.going.events; native = native; records = records } ≡ emulated) where
   -- a log that was cleared, and its turn
-  pub turn_logged : (cleared middle new : NativeLog) (first became : Kernel) (last : ℕ) (left : List ℕ) (after : Contents) → cleared.entries ≡ emptied native.entries → cleared.told ≡ native.told
+  pub turn_logged : (cleared middle new : NativeLog) (first became : Kernel) (last : ℕ) (left : List ℕ) (defined : Turn) → cleared.entries ≡ emptied native.entries → cleared.told ≡ native.told
       → Logged cleared.entries middle.entries (as_told cleared process.kernel left nothing) (as_told middle first left nothing)
-      → LastLogged first became left after middle new → new.told ≤ last
-      → TurnLogged emulated.machine.kernel (at_clock last became) left after emulated.native new
-  turn_logged cleared middle new first became last left after empty same settled logged behind =
-      subst (λ (e : Emulated). TurnLogged e.machine.kernel (at_clock last became) left after e.native new) is (record {
-        rest = logged.rest;
-        sent = logged.sent;
-        taken = logged.taken;
+      → LastLogged first became left defined middle new → new.told ≤ last
+      → TurnLogged emulated.machine.kernel (at_clock last became) left defined emulated.native new
+  turn_logged cleared middle new first became last left defined empty same settled logged behind =
+      subst (λ (e : Emulated). TurnLogged e.machine.kernel (at_clock last became) left defined e.native new) is (record {
         leads =
-            subst (λ (e : Option (List LogEntry)). Logged e new.entries (moment (at_time native.told process.kernel) left nothing) (as_told new became logged.rest logged.sent)) empty
-            (subst (λ (t : ℕ). Logged cleared.entries new.entries (moment (at_time t process.kernel) left nothing) (as_told new became logged.rest logged.sent)) same
-            (logged_then settled logged.leads));
+            subst (λ (e : Option (List LogEntry)). Logged e new.entries (moment (at_time native.told process.kernel) left nothing) (as_told new became defined.left defined.sent)) empty
+            (subst (λ (t : ℕ). Logged cleared.entries new.entries (moment (at_time t process.kernel) left nothing) (as_told new became defined.left defined.sent)) same
+            (logged_then settled logged));
         behind = behind;
       })
 
@@ -231,3 +224,15 @@ clocked_logged log kernel first clock left is =
 
 pub clocked_ready : (log : NativeLog) (kernel first : Kernel) (clock : ℕ) → first ≡ at_clock clock kernel → gone_off clock kernel.timer ≡ None → IsReady clock log first
 clocked_ready log kernel first clock is none = inr (ap (λ (k : Kernel). gone_off clock k.timer) is ∙ none)
+
+-- One turn alone, of those that are taken at once
+
+pub one_logged : (result : Result code.Turn Stop) (quantum : ℕ) (machine : Machine) (turns turns_then : ℕ) (became : Kernel) (old new : NativeLog) (before : Contents) → turns_then ≡ turns + turns_done result
+    → LogsTurn (turn_of quantum machine) result machine.kernel became old new before → LogsTurns result quantum machine turns turns_then became old new before
+unfolding reached
+one_logged (Ok turn) quantum machine turns turns_then became old new before counted one = λ left told. record {
+  quiet = 0;
+  counted = omega (arith, counted);
+  last = one left told;
+}
+one_logged (Err stop) quantum machine turns turns_then became old new before counted one = λ left told. tt

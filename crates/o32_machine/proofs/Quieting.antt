@@ -3,6 +3,7 @@ use Rattle.std.proofs.Common.{◌≡◌, ℕ, zero, suc, ◌+◌, ◌-◌, ◌*�
 use Rattle.std.proofs.lemmas.Bool.{cases_eq}
 use Rattle.std.proofs.lemmas.Bool.Decides.{nat_tests}
 use Rattle.std.specs.Prelude.{◌&&◌, ◌||◌, if◌then◌else◌, is_none, is_some, nat_le}
+use Rattle.bridge_log.specs.Keeping.{Logged}
 use Rattle.guest_space.specs.Memory.{Memory}
 use Rattle.kernel_core.specs.declared.core_error.NoMemory.{NoMemory}
 use Rattle.kernel_core.specs.declared.core_error.Stop.{Stop}
@@ -12,21 +13,25 @@ use Rattle.kernel_core.specs.declared.record.Record.{Record}
 use Rattle.kernel_model.specs.Clock.{comes, gone_off, if_comes, next_due as timer_after, next_time}
 use Rattle.kernel_model.specs.Pipes.{nothing}
 use Rattle.kernel_model.specs.SignalRows.{advance, after_expiry}
-use Rattle.kernel_model.specs.State.{Timer}
+use Rattle.kernel_model.specs.State.{Kernel, Timer}
 use Rattle.mips_exec.specs.Processor.{Processor}
 use Rattle.mips_exec.specs.Going.{Goes, GoesThen, Steps}
 use Rattle.mips_exec.specs.Step.{Step}
 use Rattle.mips_exec.specs.declared.execution.Stepped.{Stepped}
 use Rattle.mips_exec.specs.declared.execution.Stepped.TheVariants.{Next}
 use Rattle.o32_machine.proofs.Turning.{at_time_answers, at_time_stopped, fails_before, stops}
+use Rattle.o32_machine.proofs.Logging.{turn_logged}
 use Rattle.o32_machine.proofs.Recording.{gains_so, step_at}
 use Rattle.o32_machine.specs.Answered.{IsTurn, Stopped, Turned, over_of, turns_done, turns_of}
-use Rattle.native_log.specs.NativeLog.{NativeLog}
+use Rattle.native_log.specs.NativeLog.{NativeLog, as_told}
+use Rattle.native_log.specs.NativeLog as logs
 use Rattle.o32_machine.specs.Emulator.{Emulated, ProcessState, at_clock, machine_at, machine_of}
+use Rattle.o32_machine.specs.Native.{LogsTurn, LogsTurns, TurnLogged, TurnsLogged}
 use Rattle.o32_machine.specs.Quiet.{IsQuiet, IsStill, IsTurnAfter}
 use Rattle.o32_machine.specs.Records.{LastRecorded, RecordsTurn, RecordsTurns}
 use Rattle.o32_machine.specs.declared.turn.Turn as code
 use Rattle.o32_machine.specs.declared.turn.Turn.TheVariants.{Went, Ended}
+use Rattle.o32_machine.specs.inside.Logging.{LastLogged}
 use Rattle.o32_machine.specs.inside.Quieting.{IsBefore, OnlyExecutes, goes, next_due}
 use Rattle.o32_machine.specs.inside.Steps.{begun}
 use Rattle.o32_model.specs.declared.wait.Wait.{Wait}
@@ -309,7 +314,7 @@ module _ (quantum : ℕ) (machine : Machine) where
     still_here : (k : ℕ) (left : List ℕ) (now : Processor) (kept : Memory) → k ≤ most → Goes k machine.processor machine.memory now kept → IsStill machine.kernel left (reached quantum machine left k)
     still_here k left now kept few goes =
         subst (λ (r : Reached). IsStill machine.kernel left r) (sym (reach k left now kept few goes))
-        (record { same = refl; later = omega (arith, time_is k); rest = refl })
+        (record { same = refl; later = omega (arith, time_is k); rest = refl; unsent = refl })
 
     still : (k : ℕ) (left : List ℕ) (now : Processor) (kept : Memory) → k ≤ most → Goes k machine.processor machine.memory now kept → (j : ℕ) → j ≤ k → IsStill machine.kernel left (reached quantum machine left j)
     unfolding Goes
@@ -362,7 +367,7 @@ at_once quantum limit machine turns result became turns_then events before after
     unrecorded = λ left j turn below. absurd (omega arith);
     still = λ left j few.
         let none : j ≡ 0 = omega arith in
-        let here : IsStill machine.kernel left (reached quantum machine left 0) = record { same = refl; later = omega arith; rest = refl } in
+        let here : IsStill machine.kernel left (reached quantum machine left 0) = record { same = refl; later = omega arith; rest = refl; unsent = refl } in
         subst (λ (n : ℕ). IsStill machine.kernel left (reached quantum machine left n)) (sym none) here;
   };
   last = last;
@@ -521,6 +526,27 @@ module _ (emulated : Emulated) (clock quantum turns : ℕ) (over : Bool) (native
             (stopped_after quantum limit inside turns most k only_inside few within ran.processor ran.memory came given was (from_begun given last) time time_so moved
             (ap machine_of all_is) (ap (λ (p : ProcessState). p.going.events) all_is) result became turns_then events before after answered failed counted)
 
+        -- what it keeps in the native log
+        pub quick_logged : (turn : code.Turn) (turns_then : ℕ) (cleared new : NativeLog) (became : Kernel) (left : List ℕ) → turns_then ≡ turns + k + 1 → turns_of turn ≡ 1
+            → cleared.entries ≡ logs.emptied native.entries → cleared.told ≡ native.told
+            → Logged cleared.entries cleared.entries (as_told cleared process.kernel left nothing) (as_told cleared moved.kernel left nothing)
+            → LastLogged moved.kernel became left (after_events moved.going.events (after_step whole (machine_of moved) came left)) cleared new → new.told ≤ time + quantum
+            → TurnsLogged emulated.quantum emulated.machine emulated.turns left (Ok turn) turns_then (at_clock (time + quantum) became) emulated.native new
+        quick_logged turn turns_then cleared new became left counted one empty same stands logged behind =
+            let there = stepped_there quantum limit inside turns most k only_inside few within ran.processor ran.memory came given was (from_begun given last) in
+            let tried_is : at_time (time + quantum) (after_events moved.going.events (after_step whole (machine_of moved) came left)) ≡ attempt quantum inside left k =
+            defined_here quantum limit inside turns most k only_inside few within ran.processor ran.memory came given was (from_begun given last) time time_so moved
+            (ap machine_of all_is) (ap (λ (p : ProcessState). p.going.events) all_is) left
+            ∙ ap (λ (r : Reached). turn_of quantum r.machine r.left) (sym (reach quantum inside most only_inside k left there.0 there.1 few there.2)) in
+            let here_is : Emulated = record { machine = inside; quantum = quantum; turns = turns; over = over; events = process.going.events; native = native; records = records } in
+            subst (λ (e : Emulated). TurnsLogged e.quantum e.machine e.turns left (Ok turn) turns_then (at_clock (time + quantum) became) e.native new) is (record {
+              quiet = k;
+              counted = counted ∙ ap (λ (n : ℕ). turns + k + n) (sym one);
+              last =
+                  turn_logged here_is clock quantum turns over native records process refl cleared cleared new moved.kernel became (time + quantum) left (attempt quantum inside left k) empty same stands
+                  (subst (λ (t : Turn). LastLogged moved.kernel became left t cleared new) tried_is logged) behind;
+            })
+
         -- what it keeps for the journal
         pub quick_recorded : (turn : code.Turn) (turns_then : ℕ) (cleared new : Records) (left : List ℕ) → cleared ≡ emptied records → turns_then ≡ turns + k + 1 → turns_of turn ≡ 1
             → over_of turn ≡ (after_step whole (machine_of moved) came left).over
@@ -570,6 +596,17 @@ module _ (quantum : ℕ) (machine : Machine) (turns : ℕ) (result : Result code
 
   pub one_counts : turns_then ≡ turns + turns_done result
   one_counts = omega (arith, so.counted, none_quiet)
+
+-- and what it keeps in the native log
+pub one_log : (result : Result code.Turn Stop) (quantum : ℕ) (machine : Machine) (turns : ℕ) (became : Machine) (turns_then : ℕ) (events : List Event) (before after : Contents)
+    → IsTurnAfter quantum 1 machine turns result became turns_then events before after → (old new : NativeLog)
+    → LogsTurns result quantum machine turns turns_then became.kernel old new before → LogsTurn (turn_of quantum machine) result machine.kernel became.kernel old new before
+unfolding reached
+one_log (Ok turn) quantum machine turns became turns_then events before after so old new kept = λ left told.
+    let log = kept left told in
+    let none : log.quiet ≡ 0 = omega (arith, so.counted, so.within, log.counted) in
+    subst (λ (n : ℕ). TurnLogged machine.kernel became.kernel left (attempt quantum machine left n) old new) none log.last
+one_log (Err stop) quantum machine turns became turns_then events before after so old new kept = λ left told. tt
 
 -- and what it keeps for the journal
 pub one_record : (result : Result code.Turn Stop) (quantum : ℕ) (machine : Machine) (turns : ℕ) (became : Machine) (turns_then : ℕ) (events : List Event) (before after : Contents)

@@ -1,7 +1,7 @@
 -- What the steps of a turn keep for the journal.
 use Rattle.std.proofs.Common.{◌≡◌, ℕ, ◌+◌, ◌%◌, ◌^◌, ◌<◌, Bool, true, false, List, [], ◌∷◌, ◌++◌, Option, Some, None, Result, Ok, Err, OnOk, refl, sym, ap, subst, ◌∙◌, arith}
-use Rattle.std.specs.Prelude.{◌-◌, ◌||◌, if◌then◌else◌, is_none, is_some, unwrap_or}
-use Rattle.bridge_acceptance.specs.Ends.{KeepsEnd}
+use Rattle.std.specs.Prelude.{◌-◌, ◌||◌, if◌then◌else◌, IfSome, is_none, is_some, unwrap_or}
+use Rattle.bridge_delivery.specs.Ended.{KeepsEnd}
 use Rattle.bridge_log.proofs.Journals.{effected_none, effected_then}
 use Rattle.bridge_log.specs.Keeping.{reached}
 use Rattle.bridge_log.specs.Looks.{LooksFor}
@@ -183,6 +183,11 @@ turn_recorded turn machine left within is first last before behind = record {
   behind = subst (λ (w : Within). IsBehind turn w left last) is behind;
 }
 
+-- The registers before a part of a turn, which are known where a journal is kept
+pub looked : (records : Records) (was from to : Processor) → IfSome records (λ (list : List Record). was ≡ from) → from ≡ to → IfSome records (λ (list : List Record). to ≡ was)
+looked None was from to is same = tt
+looked (Some list) was from to is same = sym (is ∙ same)
+
 -- A call
 
 outcome_memory : (words : CallWords) (machine : Machine) (outcome : Outcome) → (after_outcome words machine outcome).machine.memory ≡ machine.memory
@@ -211,15 +216,15 @@ module _ (turn : ℕ) (now process : ProcessState) (seen : Seen) (words : CallWo
   came_sent : came.sent ≡ made.sent
   came_sent = ap (λ (t : Turn). t.sent) came_is
 
-  abbrev Entered : Processor → Processor → Memory → Sent → Type 0
-  Entered w after memory sent =
-      Gains records new (IsOne (IsEntry turn call_kind (words_at ((w.pc + (2 ^ 32 - 4)) % 2 ^ 32) w) (target_of process.processor process.memory nothing) (target_of after memory sent)))
+  abbrev Entered : Processor → Memory → Sent → Type 0
+  Entered after memory sent =
+      Gains records new (IsOne (IsEntry turn call_kind (words_at ((process.processor.pc + (2 ^ 32 - 4)) % 2 ^ 32) process.processor) (target_of process.processor process.memory nothing) (target_of after memory sent)))
 
-  pub call_recorded : (final : Machine) → was ≡ registers_of process.processor → cpu ≡ final.processor → final ≡ (called whole (machine_of now) left).machine
+  pub call_recorded : (final : Machine) → IfSome records (λ (list : List Record). registers_of process.processor ≡ was) → cpu ≡ final.processor → final ≡ (called whole (machine_of now) left).machine
       → part ≡ no_effects records → effects ≡ kept
       → Effected part kept (reached process.processor process.memory.pages nothing) (reached process.processor made.memory.pages made.sent)
-      → ((p processor : Processor) (memory became : Memory) (sent : Sent) → registers_of processor ≡ was → AreKept records effects p memory became sent
-      → Gains records new (IsOne (IsEntry turn call_kind (words_at ((was.pc + (2 ^ 32 - 4)) % 2 ^ 32) was) (target_of processor memory nothing) (target_of cpu became sent))))
+      → ((p processor : Processor) (memory became : Memory) (sent : Sent) → IfSome records (λ (list : List Record). registers_of processor ≡ was) → AreKept records effects p memory became sent
+      → Gains records new (IsOne (IsEntry turn call_kind (words_at ((processor.pc + (2 ^ 32 - 4)) % 2 ^ 32) processor) (target_of processor memory nothing) (target_of cpu became sent))))
       → Gains records new (IsOne (IsCallEntry turn ((now.processor.pc + (2 ^ 32 - 4)) % 2 ^ 32) (machine_of now) (called whole (machine_of now) left)))
   call_recorded final was_is cpu_is final_is part_is effects_is effected adds =
       let are_kept : AreKept records effects process.processor process.memory made.memory made.sent =
@@ -227,14 +232,12 @@ module _ (turn : ℕ) (now process : ProcessState) (seen : Seen) (words : CallWo
       (subst (λ (o : Option (List Effect)). Effected part o (reached process.processor process.memory.pages nothing) (reached process.processor made.memory.pages made.sent)) (sym effects_is) effected) in
       let cpu_so : cpu ≡ came.machine.processor =
       cpu_is ∙ ap (λ (m : Machine). m.processor) (final_is ∙ ap (λ (p : ProcessState). (called whole (machine_of p) left).machine) (sym is)) in
-      let base : Entered was cpu made.memory made.sent = adds process.processor process.processor process.memory made.memory made.sent (sym was_is) are_kept in
-      let by_words : Entered (registers_of process.processor) cpu made.memory made.sent = subst (λ (w : Processor). Entered w cpu made.memory made.sent) was_is base in
-      let by_cpu : Entered (registers_of process.processor) came.machine.processor made.memory made.sent =
-      subst (λ (q : Processor). Entered (registers_of process.processor) q made.memory made.sent) cpu_so by_words in
-      let by_memory : Entered (registers_of process.processor) came.machine.processor came.machine.memory made.sent =
-      subst (λ (m : Memory). Entered (registers_of process.processor) came.machine.processor m made.sent) (sym came_memory) by_cpu in
-      let by_sent : Entered (registers_of process.processor) came.machine.processor came.machine.memory came.sent =
-      subst (λ (s : Sent). Entered (registers_of process.processor) came.machine.processor came.machine.memory s) (sym came_sent) by_memory in
+      let base : Entered cpu made.memory made.sent = adds process.processor process.processor process.memory made.memory made.sent was_is are_kept in
+      let by_cpu : Entered came.machine.processor made.memory made.sent = subst (λ (q : Processor). Entered q made.memory made.sent) cpu_so base in
+      let by_memory : Entered came.machine.processor came.machine.memory made.sent =
+      subst (λ (m : Memory). Entered came.machine.processor m made.sent) (sym came_memory) by_cpu in
+      let by_sent : Entered came.machine.processor came.machine.memory came.sent =
+      subst (λ (s : Sent). Entered came.machine.processor came.machine.memory s) (sym came_sent) by_memory in
       subst (λ (p : ProcessState). Gains records new (IsOne (IsCallEntry turn ((p.processor.pc + (2 ^ 32 - 4)) % 2 ^ 32) (machine_of p) (called whole (machine_of p) left)))) is by_sent
 
 -- What stands before an instruction
@@ -243,10 +246,10 @@ module _ (turn clock : ℕ) (self posted woken : ProcessState) (records new : Re
   abbrev begins_at : Machine
   begins_at = machine_at clock (machine_of self)
 
-  pub before_recorded : was ≡ registers_of self.processor → cpu ≡ woken.processor → events ≡ woken.going.events → alive ≡ is_none woken.going.over → part ≡ no_effects records → effects ≡ kept
+  pub before_recorded : IfSome records (λ (list : List Record). registers_of self.processor ≡ was) → cpu ≡ woken.processor → events ≡ woken.going.events → alive ≡ is_none woken.going.over → part ≡ no_effects records → effects ≡ kept
       → posted.memory ≡ self.memory → within_now woken ≡ before_instruction begins_at
       → ((processor : Processor) (sent : Sent) → Effected part kept (reached processor posted.memory.pages sent) (reached processor woken.memory.pages sent))
-      → ((machine : Machine) (within : Within) (p : Processor) → registers_of machine.processor ≡ was → within.machine.processor ≡ cpu → within.events ≡ events → is_none within.over ≡ alive
+      → ((machine : Machine) (within : Within) (p : Processor) → IfSome records (λ (list : List Record). registers_of machine.processor ≡ was) → within.machine.processor ≡ cpu → within.events ≡ events → is_none within.over ≡ alive
       → AreKept records effects p machine.memory within.machine.memory nothing
       → (is_touched within ≡ false → target_of machine.processor machine.memory nothing ≡ target_of within.machine.processor within.machine.memory nothing)
       → Gains records new (IsBefore turn machine within))
@@ -262,7 +265,7 @@ module _ (turn clock : ℕ) (self posted woken : ProcessState) (records new : Re
       subst (λ (o : Option (List Effect)). Effected o kept (reached p self.memory.pages nothing) (reached p within.machine.memory.pages nothing)) part_is by_within in
       let are_kept : AreKept records effects p begins_at.memory within.machine.memory nothing =
       subst (λ (o : Option (List Effect)). Effected (no_effects records) o (reached p self.memory.pages nothing) (reached p within.machine.memory.pages nothing)) (sym effects_is) by_part in
-      adds begins_at within p (sym was_is) (ap (λ (w : Within). w.machine.processor) (sym is) ∙ sym cpu_is) (ap (λ (w : Within). w.events) (sym is) ∙ sym events_is)
+      adds begins_at within p was_is (ap (λ (w : Within). w.machine.processor) (sym is) ∙ sym cpu_is) (ap (λ (w : Within). w.events) (sym is) ∙ sym events_is)
       (ap (λ (w : Within). is_none w.over) (sym is) ∙ sym alive_is) are_kept
       (λ untouched_so.
       let same = untouched begins_at untouched_so in

@@ -118,6 +118,9 @@ module _ (now : ProcessState) (process : ProcessState) (seen : Seen) (words : Ca
   defined_is : after_events process.going.events (after_call (machine_of process) words its_step) ≡ defined process
   defined_is = ap (after_events process.going.events) (sym (called_is (machine_of process) seen words left sees read))
 
+  pub its_turn : after_events process.going.events (after_call (machine_of process) words its_step) ≡ defined now
+  its_turn = defined_is ∙ ap defined is
+
   pub call_stops : (result : Result code.Turn Stop) (became : Machine) (events : List Event) (before after : Contents) → IsErr result → o32.Stopped its_step before after
       → Answers (defined now) result became events before after
   call_stops result became events before after failed stopped =
@@ -168,7 +171,7 @@ not_due kernel clock none = ap (λ (gone : Option Timer). after_expiry (record k
 module _ (emulated : Emulated) (clock quantum turns : ℕ) (over : Bool) (native : NativeLog) (records : Records) (process before_call : ProcessState)
     (is : record { machine = machine_at clock (machine_of process); quantum = quantum; turns = turns; over = over; events = process.going.events; native = native; records = records } ≡ emulated)
     (before_is : before_call ≡ record process { kernel = at_clock clock process.kernel; going = begun process.going }) (left : List ℕ) where
-  call_is : at_time clock (after_events before_call.going.events (called whole (machine_of before_call) left)) ≡ at_time emulated.machine.kernel.clock (called whole emulated.machine left)
+  pub call_is : at_time clock (after_events before_call.going.events (called whole (machine_of before_call) left)) ≡ at_time emulated.machine.kernel.clock (called whole emulated.machine left)
   call_is =
       ap (λ (p : ProcessState). at_time clock (after_events p.going.events (called whole (machine_of p) left))) before_is
       ∙ ap (λ (e : Emulated). at_time e.machine.kernel.clock (called whole e.machine left)) is

@@ -3,7 +3,7 @@ use Rattle.std.proofs.Common.{◌≡◌, ◌∙◌, ℕ, Bool, true, false, List
 use Rattle.std.specs.List.{list_any}
 use Rattle.std.specs.Prelude.{◌&&◌, ◌||◌, not, if◌then◌else◌}
 use Rattle.std.proofs.lemmas.Bool.{or_from, or_parts}
-use Rattle.bridge_ends.specs.Ended.{ended_wait}
+use Rattle.bridge_delivery.specs.Ended.{ended_wait}
 use Rattle.bridge_log.specs.Looks.{Looked, LooksFor}
 use Rattle.kernel_core.specs.declared.core_error.Stop.{Stop}
 use Rattle.kernel_core.specs.declared.event.Event.{Event}

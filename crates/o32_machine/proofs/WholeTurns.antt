@@ -51,7 +51,7 @@ module _ (quantum clock : ℕ) (process : ProcessState) (at : process.kernel.clo
   abbrev defined : Turn
   defined = last_steps quantum (within_now process) left
 
-  over_is : (finish : Finish) → process.going.over ≡ Some finish → defined ≡ turn (within_now process) left nothing
+  pub over_is : (finish : Finish) → process.going.over ≡ Some finish → defined ≡ turn (within_now process) left nothing
   over_is finish over =
       ap (λ (o : Option Finish). if is_some o then turn (within_now process) left nothing else fifth_or_sixth whole quantum (within_now process) left) over
 
@@ -71,7 +71,7 @@ module _ (quantum clock : ℕ) (process : ProcessState) (at : process.kernel.clo
     alive_is : defined ≡ fifth_or_sixth whole quantum (within_now process) left
     alive_is = ap (λ (o : Option Finish). if is_some o then turn (within_now process) left nothing else fifth_or_sixth whole quantum (within_now process) left) alive
 
-    rests_is : (rests : Bool) → (process.going.stopped || is_some process.going.wait) ≡ rests
+    pub rests_is : (rests : Bool) → (process.going.stopped || is_some process.going.wait) ≡ rests
         → defined ≡ (if rests then fifth_step (within_now process) left else sixth_step whole quantum (within_now process) left)
     rests_is rests so =
         alive_is ∙ ap (λ (b : Bool). if b then fifth_step (within_now process) left else sixth_step whole quantum (within_now process) left) so
@@ -108,7 +108,7 @@ module _ (quantum clock : ℕ) (process ran : ProcessState) (came : Stepped) (at
   abbrev ended : ProcessState → Turn
   ended state = after_events state.going.events (after_step whole (machine_of state) came left)
 
-  executes : sixth_step whole quantum (within_now process) left ≡ at_time (clock + quantum) (ended ran)
+  pub executes : sixth_step whole quantum (within_now process) left ≡ at_time (clock + quantum) (ended ran)
   executes =
       ap (λ (s : Step). at_time (process.kernel.clock + quantum) (after_events process.going.events (after_step whole (stepped (machine_of process) s.processor s.memory) s.came left))) step
       ∙ ap (λ (n : ℕ). at_time (n + quantum) (ended (record process { processor = ran.processor; memory = ran.memory }))) at
@@ -153,7 +153,7 @@ module _ (emulated : Emulated) (clock quantum turns : ℕ) (over : Bool) (native
     pub told_between : between.left ≡ Some left
     told_between = ap (λ (contents : Contents). contents.left) (settles left told).0 ∙ told
 
-    last_is : last_steps quantum (within_now middle) left ≡ its_turn left
+    pub last_is : last_steps quantum (within_now middle) left ≡ its_turn left
     last_is =
         ap (λ (within : Within). last_steps quantum within left) (settles left told).1
         ∙ sym (turn_settled quantum left (machine_at clock (machine_of process)))

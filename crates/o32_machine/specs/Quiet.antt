@@ -13,11 +13,12 @@ use Rattle.o32_turns.specs.Turn.{turn_of}
 use Rattle.outside.specs.Streams.{Contents}
 use Rattle.turn_records.specs.Turn.{AreRecordsOf}
 
--- nothing of a kernel has changed but its clock, which has not gone back, and nothing was taken of the input
+-- nothing of a kernel has changed but its clock, which has not gone back, and nothing was taken of the input or sent
 pub record IsStill (kernel : Kernel) (left : List ℕ) (there : Reached) : Type 0 where
   pub same : at_clock kernel.clock there.machine.kernel ≡ kernel
   pub later : kernel.clock ≤ there.machine.kernel.clock
   pub rest : there.left ≡ left
+  pub unsent : there.sent ≡ nothing
 
 -- k turns lead to this machine, whatever is left of the input: they take nothing of it and send nothing, the process runs before each of them,
 -- they have no events, a journal keeps nothing of them, and in none of them anything of the kernel changes but its clock

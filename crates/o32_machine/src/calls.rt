@@ -11,11 +11,11 @@ use crate::files::call_on_files;
 use crate::numbers::{
     is_file_call, is_io_call, is_map_call, is_signal_call, is_time_call, is_timer_call,
 };
-use bridge_acceptance::{acceptance_call, is_acceptance_call};
+use bridge_delivery::{
+    acceptance_call, is_acceptance_call, is_poll_call, is_select_call, poll_call, select_call,
+};
 use bridge_io::io_call;
 use bridge_map::map_call;
-use bridge_poll::{is_poll_call, poll_call};
-use bridge_select::{is_select_call, select_call};
 use bridge_signal::signal_call;
 use bridge_system::system_call;
 use bridge_timer::timer_call;

@@ -9,7 +9,7 @@ ghost use Rattle.native_kernel.specs.Settings.{settings_of};
 ghost use Rattle.o32_machine.specs.Answered.{IsTurn, is_last, over_of, turns_done};
 ghost use Rattle.native_log.specs.NativeLog.{first_log};
 ghost use Rattle.o32_machine.specs.Emulator.{coming_of, first_emulated, first_machine, runs};
-ghost use Rattle.o32_machine.specs.Native.{LogsTurn};
+ghost use Rattle.o32_machine.specs.Native.{LogsTurn, LogsTurns};
 ghost use Rattle.o32_machine.specs.Quiet.{IsTurnAfter};
 ghost use Rattle.o32_machine.specs.Records.{RecordsCall, RecordsTurn, RecordsTurns};
 ghost use Rattle.o32_machine.specs.inside.Quieting.{OnlyExecutes};
@@ -31,7 +31,7 @@ use schedule::Schedule;
 use start_stack::Start;
 use std::alloc::Global;
 use std::marker::Model;
-use turn_records::TurnRecords;
+use turn_records::{Registers, TurnRecords};
 
 /// An emulator of one o32 program. Contracts see it as `Emulated`: its machine, the nanoseconds of a turn with
 /// an instruction, the turns so far, and whether there is no further one. (Turns are this project's own.)
@@ -51,6 +51,8 @@ pub struct Emulator {
     native: NativeLog,
     /// What a journal keeps of the last turn.
     records: TurnRecords,
+    /// The registers before the last part of a turn that was looked at for the journal.
+    was: Registers,
 }
 
 impl Model for Emulator {
@@ -90,6 +92,7 @@ impl Emulator {
     {
         let kernel = NativeKernel::new(alloc, tree, &schedule)?;
         let quantum = schedule.quantum;
+        let was = Registers::of(&start.cpu);
         Ok(Emulator {
             process: Process::new(alloc, start, kernel, schedule),
             clock: 0,
@@ -98,6 +101,7 @@ impl Emulator {
             over: false,
             native: NativeLog::new(alloc, log),
             records: TurnRecords::new(alloc, journal),
+            was,
         })
     }
 
@@ -118,8 +122,8 @@ impl Emulator {
         requires few { self.old.turns < 1_000_000_000_000 }
         ensures turn { IsTurn (turn_of self.old.quantum self.old.machine) result self.new.machine self.new.events
             (contents I.left O.written E.written dev.old) (contents I.left O.written E.written dev.new) }
-        ensures native { LogsTurn result self.old.machine.kernel self.new.machine.kernel self.old.native self.new.native
-            (contents I.left O.written E.written dev.old) (contents I.left O.written E.written dev.new) }
+        ensures native { LogsTurn (turn_of self.old.quantum self.old.machine) result self.old.machine.kernel self.new.machine.kernel self.old.native self.new.native
+            (contents I.left O.written E.written dev.old) }
         ensures records { RecordsTurn result self.old.quantum self.old.machine self.old.turns self.old.records self.new.records
             (contents I.left O.written E.written dev.old) }
         ensures quantum { self.new.quantum ≡ self.old.quantum }
@@ -148,8 +152,8 @@ impl Emulator {
         requires few { self.old.turns + limit ≤ 1_000_000_000_000 }
         ensures turns { IsTurnAfter self.old.quantum limit self.old.machine self.old.turns result self.new.machine self.new.turns self.new.events
             (contents I.left O.written E.written dev.old) (contents I.left O.written E.written dev.new) }
-        ensures native { LogsTurn result self.old.machine.kernel self.new.machine.kernel self.old.native self.new.native
-            (contents I.left O.written E.written dev.old) (contents I.left O.written E.written dev.new) }
+        ensures native { LogsTurns result self.old.quantum self.old.machine self.old.turns self.new.turns self.new.machine.kernel self.old.native self.new.native
+            (contents I.left O.written E.written dev.old) }
         ensures records { RecordsTurns result self.old.quantum self.old.machine self.old.turns self.new.turns self.old.records self.new.records
             (contents I.left O.written E.written dev.old) }
         ensures quantum { self.new.quantum ≡ self.old.quantum }
@@ -174,8 +178,8 @@ impl Emulator {
         requires few { self.old.turns + limit ≤ 1_000_000_000_000 }
         ensures turns { IsTurnAfter self.old.quantum limit self.old.machine self.old.turns result self.new.machine self.new.turns self.new.events
             (contents I.left O.written E.written dev.old) (contents I.left O.written E.written dev.new) }
-        ensures native { LogsTurn result self.old.machine.kernel self.new.machine.kernel self.old.native self.new.native
-            (contents I.left O.written E.written dev.old) (contents I.left O.written E.written dev.new) }
+        ensures native { LogsTurns result self.old.quantum self.old.machine self.old.turns self.new.turns self.new.machine.kernel self.old.native self.new.native
+            (contents I.left O.written E.written dev.old) }
         ensures records { RecordsTurns result self.old.quantum self.old.machine self.old.turns self.new.turns self.old.records self.new.records
             (contents I.left O.written E.written dev.old) }
         ensures quantum { self.new.quantum ≡ self.old.quantum }
@@ -214,8 +218,8 @@ impl Emulator {
         requires quiet { OnlyExecutes self.old.quantum self.old.machine most }
         ensures turns { IsTurnAfter self.old.quantum limit self.old.machine self.old.turns result self.new.machine self.new.turns self.new.events
             (contents I.left O.written E.written dev.old) (contents I.left O.written E.written dev.new) }
-        ensures native { LogsTurn result self.old.machine.kernel self.new.machine.kernel self.old.native self.new.native
-            (contents I.left O.written E.written dev.old) (contents I.left O.written E.written dev.new) }
+        ensures native { LogsTurns result self.old.quantum self.old.machine self.old.turns self.new.turns self.new.machine.kernel self.old.native self.new.native
+            (contents I.left O.written E.written dev.old) }
         ensures records { RecordsTurns result self.old.quantum self.old.machine self.old.turns self.new.turns self.old.records self.new.records
             (contents I.left O.written E.written dev.old) }
         ensures quantum { self.new.quantum ≡ self.old.quantum }
@@ -237,6 +241,7 @@ impl Emulator {
             self.turns + 1,
             &mut self.native,
             &mut self.records,
+            &mut self.was,
             dev,
         )?;
         self.clock += self.quantum;
@@ -252,8 +257,8 @@ impl Emulator {
         requires few { self.old.turns < 1_000_000_000_000 }
         ensures turn { IsTurn (turn_of self.old.quantum self.old.machine) result self.new.machine self.new.events
             (contents I.left O.written E.written dev.old) (contents I.left O.written E.written dev.new) }
-        ensures native { LogsTurn result self.old.machine.kernel self.new.machine.kernel self.old.native self.new.native
-            (contents I.left O.written E.written dev.old) (contents I.left O.written E.written dev.new) }
+        ensures native { LogsTurn (turn_of self.old.quantum self.old.machine) result self.old.machine.kernel self.new.machine.kernel self.old.native self.new.native
+            (contents I.left O.written E.written dev.old) }
         ensures records { RecordsTurn result self.old.quantum self.old.machine self.old.turns self.old.records self.new.records
             (contents I.left O.written E.written dev.old) }
         ensures quantum { self.new.quantum ≡ self.old.quantum }
@@ -265,14 +270,21 @@ impl Emulator {
         self.native.clear();
         self.records.clear();
         let next = self.turns + 1;
-        self.process
-            .settle(self.clock, next, &mut self.native, &mut self.records, dev)?;
+        self.process.settle(
+            self.clock,
+            next,
+            &mut self.native,
+            &mut self.records,
+            &mut self.was,
+            dev,
+        )?;
         let last = self.process.last_steps(
             self.clock,
             self.quantum,
             next,
             &mut self.native,
             &mut self.records,
+            &mut self.was,
             dev,
         )?;
         end_records(&mut self.records, last.turn);
@@ -295,8 +307,8 @@ impl Emulator {
         requires timer { gone_off self.old.machine.kernel.clock self.old.machine.kernel.timer ≡ None }
         ensures turn { IsTurn (λ left. at_time self.old.machine.kernel.clock (called whole self.old.machine left)) result self.new.machine self.new.events
             (contents I.left O.written E.written dev.old) (contents I.left O.written E.written dev.new) }
-        ensures native { LogsTurn result self.old.machine.kernel self.new.machine.kernel self.old.native self.new.native
-            (contents I.left O.written E.written dev.old) (contents I.left O.written E.written dev.new) }
+        ensures native { LogsTurn (λ left. at_time self.old.machine.kernel.clock (called whole self.old.machine left)) result self.old.machine.kernel self.new.machine.kernel self.old.native self.new.native
+            (contents I.left O.written E.written dev.old) }
         ensures records { RecordsCall result (self.old.turns + 1) self.old.machine (emptied self.old.records) self.new.records
             (contents I.left O.written E.written dev.old) }
         ensures quantum { self.new.quantum ≡ self.old.quantum }
@@ -315,6 +327,7 @@ impl Emulator {
             self.turns + 1,
             &mut self.native,
             &mut self.records,
+            &mut self.was,
             dev,
         )?;
         self.over = turn.is_end();

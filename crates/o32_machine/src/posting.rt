@@ -9,7 +9,7 @@ ghost use Rattle.o32_turns.specs.Posting.{events_posted};
 ghost use Rattle.schedule.specs.Ranges.{IsGivenSchedule};
 ghost use Rattle.schedule.specs.declared.events.Due.{Due as Coming};
 
-use bridge_ends::{event_info, post_event};
+use bridge_delivery::{event_info, post_event};
 use guest_space::Space;
 use kernel_core::NoMemory;
 use native_kernel::NativeKernel;

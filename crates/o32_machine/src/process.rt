@@ -1,6 +1,6 @@
 //! The process of an o32 program: its processor and memory, the kernel that it calls, and the steps of its turns.
 ghost use Rattle.std.specs.Prelude.{◌≡◌, ◌+◌, ◌-◌, ◌*◌, ◌%◌, ◌<◌, ◌^◌, ◌≤◌, ◌↔◌, ◌++◌, ◌||◌, [], ◌∷◌, max, ℕ, Contains, false, if◌then◌else◌, IfErr, IfOk, IfSome, None, OnOk, is_some, option_map};
-ghost use Rattle.bridge_ends.specs.Ended.{ended_wait};
+ghost use Rattle.bridge_delivery.specs.Ended.{ended_wait};
 ghost use Rattle.kernel_core.specs.LoadedTree.{saved};
 ghost use Rattle.kernel_core.specs.ValidTree.{IsReached, IsValidTree, numbers};
 ghost use Rattle.kernel_core.specs.declared.event.Event.TheVariants as events;
@@ -32,9 +32,7 @@ use crate::calls::make_call;
 use crate::posting::post_due;
 use crate::times::{deadline_in, if_comes, is_over_at, later, sooner};
 use crate::turn::Turn;
-use bridge_acceptance::accepts;
-use bridge_delivery::{deliver, is_quiet};
-use bridge_ends::{end_wait, post_timer};
+use bridge_delivery::{accepts, deliver, end_wait, is_quiet, post_timer};
 use bridge_mem::args;
 use guest_space::Space;
 use host_mem::HostMem;
@@ -436,6 +434,7 @@ impl Process {
         turn: u64,
         native: &mut NativeLog,
         records: &mut TurnRecords,
+        was: &mut Registers,
         dev: &mut Devices<I, O, E>,
     ) -> Result<(), Stop>
         requires later { self.old.kernel.clock ≤ clock }
@@ -453,7 +452,7 @@ impl Process {
     {
         self.begin();
         self.post(clock, native)?;
-        let was = Registers::of(&self.cpu);
+        records.look(&self.cpu, was);
         let mut log = part_of(native, records);
         self.wake_to_resume(clock, dev, &mut log)?;
         let (calls, effects) = halves(log);
@@ -461,7 +460,7 @@ impl Process {
         let alive = self.going.over.is_none();
         records.add_before(
             turn,
-            &was,
+            was,
             &self.cpu,
             self.going.events.as_slice(),
             alive,
@@ -484,6 +483,7 @@ impl Process {
         turn: u64,
         native: &mut NativeLog,
         records: &mut TurnRecords,
+        was: &mut Registers,
         dev: &mut Devices<I, O, E>,
     ) -> Result<Last, Stop>
         requires clock { self.old.kernel.clock ≡ clock }
@@ -493,8 +493,8 @@ impl Process {
         requires idle { self.old.idle ≤ clock }
         ensures last { IsLast (last_steps quantum (within_now self.old)) result self.new
             (contents I.left O.written E.written dev.old) (contents I.left O.written E.written dev.new) }
-        ensures native { LogsLast clock result self.old.kernel self.new.kernel native.old native.new
-            (contents I.left O.written E.written dev.old) (contents I.left O.written E.written dev.new) }
+        ensures native { LogsLast (last_steps quantum (within_now self.old)) clock result self.old.kernel self.new.kernel native.old native.new
+            (contents I.left O.written E.written dev.old) }
         ensures records { RecordsBehind result (I.left dev.old.input) turn (within_now self.old) records.old records.new }
         ensures told { native.new.told ≤ clock }
         ensures bound { IfOk result (λ last. last.clock ≤ max clock (2 ^ 61) + 1_000_000 * turns_of last.turn) }
@@ -515,7 +515,7 @@ impl Process {
             records.add_idle(turn, &self.cpu)?;
             return Ok(self.jump(clock));
         }
-        self.execute(clock, quantum, turn, native, records, dev)
+        self.execute(clock, quantum, turn, native, records, was, dev)
     }
 
     /// How the process has ended.
@@ -589,6 +589,7 @@ impl Process {
         turn: u64,
         native: &mut NativeLog,
         records: &mut TurnRecords,
+        was: &mut Registers,
         dev: &mut Devices<I, O, E>,
     ) -> Result<Last, Stop>
         requires clock { self.old.kernel.clock ≡ clock }
@@ -597,8 +598,8 @@ impl Process {
         requires few { clock + 1_000_000 < 2 ^ 64 }
         ensures last { IsLast (sixth_step whole quantum (within_now self.old)) result self.new
             (contents I.left O.written E.written dev.old) (contents I.left O.written E.written dev.new) }
-        ensures native { LogsLast clock result self.old.kernel self.new.kernel native.old native.new
-            (contents I.left O.written E.written dev.old) (contents I.left O.written E.written dev.new) }
+        ensures native { LogsLast (sixth_step whole quantum (within_now self.old)) clock result self.old.kernel self.new.kernel native.old native.new
+            (contents I.left O.written E.written dev.old) }
         ensures records { (self.old.going.stopped || is_some self.old.going.wait) ≡ false → self.old.going.over ≡ None
             → RecordsBehind result (I.left dev.old.input) turn (within_now self.old) records.old records.new }
         ensures told { native.new.told ≤ clock }
@@ -610,7 +611,7 @@ impl Process {
         ensures counts { NoCountFell I.faults O.faults E.faults dev.old dev.new }
     {
         let came = self.run(0).came?;
-        let ended = self.end_turn(came, clock, turn, native, records, dev)?;
+        let ended = self.end_turn(came, clock, turn, native, records, was, dev)?;
         Ok(Last {
             turn: ended,
             clock: later(clock, quantum, 1),
@@ -636,6 +637,7 @@ impl Process {
         turn: u64,
         native: &mut NativeLog,
         records: &mut TurnRecords,
+        was: &mut Registers,
         dev: &mut Devices<I, O, E>,
     ) -> Result<Turn, Stop>
         requires clock { self.old.kernel.clock ≡ clock }
@@ -643,8 +645,8 @@ impl Process {
         ensures turn { IsTurn (λ left. after_events self.old.going.events (after_step whole (machine_of self.old) came left)) result
             (machine_of self.new) self.new.going.events
             (contents I.left O.written E.written dev.old) (contents I.left O.written E.written dev.new) }
-        ensures native { LogsLast clock result self.old.kernel self.new.kernel native.old native.new
-            (contents I.left O.written E.written dev.old) (contents I.left O.written E.written dev.new) }
+        ensures native { LogsLast (λ left. after_events self.old.going.events (after_step whole (machine_of self.old) came left)) clock result self.old.kernel self.new.kernel native.old native.new
+            (contents I.left O.written E.written dev.old) }
         ensures records { RecordsStep result (I.left dev.old.input) turn ((self.old.processor.pc + (2 ^ 32 - 4)) % 2 ^ 32) (machine_of self.old) came records.old records.new }
         ensures told { native.new.told ≤ clock }
         ensures clock { self.new.kernel.clock ≡ clock }
@@ -655,7 +657,7 @@ impl Process {
     {
         match came {
             Stepped::Next => Ok(Turn::Went),
-            Stepped::Syscall => self.call(clock, turn, native, records, dev),
+            Stepped::Syscall => self.call(clock, turn, native, records, was, dev),
             Stepped::Fault { sig, code, addr } => {
                 self.keep_fault(fault_info(sig, code, addr))?;
                 Ok(Turn::Went)
@@ -673,6 +675,7 @@ impl Process {
         turn: u64,
         native: &mut NativeLog,
         records: &mut TurnRecords,
+        was: &mut Registers,
         dev: &mut Devices<I, O, E>,
     ) -> Result<Turn, Stop>
         requires clock { self.old.kernel.clock ≡ clock }
@@ -680,8 +683,8 @@ impl Process {
         ensures turn { IsTurn (λ left. after_events self.old.going.events (called whole (machine_of self.old) left)) result
             (machine_of self.new) self.new.going.events
             (contents I.left O.written E.written dev.old) (contents I.left O.written E.written dev.new) }
-        ensures native { LogsLast clock result self.old.kernel self.new.kernel native.old native.new
-            (contents I.left O.written E.written dev.old) (contents I.left O.written E.written dev.new) }
+        ensures native { LogsLast (λ left. after_events self.old.going.events (called whole (machine_of self.old) left)) clock result self.old.kernel self.new.kernel native.old native.new
+            (contents I.left O.written E.written dev.old) }
         ensures records { RecordsCall result turn (machine_of self.old) records.old records.new
             (contents I.left O.written E.written dev.old) }
         ensures told { native.new.told ≤ clock }
@@ -693,7 +696,7 @@ impl Process {
     {
         let words = args(&self.space, &self.cpu);
         let seen = self.seen(clock);
-        let was = Registers::of(&self.cpu);
+        records.look(&self.cpu, was);
         let mut log = part_of(native, records);
         let outcome = make_call(
             self.alloc,
@@ -709,7 +712,7 @@ impl Process {
         let (calls, effects) = halves(log);
         native.add(calls, clock)?;
         let ended = self.finish(&words, outcome)?;
-        records.add_call(turn, &was, &self.cpu, effects)?;
+        records.add_call(turn, was, &self.cpu, effects)?;
         Ok(ended)
     }
 

@@ -3,13 +3,14 @@ use Rattle.std.proofs.Common.{◌≡◌, ◌≢◌, ℕ, Bool, true, false, List
 use Rattle.std.specs.Prelude.{if◌then◌else◌}
 use Rattle.std.specs.Str.{bytes_eq}
 use Rattle.std.proofs.lemmas.Slice.Eq.{bytes_eq-Decides}
-use Rattle.outside.specs.Files.{ChangesFile, Files, Gains, GainsPart, IsUnchangedOrEmptied}
+use Rattle.outside.specs.Files.{ChangesFile, Files, Gains, GainsPart}
 use Rattle.outside.specs.Output.{IsPrefix, with_text}
 use Rattle.outside.proofs.FileLemmas.{bytes_eq-differ, bytes_eq-same}
 use Rattle.outside.proofs.OutputLemmas.{IsPrefix-empty, IsPrefix-refl}
-use Rattle.o32_runner.specs.Stored.{HasText, IfNamed, IsUnmade, SavesText, Stored}
+use Rattle.o32_runner.specs.Making.{Makes, MakesBoth, MakesNone, MakesNotAll, MakesNotBoth}
+use Rattle.o32_runner.specs.Stored.{HasText, IfNamed, SavesText, Stored}
 use Rattle.o32_runner.specs.Texts.{Differ}
-use Rattle.o32_runner.specs.inside.Told.{Adds, AddsBoth, AddsPart, AddsPartOfAll, AddsPartOfBoth, AddsText, Makes, MakesBoth, MakesNone, MakesNotAll, MakesNotBoth}
+use Rattle.o32_runner.specs.inside.Told.{Adds, AddsBoth, AddsPart, AddsPartOfAll, AddsPartOfBoth, AddsText}
 
 -- One file
 
@@ -74,11 +75,6 @@ added_nothing name text store none = subst (λ (t : List ℕ). Adds name t store
 
 pub added_no_part : (name : Option (List ℕ)) (text : List ℕ) (store : Stored) → AddsPart name text store store
 added_no_part name text store = ([], IsPrefix-empty text, added_none name store)
-
--- a file that was not made stands
-pub unmade : (name : Option (List ℕ)) (store : Stored) → IfNamed name IsUnmade store store
-unmade None store = refl
-unmade (Some name) store = record { files = unchanged store.files name IsUnchangedOrEmptied (λ content. inl refl); created = refl; loads = refl; turned = refl }
 
 -- What a file has, where one is named
 abbrev pub Saves : Option (List ℕ) → List ℕ → Stored → Stored → Type 0

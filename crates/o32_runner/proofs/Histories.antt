@@ -1,5 +1,5 @@
 -- The history of a run's native kernel, and the text of its log, turn by turn.
-use Rattle.std.proofs.Common.{◌≡◌, ℕ, zero, suc, ◌+◌, ◌-◌, ◌<◌, ◌≤◌, Bool, true, false, List, [], ◌∷◌, ◌++◌, Option, Some, Result, Ok, Err, inl, inr, arith, refl, sym, ap, ◌∙◌, subst, add-zero, append-nil}
+use Rattle.std.proofs.Common.{◌≡◌, ℕ, zero, suc, ◌+◌, ◌-◌, ◌<◌, ◌≤◌, Bool, true, false, List, [], ◌∷◌, ◌++◌, Option, Some, Result, Ok, Err, inl, inr, arith, refl, sym, ap, ◌∙◌, subst, add-one, add-zero, append-nil}
 use Rattle.std.specs.Prelude.{◌==◌, if◌then◌else◌, nat_lt, unwrap_or}
 use Rattle.std.proofs.lemmas.Bool.{cases_eq, cases_lt}
 use Rattle.std.proofs.lemmas.Bool.Decides.{nat_tests}
@@ -16,13 +16,14 @@ use Rattle.native_calls.specs.History.{Follows, Leads, Moment, moment, more_sent
 use Rattle.native_calls.specs.Table.{native_call}
 use Rattle.native_log.specs.NativeLog.{NativeLog, as_told, at_time, emptied, first_log}
 use Rattle.o32_machine.specs.Answered.{turns_of}
-use Rattle.o32_machine.specs.Native.{LogsTurn, TurnLogged}
+use Rattle.o32_machine.specs.Native.{LogsTurns, TurnLogged}
 use Rattle.o32_machine.specs.Quiet.{IsQuiet, IsStill, IsTurnAfter}
 use Rattle.o32_machine.specs.declared.turn.Turn as code
 use Rattle.o32_machine.specs.declared.turn.Turn.TheVariants.{Went, Ended}
 use Rattle.o32_model.specs.Logs.{with_more}
 use Rattle.o32_turns.specs.Machine.{Machine, Turn}
-use Rattle.o32_turns.specs.Runs.{Reached, attempt, reached}
+use Rattle.o32_turns.specs.Runs.{IsRunningAt, Reached, after_turn, attempt, reached, unless_blocked, unless_over}
+use Rattle.o32_turns.specs.Turn.{turn_of}
 use Rattle.outside.specs.Output.{IsPrefix}
 use Rattle.outside.specs.Streams.{Contents}
 use Rattle.outside.proofs.OutputLemmas.{IsPrefix-empty}
@@ -152,8 +153,7 @@ leads_on from first second kernel left sent to done next =
 pub record SoLogged (quantum : ℕ) (machine : Machine) (left : List ℕ) (turns : ℕ) (native : NativeLog) (kernel : Kernel) (text : List ℕ) : Type 0 where
   pub entries : ℕ → List LogEntry
   pub leads : (k : ℕ) → k ≤ turns → LeadsTo quantum machine left entries k
-  pub sent : Sent
-  pub here : Leads (opening (at_time 0 machine.kernel) left) (up_to entries turns) (as_told native kernel (reached quantum machine left turns).left sent)
+  pub here : Leads (opening (at_time 0 machine.kernel) left) (up_to entries turns) (as_told native kernel (reached quantum machine left turns).left (reached quantum machine left turns).sent)
   pub behind : native.told ≤ kernel.clock
   pub last : List LogEntry
   pub kept : native.entries ≡ Some last
@@ -168,9 +168,8 @@ begins_at quantum machine left = record {
   entries = no_entries;
   leads = λ k within.
       let none : k ≡ 0 = omega arith in
-      let at : LeadsTo quantum machine left no_entries 0 = record { told = 0; sent = nothing; leads = refl; behind = omega arith } in
+      let at : LeadsTo quantum machine left no_entries 0 = record { told = 0; leads = refl; behind = omega arith } in
       subst (λ (n : ℕ). LeadsTo quantum machine left no_entries n) (sym none) at;
-  sent = nothing;
   here = refl;
   behind = omega arith;
   last = [];
@@ -187,12 +186,26 @@ begins quantum machine left turns native none first =
 kept_more : (old new : Option (List LogEntry)) (last more : List LogEntry) → old ≡ Some last → new ≡ with_more (emptied old) more → new ≡ Some more
 kept_more old new last more was is = is ∙ ap (λ (o : Option (List LogEntry)). with_more (emptied o) more) was
 
+-- nothing more was sent
+none_more_sent : (sent : Sent) (there : Reached) → there.sent ≡ nothing → more_sent sent there.sent ≡ sent
+none_more_sent sent there none = ap (more_sent sent) none ∙ none_behind sent
+
 -- nothing of the kernel moved but its clock
 moved : (told : ℕ) (sent : Sent) (kernel : Kernel) (rest : List ℕ) (there : Reached) → IsStill kernel rest there
-    → moment (at_time told kernel) rest sent ≡ moment (at_time told there.machine.kernel) there.left sent
+    → moment (at_time told kernel) rest sent ≡ moment (at_time told there.machine.kernel) there.left (more_sent sent there.sent)
 moved told sent kernel rest there still =
     ap (λ (k : Kernel). moment (at_time told k) rest sent) (sym still.same)
     ∙ ap (λ (l : List ℕ). moment (at_time told there.machine.kernel) l sent) (sym still.rest)
+    ∙ ap (λ (s : Sent). moment (at_time told there.machine.kernel) there.left s) (sym (none_more_sent sent there still.unsent))
+
+-- a turn more
+next_reached : (quantum : ℕ) (machine : Machine) (left : List ℕ) (k : ℕ) → IsRunningAt quantum machine left k
+    → reached quantum machine left (k + 1) ≡ after_turn (reached quantum machine left k).sent (attempt quantum machine left k)
+unfolding reached
+next_reached quantum machine left k runs =
+    rw add-one
+    (ap (λ (o : Option Finish). unless_over quantum (reached quantum machine left k) o) runs.alive
+    ∙ ap (λ (b : Bool). unless_blocked (reached quantum machine left k) (attempt quantum machine left k) b) runs.awake)
 
 module _ (quantum : ℕ) (machine : Machine) (left : List ℕ) (j q limit : ℕ) (before at after : Contents) (now became : Machine) (turns : ℕ) (events : List Event) (same : q ≡ quantum) (so : IsSoFar quantum machine left j before at now)
     (old : NativeLog) (text : List ℕ) (was : SoLogged quantum machine left j old now.kernel text) where
@@ -208,7 +221,7 @@ module _ (quantum : ℕ) (machine : Machine) (left : List ℕ) (j q limit : ℕ)
 
     leads_before : (n : ℕ) → n ≤ j → LeadsTo quantum machine left entries n
     leads_before n within =
-        subst (λ (list : List LogEntry). IsHistory machine left list (reached quantum machine left n).machine.kernel (reached quantum machine left n).left)
+        subst (λ (list : List LogEntry). IsHistory machine left list (reached quantum machine left n).machine.kernel (reached quantum machine left n).left (reached quantum machine left n).sent)
         (sym (up_to_before was.entries j quiet more n within)) (was.leads n within)
 
     -- also over the quiet turns
@@ -216,15 +229,14 @@ module _ (quantum : ℕ) (machine : Machine) (left : List ℕ) (j q limit : ℕ)
       leads_quiet : (d : ℕ) → d ≤ quiet → LeadsTo quantum machine left entries (j + d)
       leads_quiet d within =
           let stays = still d within in
-          let at_d : IsHistory machine left (up_to entries (j + d)) (reached quantum now here.left d).machine.kernel (reached quantum now here.left d).left = record {
+          let at_d : IsHistory machine left (up_to entries (j + d)) (reached quantum now here.left d).machine.kernel (reached quantum now here.left d).left (more_sent here.sent (reached quantum now here.left d).sent) = record {
             told = old.told;
-            sent = was.sent;
             leads =
-                subst (λ (m : Moment). Leads start (up_to entries (j + d)) m) (moved old.told was.sent now.kernel here.left (reached quantum now here.left d) stays)
-                (subst (λ (list : List LogEntry). Leads start list (as_told old now.kernel here.left was.sent)) (sym (up_to_quiet was.entries j quiet more d within)) was.here);
+                subst (λ (m : Moment). Leads start (up_to entries (j + d)) m) (moved old.told here.sent now.kernel here.left (reached quantum now here.left d) stays)
+                (subst (λ (list : List LogEntry). Leads start list (as_told old now.kernel here.left here.sent)) (sym (up_to_quiet was.entries j quiet more d within)) was.here);
             behind = omega (arith, was.behind, stays.later);
           } in
-          subst (λ (r : Reached). IsHistory machine left (up_to entries (j + d)) r.machine.kernel r.left) (sym (there quantum machine left j before at now so d)) at_d
+          subst (λ (r : Reached). IsHistory machine left (up_to entries (j + d)) r.machine.kernel r.left r.sent) (sym (there quantum machine left j before at now so d)) at_d
 
       pub leads_up_to : (n : ℕ) → n ≤ j + quiet → LeadsTo quantum machine left entries n
       leads_up_to n within =
@@ -258,12 +270,25 @@ module _ (quantum : ℕ) (machine : Machine) (left : List ℕ) (j q limit : ℕ)
       })
 
   -- A turn was finished.
-  module _ (turn : code.Turn) (turned : IsTurnAfter q limit now j (Ok turn) became turns events at after) (new : NativeLog) (logs : LogsTurn (Ok turn) now.kernel became.kernel old new at after) where
-    abbrev pub logged_turn_here : TurnLogged now.kernel became.kernel here.left after old new
-    logged_turn_here = logs here.left so.rest
+  module _ (turn : code.Turn) (turned : IsTurnAfter q limit now j (Ok turn) became turns events at after) (new : NativeLog) (logs : LogsTurns (Ok turn) q now j turns became.kernel old new at) where
+    -- what the attempt at it is
+    abbrev tried : Turn
+    tried = attempt quantum machine left (j + turned.quiet)
+
+    tried_is : attempt quantum now here.left turned.quiet ≡ tried
+    tried_is = ap (λ (r : Reached). turn_of quantum r.machine r.left) (sym (there quantum machine left j before at now so turned.quiet))
+
+    -- its entries
+    pub logged_here : TurnLogged now.kernel became.kernel here.left tried old new
+    logged_here =
+        let log = logs here.left so.rest in
+        let quiet : log.quiet ≡ turned.quiet = omega (arith, turned.counted, log.counted) in
+        subst (λ (t : Turn). TurnLogged now.kernel became.kernel here.left t old new) tried_is
+        (subst (λ (n : ℕ). TurnLogged now.kernel became.kernel here.left (attempt n now here.left turned.quiet) old new) same
+        (subst (λ (n : ℕ). TurnLogged now.kernel became.kernel here.left (attempt q now here.left n) old new) quiet log.last))
 
     abbrev more : List LogEntry
-    more = logged_turn_here.leads.more
+    more = logged_here.leads.more
 
     abbrev all : ℕ → List LogEntry
     all = entries turned.quiet more
@@ -272,7 +297,7 @@ module _ (quantum : ℕ) (machine : Machine) (left : List ℕ) (j q limit : ℕ)
     k = j + turned.quiet
 
     pub told_is : new.entries ≡ Some more
-    told_is = kept_more old.entries new.entries was.last more was.kept logged_turn_here.leads.kept
+    told_is = kept_more old.entries new.entries was.last more was.kept logged_here.leads.kept
 
     -- its lines
     pub lines_are : entry_lines (number_of turns turn) (unwrap_or new.entries []) ≡ entry_lines (k + 1) more
@@ -281,42 +306,41 @@ module _ (quantum : ℕ) (machine : Machine) (left : List ℕ) (j q limit : ℕ)
         ap (λ (o : Option (List LogEntry)). entry_lines (number_of turns turn) (unwrap_or o [])) told_is
         ∙ ap (λ (n : ℕ). entry_lines n more) number
 
+    -- nothing was sent in the quiet turns before it
+    sent_here : (reached quantum machine left k).sent ≡ here.sent
+    sent_here =
+        ap (λ (r : Reached). r.sent) (there quantum machine left j before at now so turned.quiet)
+        ∙ none_more_sent here.sent (reached quantum now here.left turned.quiet) (stills (Ok turn) turned turned.quiet (omega arith)).unsent
+
     abbrev all_sent : Sent
-    all_sent = more_sent was.sent logged_turn_here.sent
+    all_sent = more_sent (reached quantum machine left k).sent tried.sent
 
-    leads_all : Leads start (up_to all (k + 1)) (as_told new became.kernel logged_turn_here.rest all_sent)
+    leads_all : Leads start (up_to all (k + 1)) (as_told new became.kernel tried.left all_sent)
     leads_all =
-        subst (λ (list : List LogEntry). Leads start list (as_told new became.kernel logged_turn_here.rest all_sent)) (sym (up_to_turn was.entries j turned.quiet more))
-        (leads_on start (up_to was.entries j) more (at_time old.told now.kernel) here.left was.sent (as_told new became.kernel logged_turn_here.rest logged_turn_here.sent) was.here logged_turn_here.leads.leads)
+        subst (λ (list : List LogEntry). Leads start list (as_told new became.kernel tried.left all_sent)) (sym (up_to_turn was.entries j turned.quiet more))
+        (subst (λ (s : Sent). Leads start (up_to was.entries j ++ more) (as_told new became.kernel tried.left (more_sent s tried.sent))) (sym sent_here)
+        (leads_on start (up_to was.entries j) more (at_time old.told now.kernel) here.left here.sent (as_told new became.kernel tried.left tried.sent) was.here logged_here.leads.leads))
 
-    -- to the kernel that it left
-    history_by : (kernel : Kernel) (rest : List ℕ) → became.kernel ≡ kernel → after.left ≡ Some rest → IsHistory machine left (up_to all (k + 1)) kernel rest
-    history_by kernel rest is left_is =
-        let rest_is : logged_turn_here.rest ≡ rest = let both : Some logged_turn_here.rest ≡ Some rest = sym logged_turn_here.taken ∙ left_is in cc in
-        subst (λ (l : List ℕ). IsHistory machine left (up_to all (k + 1)) kernel l) rest_is
-        (subst (λ (kept : Kernel). IsHistory machine left (up_to all (k + 1)) kept logged_turn_here.rest) is
-        (record { told = new.told; sent = all_sent; leads = leads_all; behind = logged_turn_here.behind }))
-
+    -- to the kernel that the attempt leaves
     leads_over : LeadsOver quantum machine left all k
     leads_over =
         let came = answered quantum machine left j q limit before at after now became turns events same so turn turned in
-        let tried = attempt_is quantum machine left j q limit before at after now became turns events same so (Ok turn) turned in
-        history_by (attempt quantum machine left k).machine.kernel (attempt quantum machine left k).left
-        (ap (λ (m : Machine). m.kernel) came.became ∙ sym (ap (λ (t : Turn). t.machine.kernel) tried))
-        (came.rest ∙ ap Some (sym (ap (λ (t : Turn). t.left) tried)))
+        let is : became.kernel ≡ tried.machine.kernel =
+        ap (λ (m : Machine). m.kernel) came.became
+        ∙ sym (ap (λ (t : Turn). t.machine.kernel) (attempt_is quantum machine left j q limit before at after now became turns events same so (Ok turn) turned)) in
+        subst (λ (kernel : Kernel). IsHistory machine left (up_to all (k + 1)) kernel tried.left all_sent) is
+        (record { told = new.told; leads = leads_all; behind = logged_here.behind })
 
     leads_to : (n : ℕ) → n ≤ k → LeadsTo quantum machine left all n
     leads_to = leads_up_to turned.quiet more (stills (Ok turn) turned)
 
     -- one that counts
-    leads_on_to : turns ≡ k + 1 → (reached quantum machine left turns).machine ≡ became → after.left ≡ Some (reached quantum machine left turns).left
-        → (n : ℕ) → n ≤ turns → LeadsTo quantum machine left all n
-    leads_on_to counts is left_is n within =
+    leads_on_to : turns ≡ k + 1 → IsRunningAt quantum machine left k → (n : ℕ) → n ≤ turns → LeadsTo quantum machine left all n
+    leads_on_to counts runs n within =
         elim (cases_eq n turns) as (λ _. LeadsTo quantum machine left all n) [
           | inl last ↦
-              subst (λ (i : ℕ). LeadsTo quantum machine left all i) (sym last)
-              (subst (λ (i : ℕ). IsHistory machine left (up_to all i) (reached quantum machine left turns).machine.kernel (reached quantum machine left turns).left) (sym counts)
-              (history_by (reached quantum machine left turns).machine.kernel (reached quantum machine left turns).left (sym (ap (λ (m : Machine). m.kernel) is)) left_is))
+              subst (λ (i : ℕ). LeadsTo quantum machine left all i) (sym (last ∙ counts))
+              (subst (λ (r : Reached). IsHistory machine left (up_to all (k + 1)) r.machine.kernel r.left r.sent) (sym (next_reached quantum machine left k runs)) leads_over)
           | inr other ↦ leads_to n (omega (arith, within, other, counts))
         ]
 
@@ -331,28 +355,25 @@ module _ (quantum : ℕ) (machine : Machine) (left : List ℕ) (j q limit : ℕ)
     pub went_log : turn ≡ Went → IsSoFar quantum machine left turns before after became → SoLogged quantum machine left turns new became.kernel (text ++ entry_lines (number_of turns turn) (unwrap_or new.entries []))
     went_log is ongoing =
         let counts : turns ≡ k + 1 = turned.counted ∙ ap (λ (t : code.Turn). k + turns_of t) is in
-        let rest_is : logged_turn_here.rest ≡ (reached quantum machine left turns).left =
-        let both : Some logged_turn_here.rest ≡ Some (reached quantum machine left turns).left = sym logged_turn_here.taken ∙ ongoing.rest in cc in
+        let runs : IsRunningAt quantum machine left k = ongoing.first k (omega (arith, counts)) in
         record {
           entries = all;
-          leads = leads_on_to counts ongoing.same ongoing.rest;
-          sent = all_sent;
+          leads = leads_on_to counts runs;
           here =
-              subst (λ (l : List ℕ). Leads start (up_to all turns) (as_told new became.kernel l all_sent)) rest_is
-              (subst (λ (n : ℕ). Leads start (up_to all n) (as_told new became.kernel logged_turn_here.rest all_sent)) (sym counts) leads_all);
-          behind = logged_turn_here.behind;
+              subst (λ (n : ℕ). Leads start (up_to all n) (as_told new became.kernel (reached quantum machine left n).left (reached quantum machine left n).sent)) (sym counts)
+              (subst (λ (r : Reached). Leads start (up_to all (k + 1)) (as_told new became.kernel r.left r.sent)) (sym (next_reached quantum machine left k runs)) leads_all);
+          behind = logged_here.behind;
           last = more;
           kept = told_is;
           written = text_then counts;
         }
 
     -- It is over.
-    ends_by : (finish : Finish) → turns ≡ k + 1 → (finish ≡ Blocked → LeadsOver quantum machine left all turns) → (reached quantum machine left turns).machine ≡ became
-        → after.left ≡ Some (reached quantum machine left turns).left → last_entries all turns finish ≡ []
+    ends_by : (finish : Finish) → turns ≡ k + 1 → (finish ≡ Blocked → LeadsOver quantum machine left all turns) → IsRunningAt quantum machine left k → last_entries all turns finish ≡ []
         → HasLog quantum machine left turns finish (text ++ entry_lines (number_of turns turn) (unwrap_or new.entries []))
-    ends_by finish counts over is left_is none = record {
+    ends_by finish counts over runs none = record {
       entries = all;
-      leads = leads_on_to counts is left_is;
+      leads = leads_on_to counts runs;
       last = over;
       written = text_then counts ∙ sym (append-nil (logged all turns)) ∙ ap (λ (t : List ℕ). logged all turns ++ t) (sym none);
     }
@@ -361,13 +382,13 @@ module _ (quantum : ℕ) (machine : Machine) (left : List ℕ) (j q limit : ℕ)
         → HasLog quantum machine left turns finish (text ++ entry_lines (number_of turns turn) (unwrap_or new.entries []))
     ended_log budget (Exited status) is over =
         let counts : turns ≡ k + 1 = turned.counted ∙ ap (λ (t : code.Turn). k + turns_of t) is in
-        ends_by (Exited status) counts (λ blocks. absurd cc) (sym over.leaves) over.rest refl
+        ends_by (Exited status) counts (λ blocks. absurd cc) (over.over.1.first k (omega (arith, counts))) refl
     ended_log budget (Killed signal) is over =
         let counts : turns ≡ k + 1 = turned.counted ∙ ap (λ (t : code.Turn). k + turns_of t) is in
-        ends_by (Killed signal) counts (λ blocks. absurd cc) (sym over.leaves) over.rest refl
+        ends_by (Killed signal) counts (λ blocks. absurd cc) (over.over.1.first k (omega (arith, counts))) refl
     ended_log budget Budget is over =
         let counts : turns ≡ k + 1 = turned.counted ∙ ap (λ (t : code.Turn). k + turns_of t) is in
-        ends_by Budget counts (λ blocks. absurd cc) (sym over.leaves) over.rest refl
+        ends_by Budget counts (λ blocks. absurd cc) (over.over.1 k (omega (arith, counts, over.over.0))) refl
     ended_log budget Blocked is over =
         let none : turns ≡ k = turned.counted ∙ ap (λ (t : code.Turn). k + turns_of t) is ∙ add-zero k in
         subst (λ (n : ℕ). HasLog quantum machine left n Blocked (text ++ entry_lines (number_of turns turn) (unwrap_or new.entries []))) (sym none)
@@ -415,7 +436,7 @@ module _ (quantum : ℕ) (machine : Machine) (left : List ℕ) (turns : ℕ) (na
       record {
         entries = none_then;
         leads = λ k within.
-            subst (λ (list : List LogEntry). IsHistory machine left list (reached quantum machine left k).machine.kernel (reached quantum machine left k).left)
+            subst (λ (list : List LogEntry). IsHistory machine left list (reached quantum machine left k).machine.kernel (reached quantum machine left k).left (reached quantum machine left k).sent)
             (sym (up_to_before was.entries turns 0 [] k within)) (was.leads k within);
         next = inl at_end;
         written = ([], IsPrefix-empty (entry_lines (turns + 1) (none_then turns)), was.written ∙ sym all ∙ sym (append-nil (logged none_then turns)));

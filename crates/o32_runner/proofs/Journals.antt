@@ -1,7 +1,8 @@
 -- What a run has written to its three files.
-use Rattle.std.proofs.Common.{◌≡◌, ℕ, ◌-◌, ◌<◌, ◌≤◌, List, [], ◌++◌, Option, Some, None, Result, Ok, Err, inl, inr, refl, sym, ◌∙◌, subst}
+use Rattle.std.proofs.Common.{◌≡◌, ℕ, ◌-◌, ◌<◌, ◌≤◌, List, [], ◌++◌, Option, Some, None, Result, Ok, Err, inl, inr, arith, refl, sym, ◌∙◌, subst}
 use Rattle.std.specs.Prelude.{◌⊎◌}
 use Rattle.kernel_core.specs.declared.core_error.Stop.{Stop}
+use Rattle.kernel_core.specs.declared.core_error.Stop.TheVariants as stops
 use Rattle.kernel_core.specs.declared.event.Event.TheVariants as event
 use Rattle.kernel_core.specs.declared.finish.Finish.{Finish}
 use Rattle.kernel_core.specs.declared.finish.Finish.TheVariants.{Budget}
@@ -9,20 +10,25 @@ use Rattle.o32_machine.specs.Emulator.{Emulated}
 use Rattle.o32_machine.specs.declared.turn.Turn as code
 use Rattle.o32_machine.specs.declared.turn.Turn.TheVariants.{Went, Ended}
 use Rattle.o32_turns.specs.Machine.{Machine}
+use Rattle.outside.specs.Causes.{FailsOnlyIfRose}
+use Rattle.outside.specs.Count.{Rose}
 use Rattle.outside.specs.Streams.{Contents}
+use Rattle.outside.specs.declared.errors.DevError.{DevError}
+use Rattle.outside.specs.declared.errors.DevError.TheVariants as device
 use Rattle.trace_text.specs.Trace.{trace_line}
 use Rattle.turn_records.specs.Keeping.{Records}
 use Rattle.outside.specs.Output.{IsPrefix}
 use Rattle.o32_runner.specs.JournalText.{HasCutJournal, HasJournal, IsCutJournal, IsWholeJournal, KeepsAs, front_to_come}
-use Rattle.o32_runner.specs.Runs.{GoesSo, IsOver, RunsTo}
+use Rattle.o32_runner.specs.Making.{IsByStore, IsUnbegun, MakesAll, MakesNotAll, StopsBehind}
+use Rattle.o32_runner.specs.Runs.{GoesSo, IsOver, RunsTo, WithinBudget}
 use Rattle.o32_runner.specs.Stored.{IfNamed, Stored}
-use Rattle.o32_runner.specs.Texts.{AllDiffer, BeginsJournal, BeginsLog, WritesTexts}
+use Rattle.o32_runner.specs.Texts.{AllDiffer, BeginsJournal, BeginsLog, WritesEach, WritesTexts}
 use Rattle.o32_runner.specs.declared.told.Cut.{Cut}
-use Rattle.o32_runner.specs.inside.Told.{EndsBudget, MakesAll, MakesNone, MakesNotAll, TakesAll, budget_record, journal_of, native_of, trace_of}
-use Rattle.o32_runner.proofs.Files.{Saves, both_past, past, third_more, unmade}
+use Rattle.o32_runner.specs.inside.Told.{EndsBudget, TakesAll, WritesOnlyIfRose, budget_record, journal_of, native_of, stop_of, trace_of}
+use Rattle.o32_runner.proofs.Files.{Saves, both_past, past, third_more}
 use Rattle.o32_runner.proofs.RecordLists.{SoKept, begins_kept, cut_kept, ended_kept, partly_kept, stopped_kept, went_kept, whole_kept}
 use Rattle.o32_runner.proofs.Telling.{before_it, done_run, within_budget}
-use Rattle.o32_runner.proofs.Writing.{EndsTrace, OnNamed, TakesTurns, WrittenAs, WrittenSo, cut_below, cuts, done, ends, goes_on, on_named, writes_empty, writes_none, writes_so, written_done, written_first, written_on, written_partly, written_whole}
+use Rattle.o32_runner.proofs.Writing.{EndsTrace, OnNamed, TakesTurns, WrittenAs, WrittenSo, cut_below, cuts, done, ends, goes_on, on_named, writes_so, written_done, written_first, written_on, written_partly, written_whole}
 
 -- The forms
 
@@ -243,11 +249,11 @@ keeps_so : (name : Option (List ℕ)) (front : List ℕ) (quantum : ℕ) (machin
     → Saves name text old new → IfNamed name (λ there. KeepsAs there front quantum machine budget turns end told) old new
 keeps_so None front quantum machine budget turns end told text old new has saves = saves
 keeps_so (Some name) front quantum machine budget turns (Ok finish) told text old new has saves = (text, has, saves)
-keeps_so (Some name) front quantum machine budget turns (Err stop) told text old new has saves = inl (text, has, saves)
+keeps_so (Some name) front quantum machine budget turns (Err stop) told text old new has saves = (text, has, saves)
 
-pub all_written : (trace native journal : Option (List ℕ)) (front : List ℕ) (quantum : ℕ) (machine : Machine) (budget turns : ℕ) (end : Result Finish Stop) (told : Option (List ℕ)) (start now : Stored)
-    → AllAs trace native journal front quantum machine budget turns end told start now → WritesTexts trace native journal front quantum machine budget turns end told start now
-all_written trace native journal front quantum machine budget turns end told start now wrote =
+each_written : (trace native journal : Option (List ℕ)) (front : List ℕ) (quantum : ℕ) (machine : Machine) (budget turns : ℕ) (end : Result Finish Stop) (told : Option (List ℕ)) (start now : Stored)
+    → AllAs trace native journal front quantum machine budget turns end told start now → WritesEach trace native journal front quantum machine budget turns end told start now
+each_written trace native journal front quantum machine budget turns end told start now wrote =
     let both = writes_so trace native quantum machine budget turns end told start wrote.middle wrote.lines in
     record {
       traced = both.middle;
@@ -257,16 +263,40 @@ all_written trace native journal front quantum machine budget turns end told sta
       keeps = keeps_so journal front quantum machine budget turns end told wrote.text wrote.middle now wrote.keeps wrote.saves;
     }
 
--- A file could not be made.
-module _ (front : List ℕ) (quantum : ℕ) (machine : Machine) (budget : ℕ) (stop : Stop) (told : Option (List ℕ)) where
-  no_journal : (name : Option (List ℕ)) (old new : Stored) → MakesNone name old new → IfNamed name (λ there. KeepsAs there front quantum machine budget 0 (Err stop) told) old new
-  no_journal None old new none = none
-  no_journal (Some name) old new none = inr (refl, none)
+pub all_written : (trace native journal : Option (List ℕ)) (front : List ℕ) (quantum : ℕ) (machine : Machine) (budget turns : ℕ) (end : Result Finish Stop) (before after : Contents) (start now : Stored)
+    → AllAs trace native journal front quantum machine budget turns end before.left start now → WritesTexts trace native journal front quantum machine budget turns end before after start now
+all_written trace native journal front quantum machine budget turns (Ok finish) before after start now wrote =
+    each_written trace native journal front quantum machine budget turns (Ok finish) before.left start now wrote
+all_written trace native journal front quantum machine budget turns (Err stop) before after start now wrote =
+    inl (each_written trace native journal front quantum machine budget turns (Err stop) before.left start now wrote)
 
-  pub all_unmade : (trace native journal : Option (List ℕ)) (old new : Stored) → MakesNotAll trace native journal old new → WritesTexts trace native journal front quantum machine budget 0 (Err stop) told old new
-  all_unmade trace native journal old new (inl none) =
-      let both = writes_none quantum machine budget stop told trace native old new none in
-      record { traced = both.middle; logged = new; traces = both.traces; logs = both.logs; keeps = no_journal journal new new (unmade journal new) }
-  all_unmade trace native journal old new (inr (middle, made, none)) =
-      let both = writes_empty quantum machine budget stop told trace native old middle made in
-      record { traced = both.middle; logged = middle; traces = both.traces; logs = both.logs; keeps = no_journal journal middle new none }
+-- A file could not be made.
+
+pub by_store : (error : DevError) (before now : ℕ) → FailsOnlyIfRose {T = Unit {0}} (Err error) before now → IsByStore (stop_of error) before now
+by_store device.Failed before now cause = cause
+by_store device.NoMemory before now cause = cause
+
+pub all_unmade : (trace native journal : Option (List ℕ)) (error : DevError) (stop : Stop) (contents : Contents) (old new : Stored) → stop ≡ stop_of error → MakesNotAll trace native journal old new
+    → FailsOnlyIfRose {T = Unit {0}} (Err error) old.write_faults new.write_faults → IsUnbegun trace native journal 0 stop contents contents old new
+all_unmade trace native journal error stop contents old new is none cause = record {
+  none = refl;
+  untouched = refl;
+  unmade = none;
+  cause = subst (λ (s : Stop). IsByStore s old.write_faults new.write_faults) (sym is) (by_store error old.write_faults new.write_faults cause);
+}
+
+-- Behind the budget's turns
+
+pub behind_end : (end : Result Finish Stop) (turns budget before middle now : ℕ) → middle ≡ before → WritesOnlyIfRose end middle now → StopsBehind end turns budget before now
+behind_end (Ok finish) turns budget before middle now same cause = tt
+behind_end (Err stops.NoMemory) turns budget before middle now same cause = λ done. cause ∙ same
+behind_end (Err stops.WriteFault) turns budget before middle now same cause = λ done. subst (λ (n : ℕ). Rose n now) same cause
+behind_end (Err stops.ReadFault) turns budget before middle now same cause = absurd cause
+
+pub behind_made : (end : Result Finish Stop) (turns budget before middle now : ℕ) → middle ≡ before → StopsBehind end turns budget middle now → StopsBehind end turns budget before now
+behind_made (Ok finish) turns budget before middle now same behind = tt
+behind_made (Err stop) turns budget before middle now same behind = λ done. subst (λ (n : ℕ). IsByStore stop n now) same (behind done)
+
+pub behind_none : (end : Result Finish Stop) (turns budget before now : ℕ) → WithinBudget end turns budget → StopsBehind end turns budget before now
+behind_none (Ok finish) turns budget before now within = tt
+behind_none (Err stop) turns budget before now within = λ done. absurd (omega (arith, within, done))

@@ -8,3 +8,4 @@ pub mod Telling
 pub mod RecordLists
 pub mod Writing
 pub mod Journals
+pub mod RecordForms

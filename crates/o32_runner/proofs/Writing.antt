@@ -12,18 +12,17 @@ use Rattle.o32_machine.specs.Emulator.{Emulated}
 use Rattle.o32_machine.specs.declared.turn.Turn as code
 use Rattle.o32_machine.specs.declared.turn.Turn.TheVariants.{Went, Ended}
 use Rattle.o32_turns.specs.Machine.{Machine}
-use Rattle.outside.proofs.OutputLemmas.{IsPrefix-empty}
 use Rattle.outside.specs.Streams.{Contents}
 use Rattle.trace_text.specs.Trace.{trace_line}
 use Rattle.o32_runner.specs.NativeText.{HasCutLog, HasLog, IsCutLog, IsWholeLog, LogsAs}
 use Rattle.o32_runner.specs.Runs.{GoesSo, IsOver, RunsTo, WithinBudget}
 use Rattle.o32_runner.specs.Stored.{IfNamed, Stored}
 use Rattle.o32_runner.specs.Texts.{BeginsLog, Differ}
-use Rattle.o32_runner.specs.Trace.{next_lines, traced}
 use Rattle.o32_runner.specs.Traced.{IsTrace, TracesAs}
 use Rattle.o32_runner.specs.declared.told.Cut.{Cut}
-use Rattle.o32_runner.specs.inside.Told.{Adds, AddsBoth, AddsPart, AddsPartOfBoth, MakesBoth, MakesNone, MakesNotBoth, Takes, native_of, trace_of}
-use Rattle.o32_runner.proofs.Files.{Saves, SavesBoth, adds_first, both_more, saves_made, unmade}
+use Rattle.o32_runner.specs.Making.{MakesBoth}
+use Rattle.o32_runner.specs.inside.Told.{Adds, AddsBoth, AddsPart, AddsPartOfBoth, Takes, native_of, trace_of}
+use Rattle.o32_runner.proofs.Files.{Saves, SavesBoth, adds_first, both_more, saves_made}
 use Rattle.o32_runner.proofs.Histories.{SoLogged, begins, cut_log, ended_log, partly_log, stopped_log, went_log, whole_log}
 use Rattle.o32_runner.proofs.QuietTurns.{is_over_after, went_after}
 use Rattle.o32_runner.proofs.Telling.{SoTraced, before_it, cut_behind, cut_in, cut_run, done_partly, done_run, done_told, ended_told, none_traced, partly_told, untold, went_told, within_budget}
@@ -246,13 +245,13 @@ traces_so : (name : Option (List ℕ)) (quantum : ℕ) (machine : Machine) (budg
     → IfNamed name (λ there. TracesAs there quantum machine budget turns end told) old new
 traces_so None quantum machine budget turns end told text old new has saves = saves
 traces_so (Some name) quantum machine budget turns (Ok finish) told text old new has saves = (text, has, saves)
-traces_so (Some name) quantum machine budget turns (Err stop) told text old new has saves = inl (text, has, saves)
+traces_so (Some name) quantum machine budget turns (Err stop) told text old new has saves = (text, has, saves)
 
 logs_so : (name : Option (List ℕ)) (quantum : ℕ) (machine : Machine) (budget turns : ℕ) (end : Result Finish Stop) (told : Option (List ℕ)) (text : List ℕ) (old new : Stored) → OnNamed name (HasText quantum machine budget turns end told text)
     → Saves name text old new → IfNamed name (λ there. LogsAs there quantum machine budget turns end told) old new
 logs_so None quantum machine budget turns end told text old new has saves = saves
 logs_so (Some name) quantum machine budget turns (Ok finish) told text old new has saves = (text, has, saves)
-logs_so (Some name) quantum machine budget turns (Err stop) told text old new has saves = inl (text, has, saves)
+logs_so (Some name) quantum machine budget turns (Err stop) told text old new has saves = (text, has, saves)
 
 pub writes_so : (trace native : Option (List ℕ)) (quantum : ℕ) (machine : Machine) (budget turns : ℕ) (end : Result Finish Stop) (told : Option (List ℕ)) (start now : Stored) → WrittenAs trace native quantum machine budget turns end told start now
     → WritesBoth trace native quantum machine budget turns end told start now
@@ -261,41 +260,3 @@ writes_so trace native quantum machine budget turns end told start now wrote = r
   traces = traces_so trace quantum machine budget turns end told wrote.traced start wrote.saves.middle wrote.traces wrote.saves.first;
   logs = logs_so native quantum machine budget turns end told wrote.logged wrote.saves.middle now wrote.logs wrote.saves.second;
 }
-
--- A file could not be made.
-
-module _ (quantum : ℕ) (machine : Machine) (budget : ℕ) (stop : Stop) (told : Option (List ℕ)) where
-  abbrev Traces : Option (List ℕ) → Stored → Stored → Type 0
-  Traces name old new = IfNamed name (λ there. TracesAs there quantum machine budget 0 (Err stop) told) old new
-
-  abbrev Logs : Option (List ℕ) → Stored → Stored → Type 0
-  Logs name old new = IfNamed name (λ there. LogsAs there quantum machine budget 0 (Err stop) told) old new
-
-  no_trace : (name : Option (List ℕ)) (old new : Stored) → MakesNone name old new → Traces name old new
-  no_trace None old new none = none
-  no_trace (Some name) old new none = inr (refl, none)
-
-  no_log : (name : Option (List ℕ)) (old new : Stored) → MakesNone name old new → Logs name old new
-  no_log None old new none = none
-  no_log (Some name) old new none = inr (refl, none)
-
-  empty_trace : (name : Option (List ℕ)) (old new : Stored) → Saves name [] old new → Traces name old new
-  empty_trace name old new made =
-      traces_so name quantum machine budget 0 (Err stop) told [] old new
-      (λ left is. ([], IsPrefix-empty (next_lines quantum machine left budget 0), none_traced quantum machine left 0 refl ∙ sym (append-nil (traced quantum machine left 0)))) made
-
-  empty_log : (name : Option (List ℕ)) (old new : Stored) → Saves name [] old new → Logs name old new
-  empty_log name old new made = logs_so name quantum machine budget 0 (Err stop) told [] old new (none_logged name) made
-    where
-      none_logged : (name : Option (List ℕ)) → OnNamed name (HasText quantum machine budget 0 (Err stop) told [])
-      none_logged None = tt
-      none_logged (Some name) = λ left is. cut_log quantum machine left 0 (first_log true) machine.kernel [] (begins quantum machine left 0 (first_log true) refl refl) budget
-
-  pub writes_empty : (trace native : Option (List ℕ)) (old new : Stored) → MakesBoth trace native old new → WritesBoth trace native quantum machine budget 0 (Err stop) told old new
-  writes_empty trace native old new made =
-      record { middle = made.middle; traces = empty_trace trace old made.middle made.first; logs = empty_log native made.middle new made.second }
-
-  pub writes_none : (trace native : Option (List ℕ)) (old new : Stored) → MakesNotBoth trace native old new → WritesBoth trace native quantum machine budget 0 (Err stop) told old new
-  writes_none trace native old new (inl none) = record { middle = new; traces = no_trace trace old new none; logs = no_log native new new (unmade native new) }
-  writes_none trace native old new (inr (middle, made, none)) =
-      record { middle = middle; traces = empty_trace trace old middle made; logs = no_log native middle new none }

@@ -10,7 +10,7 @@ use Rattle.o32_turns.specs.Machine.{Machine}
 use Rattle.o32_turns.specs.Runs.{attempt, reached}
 use Rattle.turn_records.specs.Run.{AreRecordsOfRun, AreRecordsUpTo, end_of}
 use Rattle.turn_records.specs.Turn.{AreRecordsOf}
-use Rattle.o32_runner.specs.Stored.{IsPartly, IsUnmade, Stored, WritesText}
+use Rattle.o32_runner.specs.Stored.{IsPartly, Stored, WritesText}
 
 -- The text
 
@@ -73,14 +73,14 @@ IsWholeJournal front quantum machine budget turns finish told text = (left : Lis
 abbrev pub IsCutJournal : List ℕ → ℕ → Machine → ℕ → ℕ → Option (List ℕ) → List ℕ → Type 0
 IsCutJournal front quantum machine budget turns told text = (left : List ℕ) → told ≡ Some left → HasCutJournal front quantum machine left budget turns text
 
--- A run that is over wrote its journal whole. One that stopped wrote a part, and before its first turn it may not have made the file.
+-- A run that is over wrote its journal whole, and one that stopped wrote a part.
 
 abbrev pub KeepsWhole : List ℕ → List ℕ → ℕ → Machine → ℕ → ℕ → Finish → Option (List ℕ) → Stored → Stored → Type 0
 KeepsWhole name front quantum machine budget turns finish told old new = WritesText name (IsWholeJournal front quantum machine budget turns finish told) old new
 
 abbrev pub KeepsPart : List ℕ → List ℕ → ℕ → Machine → ℕ → ℕ → Option (List ℕ) → Stored → Stored → Type 0
 KeepsPart name front quantum machine budget turns told old new =
-    WritesText name (IsCutJournal front quantum machine budget turns told) old new ⊎ ((turns ≡ 0) × IsUnmade name old new)
+    WritesText name (IsCutJournal front quantum machine budget turns told) old new
 
 abbrev pub KeepsAs : List ℕ → List ℕ → ℕ → Machine → ℕ → ℕ → Result Finish Stop → Option (List ℕ) → Stored → Stored → Type 0
 KeepsAs name front quantum machine budget turns (Ok finish) told old new = KeepsWhole name front quantum machine budget turns finish told old new

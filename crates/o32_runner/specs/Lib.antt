@@ -1,8 +1,10 @@
+pub mod Emulators
 pub mod Runs
 pub mod Trace
 pub mod NativeText
 pub mod JournalText
 pub mod Stored
+pub mod Making
 pub mod Traced
 pub mod Texts
 pub mod inside

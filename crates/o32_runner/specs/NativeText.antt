@@ -10,8 +10,8 @@ use Rattle.kernel_model.specs.State.{Kernel}
 use Rattle.native_calls.specs.History.{Leads, moment, opening}
 use Rattle.native_log.specs.NativeLog.{at_time}
 use Rattle.o32_turns.specs.Machine.{Machine}
-use Rattle.o32_turns.specs.Runs.{attempt, reached}
-use Rattle.o32_runner.specs.Stored.{IsPartly, IsUnmade, Stored, WritesText}
+use Rattle.o32_turns.specs.Runs.{attempt, more_sent, reached}
+use Rattle.o32_runner.specs.Stored.{IsPartly, Stored, WritesText}
 use Rattle.trace_text.specs.NativeLog.{native_line}
 
 -- Entries turn by turn are a function: at k it gives those of the attempt at the turn after k turns.
@@ -41,22 +41,24 @@ last_entries entries k Blocked = entry_lines (k + 1) (entries k)
 -- The history
 
 -- The entries lead from the kernel of a machine at time 0, with this input and nothing sent, to another kernel at the time that was told last, which
--- is not ahead of its clock, and to what is left of the input there.
-pub record IsHistory (machine : Machine) (left : List ℕ) (entries : List LogEntry) (became : Kernel) (rest : List ℕ) : Type 0 where
+-- is not ahead of its clock, to what is left of the input there, and to all that was sent until then, byte for byte.
+pub record IsHistory (machine : Machine) (left : List ℕ) (entries : List LogEntry) (became : Kernel) (rest : List ℕ) (sent : Sent) : Type 0 where
   pub told : ℕ
-  pub sent : Sent
   pub leads : Leads (opening (at_time 0 machine.kernel) left) entries (moment (at_time told became) rest sent)
   pub behind : told ≤ became.clock
 
--- those of the first k turns lead to the machine that stands after them
+-- those of the first k turns lead to the machine that stands after them, and send what these turns send
 abbrev pub LeadsTo : ℕ → Machine → List ℕ → (ℕ → List LogEntry) → ℕ → Type 0
 LeadsTo quantum machine left entries k =
-    let there = reached quantum machine left k in IsHistory machine left (up_to entries k) there.machine.kernel there.left
+    let there = reached quantum machine left k in IsHistory machine left (up_to entries k) there.machine.kernel there.left there.sent
 
--- with those of the attempt at the next turn they lead to the machine that it leaves, also where it found the process blocked
+-- with those of the attempt at the next turn they lead to the machine that it leaves, and send what it sends too, also where it found the process
+-- blocked
 abbrev pub LeadsOver : ℕ → Machine → List ℕ → (ℕ → List LogEntry) → ℕ → Type 0
 LeadsOver quantum machine left entries k =
-    let tried = attempt quantum machine left k in IsHistory machine left (up_to entries (k + 1)) tried.machine.kernel tried.left
+    let before = reached quantum machine left k in
+    let tried = attempt quantum machine left k in
+    IsHistory machine left (up_to entries (k + 1)) tried.machine.kernel tried.left (more_sent before.sent tried.sent)
 
 -- The log of a run that is over so after these turns
 pub record HasLog (quantum : ℕ) (machine : Machine) (left : List ℕ) (turns : ℕ) (finish : Finish) (text : List ℕ) : Type 0 where
@@ -82,14 +84,14 @@ IsWholeLog quantum machine turns finish told text = (left : List ℕ) → told �
 abbrev pub IsCutLog : ℕ → Machine → ℕ → ℕ → Option (List ℕ) → List ℕ → Type 0
 IsCutLog quantum machine budget turns told text = (left : List ℕ) → told ≡ Some left → HasCutLog quantum machine left budget turns text
 
--- A run that is over wrote its log whole. One that stopped wrote a part, and before its first turn it may not have made the file.
+-- A run that is over wrote its log whole, and one that stopped wrote a part.
 
 abbrev pub LogsWhole : List ℕ → ℕ → Machine → ℕ → Finish → Option (List ℕ) → Stored → Stored → Type 0
 LogsWhole name quantum machine turns finish told old new = WritesText name (IsWholeLog quantum machine turns finish told) old new
 
 abbrev pub LogsPart : List ℕ → ℕ → Machine → ℕ → ℕ → Option (List ℕ) → Stored → Stored → Type 0
 LogsPart name quantum machine budget turns told old new =
-    WritesText name (IsCutLog quantum machine budget turns told) old new ⊎ ((turns ≡ 0) × IsUnmade name old new)
+    WritesText name (IsCutLog quantum machine budget turns told) old new
 
 abbrev pub LogsAs : List ℕ → ℕ → Machine → ℕ → ℕ → Result Finish Stop → Option (List ℕ) → Stored → Stored → Type 0
 LogsAs name quantum machine budget turns (Ok finish) told old new = LogsWhole name quantum machine turns finish told old new

@@ -7,7 +7,7 @@ use Rattle.kernel_core.specs.declared.core_error.Stop.{Stop}
 use Rattle.kernel_core.specs.declared.core_error.Stop.TheVariants.{NoMemory, ReadFault, WriteFault}
 use Rattle.kernel_core.specs.declared.finish.Finish.{Finish}
 use Rattle.o32_turns.specs.Machine.{Machine}
-use Rattle.o32_runner.specs.Stored.{IsPartly, IsUnmade, Stored, WritesText}
+use Rattle.o32_runner.specs.Stored.{IsPartly, Stored, WritesText}
 use Rattle.o32_runner.specs.Trace.{next_lines, traced, whole_trace}
 
 -- The text of the trace of a run that is over so after these turns, and of one that stopped after them: the lines of these turns with a part of what is
@@ -24,14 +24,14 @@ abbrev pub IsTrace : ℕ → Machine → ℕ → ℕ → Result Finish Stop → 
 IsTrace quantum machine budget turns (Ok finish) told text = IsWholeTrace quantum machine turns finish told text
 IsTrace quantum machine budget turns (Err stop) told text = IsCutTrace quantum machine budget turns told text
 
--- A run that is over wrote its trace whole. One that stopped wrote a part, and before its first turn it may not have made the file.
+-- A run that is over wrote its trace whole, and one that stopped wrote a part.
 
 abbrev pub TracesWhole : List ℕ → ℕ → Machine → ℕ → Finish → Option (List ℕ) → Stored → Stored → Type 0
 TracesWhole name quantum machine turns finish told old new = WritesText name (IsWholeTrace quantum machine turns finish told) old new
 
 abbrev pub TracesPart : List ℕ → ℕ → Machine → ℕ → ℕ → Option (List ℕ) → Stored → Stored → Type 0
 TracesPart name quantum machine budget turns told old new =
-    WritesText name (IsCutTrace quantum machine budget turns told) old new ⊎ ((turns ≡ 0) × IsUnmade name old new)
+    WritesText name (IsCutTrace quantum machine budget turns told) old new
 
 abbrev pub TracesAs : List ℕ → ℕ → Machine → ℕ → ℕ → Result Finish Stop → Option (List ℕ) → Stored → Stored → Type 0
 TracesAs name quantum machine budget turns (Ok finish) told old new = TracesWhole name quantum machine turns finish told old new

@@ -2,10 +2,13 @@
 #![tactic(auto)]
 
 mod forms;
+pub mod laws;
 mod lines;
 mod records;
 mod told;
 mod untraced;
 
+// Passed on, so that who runs an emulator names this crate alone.
+pub use o32_machine::Emulator;
 pub use told::{Names, run_told};
 pub use untraced::{Ran, run};

@@ -4,12 +4,13 @@ ghost use Rattle.std.specs.Option.{option_copied};
 ghost use Rattle.kernel_core.specs.declared.event.Event.TheVariants as event;
 ghost use Rattle.o32_machine.specs.Answered.{is_end, turns_of};
 ghost use Rattle.o32_runner.specs.JournalText.{front_to_come, records_text};
+ghost use Rattle.o32_runner.specs.Making.{Makes, MakesAll, MakesBoth, MakesNone, MakesNotAll, MakesNotBoth, StopsBehind};
 ghost use Rattle.o32_runner.specs.NativeText.{entry_lines};
 ghost use Rattle.o32_runner.specs.Runs.{IsFresh, RunsAs, WithinBudget};
 ghost use Rattle.o32_runner.specs.Stored.{Stored, stored_of};
 ghost use Rattle.o32_runner.specs.Texts.{AllDiffer, BeginsJournal, BeginsLog, WritesTexts};
 ghost use Rattle.o32_runner.specs.Traced.{StopsOnlyIfAnyRose};
-ghost use Rattle.o32_runner.specs.inside.Told.{Adds, AddsAll, AddsBoth, AddsPart, AddsPartOfAll, AddsPartOfBoth, EndsBudget, IsMade, Makes, MakesAll, MakesBoth, MakesNone, MakesNotAll, MakesNotBoth, TakesAll, WritesOnlyIfRose, budget_record, journal_of, native_of, number_of, stop_in, stop_of, told_lines, told_records, trace_of};
+ghost use Rattle.o32_runner.specs.inside.Told.{Adds, AddsAll, AddsBoth, AddsPart, AddsPartOfAll, AddsPartOfBoth, EndsBudget, IsMade, TakesAll, WritesOnlyIfRose, budget_record, journal_of, native_of, number_of, stop_in, stop_of, told_lines, told_records, trace_of};
 ghost use Rattle.outside.specs.Causes.{FailsOnlyIfRose};
 ghost use Rattle.outside.specs.Streams.{NoCountFell, contents};
 ghost use Rattle.trace_text.specs.Trace.{trace_line};
@@ -442,11 +443,13 @@ pub fn run_told<F: Store, I: Source, O: Sink, E: Sink>(
     requires differ { AllDiffer (option_copied names.trace) (option_copied names.native) (option_copied names.journal) }
     ensures run { RunsAs emulator.old.quantum emulator.old.machine budget result.turns result.end
         (contents I.left O.written E.written dev.old) (contents I.left O.written E.written dev.new) emulator.new.machine }
-    ensures texts { WritesTexts (option_copied names.entry.trace) (option_copied names.entry.native) (option_copied names.entry.journal) front.now emulator.old.quantum emulator.old.machine budget result.turns result.end (I.left dev.old.input)
+    ensures texts { WritesTexts (option_copied names.entry.trace) (option_copied names.entry.native) (option_copied names.entry.journal) front.now emulator.old.quantum emulator.old.machine budget result.turns result.end
+        (contents I.left O.written E.written dev.old) (contents I.left O.written E.written dev.new)
         (stored_of F.files F.created F.loads F.turned_away F.write_faults files.old)
         (stored_of F.files F.created F.loads F.turned_away F.write_faults files.new) }
     ensures within { result.turns ≤ budget }
     ensures early { (option_copied names.entry.trace ≡ None) → (option_copied names.entry.journal ≡ None) → 0 < budget → WithinBudget result.end result.turns budget }
+    ensures behind { StopsBehind result.end result.turns budget (F.write_faults files.old) (F.write_faults files.new) }
     ensures turns { IfOk result.end (λ finish. emulator.new.turns ≡ result.turns) }
     ensures cause { StopsOnlyIfAnyRose I.faults O.faults E.faults result.end (F.write_faults files.old) (F.write_faults files.new) dev.old dev.new }
     ensures counts { NoCountFell I.faults O.faults E.faults dev.old dev.new }
@@ -483,10 +486,12 @@ fn run_made<F: Store, I: Source, O: Sink, E: Sink>(
     ensures run { RunsAs emulator.old.quantum emulator.old.machine budget result.turns result.end
         (contents I.left O.written E.written dev.old) (contents I.left O.written E.written dev.new) emulator.new.machine }
     ensures texts { (start : Stored) → MakesAll (option_copied names.entry.trace) (option_copied names.entry.native) (option_copied names.entry.journal) start (stored_of F.files F.created F.loads F.turned_away F.write_faults files.old)
-        → WritesTexts (option_copied names.entry.trace) (option_copied names.entry.native) (option_copied names.entry.journal) front.now emulator.old.quantum emulator.old.machine budget result.turns result.end (I.left dev.old.input) start
+        → WritesTexts (option_copied names.entry.trace) (option_copied names.entry.native) (option_copied names.entry.journal) front.now emulator.old.quantum emulator.old.machine budget result.turns result.end
+        (contents I.left O.written E.written dev.old) (contents I.left O.written E.written dev.new) start
         (stored_of F.files F.created F.loads F.turned_away F.write_faults files.new) }
     ensures within { result.turns ≤ budget }
     ensures early { (option_copied names.entry.trace ≡ None) → (option_copied names.entry.journal ≡ None) → WithinBudget result.end result.turns budget }
+    ensures behind { StopsBehind result.end result.turns budget (F.write_faults files.old) (F.write_faults files.new) }
     ensures turns { IfOk result.end (λ finish. emulator.new.turns ≡ result.turns) }
     ensures cause { StopsOnlyIfAnyRose I.faults O.faults E.faults result.end (F.write_faults files.old) (F.write_faults files.new) dev.old dev.new }
     ensures counts { NoCountFell I.faults O.faults E.faults dev.old dev.new }

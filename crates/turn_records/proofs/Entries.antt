@@ -3,7 +3,7 @@ use Rattle.std.proofs.Common.{◌≡◌, ◌⊎◌, ◌<◌, ◌^◌, ◌||◌, 
 use Rattle.std.proofs.lemmas.Bool.Decides.{nat_tests}
 use Rattle.std.proofs.lemmas.List.{nil_from_length}
 use Rattle.std.proofs.lemmas.List.Elements.{All-append}
-use Rattle.std.specs.Prelude.{◌==◌, ◌&&◌, is_none}
+use Rattle.std.specs.Prelude.{◌==◌, ◌&&◌, IfSome, is_none}
 use Rattle.std.specs.List.{list_any}
 use Rattle.guest_space.specs.Memory.{Memory, Pages}
 use Rattle.journal.specs.Form.{AreSixWords, IsEffect, before_kind, call_kind}
@@ -41,6 +41,11 @@ gains_none records IsMore none = record {
 those : (records : Records) (list more : List Effect) → Some list ≡ with_more (no_effects records) more → more ≡ list
 those None list more is = absurd cc
 those (Some records) list more is = cc
+
+-- what is said of registers where a journal is kept holds where effects are kept
+pub so_kept : (records : Records) (list more : List Effect) (Same : Type 0) → IfSome records (λ (kept : List Record). Same) → Some list ≡ with_more (no_effects records) more → Same
+so_kept None list more Same is kept = absurd cc
+so_kept (Some records) list more Same is kept = is
 
 -- The effects of calls, and behind them those that set registers
 

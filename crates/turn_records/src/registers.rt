@@ -34,6 +34,7 @@ impl Model for Registers {
 
 impl Registers {
     /// Those of a processor.
+    #[inline]
     pub fn of(cpu: &Cpu) -> Registers
         ensures { result ≡ registers_of cpu.now }
     {

@@ -54,7 +54,8 @@ fn delivered(delivery: Delivery) -> Event {
 fn a_call_has_the_words_of_before_it(rt: HostRuntime) -> Result<(), Fail> {
     let mut records = TurnRecords::new(rt.alloc(), true);
     let mut cpu = caller();
-    let was = Registers::of(&cpu);
+    let mut was = Registers::of(&Cpu::new(0));
+    records.look(&cpu, &mut was);
     cpu.set_register(2, 3);
     cpu.set_register(7, 0);
     let mut effects = records.part();
@@ -110,7 +111,8 @@ fn without_a_journal_nothing_is_kept(rt: HostRuntime) -> Result<(), Fail> {
     let cpu = caller();
     let part = records.part();
     assert!(rt; part.is_none());
-    records.add_call(6, &Registers::of(&cpu), &cpu, part)?;
+    let was = Registers::of(&cpu);
+    records.add_call(6, &was, &cpu, part)?;
     records.add_idle(7, &cpu)?;
     assert!(rt; records.records().is_empty());
     Ok(())

@@ -1,5 +1,5 @@
 //! The records of a turn.
-ghost use Rattle.std.specs.Prelude.{◌≡◌, ◌<◌, ◌+◌, ◌-◌, ◌%◌, ◌^◌, false, [], ◌∷◌, List, length, None, IfOk, OnOk, is_none, option_map, unwrap_or};
+ghost use Rattle.std.specs.Prelude.{◌≡◌, ◌<◌, ◌+◌, ◌-◌, ◌%◌, ◌^◌, false, [], ◌∷◌, List, length, None, Some, IfOk, IfSome, OnOk, is_none, option_map, unwrap_or};
 ghost use Rattle.guest_space.specs.Memory.{Memory};
 ghost use Rattle.journal.specs.Form.{AreSixWords, call_kind};
 ghost use Rattle.kernel_core.specs.declared.event.Event.{Event as Happened};
@@ -82,6 +82,16 @@ impl TurnRecords {
         }
     }
 
+    /// Puts the registers before a part of a turn into `was`, where a journal is kept.
+    #[inline]
+    pub fn look(&self, cpu: &Cpu, was: &mut Registers)
+        ensures { IfSome self.now (λ records. was.new ≡ registers_of cpu.now) }
+    {
+        if self.records.is_some() {
+            *was = Registers::of(cpu);
+        }
+    }
+
     /// Adds the record of what was done before a turn's instruction, where something was: the registers were `was`, and
     /// `effects` is what calls did to pages. `events` is what happened in the turn so far, and `alive` that no signal killed
     /// the process in it.
@@ -99,7 +109,7 @@ impl TurnRecords {
         effects: Option<Vec<Effect>>,
     ) -> Result<(), NoMemory>
         ensures { OnOk result ((machine : Machine) (within : Within) (p : Processor)
-            → registers_of machine.processor ≡ was.now → within.machine.processor ≡ cpu.now → within.events ≡ events.now → is_none within.over ≡ alive
+            → IfSome self.old (λ records. registers_of machine.processor ≡ was.now) → within.machine.processor ≡ cpu.now → within.events ≡ events.now → is_none within.over ≡ alive
             → AreKept self.old (option_map (λ v. v.items) effects) p machine.memory within.machine.memory nothing
             → (is_touched within ≡ false
             → target_of machine.processor machine.memory nothing ≡ target_of within.machine.processor within.machine.memory nothing)
@@ -125,6 +135,7 @@ impl TurnRecords {
     /// # Errors
     ///
     /// `NoMemory`, also for 2^32 effects and more. The records are not used again then.
+    #[inline]
     pub fn add_call(
         &mut self,
         turn: u64,
@@ -132,14 +143,33 @@ impl TurnRecords {
         cpu: &Cpu,
         effects: Option<Vec<Effect>>,
     ) -> Result<(), NoMemory>
-        ensures { OnOk result ((p processor : Processor) (memory became : Memory) (sent : Sent) → registers_of processor ≡ was.now
+        ensures { OnOk result ((p processor : Processor) (memory became : Memory) (sent : Sent)
+            → IfSome self.old (λ records. registers_of processor ≡ was.now)
             → AreKept self.old (option_map (λ v. v.items) effects) p memory became sent
-            → Gains self.old self.new (IsOne (IsEntry turn call_kind (words_at ((was.now.pc + (2 ^ 32 - 4)) % 2 ^ 32) was.now)
+            → Gains self.old self.new (IsOne (IsEntry turn call_kind (words_at ((processor.pc + (2 ^ 32 - 4)) % 2 ^ 32) processor)
             (target_of processor memory nothing) (target_of cpu.now became sent)))) }
     {
-        let Some(mut effects) = effects else {
+        let Some(effects) = effects else {
             return Ok(());
         };
+        self.keep_call(turn, was, cpu, effects)?;
+        Ok(())
+    }
+
+    /// The same of effects that are kept. It stands apart from the path of a call of which nothing is kept.
+    #[inline(never)]
+    fn keep_call(
+        &mut self,
+        turn: u64,
+        was: &Registers,
+        cpu: &Cpu,
+        mut effects: Vec<Effect>,
+    ) -> Result<(), NoMemory>
+        ensures { OnOk result ((p processor : Processor) (memory became : Memory) (sent : Sent)
+            → registers_of processor ≡ was.now → AreKept self.old (Some effects.items) p memory became sent
+            → Gains self.old self.new (IsOne (IsEntry turn call_kind (words_at ((processor.pc + (2 ^ 32 - 4)) % 2 ^ 32) processor)
+            (target_of processor memory nothing) (target_of cpu.now became sent)))) }
+    {
         was.add_changes(&Registers::of(cpu), &mut effects)?;
         self.keep(entry(turn, CALL, was.words_of_call(), effects)?)?;
         Ok(())

@@ -7,6 +7,7 @@ use Rattle.kernel_model.specs.Pipes.{Sent, nothing}
 use Rattle.kernel_model.specs.State.{Kernel}
 use Rattle.native_calls.specs.History.{moment}
 use Rattle.native_log.specs.NativeLog.{IsReady, NativeLog, as_told}
+use Rattle.o32_turns.specs.Machine.{Turn}
 use Rattle.outside.specs.Streams.{Contents}
 
 -- Entries lead from one kernel to another, whatever is left of the input and was sent; nothing is taken and nothing is sent.
@@ -29,14 +30,12 @@ pub record SettledLogged (clock : ℕ) (kernel became : Kernel) (left : List ℕ
 abbrev pub LogsSettled : {A : Type 0} → ℕ → Result A Stop → Option (List ℕ) → Kernel → Kernel → NativeLog → NativeLog → Type 0
 LogsSettled clock result told kernel became old new = (left : List ℕ) → told ≡ Some left → OnOk result (SettledLogged clock kernel became left old new)
 
--- Entries lead on over what takes of the input and sends.
-pub record LastLogged (kernel became : Kernel) (left : List ℕ) (after : Contents) (old new : NativeLog) : Type 0 where
-  pub rest : List ℕ
-  pub sent : Sent
-  pub taken : after.left ≡ Some rest
-  pub leads : Logged old.entries new.entries (as_told old kernel left nothing) (as_told new became rest sent)
+-- Entries lead on over what a turn that is defined so takes of the input and sends.
+abbrev pub LastLogged : Kernel → Kernel → List ℕ → Turn → NativeLog → NativeLog → Type 0
+LastLogged kernel became left defined old new =
+    Logged old.entries new.entries (as_told old kernel left nothing) (as_told new became defined.left defined.sent)
 
 -- so the last steps, where the time can be told before a call
-abbrev pub LogsLast : {A : Type 0} → ℕ → Result A Stop → Kernel → Kernel → NativeLog → NativeLog → Contents → Contents → Type 0
-LogsLast clock result kernel became old new before after =
-    (left : List ℕ) → before.left ≡ Some left → IsReady clock old kernel → OnOk result (LastLogged kernel became left after old new)
+abbrev pub LogsLast : {A : Type 0} → (List ℕ → Turn) → ℕ → Result A Stop → Kernel → Kernel → NativeLog → NativeLog → Contents → Type 0
+LogsLast defined clock result kernel became old new before =
+    (left : List ℕ) → before.left ≡ Some left → IsReady clock old kernel → OnOk result (LastLogged kernel became left (defined left) old new)

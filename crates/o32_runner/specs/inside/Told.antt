@@ -18,11 +18,11 @@ use Rattle.outside.specs.Output.{IsPrefix, with_text}
 use Rattle.outside.specs.Streams.{Contents}
 use Rattle.outside.specs.declared.errors.DevError.{DevError}
 use Rattle.outside.specs.declared.errors.DevError.TheVariants as device
-use Rattle.o32_machine.specs.Native.{LogsTurn}
+use Rattle.o32_machine.specs.Native.{LogsTurns}
 use Rattle.o32_machine.specs.Records.{RecordsTurns}
 use Rattle.o32_runner.specs.JournalText.{records_text}
 use Rattle.o32_runner.specs.NativeText.{entry_lines}
-use Rattle.o32_runner.specs.Stored.{IfNamed, IsUnmade, SavesText, Stored}
+use Rattle.o32_runner.specs.Stored.{IfNamed, Stored}
 use Rattle.o32_runner.specs.Trace.{turn_lines}
 use Rattle.o32_runner.specs.declared.told.Cut.{Cut}
 use Rattle.trace_text.specs.Trace.{trace_line}
@@ -71,14 +71,6 @@ abbrev pub IsMade : List (List ℕ) → Option (List ℕ) → Type 0
 IsMade created None = ⊤
 IsMade created (Some name) = Contains created name
 
--- the file was made and is empty, where one is named
-abbrev pub Makes : Option (List ℕ) → Stored → Stored → Type 0
-Makes name old new = IfNamed name (λ made. SavesText made []) old new
-
--- it could not be made
-abbrev pub MakesNone : Option (List ℕ) → Stored → Stored → Type 0
-MakesNone name old new = IfNamed name IsUnmade old new
-
 -- a text was added to the file of this name
 pub record AddsText (name text : List ℕ) (old new : Stored) : Type 0 where
   pub files : ChangesFile old.files new.files name (λ before after. after ≡ with_text before text)
@@ -120,27 +112,6 @@ pub record AddsPartOfAll (trace native journal : Option (List ℕ)) (traced logg
   pub lines : AddsPartOfBoth trace native traced logged old middle
   pub records : AddsPart journal kept middle new
 
--- both files were made and are empty, where they are named
-pub record MakesBoth (trace native : Option (List ℕ)) (old new : Stored) : Type 0 where
-  pub middle : Stored
-  pub first : Makes trace old middle
-  pub second : Makes native middle new
-
--- one of them could not be made: the first, or the second behind it
-abbrev pub MakesNotBoth : Option (List ℕ) → Option (List ℕ) → Stored → Stored → Type 0
-MakesNotBoth trace native old new = MakesNone trace old new ⊎ ((middle : Stored) × Makes trace old middle × MakesNone native middle new)
-
--- all three were made, or one of them could not be
-
-pub record MakesAll (trace native journal : Option (List ℕ)) (old new : Stored) : Type 0 where
-  pub middle : Stored
-  pub both : MakesBoth trace native old middle
-  pub third : Makes journal middle new
-
-abbrev pub MakesNotAll : Option (List ℕ) → Option (List ℕ) → Option (List ℕ) → Stored → Stored → Type 0
-MakesNotAll trace native journal old new =
-    MakesNotBoth trace native old new ⊎ ((middle : Stored) × MakesBoth trace native old middle × MakesNone journal middle new)
-
 -- Turns
 
 -- why a run that took turns is cut, where it is
@@ -156,7 +127,7 @@ stop_of device.NoMemory = stops.NoMemory
 -- The turns that an emulator took came to this
 pub record Takes (limit : ℕ) (result : Result code.Turn Stop) (old new : Emulated) (turns : ℕ) (before after : Contents) : Type 0 where
   pub turned : IsTurnAfter old.quantum limit old.machine old.turns result new.machine turns new.events before after
-  pub logged : LogsTurn result old.machine.kernel new.machine.kernel old.native new.native before after
+  pub logged : LogsTurns result old.quantum old.machine old.turns turns new.machine.kernel old.native new.native before
   pub recorded : RecordsTurns result old.quantum old.machine old.turns turns old.records new.records before
 
 -- and were told, in the journal behind this front; or the run is cut: in a turn, or where its texts were added, which then does not count.

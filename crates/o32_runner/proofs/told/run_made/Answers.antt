@@ -8,7 +8,7 @@ use Rattle.o32_runner.specs.JournalText.{front_to_come}
 use Rattle.o32_runner.specs.Runs.{IsOver, IsSoFar}
 use Rattle.o32_runner.specs.Stored.{stored_of}
 use Rattle.o32_runner.specs.inside.Told.{IsMade}
-use Rattle.o32_runner.proofs.Journals.{AllAs, all_below, all_cut, all_done, all_end, all_ended, all_first, all_go_on, all_on, all_partly, all_whole, all_written}
+use Rattle.o32_runner.proofs.Journals.{AllAs, all_below, all_cut, all_done, all_end, all_ended, all_first, all_go_on, all_on, all_partly, all_whole, all_written, behind_end}
 use Rattle.o32_runner.proofs.RunLemmas.{at_start}
 use Rattle.o32_runner.proofs.Writing.{early_end}
 use Rattle.o32_runner.proofs.told.run_made.Goals as goal
@@ -93,7 +93,7 @@ returns-in-Ok-Ended-clause-texts g c = λ start made.
     coming_is c.front_to_come-coming.result.now c.args.front.now c.turns-turns.result c.loop-emulator.emulator.turns c.front_to_come-coming.ensures c.turns-turns.ensures in
     let below : c.loop-emulator.emulator.turns < c.args.budget = omega arith in
     let room : c.limit_of-limit.result ≤ c.args.budget - c.loop-emulator.emulator.turns = omega (arith, c.limit_of-limit.ensures.few, c.turns-turns.ensures) in
-    all_written (option_copied c.args.names.trace) (option_copied c.args.names.native) (option_copied c.args.names.journal) c.args.front.now c.args.emulator.now.quantum c.args.emulator.now.machine c.args.budget c.turns-in-Ok-Ended.result (Ok c.in-Ok-Ended.finish) (g.I.Source.left c.args.dev.now.input) start (stored_of g.F.Store.files g.F.Store.created g.F.Store.loads g.F.Store.turned_away g.F.Store.write_faults c.take_turns.new.files)
+    all_written (option_copied c.args.names.trace) (option_copied c.args.names.native) (option_copied c.args.names.journal) c.args.front.now c.args.emulator.now.quantum c.args.emulator.now.machine c.args.budget c.turns-in-Ok-Ended.result (Ok c.in-Ok-Ended.finish) (contents g.I.Source.left g.O.Sink.written g.E.Sink.written c.args.dev.now) (contents g.I.Source.left g.O.Sink.written g.E.Sink.written c.take_turns.new.dev) start (stored_of g.F.Store.files g.F.Store.created g.F.Store.loads g.F.Store.turned_away g.F.Store.write_faults c.take_turns.new.files)
     (subst (λ (n : ℕ). AllAs (option_copied c.args.names.trace) (option_copied c.args.names.native) (option_copied c.args.names.journal) c.args.front.now c.args.emulator.now.quantum c.args.emulator.now.machine c.args.budget n (Ok c.in-Ok-Ended.finish) (g.I.Source.left c.args.dev.now.input) start (stored_of g.F.Store.files g.F.Store.created g.F.Store.loads g.F.Store.turned_away g.F.Store.write_faults c.take_turns.new.files)) (sym c.turns-in-Ok-Ended.ensures)
     (all_whole (option_copied c.args.names.trace) (option_copied c.args.names.native) (option_copied c.args.names.journal) c.requires.differ c.args.front.now c.args.emulator.now.quantum c.args.emulator.now.machine c.args.budget c.limit_of-limit.result (contents g.I.Source.left g.O.Sink.written g.E.Sink.written c.args.dev.now) (contents g.I.Source.left g.O.Sink.written g.E.Sink.written c.loop-emulator.dev) (contents g.I.Source.left g.O.Sink.written g.E.Sink.written c.take_turns.new.dev) c.loop-emulator.emulator c.take_turns.new.emulator i.long i.so c.front_to_come-coming.result.now is_coming c.limit_of-limit.ensures.first
     (stored_of g.F.Store.files g.F.Store.created g.F.Store.loads g.F.Store.turned_away g.F.Store.write_faults c.loop-emulator.files) (stored_of g.F.Store.files g.F.Store.created g.F.Store.loads g.F.Store.turned_away g.F.Store.write_faults c.take_turns.new.files) c.in-Ok-Ended.field-0 c.in-Ok-Ended.ensures.turns start (i.texts start made) c.in-Ok-Ended.finish c.in-Ok-Ended.field-0-is below room))
@@ -115,7 +115,7 @@ returns-in-Err-clause-texts g c = λ start made.
     coming_is c.front_to_come-coming.result.now c.args.front.now c.turns-turns.result c.loop-emulator.emulator.turns c.front_to_come-coming.ensures c.turns-turns.ensures in
     let below : c.loop-emulator.emulator.turns < c.args.budget = omega arith in
     let room : c.limit_of-limit.result ≤ c.args.budget - c.loop-emulator.emulator.turns = omega (arith, c.limit_of-limit.ensures.few, c.turns-turns.ensures) in
-    all_written (option_copied c.args.names.trace) (option_copied c.args.names.native) (option_copied c.args.names.journal) c.args.front.now c.args.emulator.now.quantum c.args.emulator.now.machine c.args.budget c.in-Err.cut.turns (Err c.in-Err.cut.stop) (g.I.Source.left c.args.dev.now.input) start (stored_of g.F.Store.files g.F.Store.created g.F.Store.loads g.F.Store.turned_away g.F.Store.write_faults c.take_turns.new.files)
+    all_written (option_copied c.args.names.trace) (option_copied c.args.names.native) (option_copied c.args.names.journal) c.args.front.now c.args.emulator.now.quantum c.args.emulator.now.machine c.args.budget c.in-Err.cut.turns (Err c.in-Err.cut.stop) (contents g.I.Source.left g.O.Sink.written g.E.Sink.written c.args.dev.now) (contents g.I.Source.left g.O.Sink.written g.E.Sink.written c.take_turns.new.dev) start (stored_of g.F.Store.files g.F.Store.created g.F.Store.loads g.F.Store.turned_away g.F.Store.write_faults c.take_turns.new.files)
     (all_partly (option_copied c.args.names.trace) (option_copied c.args.names.native) (option_copied c.args.names.journal) c.requires.differ c.args.front.now c.args.emulator.now.quantum c.args.emulator.now.machine c.args.budget c.limit_of-limit.result (contents g.I.Source.left g.O.Sink.written g.E.Sink.written c.args.dev.now) (contents g.I.Source.left g.O.Sink.written g.E.Sink.written c.loop-emulator.dev) (contents g.I.Source.left g.O.Sink.written g.E.Sink.written c.take_turns.new.dev) c.loop-emulator.emulator c.take_turns.new.emulator i.long i.so c.front_to_come-coming.result.now is_coming c.limit_of-limit.ensures.first
     (stored_of g.F.Store.files g.F.Store.created g.F.Store.loads g.F.Store.turned_away g.F.Store.write_faults c.loop-emulator.files) (stored_of g.F.Store.files g.F.Store.created g.F.Store.loads g.F.Store.turned_away g.F.Store.write_faults c.take_turns.new.files) c.in-Err.cut below room start (i.texts start made) c.in-Err.ensures.turns)
 
@@ -128,6 +128,18 @@ returns-in-Err-clause-early g c = λ none unkept.
     let room : c.limit_of-limit.result ≤ c.args.budget - c.loop-emulator.emulator.turns = omega (arith, c.limit_of-limit.ensures.few, c.turns-turns.ensures) in
     all_below (option_copied c.args.names.trace) (option_copied c.args.names.native) (option_copied c.args.names.journal) c.requires.differ c.args.front.now c.args.emulator.now.quantum c.args.emulator.now.machine c.args.budget c.limit_of-limit.result (contents g.I.Source.left g.O.Sink.written g.E.Sink.written c.args.dev.now) (contents g.I.Source.left g.O.Sink.written g.E.Sink.written c.loop-emulator.dev) (contents g.I.Source.left g.O.Sink.written g.E.Sink.written c.take_turns.new.dev) c.loop-emulator.emulator c.take_turns.new.emulator i.long i.so c.front_to_come-coming.result.now is_coming c.limit_of-limit.ensures.first
     (stored_of g.F.Store.files g.F.Store.created g.F.Store.loads g.F.Store.turned_away g.F.Store.write_faults c.loop-emulator.files) (stored_of g.F.Store.files g.F.Store.created g.F.Store.loads g.F.Store.turned_away g.F.Store.write_faults c.take_turns.new.files) c.in-Err.cut below room c.in-Err.ensures.turns
+
+pub returns-in-Err-clause-behind : goal.returns-in-Err-clause-behind
+returns-in-Err-clause-behind g c = λ done.
+    let i = c.loop-emulator.invariant in
+    let is_coming : c.front_to_come-coming.result.now ≡ front_to_come c.loop-emulator.emulator.turns c.args.front.now =
+    coming_is c.front_to_come-coming.result.now c.args.front.now c.turns-turns.result c.loop-emulator.emulator.turns c.front_to_come-coming.ensures c.turns-turns.ensures in
+    let below : c.loop-emulator.emulator.turns < c.args.budget = omega arith in
+    let room : c.limit_of-limit.result ≤ c.args.budget - c.loop-emulator.emulator.turns = omega (arith, c.limit_of-limit.ensures.few, c.turns-turns.ensures) in
+    let under : c.in-Err.cut.turns < c.args.budget =
+    all_below (option_copied c.args.names.trace) (option_copied c.args.names.native) (option_copied c.args.names.journal) c.requires.differ c.args.front.now c.args.emulator.now.quantum c.args.emulator.now.machine c.args.budget c.limit_of-limit.result (contents g.I.Source.left g.O.Sink.written g.E.Sink.written c.args.dev.now) (contents g.I.Source.left g.O.Sink.written g.E.Sink.written c.loop-emulator.dev) (contents g.I.Source.left g.O.Sink.written g.E.Sink.written c.take_turns.new.dev) c.loop-emulator.emulator c.take_turns.new.emulator i.long i.so c.front_to_come-coming.result.now is_coming c.limit_of-limit.ensures.first
+    (stored_of g.F.Store.files g.F.Store.created g.F.Store.loads g.F.Store.turned_away g.F.Store.write_faults c.loop-emulator.files) (stored_of g.F.Store.files g.F.Store.created g.F.Store.loads g.F.Store.turned_away g.F.Store.write_faults c.take_turns.new.files) c.in-Err.cut below room c.in-Err.ensures.turns in
+    absurd (omega (arith, under, done))
 
 pub returns-clause-early : goal.returns-clause-early
 returns-clause-early g c = λ none unkept.
@@ -149,5 +161,10 @@ returns-clause-texts g c = λ start made.
     let is_coming : c.front_to_come.result.now ≡ front_to_come c.loop-emulator.emulator.turns c.args.front.now =
     coming_is c.front_to_come.result.now c.args.front.now c.turns-turns-2.result c.loop-emulator.emulator.turns c.front_to_come.ensures c.turns-turns-2.ensures in
     let full : c.loop-emulator.emulator.turns ≡ c.args.budget = omega (arith, i.most) in
-    all_written (option_copied c.args.names.trace) (option_copied c.args.names.native) (option_copied c.args.names.journal) c.args.front.now c.args.emulator.now.quantum c.args.emulator.now.machine c.args.budget c.end_of_budget.result.turns c.end_of_budget.result.end (g.I.Source.left c.args.dev.now.input) start (stored_of g.F.Store.files g.F.Store.created g.F.Store.loads g.F.Store.turned_away g.F.Store.write_faults c.end_of_budget.new.files)
+    all_written (option_copied c.args.names.trace) (option_copied c.args.names.native) (option_copied c.args.names.journal) c.args.front.now c.args.emulator.now.quantum c.args.emulator.now.machine c.args.budget c.end_of_budget.result.turns c.end_of_budget.result.end (contents g.I.Source.left g.O.Sink.written g.E.Sink.written c.args.dev.now) (contents g.I.Source.left g.O.Sink.written g.E.Sink.written c.loop-emulator.dev) start (stored_of g.F.Store.files g.F.Store.created g.F.Store.loads g.F.Store.turned_away g.F.Store.write_faults c.end_of_budget.new.files)
     (all_ended (option_copied c.args.names.trace) (option_copied c.args.names.native) (option_copied c.args.names.journal) c.requires.differ c.args.front.now c.args.emulator.now.quantum c.args.emulator.now.machine c.args.budget c.turns-turns-2.result c.end_of_budget.result.turns (contents g.I.Source.left g.O.Sink.written g.E.Sink.written c.args.dev.now) (contents g.I.Source.left g.O.Sink.written g.E.Sink.written c.loop-emulator.dev) c.loop-emulator.emulator i.so c.front_to_come.result.now is_coming (stored_of g.F.Store.files g.F.Store.created g.F.Store.loads g.F.Store.turned_away g.F.Store.write_faults c.loop-emulator.files) (stored_of g.F.Store.files g.F.Store.created g.F.Store.loads g.F.Store.turned_away g.F.Store.write_faults c.end_of_budget.new.files) full c.turns-turns-2.ensures c.end_of_budget.ensures.turns start (i.texts start made) c.end_of_budget.result.end c.end_of_budget.ensures.end)
+
+pub returns-clause-behind : goal.returns-clause-behind
+returns-clause-behind g c =
+    behind_end c.end_of_budget.result.end c.end_of_budget.result.turns c.args.budget (g.F.Store.write_faults c.args.files.now) (g.F.Store.write_faults c.loop-emulator.files) (g.F.Store.write_faults c.end_of_budget.new.files)
+    c.loop-emulator.invariant.writes c.end_of_budget.ensures.cause

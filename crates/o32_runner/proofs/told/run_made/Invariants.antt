@@ -3,7 +3,8 @@ use Rattle.std.specs.Option.{option_copied}
 use Rattle.outside.specs.Streams.{NoCountFell, NoCountRose, contents}
 use Rattle.o32_runner.specs.Runs.{GoesSo}
 use Rattle.o32_runner.specs.Stored.{Stored, stored_of}
-use Rattle.o32_runner.specs.inside.Told.{IsMade, MakesAll}
+use Rattle.o32_runner.specs.Making.{MakesAll}
+use Rattle.o32_runner.specs.inside.Told.{IsMade}
 use Rattle.o32_runner.proofs.Journals.{AllSo}
 use Rattle.o32_runner.proofs.told.run_made.Given as goal
 

@@ -1,10 +1,12 @@
 -- The call at the machine's time.
-use Rattle.std.proofs.Common.{◌≡◌, ◌∙◌, Ok, ap, arith, None}
+use Rattle.std.proofs.Common.{◌≡◌, ◌∙◌, Ok, ap, arith, None, subst}
 use Rattle.outside.specs.Streams.{contents}
-use Rattle.o32_machine.proofs.Turning.{call_stopped_here, call_went, fails_before}
+use Rattle.o32_machine.proofs.Turning.{call_is, call_stopped_here, call_went, fails_before}
 use Rattle.kernel_model.specs.Clock.{gone_off}
 use Rattle.o32_machine.specs.Emulator.{Emulated, ProcessState, at_clock, machine_of}
+use Rattle.o32_machine.specs.inside.Logging.{LastLogged}
 use Rattle.o32_machine.specs.inside.Steps.{begun}
+use Rattle.o32_turns.specs.Machine.{Turn}
 use Rattle.o32_turns.specs.Turn.{whole}
 use Rattle.o32_turns.specs.Instruction.{at_time, called}
 use Rattle.o32_machine.proofs.Logging.{clocked_logged, clocked_ready, turn_logged}
@@ -42,14 +44,18 @@ pub returns-clause-native : goal.returns-clause-native
 returns-clause-native g c = λ left told.
     let clock = c.self.inside.clock in
     let process = c.self.inside.process in
-    let after = contents g.I.Source.left g.O.Sink.written g.E.Sink.written c.call.new.dev in
+    let before : c.set_clock.new.self ≡ record process { kernel = at_clock clock process.kernel; going = begun process.going } =
+    c.in_ok-set_clock.ensures.moved ∙ ap (λ (p : ProcessState). record p { kernel = at_clock clock p.kernel }) c.begin.ensures in
     let moved : c.set_clock.new.self.kernel ≡ at_clock clock process.kernel =
     ap (λ (p : ProcessState). p.kernel) c.in_ok-set_clock.ensures.moved ∙ ap (λ (p : ProcessState). at_clock clock p.kernel) c.begin.ensures in
     let waits : gone_off clock process.kernel.timer ≡ None = ap (λ (e : Emulated). gone_off e.machine.kernel.clock e.machine.kernel.timer) c.self.view_is ∙ c.requires.timer in
     turn_logged c.args.self.now clock c.self.inside.quantum c.self.inside.turns c.self.inside.over c.self.inside.native c.self.inside.records process c.self.view_is
-    c.clear.new.self c.clear.new.self c.call.new.native c.set_clock.new.self.kernel c.call.new.self.kernel clock left after c.clear.ensures.entries c.clear.ensures.told
+    c.clear.new.self c.clear.new.self c.call.new.native c.set_clock.new.self.kernel c.call.new.self.kernel clock left (at_time c.args.self.now.machine.kernel.clock (called whole c.args.self.now.machine left))
+    c.clear.ensures.entries c.clear.ensures.told
     (clocked_logged c.clear.new.self process.kernel c.set_clock.new.self.kernel clock left moved)
-    (c.in_ok-turn.ensures.native left told (clocked_ready c.clear.new.self process.kernel c.set_clock.new.self.kernel clock moved waits)) (omega (arith, c.call.ensures.told))
+    (subst (λ (t : Turn). LastLogged c.set_clock.new.self.kernel c.call.new.self.kernel left t c.clear.new.self c.call.new.native)
+    (call_is c.args.self.now clock c.self.inside.quantum c.self.inside.turns c.self.inside.over c.self.inside.native c.self.inside.records process c.set_clock.new.self c.self.view_is before left)
+    (c.in_ok-turn.ensures.native left told (clocked_ready c.clear.new.self process.kernel c.set_clock.new.self.kernel clock moved waits))) (omega (arith, c.call.ensures.told))
 
 pub returns-clause-records : goal.returns-clause-records
 returns-clause-records g c =

@@ -5,9 +5,9 @@ use Rattle.o32_machine.proofs.Quieting.{quick_lacks, quick_lacks_clock, quick_la
 use Rattle.o32_machine.specs.Emulator.{machine_of, ProcessState, at_clock}
 use Rattle.kernel_model.specs.Clock.{gone_off}
 use Rattle.kernel_model.specs.State.{Kernel}
-use Rattle.o32_machine.proofs.Logging.{clocked_logged, clocked_ready, turn_logged}
+use Rattle.o32_machine.proofs.Logging.{clocked_logged, clocked_ready}
 use Rattle.std.proofs.Common.{refl}
-use Rattle.o32_machine.proofs.Quieting.{quick_recorded}
+use Rattle.o32_machine.proofs.Quieting.{quick_logged, quick_recorded}
 use Rattle.o32_machine.proofs.emulator.Emulator.quick_turns.Goals as goal
 
 pub set_clock-requires-clause-later : goal.set_clock-requires-clause-later
@@ -55,15 +55,16 @@ pub returns-clause-native : goal.returns-clause-native
 returns-clause-native g c = λ left told.
     let clock = c.later-self-inside.result in
     let process = c.self.inside.process in
-    let after = contents g.I.Source.left g.O.Sink.written g.E.Sink.written c.end_turn.new.dev in
     let ran : c.run-ran.new.self.kernel ≡ process.kernel = ap (λ (p : ProcessState). p.kernel) c.run-ran.ensures.others ∙ ap (λ (p : ProcessState). p.kernel) c.begin.ensures in
     let moved : c.set_clock.new.self.kernel ≡ at_clock clock process.kernel = ap (λ (p : ProcessState). p.kernel) c.in_ok-set_clock.ensures.moved ∙ ap (at_clock clock) ran in
     let none = quick_timer c.args.self.now c.self.inside.clock c.self.inside.quantum c.self.inside.turns c.self.inside.over c.self.inside.native c.self.inside.records process c.self.view_is
     c.args.limit c.args.most c.run-ran.result.quiet c.requires.quiet c.run-ran.ensures.few c.requires.some c.begin.new.self c.run-ran.new.self c.begin.ensures c.run-ran.ensures.others
     clock c.later-self-inside.ensures.time in
     let waits : gone_off clock process.kernel.timer ≡ None = ap (λ (k : Kernel). gone_off clock k.timer) (sym ran) ∙ none in
-    turn_logged c.args.self.now c.self.inside.clock c.self.inside.quantum c.self.inside.turns c.self.inside.over c.self.inside.native c.self.inside.records process c.self.view_is
-    c.clear.new.self c.clear.new.self c.end_turn.new.native c.set_clock.new.self.kernel c.end_turn.new.self.kernel (clock + c.self.inside.quantum) left after c.clear.ensures.entries c.clear.ensures.told
+    quick_logged c.args.self.now c.self.inside.clock c.self.inside.quantum c.self.inside.turns c.self.inside.over c.self.inside.native c.self.inside.records process c.self.view_is
+    c.args.limit c.args.most c.run-ran.result.quiet c.requires.quiet c.run-ran.ensures.few c.requires.some c.begin.new.self c.run-ran.new.self c.begin.ensures c.run-ran.ensures.others
+    clock c.later-self-inside.ensures.time c.in_ok-came.came c.run-ran.result.came c.in_ok-came.was c.run-ran.ensures.last c.set_clock.new.self c.in_ok-set_clock.ensures.moved
+    c.in_ok-turn.turn (c.self.inside.turns + c.run-ran.result.quiet + 1) c.clear.new.self c.end_turn.new.native c.end_turn.new.self.kernel left refl c.in_ok-turn.ensures.counted c.clear.ensures.entries c.clear.ensures.told
     (clocked_logged c.clear.new.self process.kernel c.set_clock.new.self.kernel clock left moved)
     (c.in_ok-turn.ensures.native left told (clocked_ready c.clear.new.self process.kernel c.set_clock.new.self.kernel clock moved waits)) (omega (arith, c.end_turn.ensures.told))
 

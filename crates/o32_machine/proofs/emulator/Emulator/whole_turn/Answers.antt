@@ -1,8 +1,11 @@
 -- A turn in all its steps.
 use Rattle.outside.specs.Streams.{contents}
-use Rattle.o32_machine.proofs.WholeTurns.{last_fails, last_turns, settle_fails, told_between}
+use Rattle.o32_machine.proofs.WholeTurns.{last_fails, last_is, last_turns, settle_fails, told_between}
 use Rattle.o32_machine.specs.Emulator.{machine_at, machine_of}
-use Rattle.std.proofs.Common.{arith}
+use Rattle.o32_machine.specs.inside.Logging.{LastLogged}
+use Rattle.o32_turns.specs.Machine.{Turn}
+use Rattle.o32_turns.specs.Turn.{turn_of}
+use Rattle.std.proofs.Common.{arith, subst}
 use Rattle.o32_machine.proofs.Logging.{turn_logged}
 use Rattle.kernel_model.specs.Pipes.{nothing}
 use Rattle.o32_machine.proofs.Recording.{whole_recorded}
@@ -40,13 +43,16 @@ pub returns-clause-native : goal.returns-clause-native
 returns-clause-native g c = λ left told.
     let before = contents g.I.Source.left g.O.Sink.written g.E.Sink.written c.args.dev.now in
     let between = contents g.I.Source.left g.O.Sink.written g.E.Sink.written c.settle.new.dev in
-    let after = contents g.I.Source.left g.O.Sink.written g.E.Sink.written c.last_steps.new.dev in
     let settled = c.in_ok-settle.ensures.native left told in
     turn_logged c.args.self.now c.self.inside.clock c.self.inside.quantum c.self.inside.turns c.self.inside.over c.self.inside.native c.self.inside.records c.self.inside.process c.self.view_is
-    c.clear.new.self c.settle.new.native c.last_steps.new.native c.settle.new.self.kernel c.last_steps.new.self.kernel c.in_ok-last.last.clock left after c.clear.ensures.entries c.clear.ensures.told (settled.leads nothing)
+    c.clear.new.self c.settle.new.native c.last_steps.new.native c.settle.new.self.kernel c.last_steps.new.self.kernel c.in_ok-last.last.clock left (turn_of c.args.self.now.quantum c.args.self.now.machine left)
+    c.clear.ensures.entries c.clear.ensures.told (settled.leads nothing)
+    (subst (λ (t : Turn). LastLogged c.settle.new.self.kernel c.last_steps.new.self.kernel left t c.settle.new.native c.last_steps.new.native)
+    (last_is c.args.self.now c.self.inside.clock c.self.inside.quantum c.self.inside.turns c.self.inside.over c.self.inside.native c.self.inside.records c.self.inside.process c.self.view_is
+    c.settle.new.self before between c.in_ok-settle.ensures.settled left told)
     (c.in_ok-last.ensures.native left
     (told_between c.args.self.now c.self.inside.clock c.self.inside.quantum c.self.inside.turns c.self.inside.over c.self.inside.native c.self.inside.records c.self.inside.process c.self.view_is
-    c.settle.new.self before between c.in_ok-settle.ensures.settled left told) settled.ready) (omega (arith, c.last_steps.ensures.told, c.in_ok-last.ensures.later))
+    c.settle.new.self before between c.in_ok-settle.ensures.settled left told) settled.ready)) (omega (arith, c.last_steps.ensures.told, c.in_ok-last.ensures.later))
 
 pub returns-clause-records : goal.returns-clause-records
 returns-clause-records g c = λ left told.

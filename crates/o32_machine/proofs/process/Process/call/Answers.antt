@@ -3,10 +3,12 @@ use Rattle.std.proofs.Common.{◌≡◌, ◌∙◌, List, Option, ap, refl, subs
 use Rattle.bridge_log.specs.Keeping.{Logged}
 use Rattle.kernel_core.specs.declared.log_entry.LogEntry.{LogEntry}
 use Rattle.native_calls.specs.History.{moment, opening}
-use Rattle.o32_machine.proofs.Recording.{call_recorded}
-use Rattle.o32_machine.proofs.Turning.{call_goes, call_lacks, call_stops}
+use Rattle.o32_machine.proofs.Recording.{call_recorded, looked}
+use Rattle.o32_machine.proofs.Turning.{call_goes, call_lacks, call_stops, its_turn}
 use Rattle.o32_machine.specs.Emulator.{ProcessState, coming_of, machine_of}
+use Rattle.o32_machine.specs.inside.Logging.{LastLogged}
 use Rattle.o32_turns.specs.Instruction.{seen_of}
+use Rattle.o32_turns.specs.Machine.{Turn}
 use Rattle.o32_machine.proofs.Logging.{call_logged}
 use Rattle.o32_model.specs.Table.{machine_call}
 use Rattle.bridge_system.specs.Found.{found}
@@ -52,17 +54,21 @@ returns-clause-records g c = λ left told.
     let sees : c.seen-seen.result ≡ seen_of (machine_of process) = c.seen-seen.ensures ∙ ap (λ (p : ProcessState). seen_of (machine_of p)) (sym c.self.view_is) in
     let left_by : ProcessState = record process { processor = c.make_call.new.cpu; memory = c.make_call.new.space; kernel = c.make_call.new.k } in
     let turned = call_goes c.args.self.now process c.seen-seen.result c.args-words.result left c.self.view_is sees c.args-words.ensures left_by c.in_ok-outcome.outcome _ _ refl (c.in_ok-outcome.ensures.row left told) c.in_ok-ended.ended (machine_of c.finish.new.self) c.finish.new.self.going.events c.in_ok-ended.ensures.over c.in_ok-ended.ensures.machine c.in_ok-ended.ensures.events in
-    call_recorded c.args.turn c.args.self.now process c.seen-seen.result c.args-words.result left c.self.view_is sees c.args-words.ensures c.args.records.now c.add_call.new.self c.of-was.result _
-    c.part_of-log.result.effects c.make_call.new.log.effects _ (machine_of c.finish.new.self) c.of-was.ensures (ap (λ (p : ProcessState). p.processor) c.self-2.view_is) turned.became
+    call_recorded c.args.turn c.args.self.now process c.seen-seen.result c.args-words.result left c.self.view_is sees c.args-words.ensures c.args.records.now c.add_call.new.self c.look.new.was _
+    c.part_of-log.result.effects c.make_call.new.log.effects _ (machine_of c.finish.new.self) (looked c.args.records.now c.look.new.was _ _ c.look.ensures refl) (ap (λ (p : ProcessState). p.processor) c.self-2.view_is) turned.became
     c.part_of-log.ensures.effects c.halves-calls.ensures.effects (c.in_ok-outcome.ensures.kept left told).effects c.in_ok-add_call.ensures
 
 pub returns-clause-native : goal.returns-clause-native
 returns-clause-native g c = λ left told ready.
     let row = c.in_ok-outcome.ensures.row left told in
     let made = machine_call c.seen-seen.result c.self.inside.kernel (found c.args-words.result c.self.inside.cpu c.self.inside.space) left in
-    call_logged c.args.clock c.args.self.now.kernel c.self.inside.kernel c.make_call.new.k c.finish.new.self.kernel left _ c.args.native.now c.add.new.self
-    made c.part_of-log.result.native c.halves-calls.result.0.native (ap (λ (p : ProcessState). p.kernel) c.self.view_is) c.finish.ensures.kernel row.became row.rest c.part_of-log.ensures.native
+    let process : ProcessState = record { processor = c.self.inside.cpu; memory = c.self.inside.space; kernel = c.self.inside.kernel; going = c.self.inside.going; coming = coming_of c.self.inside.schedule; idle = c.self.inside.idle } in
+    let sees : c.seen-seen.result ≡ seen_of (machine_of process) = c.seen-seen.ensures ∙ ap (λ (p : ProcessState). seen_of (machine_of p)) (sym c.self.view_is) in
+    subst (λ (t : Turn). LastLogged c.args.self.now.kernel c.finish.new.self.kernel left t c.args.native.now c.add.new.self)
+    (its_turn c.args.self.now process c.seen-seen.result c.args-words.result left c.self.view_is sees c.args-words.ensures)
+    (call_logged c.args.clock c.args.self.now.kernel c.self.inside.kernel c.make_call.new.k c.finish.new.self.kernel left c.args.native.now c.add.new.self
+    made c.part_of-log.result.native c.halves-calls.result.0.native (ap (λ (p : ProcessState). p.kernel) c.self.view_is) c.finish.ensures.kernel row.became c.part_of-log.ensures.native
     (subst (λ (n : Option (List LogEntry)). Logged c.part_of-log.result.native n (opening c.self.inside.kernel left) (moment made.kernel made.left made.sent)) (sym c.halves-calls.ensures.native)
     (c.in_ok-outcome.ensures.kept left told).native) ready
     (λ first logged. c.in_ok-add.ensures.leads c.self.inside.kernel c.make_call.new.k left _ _ _ (ap (λ (p : ProcessState). p.kernel.clock) c.self.view_is ∙ c.requires.clock)
-    (c.make_call.ensures.clock ∙ ap (λ (p : ProcessState). p.kernel.clock) c.self.view_is ∙ c.requires.clock) first logged)
+    (c.make_call.ensures.clock ∙ ap (λ (p : ProcessState). p.kernel.clock) c.self.view_is ∙ c.requires.clock) first logged))

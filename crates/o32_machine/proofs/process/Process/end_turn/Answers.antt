@@ -1,7 +1,8 @@
 -- The turn of a SYSCALL is that of its call.
-use Rattle.std.proofs.Common.{[], ◌+◌, ◌%◌, ◌^◌, subst, sym, refl}
+use Rattle.std.proofs.Common.{[], ◌+◌, ◌%◌, ◌^◌, subst, sym, refl, OnOk}
 use Rattle.std.specs.Prelude.{◌-◌}
 use Rattle.o32_machine.proofs.Recording.{gains_none}
+use Rattle.o32_machine.specs.inside.Logging.{LastLogged}
 use Rattle.o32_machine.specs.inside.Recording.{RecordsStep}
 use Rattle.turn_records.specs.Turn.{IsStepRecorded}
 use Rattle.outside.specs.Streams.{contents}
@@ -20,10 +21,19 @@ returns-in-Syscall-clause-turn g c = λ left told.
     (sym c.in-Syscall.is) (c.call.ensures.turn left told)
 
 pub returns-in-Next-clause-native : goal.returns-in-Next-clause-native
-returns-in-Next-clause-native g c = λ left told ready. nothing_logged c.args.self.now.kernel c.args.self.now.kernel left _ c.args.native.now refl told
+returns-in-Next-clause-native g c = λ left told ready.
+    subst (λ (s : Stepped). LastLogged c.args.self.now.kernel c.args.self.now.kernel left (after_events c.args.self.now.going.events (after_step whole (machine_of c.args.self.now) s left)) c.args.native.now c.args.native.now)
+    (sym c.in-Next.is) (nothing_logged c.args.self.now.kernel c.args.self.now.kernel left c.args.native.now refl)
+
+pub returns-in-Syscall-clause-native : goal.returns-in-Syscall-clause-native
+returns-in-Syscall-clause-native g c = λ left told ready.
+    subst (λ (s : Stepped). OnOk c.call.result (LastLogged c.args.self.now.kernel c.call.new.self.kernel left (after_events c.args.self.now.going.events (after_step whole (machine_of c.args.self.now) s left)) c.args.native.now c.call.new.native))
+    (sym c.in-Syscall.is) (c.call.ensures.native left told ready)
 
 pub returns-in_ok-keep_fault-in-Fault-clause-native : goal.returns-in_ok-keep_fault-in-Fault-clause-native
-returns-in_ok-keep_fault-in-Fault-clause-native g c = λ left told ready. nothing_logged c.args.self.now.kernel c.keep_fault.new.self.kernel left _ c.args.native.now c.keep_fault.ensures.kernel told
+returns-in_ok-keep_fault-in-Fault-clause-native g c = λ left told ready.
+    subst (λ (s : Stepped). LastLogged c.args.self.now.kernel c.keep_fault.new.self.kernel left (after_events c.args.self.now.going.events (after_step whole (machine_of c.args.self.now) s left)) c.args.native.now c.args.native.now)
+    (sym c.in-Fault.is) (nothing_logged c.args.self.now.kernel c.keep_fault.new.self.kernel left c.args.native.now c.keep_fault.ensures.kernel)
 
 pub returns-in-Syscall-clause-records : goal.returns-in-Syscall-clause-records
 returns-in-Syscall-clause-records g c =

@@ -4,14 +4,15 @@ use Rattle.std.specs.Prelude.{◌-◌}
 use Rattle.kernel_core.specs.declared.record.Record.{Record}
 use Rattle.o32_machine.proofs.Recording.{behind_step, gains_so, instruction_recorded}
 use Rattle.turn_records.specs.Turn.{IsBehind, IsStepRecorded}
-use Rattle.o32_machine.proofs.WholeTurns.{executed_last, executed_stops, lacks_first, steps_once}
+use Rattle.o32_machine.proofs.WholeTurns.{executed_last, executed_stops, executes, lacks_first, steps_once}
 use Rattle.o32_machine.specs.Emulator.{machine_of, within_now, ProcessState}
 use Rattle.o32_turns.specs.Turn.{whole}
-use Rattle.o32_turns.specs.Turn.{sixth_step}
+use Rattle.o32_turns.specs.Instruction.{after_step}
+use Rattle.o32_turns.specs.Machine.{Turn}
+use Rattle.o32_turns.specs.Turn.{after_events, sixth_step}
 use Rattle.kernel_model.specs.State.{Kernel}
 use Rattle.o32_machine.specs.inside.Logging.{LastLogged}
 use Rattle.native_log.specs.NativeLog.{IsReady}
-use Rattle.outside.specs.Streams.{contents}
 use Rattle.o32_machine.proofs.process.Process.execute.Goals as goal
 
 pub returns-in_err-came-clause-last : goal.returns-in_err-came-clause-last
@@ -31,9 +32,12 @@ returns-clause-last g c = λ left told.
 
 pub returns-clause-native : goal.returns-clause-native
 returns-clause-native g c = λ left told ready.
+    let step = steps_once c.run.result.quiet c.args.self.now.processor c.args.self.now.memory c.run.result.came c.in_ok-came.came c.run.new.self.processor c.run.new.self.memory c.run.ensures.few c.in_ok-came.was c.run.ensures.last in
     let same = ap (λ (p : ProcessState). p.kernel) c.run.ensures.others in
-    subst (λ (k : Kernel). LastLogged k c.end_turn.new.self.kernel left (contents g.I.Source.left g.O.Sink.written g.E.Sink.written c.end_turn.new.dev) c.args.native.now c.end_turn.new.native) same
-    (c.in_ok-ended.ensures.native left told (subst (λ (k : Kernel). IsReady c.args.clock c.args.native.now k) (sym same) ready))
+    subst (λ (t : Turn). LastLogged c.args.self.now.kernel c.end_turn.new.self.kernel left t c.args.native.now c.end_turn.new.native)
+    (sym (executes c.args.quantum c.args.clock c.args.self.now c.run.new.self c.in_ok-came.came c.requires.clock c.run.ensures.others step left))
+    (subst (λ (k : Kernel). LastLogged k c.end_turn.new.self.kernel left (after_events c.run.new.self.going.events (after_step whole (machine_of c.run.new.self) c.in_ok-came.came left)) c.args.native.now c.end_turn.new.native) same
+    (c.in_ok-ended.ensures.native left told (subst (λ (k : Kernel). IsReady c.args.clock c.args.native.now k) (sym same) ready)))
 
 pub returns-clause-records : goal.returns-clause-records
 returns-clause-records g c = λ rests over left told.

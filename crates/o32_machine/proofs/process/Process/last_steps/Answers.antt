@@ -1,11 +1,15 @@
 -- The process has ended, or the clock jumps, or an instruction is carried out.
-use Rattle.std.proofs.Common.{sym, ◌∙◌, refl, ap, List, []}
+use Rattle.std.proofs.Common.{sym, ◌∙◌, refl, ap, subst, true, false, List, []}
 use Rattle.kernel_core.specs.declared.record.Record.{Record}
-use Rattle.o32_machine.proofs.WholeTurns.{execute_last, jump_last, lacks_first, over_last}
-use Rattle.o32_machine.proofs.Logging.{nothing_logged}
+use Rattle.outside.specs.Streams.{contents}
+use Rattle.o32_machine.proofs.WholeTurns.{execute_last, jump_last, lacks_first, over_is, over_last, rests_is}
+use Rattle.o32_machine.proofs.Logging.{last_so, nothing_logged}
 use Rattle.o32_machine.proofs.Recording.{behind_over, behind_rests, gains_none, gains_so}
 use Rattle.o32_machine.specs.Emulator.{ProcessState, machine_of, within_now}
+use Rattle.o32_machine.specs.inside.Logging.{LastLogged}
 use Rattle.o32_machine.specs.inside.Steps.{last_steps}
+use Rattle.o32_turns.specs.Machine.{Turn}
+use Rattle.o32_turns.specs.Turn.{sixth_step, whole}
 use Rattle.turn_records.specs.Turn.{IsBehind}
 use Rattle.o32_machine.proofs.process.Process.last_steps.Goals as goal
 
@@ -24,10 +28,23 @@ returns-clause-last g c = λ left told.
     (c.execute.ensures.last left told)
 
 pub returns-in-Some-clause-native : goal.returns-in-Some-clause-native
-returns-in-Some-clause-native g c = λ left told ready. nothing_logged c.args.self.now.kernel c.args.self.now.kernel left _ c.args.native.now refl told
+returns-in-Some-clause-native g c = λ left told ready.
+    subst (λ (t : Turn). LastLogged c.args.self.now.kernel c.args.self.now.kernel left t c.args.native.now c.args.native.now)
+    (sym (over_is c.args.quantum c.args.clock c.args.self.now c.requires.clock left c.in-Some.finish (sym c.over.ensures ∙ c.in-Some.is)))
+    (nothing_logged c.args.self.now.kernel c.args.self.now.kernel left c.args.native.now refl)
 
 pub returns-then-rests-clause-native : goal.returns-then-rests-clause-native
-returns-then-rests-clause-native g c = λ left told ready. nothing_logged c.args.self.now.kernel c.jump.new.self.kernel left _ c.args.native.now c.jump.ensures.kernel told
+returns-then-rests-clause-native g c = λ left told ready.
+    subst (λ (t : Turn). LastLogged c.args.self.now.kernel c.jump.new.self.kernel left t c.args.native.now c.args.native.now)
+    (sym (rests_is c.args.quantum c.args.clock c.args.self.now c.requires.clock left (sym c.over.ensures ∙ c.in_default.is) true (sym c.rests.ensures ∙ c.if-rests.true)))
+    (nothing_logged c.args.self.now.kernel c.jump.new.self.kernel left c.args.native.now c.jump.ensures.kernel)
+
+pub returns-clause-native : goal.returns-clause-native
+returns-clause-native g c =
+    last_so c.execute.result c.args.clock (sixth_step whole c.args.quantum (within_now c.args.self.now)) (last_steps c.args.quantum (within_now c.args.self.now))
+    c.args.self.now.kernel c.execute.new.self.kernel c.args.native.now c.execute.new.native (contents g.I.Source.left g.O.Sink.written g.E.Sink.written c.args.dev.now)
+    (λ left. sym (rests_is c.args.quantum c.args.clock c.args.self.now c.requires.clock left (sym c.over.ensures ∙ c.in_default.is) false (sym c.rests.ensures ∙ c.if-rests.false)))
+    c.execute.ensures.native
 
 pub returns-in_err-add_idle-clause-last : goal.returns-in_err-add_idle-clause-last
 returns-in_err-add_idle-clause-last g c = λ left told.

@@ -11,7 +11,7 @@ use Rattle.o32_machine.specs.declared.process.Process.TheInside.{Inside}
 use Rattle.o32_turns.specs.Turn.{whole}
 use Rattle.o32_turns.specs.Posting.{posted}
 use Rattle.o32_machine.proofs.Logging.{settled_logged}
-use Rattle.o32_machine.proofs.Recording.{before_recorded}
+use Rattle.o32_machine.proofs.Recording.{before_recorded, looked}
 use Rattle.kernel_core.specs.declared.core_error.Stop.{Stop}
 use Rattle.kernel_model.specs.Pipes.{nothing}
 use Rattle.turn_records.specs.Entry.{registers_of}
@@ -50,9 +50,10 @@ returns-clause-records g c = λ left told.
     let is = (settles c.args.clock done c.args.self.now c.post.new.self c.wake_to_resume.new.self
     (contents g.I.Source.left g.O.Sink.written g.E.Sink.written c.args.dev.now) (contents g.I.Source.left g.O.Sink.written g.E.Sink.written c.wake_to_resume.new.dev)
     (c.in_ok-post.ensures.posted ∙ ap (λ (p : ProcessState). posted whole (within_at c.args.clock p)) c.begin.ensures) c.in_ok-wake_to_resume.ensures.took left told).1 in
-    before_recorded c.args.turn c.args.clock c.args.self.now c.post.new.self c.wake_to_resume.new.self c.args.records.now c.add_before.new.self c.of-was.result _ c.as_slice.result.now c.is_none-alive.result
+    before_recorded c.args.turn c.args.clock c.args.self.now c.post.new.self c.wake_to_resume.new.self c.args.records.now c.add_before.new.self c.look.new.was _ c.as_slice.result.now c.is_none-alive.result
     c.part_of-log.result.effects c.wake_to_resume.new.log.effects _
-    (c.of-was.ensures ∙ ap (λ (p : ProcessState). registers_of p.processor) c.self.view_is ∙ ap registers_of (c.post.ensures.processor ∙ ap (λ (p : ProcessState). p.processor) c.begin.ensures))
+    (looked c.args.records.now c.look.new.was _ _ c.look.ensures
+    (ap (λ (p : ProcessState). registers_of p.processor) c.self.view_is ∙ ap registers_of (c.post.ensures.processor ∙ ap (λ (p : ProcessState). p.processor) c.begin.ensures)))
     (ap (λ (p : ProcessState). p.processor) (ap seen_as c.self-inside.view_is ∙ c.self-2.view_is))
     (c.as_slice.ensures.value ∙ ap (λ (p : ProcessState). p.going.events) (ap seen_as c.self-inside.view_is ∙ c.self-2.view_is))
     (not_some c.is_none-alive.result _ (sym c.is_none-alive.ensures) ∙ ap (λ (p : ProcessState). is_none p.going.over) (ap seen_as c.self-inside.view_is ∙ c.self-2.view_is))

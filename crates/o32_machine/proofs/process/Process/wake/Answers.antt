@@ -1,6 +1,6 @@
 -- A look, and then the end of the wait, or none.
 use Rattle.std.proofs.Common.{◌∙◌, ℕ, false, sym, ap}
-use Rattle.bridge_ends.specs.Ended.{ended_wait}
+use Rattle.bridge_delivery.specs.Ended.{ended_wait}
 use Rattle.o32_machine.proofs.Waking.{accepted, due, waits, woken_so}
 use Rattle.o32_machine.specs.Emulator.{machine_of, within_now}
 use Rattle.o32_machine.specs.inside.Steps.{wakes}
