@@ -1,15 +1,16 @@
 -- The words of the program decode to its instructions.
-use Rattle.std.proofs.Common.{◌≡◌, ℕ, suc, zero, ◌/◌, ◌%◌, ◌^◌, ◌<◌, ◌++◌, Some, List, [], ◌∷◌, map, refl, ◌∙◌, arith}
+use Rattle.std.proofs.Common.{◌≡◌, ℕ, suc, zero, ◌/◌, ◌%◌, ◌^◌, ◌<◌, ◌++◌, Some, List, [], ◌∷◌, map, refl, ap, ◌∙◌, arith}
 use Rattle.std.specs.Prelude.{Bool, true, ◌&&◌, nat_lt}
 use Rattle.std.specs.List.{flat_map, list_all}
 use Rattle.std.proofs.lemmas.Bool.{lt-ltb}
 use Rattle.std.proofs.lemmas.List.Folds.{list_all-append}
 use Rattle.mips_code.specs.declared.insn.Insn.{Insn}
 use Rattle.mips_code.specs.Instructions.{instruction_of}
-use Rattle.mips_code.specs.Words.{is_in_range}
+use Rattle.mips_code.specs.Words.{is_in_range, parts_of}
 use Rattle.mips_code.proofs.Rows.{decodes}
 use Rattle.soak_program.specs.Instructions.{finish, instructions, round, start, word_of}
 use Rattle.soak_program.specs.Numbers.{numbers, numbers_from, successor}
+use Rattle.soak_program.proofs.Fields.{encoded}
 
 both : {a b : Bool} → a ≡ true → b ≡ true → (a && b) ≡ true
 both p q = rw (p, q) refl
@@ -48,7 +49,7 @@ all_decode : (insns : List Insn) → list_all is_in_range insns ≡ true → map
 unfolding word_of
 all_decode [] h = refl
 all_decode (insn ∷ insns) h =
-    let here : instruction_of (word_of insn) ≡ Some insn = decodes insn (first (is_in_range insn) (list_all is_in_range insns) h) in
+    let here : instruction_of (word_of insn) ≡ Some insn = ap instruction_of (encoded (parts_of insn)) ∙ decodes insn (first (is_in_range insn) (list_all is_in_range insns) h) in
     let rest = all_decode insns (second (is_in_range insn) (list_all is_in_range insns) h) in
     rw (here, rest) refl
 

@@ -1,13 +1,14 @@
 -- The instructions of the soak program, and their words. The program is this project's own; instructions are those of MIPS32
 -- Architecture for Programmers, Volume II, with their fields in the order of the word's bits (rs, rt, rd), registers have their
 -- names by the System V ABI, MIPS supplement, and calls their numbers in asm/unistd.h of Linux for o32.
-use Rattle.std.specs.Prelude.{ℕ, ◌/◌, ◌%◌, ◌^◌, ◌++◌, List, [], ◌∷◌, pos}
+use Rattle.std.specs.Prelude.{ℕ, ◌+◌, ◌*◌, ◌/◌, ◌%◌, ◌^◌, ◌++◌, List, [], ◌∷◌, pos}
 use Rattle.std.specs.List.{flat_map}
-use Rattle.std.specs.Int.{w32, to_be_bytes}
+use Rattle.std.specs.Int.{cast_unsigned, w16, w32, to_be_bytes}
 use Rattle.mips_code.specs.declared.insn.Insn.{Insn}
 use Rattle.mips_code.specs.declared.insn.Insn.TheVariants.{Addiu, Addu, Lui, Ori, Sw, Syscall}
 use Rattle.mips_code.specs.Words.{parts_of}
-use Rattle.mips_code.specs.inside.Assembled.{word_of_parts}
+use Rattle.mips_code.specs.declared.parts.Parts.{Parts}
+use Rattle.mips_code.specs.declared.parts.Parts.TheVariants.{Jump, Signed, Immediate, Register, LongCode, ShortCode}
 use Rattle.soak_program.specs.Numbers.{numbers}
 
 abbrev pub no_register : ℕ
@@ -71,8 +72,17 @@ finish = Addu no_register no_register a0 ∷ Addiu no_register v0 (pos 4001) ∷
 abbrev pub instructions : ℕ → List Insn
 instructions count = start ++ flat_map round (numbers count) ++ finish
 
+-- the word with these fields, each in its bits
+abbrev pub word_with : Parts → ℕ
+word_with (Jump opcode target) = opcode * 2 ^ 26 + target
+word_with (Signed opcode rs rt imm) = opcode * 2 ^ 26 + rs * 2 ^ 21 + rt * 2 ^ 16 + cast_unsigned w16 imm
+word_with (Immediate opcode rs rt imm) = opcode * 2 ^ 26 + rs * 2 ^ 21 + rt * 2 ^ 16 + imm
+word_with (Register opcode rs rt rd sa function) = opcode * 2 ^ 26 + rs * 2 ^ 21 + rt * 2 ^ 16 + rd * 2 ^ 11 + sa * 2 ^ 6 + function
+word_with (LongCode code function) = code * 2 ^ 6 + function
+word_with (ShortCode rs rt code function) = rs * 2 ^ 21 + rt * 2 ^ 16 + code * 2 ^ 6 + function
+
 unfoldable pub word_of : Insn → ℕ
-word_of insn = word_of_parts (parts_of insn)
+word_of insn = word_with (parts_of insn)
 
 -- instructions as bytes, high byte first
 abbrev pub code_of : List Insn → List ℕ

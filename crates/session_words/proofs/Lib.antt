@@ -1,0 +1,5 @@
+pub mod Guest
+pub mod Numbers
+pub mod Reading
+pub mod Budgets
+pub mod Counts
