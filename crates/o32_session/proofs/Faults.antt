@@ -7,7 +7,7 @@ use Rattle.kernel_core.specs.declared.core_error.Stop.TheVariants as stops
 use Rattle.kernel_core.specs.declared.finish.Finish.{Finish}
 use Rattle.kernel_core.specs.declared.finish.Finish.TheVariants as finishes
 use Rattle.o32_runner.specs.Traced.{StopsOnlyIfAnyRose}
-use Rattle.o32_machine.specs.Emulator.{Emulated}
+use Rattle.o32_runner.specs.Emulators.{Emulated}
 use Rattle.o32_session.specs.Faults.{NoneRose, TellsFaults}
 use Rattle.o32_runner.specs.Stored.{Stored}
 use Rattle.o32_session.specs.Session.{Seen, seen_of}
@@ -16,7 +16,7 @@ use Rattle.o32_session.specs.inside.Prepared.{EndsRefused, EndsWithoutRun, LineF
 use Rattle.o32_session.specs.inside.Runs.{AnswersRun}
 use Rattle.o32_session.specs.declared.answer.Answer.{Answer}
 use Rattle.o32_session.specs.declared.answer.End.{End}
-use Rattle.o32_session.specs.declared.answer.End.TheVariants.{Exited, Killed, Budget, Blocked, Replayed, Refused, Diverged, ReadFault, WriteFault, NoMemory}
+use Rattle.o32_session.specs.declared.answer.End.TheVariants.{Exited, Killed, Budget, Blocked, Soaked, Replayed, Refused, Diverged, ReadFault, WriteFault, NoMemory}
 use Rattle.o32_session.specs.declared.answer.Refusal.{Refusal}
 use Rattle.o32_session.specs.declared.not_run.NotRun.{NotRun}
 use Rattle.o32_session.specs.declared.not_run.NotRun.TheVariants as reasons
@@ -56,6 +56,7 @@ tells_since (Exited status) old middle new first second = none_since old middle 
 tells_since (Killed signal) old middle new first second = none_since old middle new first second
 tells_since Budget old middle new first second = none_since old middle new first second
 tells_since Blocked old middle new first second = none_since old middle new first second
+tells_since (Soaked over) old middle new first second = none_since old middle new first second
 tells_since (Replayed over) old middle new first second = none_since old middle new first second
 tells_since (Diverged turn wanted found) old middle new first second = none_since old middle new first second
 
@@ -71,6 +72,7 @@ line_faults refusal (Exited status) old new text then so cause reads outs loads 
 line_faults refusal (Killed signal) old new text then so cause reads outs loads writes = absurd so
 line_faults refusal Budget old new text then so cause reads outs loads writes = absurd so
 line_faults refusal Blocked old new text then so cause reads outs loads writes = absurd so
+line_faults refusal (Soaked over) old new text then so cause reads outs loads writes = absurd so
 line_faults refusal (Replayed over) old new text then so cause reads outs loads writes = absurd so
 line_faults refusal (Diverged turn wanted found) old new text then so cause reads outs loads writes = absurd so
 

@@ -1,7 +1,5 @@
 -- Which loads were answered, and which were turned away.
-use Rattle.std.proofs.Common.{◌≡◌, ℕ, ◌+◌, ◌<◌, List, [], ◌∷◌, ◌++◌, length, take, Option, Some, None, Result, Ok, Err, IfErr, inl, inr, arith, refl, sym, ap, ◌∙◌, subst, append-nil, append_assoc}
-use Rattle.std.proofs.Math.Seq.{take-append_seam}
-use Rattle.std.proofs.lemmas.List.{length-append}
+use Rattle.std.proofs.Common.{◌≡◌, ℕ, List, [], ◌∷◌, ◌++◌, Option, Some, None, Result, Ok, Err, IfErr, ◌⊎◌, inl, inr, refl, sym, ap, ◌∙◌, subst, append-nil, append_assoc}
 use Rattle.outside.specs.Files.{Files}
 use Rattle.outside.specs.Turned.{TurnedLoad}
 use Rattle.outside.specs.declared.errors.LoadError.{LoadError}
@@ -11,11 +9,12 @@ use Rattle.elf_image.specs.declared.load_plan.Plan.{Plan}
 use Rattle.schedule.specs.declared.Schedule.{Schedule}
 use Rattle.schedule.specs.declared.refusal.ScheduleRefusal.{ScheduleRefusal}
 use Rattle.schedule.specs.Grammar.{meaning_of}
-use Rattle.o32_session.specs.Asked.{Asked, Names, names_of, Found, Absent, Long, Bytes, IsOpenedBy, image_file, schedule_file, image_limit, schedule_limit, schedule_of_found, taken_schedule}
-use Rattle.o32_session.specs.Saved.{after_loads, load_of, loaded_by, loaded_names, named, turned_by}
+use Rattle.o32_session.specs.Asked.{Asked, Names, names_of, Found, Absent, Long, Bytes, HasProgram, HasTree, IsOpenedBy, image_file, schedule_file, image_limit, schedule_limit, schedule_of_found, taken_schedule}
+use Rattle.o32_session.specs.Saved.{AtProgram, AtImage, AtSchedule, AtMachine, after_loads, load_of, loaded_by, loaded_names, named, turned_by}
+use Rattle.o32_session.specs.Session.{AreInOrder, WantsMemory}
 use Rattle.o32_runner.specs.Stored.{Stored}
 use Rattle.o32_session.specs.Words.{Reading, Asks, WrongAt}
-use Rattle.o32_session.specs.inside.Prepared.{IsPlanned, IsRefusedFor, is_absent, is_long, is_broken, IsScheduledAs, IsStartReason, IsTree, LoadsFile, LoadsFiles, LoadsReading, turned_at}
+use Rattle.o32_session.specs.inside.Prepared.{IsPlanOf, IsPlanned, IsRefusedFor, is_absent, is_long, is_broken, IsScheduledAs, IsStartReason, IsTree, LoadsFile, LoadsFiles, LoadsReading, turned_at}
 use Rattle.o32_session.specs.declared.answer.Refusal.{Refusal}
 use Rattle.o32_session.specs.declared.answer.Refusal.TheVariants as refusals
 use Rattle.o32_session.specs.declared.load.SessionFile.TheVariants as which
@@ -34,22 +33,10 @@ pub then_loaded : (old middle new : Stored) (first second : List (List ℕ)) (tu
 then_loaded old middle new first second turned before after =
     after ∙ (ap (λ (s : Stored). after_loads s second turned) before ∙ after_twice old first second turned)
 
--- a first part of the names was loaded
-part_loaded : (names : Names) (first rest : List (List ℕ)) (old new : Stored) → loaded_names names ≡ first ++ rest → new ≡ after_loads old first [] →
-    (count : ℕ) × (new ≡ after_loads old (take count (loaded_names names)) [])
-part_loaded names first rest old new all is = (
-  length first,
-  is ∙ ap (λ (l : List (List ℕ)). after_loads old l []) (sym (ap (λ (l : List (List ℕ)). take (length first) l) all ∙ take-append_seam first rest)),
-)
-
--- the same before one more
-short_loaded : (names : Names) (first rest : List (List ℕ)) (old new : Stored) → loaded_names names ≡ first ++ rest → 0 < length rest → new ≡ after_loads old first [] →
-    (count : ℕ) × (count < length (loaded_names names)) × (new ≡ after_loads old (take count (loaded_names names)) [])
-unfolding part_loaded
-short_loaded names first rest old new all more is =
-    let part = part_loaded names first rest old new all is in
-    let long : length (loaded_names names) ≡ length first + length rest = ap (λ (l : List (List ℕ)). length l) all ∙ length-append first rest in
-    (length first, omega (arith, long), part.1)
+-- and none behind them
+then_none : (old middle new : Stored) (first : List (List ℕ)) → middle ≡ after_loads old first [] → new ≡ after_loads middle [] [] → new ≡ after_loads old first []
+then_none old middle new first before after =
+    then_loaded old middle new first [] [] before after ∙ ap (λ (l : List (List ℕ)). after_loads old l []) (append-nil first)
 
 -- The program
 
@@ -59,18 +46,15 @@ program_refused told names _ old new (is_absent found) is = is
 program_refused told names _ old new (is_long found) is = is
 program_refused told names _ old new (is_broken bytes rule found broken) is = is
 
-all_names : (names : Names) → loaded_names names ≡ loaded_names names ++ []
-all_names names = sym (append-nil (loaded_names names))
-
 pub program_loads : (told : Option Files) (names : Names) (reason : NotRun) (old new : Stored) → IsPlanned told names.program (Err reason) →
     LoadsFile {T = Plan} which.Program (Some names.program) (Err reason) old new → LoadsFiles {T = Ready} names (Err reason) old new
 program_loads told names (Refused refusal) old new is loads = program_refused told names refusal old new is loads
-program_loads told names ReadFault old new is loads = short_loaded names [] (loaded_names names) old new refl (omega arith) loads.1
-program_loads told names NoMemory old new is loads =
-    elim loads as (λ _. (count : ℕ) × (new ≡ after_loads old (take count (loaded_names names)) [])) [
-      | inl none ↦ part_loaded names [] (loaded_names names) old new refl none
-      | inr one ↦ part_loaded names (names.program ∷ []) (named names.image ++ named names.schedule) old new refl one
-    ]
+program_loads told names ReadFault old new is loads = record { stage = AtProgram; some = loads.0; in_order = tt; stands = loads.1 }
+program_loads told names NoMemory old new is loads = record { stage = AtProgram; in_order = tt; stands = loads }
+
+-- the program of a plan is in order
+pub program_is : (told : Option Files) (name : List ℕ) (plan : Plan) → IsPlanOf told name plan → HasProgram told name
+program_is told name plan is = (is.bytes, is.found, is.formed)
 
 -- The image
 
@@ -93,10 +77,10 @@ image_refused names name refusal (Bytes bytes) is opened =
     subst (λ (r : Refusal). TurnsImage names r name) (sym opened.1) (refl, refl)
 
 -- an image by its name, after the program
-image_loaded : (told : Option Files) (names : Names) (image : Option (List ℕ)) (reason : NotRun) (old new : Stored) → names.image ≡ image → IsTree told image (Err reason) →
-    LoadsFile {T = Tree} which.Image image (Err reason) (after_loads old (names.program ∷ []) []) new → LoadsFiles {T = Ready} names (Err reason) old new
-image_loaded told names None (Refused refusal) old new is tree loads = absurd cc
-image_loaded told names (Some name) (Refused refusal) old new is tree loads =
+image_turned_away : (told : Option Files) (names : Names) (image : Option (List ℕ)) (refusal : Refusal) (old new : Stored) → names.image ≡ image → IsTree told image (Err (Refused refusal)) →
+    LoadsFile {T = Tree} which.Image image (Err (Refused refusal)) (after_loads old (names.program ∷ []) []) new → LoadsFiles {T = Ready} names (Err (Refused refusal)) old new
+image_turned_away told names None refusal old new is tree loads = absurd cc
+image_turned_away told names (Some name) refusal old new is tree loads =
     let turns = image_refused names name refusal tree.0 is tree.2 in
     let all : new ≡ after_loads old ((names.program ∷ []) ++ named (Some name)) (turned_at which.Image name refusal) =
     then_loaded old (after_loads old (names.program ∷ []) []) new (names.program ∷ []) (named (Some name)) (turned_at which.Image name refusal) refl loads in
@@ -104,27 +88,22 @@ image_loaded told names (Some name) (Refused refusal) old new is tree loads =
     ∙ (ap (λ (i : Option (List ℕ)). after_loads old (names.program ∷ named i) (turned_at which.Image name refusal)) (sym is)
     ∙ (ap (λ (l : List (List ℕ)). after_loads old l (turned_at which.Image name refusal)) (sym turns.1)
     ∙ ap (λ (t : List TurnedLoad). after_loads old (loaded_by names refusal) t) turns.0))
-image_loaded told names None ReadFault old new is tree loads = absurd cc
-image_loaded told names (Some name) ReadFault old new is tree loads =
-    short_loaded names (names.program ∷ []) (named names.image ++ named names.schedule) old new refl
-    (subst (λ (i : Option (List ℕ)). 0 < length (named i ++ named names.schedule)) (sym is) (omega arith))
-    (then_loaded old (after_loads old (names.program ∷ []) []) new (names.program ∷ []) [] [] refl loads.1)
-image_loaded told names image NoMemory old new is tree loads =
-    elim loads as (λ _. (count : ℕ) × (new ≡ after_loads old (take count (loaded_names names)) [])) [
-      | inl none ↦
-          part_loaded names (names.program ∷ []) (named names.image ++ named names.schedule) old new refl
-          (then_loaded old (after_loads old (names.program ∷ []) []) new (names.program ∷ []) [] [] refl none)
-      | inr one ↦
-          part_loaded names (names.program ∷ named names.image) (named names.schedule) old new refl
-          (then_loaded old (after_loads old (names.program ∷ []) []) new (names.program ∷ []) (named image) [] refl one
-          ∙ ap (λ (i : Option (List ℕ)). after_loads old (names.program ∷ named i) []) (sym is))
-    ]
 
-pub image_loads : (told : Option Files) (names : Names) (reason : NotRun) (old middle new : Stored) → IsTree told names.image (Err reason) → middle ≡ after_loads old (names.program ∷ []) [] →
+pub image_loads : (told : Option Files) (names : Names) (reason : NotRun) (old middle new : Stored) → HasProgram old.files names.program → IsTree told names.image (Err reason) → middle ≡ after_loads old (names.program ∷ []) [] →
     LoadsFile {T = Tree} which.Image names.image (Err reason) middle new → LoadsFiles {T = Ready} names (Err reason) old new
-image_loads told names reason old middle new tree before loads =
-    image_loaded told names names.image reason old new refl tree
-    (subst (λ (s : Stored). LoadsFile {T = Tree} which.Image names.image (Err reason) s new) before loads)
+image_loads told names (Refused refusal) old middle new program tree before loads =
+    image_turned_away told names names.image refusal old new refl tree
+    (subst (λ (s : Stored). LoadsFile {T = Tree} which.Image names.image (Err (Refused refusal)) s new) before loads)
+image_loads told names ReadFault old middle new program tree before loads =
+    record { stage = AtImage; some = loads.0; in_order = program; stands = then_loaded old middle new (names.program ∷ []) [] [] before loads.1 }
+image_loads told names NoMemory old middle new program tree before loads = record {
+  stage = AtImage;
+  in_order = program;
+  stands = elim loads as (λ _. (new ≡ after_loads old (names.program ∷ []) []) ⊎ (new ≡ after_loads old (names.program ∷ named names.image) [])) [
+    | inl none ↦ inl (then_loaded old middle new (names.program ∷ []) [] [] before none)
+    | inr one ↦ inr (then_loaded old middle new (names.program ∷ []) (named names.image) [] before one)
+  ];
+}
 
 -- The schedule
 
@@ -155,10 +134,10 @@ schedule_refused names name refusal Long is scheduled =
     subst (λ (r : Refusal). TurnsSchedule names r name) (sym same) (schedule_turned names name answers.TooLong is, refl)
 schedule_refused names name refusal (Bytes text) is scheduled = text_refused names name refusal (meaning_of text) scheduled
 
-schedule_loaded : (told : Option Files) (names : Names) (name : Option (List ℕ)) (reason : NotRun) (old new : Stored) → names.schedule ≡ name → IsScheduledAs told name (Err reason) →
-    LoadsFile {T = Schedule} which.Schedule name (Err reason) (after_loads old (before_schedule names) []) new → LoadsFiles {T = Ready} names (Err reason) old new
-schedule_loaded told names None (Refused refusal) old new is scheduled loads = absurd cc
-schedule_loaded told names (Some name) (Refused refusal) old new is scheduled loads =
+schedule_turned_away : (told : Option Files) (names : Names) (name : Option (List ℕ)) (refusal : Refusal) (old new : Stored) → names.schedule ≡ name → IsScheduledAs told name (Err (Refused refusal)) →
+    LoadsFile {T = Schedule} which.Schedule name (Err (Refused refusal)) (after_loads old (before_schedule names) []) new → LoadsFiles {T = Ready} names (Err (Refused refusal)) old new
+schedule_turned_away told names None refusal old new is scheduled loads = absurd cc
+schedule_turned_away told names (Some name) refusal old new is scheduled loads =
     let turns = schedule_refused names name refusal scheduled.0 is scheduled.2 in
     let all : new ≡ after_loads old (before_schedule names ++ named (Some name)) (turned_at which.Schedule name refusal) =
     then_loaded old (after_loads old (before_schedule names) []) new (before_schedule names) (named (Some name)) (turned_at which.Schedule name refusal) refl loads in
@@ -166,66 +145,76 @@ schedule_loaded told names (Some name) (Refused refusal) old new is scheduled lo
     ∙ (ap (λ (i : Option (List ℕ)). after_loads old (before_schedule names ++ named i) (turned_at which.Schedule name refusal)) (sym is)
     ∙ (ap (λ (l : List (List ℕ)). after_loads old l (turned_at which.Schedule name refusal)) (sym turns.1)
     ∙ ap (λ (t : List TurnedLoad). after_loads old (loaded_by names refusal) t) turns.0))
-schedule_loaded told names None ReadFault old new is scheduled loads = absurd cc
-schedule_loaded told names (Some name) ReadFault old new is scheduled loads =
-    short_loaded names (before_schedule names) (named names.schedule) old new refl
-    (subst (λ (i : Option (List ℕ)). 0 < length (named i)) (sym is) (omega arith))
-    (then_loaded old (after_loads old (before_schedule names) []) new (before_schedule names) [] [] refl loads.1
-    ∙ ap (λ (l : List (List ℕ)). after_loads old l []) (append-nil (before_schedule names)))
-schedule_loaded told names name NoMemory old new is scheduled loads =
-    elim loads as (λ _. (count : ℕ) × (new ≡ after_loads old (take count (loaded_names names)) [])) [
-      | inl none ↦
-          part_loaded names (before_schedule names) (named names.schedule) old new refl
-          (then_loaded old (after_loads old (before_schedule names) []) new (before_schedule names) [] [] refl none
-          ∙ ap (λ (l : List (List ℕ)). after_loads old l []) (append-nil (before_schedule names)))
-      | inr one ↦
-          part_loaded names (loaded_names names) [] old new (all_names names)
-          (then_loaded old (after_loads old (before_schedule names) []) new (before_schedule names) (named name) [] refl one
-          ∙ ap (λ (i : Option (List ℕ)). after_loads old (before_schedule names ++ named i) []) (sym is))
-    ]
 
 -- the store after the loads of the program and of the image
 before_scheduled : (names : Names) (old first second : Stored) → first ≡ after_loads old (names.program ∷ []) [] → second ≡ after_loads first (named names.image) [] →
     second ≡ after_loads old (before_schedule names) []
 before_scheduled names old first second program image = then_loaded old first second (names.program ∷ []) (named names.image) [] program image
 
-pub schedule_loads : (told : Option Files) (names : Names) (reason : NotRun) (old first second new : Stored) → IsScheduledAs told names.schedule (Err reason) → first ≡ after_loads old (names.program ∷ []) [] →
-    second ≡ after_loads first (named names.image) [] → LoadsFile {T = Schedule} which.Schedule names.schedule (Err reason) second new → LoadsFiles {T = Ready} names (Err reason) old new
-schedule_loads told names reason old first second new scheduled program image loads =
-    schedule_loaded told names names.schedule reason old new refl scheduled
-    (subst (λ (s : Stored). LoadsFile {T = Schedule} which.Schedule names.schedule (Err reason) s new) (before_scheduled names old first second program image) loads)
+pub schedule_loads : (told : Option Files) (names : Names) (reason : NotRun) (old first second new : Stored) → HasProgram old.files names.program → HasTree old.files names.image → IsScheduledAs told names.schedule (Err reason)
+    → first ≡ after_loads old (names.program ∷ []) [] → second ≡ after_loads first (named names.image) [] → LoadsFile {T = Schedule} which.Schedule names.schedule (Err reason) second new → LoadsFiles {T = Ready} names (Err reason) old new
+schedule_loads told names (Refused refusal) old first second new program image scheduled loaded opened loads =
+    schedule_turned_away told names names.schedule refusal old new refl scheduled
+    (subst (λ (s : Stored). LoadsFile {T = Schedule} which.Schedule names.schedule (Err (Refused refusal)) s new) (before_scheduled names old first second loaded opened) loads)
+schedule_loads told names ReadFault old first second new program image scheduled loaded opened loads = record {
+  stage = AtSchedule;
+  some = loads.0;
+  in_order = (program, image);
+  stands = then_none old second new (before_schedule names) (before_scheduled names old first second loaded opened) loads.1;
+}
+schedule_loads told names NoMemory old first second new program image scheduled loaded opened loads = record {
+  stage = AtSchedule;
+  in_order = (program, image);
+  stands = elim loads as (λ _. (new ≡ after_loads old (before_schedule names) []) ⊎ (new ≡ after_loads old (before_schedule names ++ named names.schedule) [])) [
+    | inl none ↦ inl (then_none old second new (before_schedule names) (before_scheduled names old first second loaded opened) none)
+    | inr one ↦ inr (then_loaded old second new (before_schedule names) (named names.schedule) [] (before_scheduled names old first second loaded opened) one)
+  ];
+}
 
 -- All files
 
-started : (names : Names) (asked : Asked) (reason : NotRun) (old new : Stored) → IsStartReason asked reason → new ≡ after_loads old (loaded_names names) [] → LoadsFiles {T = Ready} names (Err reason) old new
-started names asked (Refused refusals.Start) old new why is = is
-started names asked (Refused (refusals.Usage word)) old new why is = absurd why
-started names asked (Refused (refusals.Missing file)) old new why is = absurd why
-started names asked (Refused (refusals.TooLong file)) old new why is = absurd why
-started names asked (Refused (refusals.Elf rule)) old new why is = absurd why
-started names asked (Refused (refusals.Image broken)) old new why is = absurd why
-started names asked (Refused (refusals.Schedule broken)) old new why is = absurd why
-started names asked (Refused (refusals.Journal at)) old new why is = absurd why
-started names asked ReadFault old new why is = absurd why
-started names asked NoMemory old new why is = part_loaded names (loaded_names names) [] old new (all_names names) is
+started : (names : Names) (asked : Asked) (reason : NotRun) (old new : Stored) → AreInOrder AtMachine names old.files → IsStartReason asked reason → new ≡ after_loads old (loaded_names names) [] → LoadsFiles {T = Ready} names (Err reason) old new
+started names asked (Refused refusals.Start) old new ordered why is = is
+started names asked (Refused (refusals.Usage word)) old new ordered why is = absurd why
+started names asked (Refused (refusals.Missing file)) old new ordered why is = absurd why
+started names asked (Refused (refusals.TooLong file)) old new ordered why is = absurd why
+started names asked (Refused (refusals.Elf rule)) old new ordered why is = absurd why
+started names asked (Refused (refusals.Image broken)) old new ordered why is = absurd why
+started names asked (Refused (refusals.Schedule broken)) old new ordered why is = absurd why
+started names asked (Refused (refusals.Journal at)) old new ordered why is = absurd why
+started names asked ReadFault old new ordered why is = absurd why
+started names asked NoMemory old new ordered why is = record { stage = AtMachine; in_order = ordered; stands = inl is }
 
-all_loaded : (names : Names) (asked : Asked) (result : Result Ready NotRun) (old new : Stored) → new ≡ after_loads old (loaded_names names) [] → IfErr result (IsStartReason asked) →
+all_loaded : (names : Names) (asked : Asked) (result : Result Ready NotRun) (old new : Stored) → AreInOrder AtMachine names old.files → new ≡ after_loads old (loaded_names names) [] → IfErr result (IsStartReason asked) →
     LoadsFiles names result old new
-all_loaded names asked (Ok ready) old new is why = is
-all_loaded names asked (Err reason) old new is why = started names asked reason old new why is
+all_loaded names asked (Ok ready) old new ordered is why = is
+all_loaded names asked (Err reason) old new ordered is why = started names asked reason old new ordered why is
 
-pub loads : (names : Names) (asked : Asked) (result : Result Ready NotRun) (old first second new : Stored) → first ≡ after_loads old (names.program ∷ []) [] → second ≡ after_loads first (named names.image) [] →
-    new ≡ after_loads second (named names.schedule) [] → IfErr result (IsStartReason asked) → LoadsFiles names result old new
-loads names asked result old first second new program image schedule why =
-    all_loaded names asked result old new (then_loaded old second new (before_schedule names) (named names.schedule) [] (before_scheduled names old first second program image) schedule) why
+pub loads : (names : Names) (asked : Asked) (result : Result Ready NotRun) (old first second new : Stored) → AreInOrder AtMachine names old.files → first ≡ after_loads old (names.program ∷ []) []
+    → second ≡ after_loads first (named names.image) [] → new ≡ after_loads second (named names.schedule) [] → IfErr result (IsStartReason asked) → LoadsFiles names result old new
+loads names asked result old first second new ordered program image schedule why =
+    all_loaded names asked result old new ordered (then_loaded old second new (before_schedule names) (named names.schedule) [] (before_scheduled names old first second program image) schedule) why
+
+-- Memory ran out before the first load
+pub nothing_loaded : (names : Names) (store : Stored) → WantsMemory names store store
+nothing_loaded names store = record { stage = AtProgram; in_order = tt; stands = inl (sym (no_loads store)) }
+  where
+    no_loads : (store : Stored) → after_loads store [] [] ≡ store
+    no_loads store =
+        ap (λ (l : List (List ℕ)). let s : Stored = record store { loads = l; turned = store.turned ++ [] } in s) (append-nil store.loads)
+        ∙ ap (λ (t : List TurnedLoad). let s : Stored = record store { turned = t } in s) (append-nil store.turned)
 
 -- The count of faulty writes
 
 files_write : (names : Names) (result : Result Ready NotRun) (old new : Stored) → LoadsFiles names result old new → new.write_faults ≡ old.write_faults
 files_write names (Ok ready) old new loads = ap (λ (s : Stored). s.write_faults) loads
 files_write names (Err (Refused refusal)) old new loads = ap (λ (s : Stored). s.write_faults) loads
-files_write names (Err ReadFault) old new loads = ap (λ (s : Stored). s.write_faults) loads.2
-files_write names (Err NoMemory) old new loads = ap (λ (s : Stored). s.write_faults) loads.1
+files_write names (Err ReadFault) old new loads = ap (λ (s : Stored). s.write_faults) loads.stands
+files_write names (Err NoMemory) old new loads =
+    elim loads.stands as (λ _. new.write_faults ≡ old.write_faults) [
+      | inl before ↦ ap (λ (s : Stored). s.write_faults) before
+      | inr behind ↦ ap (λ (s : Stored). s.write_faults) behind
+    ]
 
 pub reading_writes : (words : List (List ℕ)) (reading : Reading) (result : Result Ready NotRun) (old new : Stored) → LoadsReading words reading result old new → new.write_faults ≡ old.write_faults
 reading_writes words (WrongAt word) result old new loads = ap (λ (s : Stored). s.write_faults) loads

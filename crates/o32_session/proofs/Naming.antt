@@ -1,8 +1,9 @@
 -- The files that a run writes its texts to: their names differ, and a log and a journal begin where one is named.
-use Rattle.std.proofs.Common.{◌≡◌, ◌≤◌, ℕ, Bool, cond, true, List, Option, None, Some, is_some, Result, Ok, Err, option_map, max, ap, arith, refl, sym, ◌∙◌, subst}
+use Rattle.std.proofs.Common.{◌≡◌, ◌≤◌, ℕ, Bool, cond, true, List, Option, None, Some, is_some, Result, Ok, Err, option_map, inl, max, ap, arith, refl, sym, ◌∙◌, subst}
 use Rattle.std.specs.Prelude.{⊤, option_and_then}
 use Rattle.std.specs.Str.{bytes_eq}
 use Rattle.outside.specs.Files.{Files}
+use Rattle.outside.specs.Streams.{Contents}
 use Rattle.outside.proofs.FileLemmas.{bytes_eq-same}
 use Rattle.native_log.specs.NativeLog.{NativeLog, first_log}
 use Rattle.kernel_core.specs.declared.core_error.Stop.{Stop}
@@ -71,6 +72,18 @@ differ words line none =
       third = later_differ words line.native line.journal at_journal.1;
     }
 
+-- the file of the journal is not the one that is saved to
+differ_saved : (words : List (List ℕ)) (line : Line) → equal_name words line ≡ None → Differ (option_map (word_at words) line.journal) (option_map (word_at words) line.save)
+differ_saved words line none =
+    let traced = option_and_then (equal_to_written words line) line.trace in
+    let logged = option_and_then (equal_to_native words line) line.native in
+    let kept = option_and_then (equal_to_journal words line) line.journal in
+    let saved = option_and_then (equal_to_saved words line) line.save in
+    let others : first_of logged (first_of kept saved) ≡ None = none_second traced (first_of logged (first_of kept saved)) none in
+    let no_save : saved ≡ None = none_second kept saved (none_second logged (first_of kept saved) others) in
+    let at_save = none_of (equal_to_journal words line) (λ at. option_and_then (later_of_equal words at) line.journal) line.save no_save in
+    later_differ words line.journal line.save at_save.1
+
 -- the names of the line that is asked for, where one is
 abbrev AsksApart : List (List ℕ) → Reading → Type 0
 AsksApart words (Asks line) = AllDiffer (names_of words line).trace (names_of words line).native (names_of words line).journal
@@ -86,6 +99,21 @@ compared_apart words (Asks line) = named_apart words line (equal_name words line
 
 names_apart : (words : List (List ℕ)) (line : Line) → read_words words ≡ Asks line → AllDiffer (names_of words line).trace (names_of words line).native (names_of words line).journal
 names_apart words line is = subst (AsksApart words) is (compared_apart words (read_line words))
+
+abbrev AsksSaved : List (List ℕ) → Reading → Type 0
+AsksSaved words (Asks line) = Differ (names_of words line).journal (names_of words line).save
+AsksSaved words (WrongAt at) = ⊤
+
+named_saved : (words : List (List ℕ)) (line : Line) (at : Option ℕ) → equal_name words line ≡ at → AsksSaved words (with_names line at)
+named_saved words line None is = differ_saved words line is
+named_saved words line (Some at) is = tt
+
+compared_saved : (words : List (List ℕ)) (reading : Reading) → AsksSaved words (compare_names words reading)
+compared_saved words (WrongAt at) = tt
+compared_saved words (Asks line) = named_saved words line (equal_name words line) refl
+
+pub saved_apart : (words : List (List ℕ)) (line : Line) → read_words words ≡ Asks line → Differ (names_of words line).journal (names_of words line).save
+saved_apart words line is = subst (AsksSaved words) is (compared_saved words (read_line words))
 
 -- what is ready has these names
 pub ready_differ : (words : List (List ℕ)) (reading : Reading) (told : Option Files) (ready : Ready) → read_words words ≡ reading → IsPrepared words reading told (Ok ready)
@@ -122,13 +150,18 @@ begins_journal words journal name records named is = subst (λ (n : Option (List
 
 -- A run that writes no text
 
-pub nothing_written : (front : List ℕ) (quantum : ℕ) (machine : Machine) (budget turns : ℕ) (end : Result Finish Stop) (told : Option (List ℕ)) (store : Stored) (trace native journal : Option (List ℕ)) → trace ≡ None → native ≡ None → journal ≡ None
-    → WritesTexts trace native journal front quantum machine budget turns end told store store
-nothing_written front quantum machine budget turns end told store trace native journal traced logged kept =
-    let none : WritesTexts None None None front quantum machine budget turns end told store store = record { traced = store; logged = store; traces = refl; logs = refl; keeps = refl } in
-    subst (λ (n : Option (List ℕ)). WritesTexts n native journal front quantum machine budget turns end told store store) (sym traced)
-    (subst (λ (n : Option (List ℕ)). WritesTexts None n journal front quantum machine budget turns end told store store) (sym logged)
-    (subst (λ (n : Option (List ℕ)). WritesTexts None None n front quantum machine budget turns end told store store) (sym kept) none))
+nothing_named : (front : List ℕ) (quantum : ℕ) (machine : Machine) (budget turns : ℕ) (end : Result Finish Stop) (before after : Contents) (store : Stored)
+    → WritesTexts None None None front quantum machine budget turns end before after store store
+nothing_named front quantum machine budget turns (Ok finish) before after store = record { traced = store; logged = store; traces = refl; logs = refl; keeps = refl }
+nothing_named front quantum machine budget turns (Err stop) before after store = inl (record { traced = store; logged = store; traces = refl; logs = refl; keeps = refl })
+
+pub nothing_written : (front : List ℕ) (quantum : ℕ) (machine : Machine) (budget turns : ℕ) (end : Result Finish Stop) (before after : Contents) (store : Stored) (trace native journal : Option (List ℕ)) → trace ≡ None → native ≡ None → journal ≡ None
+    → WritesTexts trace native journal front quantum machine budget turns end before after store store
+nothing_written front quantum machine budget turns end before after store trace native journal traced logged kept =
+    subst (λ (n : Option (List ℕ)). WritesTexts n native journal front quantum machine budget turns end before after store store) (sym traced)
+    (subst (λ (n : Option (List ℕ)). WritesTexts None n journal front quantum machine budget turns end before after store store) (sym logged)
+    (subst (λ (n : Option (List ℕ)). WritesTexts None None n front quantum machine budget turns end before after store store) (sym kept)
+    (nothing_named front quantum machine budget turns end before after store)))
 
 pub within_budget : (end : Result Finish Stop) (turns budget : ℕ) → WithinBudget end turns budget → turns ≤ budget
 within_budget (Ok finish) turns budget within = within

@@ -6,7 +6,7 @@ use Rattle.kernel_model.specs.Begin.{first_state}
 use Rattle.native_kernel.specs.Settings.{settings_of}
 use Rattle.schedule.specs.declared.Schedule.{Schedule}
 use Rattle.mips_exec.specs.Processor.{Processor}
-use Rattle.o32_machine.specs.Emulator as emulators
+use Rattle.o32_runner.specs.Emulators as emulators
 use Rattle.o32_turns.specs.Machine.{Machine}
 use Rattle.start_stack.specs.Stack.{start_size, start_limit}
 use Rattle.start_stack.specs.Start.{start_memory, start_processor}

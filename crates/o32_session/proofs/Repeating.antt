@@ -1,5 +1,5 @@
 -- What a replay answers: what was loaded for it, and what its replay came to.
-use Rattle.std.proofs.Common.{◌≡◌, ℕ, codes, ◌≤◌, ◌<◌, Bool, true, false, cond, nat_lt, ◌↔◌, List, [], ◌∷◌, take, Option, Some, None, Result, Ok, Err, Vec, ◌⊎◌, inl, inr, refl, sym, ap, ◌∙◌, subst, arith}
+use Rattle.std.proofs.Common.{◌≡◌, ℕ, codes, ◌≤◌, ◌<◌, Bool, true, false, cond, nat_lt, ◌↔◌, List, [], ◌∷◌, Option, Some, None, Result, Ok, Err, Vec, ◌⊎◌, inl, inr, refl, sym, ap, ◌∙◌, subst, arith}
 use Rattle.std.proofs.lemmas.Bool.{le-ltb, ltb-false, ltb-true}
 use Rattle.std.proofs.lemmas.Slice.Eq.{bytes_eq-Decides}
 use Rattle.std.specs.Str.{bytes_eq}
@@ -19,19 +19,20 @@ use Rattle.replay_core.specs.Answered.{Written, AnswersBy, CountsStay, DivergesB
 use Rattle.replay_core.specs.Whole.{last_of, replay_of, start_of}
 use Rattle.replay_core.specs.declared.answer.ReplayEnd.{ReplayEnd}
 use Rattle.replay_core.specs.declared.answer.ReplayEnd.TheVariants as replays
-use Rattle.o32_machine.specs.Emulator.{Emulated}
+use Rattle.o32_runner.specs.Emulators.{Emulated}
 use Rattle.o32_runner.specs.Stored.{Stored}
-use Rattle.o32_session.specs.Asked.{Found, Absent, Long, Bytes, IsFound, journal_file, journal_limit}
+use Rattle.o32_session.specs.Asked.{Found, Absent, Long, Bytes, HasProgram, IsFound, journal_file, journal_limit}
 use Rattle.o32_session.specs.Faults.{TellsFaults}
 use Rattle.o32_session.specs.Saved.{after_loads}
 use Rattle.o32_session.specs.SavedFile.{SavesCommand}
 use Rattle.o32_session.specs.Session.{Seen, DoesNothing, AsksForRun, EndsAsRun, no_names}
-use Rattle.o32_session.specs.Words.{Line, Asks, WrongAt, read_words, ReplayLine, ReplayReading, AsksReplay, WrongReplayAt, Command, RunCommand, ReplayCommand, command_of, read_replay}
-use Rattle.o32_session.specs.Replayed.{ReplayAsked, RefuseReplay, Repeat, ReplayAsksUnless, ReplayAsksOf, ReplayAsksFor, asked_of_found, asked_of_reading, both_names, replay_loaded_by, replay_turned_by, replay_load_of, replay_names_up_to, once_replay_loaded, outputs, RestStands, AnswersCommand, AnswersReplay, AnswersReplayReading, StopsBefore, AsksForReplay, EndsAsReplay, IsReplayEnd}
+use Rattle.o32_session.specs.Words.{Line, Asks, WrongAt, read_words, ReplayLine, ReplayReading, AsksReplay, WrongReplayAt, Command, RunCommand, ReplayCommand, SoakCommand, command_of, read_replay, read_soak}
+use Rattle.o32_session.specs.Replayed.{ReplayAsked, RefuseReplay, Repeat, ReplayAsksUnless, ReplayAsksOf, ReplayAsksFor, asked_of_found, asked_of_reading, both_names, replay_loaded_by, replay_turned_by, replay_load_of, replay_names_up_to, once_replay_loaded, outputs, RestStands, AnswersReplay, AnswersReplayReading, AtJournal, AtPlan, StopsAtReplayStage, StopsUnbegun, AsksForReplay, EndsAsReplay, IsReplayEnd}
+use Rattle.o32_session.specs.Soaked.{AnswersCommand}
 use Rattle.o32_session.specs.inside.Prepared.{EndsRefused, EndsWithoutRun, IsLoaded, IsPlanned, IsPlanOf, IsRefusedFor, is_absent, is_long, is_broken, LineFailsOnlyIfRose, LoadsFile, ReasonOnlyIfRose, turned_at}
 use Rattle.o32_session.specs.inside.Repeated.{EndFailsOnlyIfRose, EndsDiverged, EndsReplay, IsLoadedFor, LoadsBoth, Replays}
 use Rattle.o32_session.specs.declared.answer.End.{End}
-use Rattle.o32_session.specs.declared.answer.End.TheVariants.{Exited, Killed, Budget, Blocked, Replayed, Refused, Diverged, ReadFault, WriteFault, NoMemory}
+use Rattle.o32_session.specs.declared.answer.End.TheVariants.{Exited, Killed, Budget, Blocked, Soaked, Replayed, Refused, Diverged, ReadFault, WriteFault, NoMemory}
 use Rattle.o32_session.specs.declared.answer.Refusal.{Refusal}
 use Rattle.o32_session.specs.declared.answer.Refusal.TheVariants.{Usage, Missing, TooLong, Elf, Image, Schedule, Start, Journal}
 use Rattle.o32_session.specs.declared.load.SessionFile.TheVariants as which
@@ -40,9 +41,10 @@ use Rattle.o32_session.specs.declared.not_run.NotRun.TheVariants as reasons
 use Rattle.o32_session.specs.declared.prepare.Ready.{Ready}
 use Rattle.o32_session.specs.declared.replay.Loaded.{Loaded}
 use Rattle.o32_session.proofs.Faults.{line_faults}
-use Rattle.o32_session.proofs.Loading.{then_loaded}
+use Rattle.o32_session.proofs.Loading.{program_is, then_loaded}
 use Rattle.o32_session.proofs.SavedFiles.{refused_stands, saves}
 use Rattle.o32_session.proofs.Sessions.{complete, refused, unchanged}
+use Rattle.o32_session.proofs.Soaking.{soak_files}
 
 -- What was loaded
 
@@ -56,8 +58,9 @@ planned_asks line told plan found asked is file asks = (
 )
 
 pub both_loaded : (line : ReplayLine) (told : Option Files) (plan : Plan) (text : List ℕ) → IsPlanOf told line.program plan →
-    IsFound told journal_limit line.journal (Bytes text) → IsValidPlan plan × ReplayAsksFor line told (asked_of_reading plan (reading_of text))
-both_loaded line told plan text is file = (is.valid, planned_asks line told plan (Bytes text) (asked_of_reading plan (reading_of text)) is file refl)
+    IsFound told journal_limit line.journal (Bytes text) → IsValidPlan plan × HasProgram told line.program × ReplayAsksFor line told (asked_of_reading plan (reading_of text))
+both_loaded line told plan text is file =
+    (is.valid, program_is told line.program plan is, planned_asks line told plan (Bytes text) (asked_of_reading plan (reading_of text)) is file refl)
 
 -- there is no journal
 pub no_journal : (line : ReplayLine) (told : Option Files) (plan : Plan) (reason : NotRun) → IsPlanOf told line.program plan →
@@ -98,12 +101,8 @@ program_refused told line _ old new (is_broken bytes rule found broken) is = is
 pub plan_loads : (told : Option Files) (line : ReplayLine) (reason : NotRun) (old new : Stored) → IsPlanned told line.program (Err reason) →
     LoadsFile {T = Plan} which.Program (Some line.program) (Err reason) old new → LoadsBoth {T = Loaded} line (Err reason) old new
 plan_loads told line (reasons.Refused refusal) old new is loads = program_refused told line refusal old new is loads
-plan_loads told line reasons.ReadFault old new is loads = (0, omega arith, loads.1)
-plan_loads told line reasons.NoMemory old new is loads =
-    elim loads as (λ _. (count : ℕ) × (new ≡ after_loads old (take count (both_names line)) [])) [
-      | inl none ↦ (0, none)
-      | inr one ↦ (1, one)
-    ]
+plan_loads told line reasons.ReadFault old new is loads = record { stage = AtPlan; in_order = tt; stands = loads.1 }
+plan_loads told line reasons.NoMemory old new is loads = record { stage = AtPlan; in_order = tt; stands = loads }
 
 -- behind the load of the program
 then_journal : (line : ReplayLine) (old middle new : Stored) (more : List (List ℕ)) (turned : List TurnedLoad) → middle ≡ after_loads old (line.program ∷ []) [] →
@@ -116,24 +115,28 @@ refused_loads : (line : ReplayLine) (file : ℕ) (answer : LoadError) (old new :
 refused_loads line file answer old new is loads =
     subst (λ n. new ≡ after_loads old (replay_names_up_to line n) (replay_load_of line n answer ∷ [])) (sym is) loads
 
-pub journal_loads : (told : Option Files) (line : ReplayLine) (reason : NotRun) (old middle new : Stored) → IsLoaded {A = ℕ} told which.Journal line.journal (Err reason) →
+pub journal_loads : (told : Option Files) (line : ReplayLine) (reason : NotRun) (old middle new : Stored) → HasProgram old.files line.program → IsLoaded {A = ℕ} told which.Journal line.journal (Err reason) →
     middle ≡ after_loads old (line.program ∷ []) [] → LoadsFile {T = Vec ℕ ℕ} which.Journal (Some line.journal) (Err reason) middle new → LoadsBoth {T = Loaded} line (Err reason) old new
-journal_loads told line (reasons.Refused (Missing file)) old middle new is before loads =
+journal_loads told line (reasons.Refused (Missing file)) old middle new program is before loads =
     refused_loads line file answers.Missing old new is.0 (then_journal line old middle new (line.journal ∷ []) _ before loads)
-journal_loads told line (reasons.Refused (TooLong file)) old middle new is before loads =
+journal_loads told line (reasons.Refused (TooLong file)) old middle new program is before loads =
     refused_loads line file answers.TooLong old new is.0 (then_journal line old middle new (line.journal ∷ []) _ before loads)
-journal_loads told line (reasons.Refused (Usage word)) old middle new is before loads = absurd is
-journal_loads told line (reasons.Refused (Elf rule)) old middle new is before loads = absurd is
-journal_loads told line (reasons.Refused (Image broken)) old middle new is before loads = absurd is
-journal_loads told line (reasons.Refused (Schedule broken)) old middle new is before loads = absurd is
-journal_loads told line (reasons.Refused Start) old middle new is before loads = absurd is
-journal_loads told line (reasons.Refused (Journal at)) old middle new is before loads = absurd is
-journal_loads told line reasons.ReadFault old middle new is before loads = (1, omega arith, then_journal line old middle new [] [] before loads.1)
-journal_loads told line reasons.NoMemory old middle new is before loads =
-    elim loads as (λ _. (count : ℕ) × (new ≡ after_loads old (take count (both_names line)) [])) [
-      | inl none ↦ (1, then_journal line old middle new [] [] before none)
-      | inr one ↦ (2, then_journal line old middle new (line.journal ∷ []) [] before one)
-    ]
+journal_loads told line (reasons.Refused (Usage word)) old middle new program is before loads = absurd is
+journal_loads told line (reasons.Refused (Elf rule)) old middle new program is before loads = absurd is
+journal_loads told line (reasons.Refused (Image broken)) old middle new program is before loads = absurd is
+journal_loads told line (reasons.Refused (Schedule broken)) old middle new program is before loads = absurd is
+journal_loads told line (reasons.Refused Start) old middle new program is before loads = absurd is
+journal_loads told line (reasons.Refused (Journal at)) old middle new program is before loads = absurd is
+journal_loads told line reasons.ReadFault old middle new program is before loads =
+    record { stage = AtJournal; in_order = program; stands = then_journal line old middle new [] [] before loads.1 }
+journal_loads told line reasons.NoMemory old middle new program is before loads = record {
+  stage = AtJournal;
+  in_order = program;
+  stands = elim loads as (λ _. (new ≡ after_loads old (line.program ∷ []) []) ⊎ (new ≡ after_loads old (both_names line) [])) [
+    | inl none ↦ inl (then_journal line old middle new [] [] before none)
+    | inr one ↦ inr (then_journal line old middle new (line.journal ∷ []) [] before one)
+  ];
+}
 
 pub all_loads : (line : ReplayLine) (old middle new : Stored) → middle ≡ after_loads old (line.program ∷ []) [] → new ≡ after_loads middle (line.journal ∷ []) [] →
     new ≡ after_loads old (both_names line) []
@@ -143,8 +146,12 @@ all_loads line old middle new before after = then_journal line old middle new (l
 pub both_writes : (line : ReplayLine) (result : Result Loaded NotRun) (old new : Stored) → LoadsBoth line result old new → new.write_faults ≡ old.write_faults
 both_writes line (Ok loaded) old new loads = ap (λ (s : Stored). s.write_faults) loads
 both_writes line (Err (reasons.Refused refusal)) old new loads = ap (λ (s : Stored). s.write_faults) loads
-both_writes line (Err reasons.ReadFault) old new loads = ap (λ (s : Stored). s.write_faults) loads.2
-both_writes line (Err reasons.NoMemory) old new loads = ap (λ (s : Stored). s.write_faults) loads.1
+both_writes line (Err reasons.ReadFault) old new loads = ap (λ (s : Stored). s.write_faults) loads.stands
+both_writes line (Err reasons.NoMemory) old new loads =
+    elim loads.stands as (λ _. new.write_faults ≡ old.write_faults) [
+      | inl before ↦ ap (λ (s : Stored). s.write_faults) before
+      | inr behind ↦ ap (λ (s : Stored). s.write_faults) behind
+    ]
 
 -- why the loads of a run stopped, and those of a replay
 pub reason_of_run : (reason : NotRun) (before now : ℕ) → ReasonOnlyIfRose {T = Loaded} (Err reason) before now → ReasonOnlyIfRose {T = Ready} (Err reason) before now
@@ -208,6 +215,7 @@ module _ (plan : Plan) (journal : Kept) (old : Seen) (middle : Written) (err : O
       inr (record { turn = turn; wanted = wanted; found = found; met = met; to_out = to_out; to_err = GainsBetween-part to_err so; rest = rest_stands })
   diverged turns turn wanted found ReadFault met to_out to_err stays so cause = absurd so
   diverged turns turn wanted found (Refused refusal) met to_out to_err stays so cause = absurd so
+  diverged turns turn wanted found (Soaked finish) met to_out to_err stays so cause = absurd so
   diverged turns turn wanted found (Replayed finish) met to_out to_err stays so cause = absurd so
   diverged turns turn wanted found (Exited status) met to_out to_err stays so cause = absurd so
   diverged turns turn wanted found (Killed signal) met to_out to_err stays so cause = absurd so
@@ -305,6 +313,7 @@ diverged_faults turn wanted found NoMemory old new text then so cause reads outs
     record { reads = reads; outs = outs; errs = cause; loads = loads; writes = writes }
 diverged_faults turn wanted found ReadFault old new text then so cause reads outs loads writes = absurd so
 diverged_faults turn wanted found (Refused refusal) old new text then so cause reads outs loads writes = absurd so
+diverged_faults turn wanted found (Soaked finish) old new text then so cause reads outs loads writes = absurd so
 diverged_faults turn wanted found (Replayed finish) old new text then so cause reads outs loads writes = absurd so
 diverged_faults turn wanted found (Exited status) old new text then so cause reads outs loads writes = absurd so
 diverged_faults turn wanted found (Killed signal) old new text then so cause reads outs loads writes = absurd so
@@ -343,24 +352,25 @@ not_both : {P : Type 0} (end : End) → end ≡ NoMemory → end ≡ ReadFault �
 not_both end memory fault = absurd cc
 
 -- nothing but loads was done
+
+only_loaded : (line : ReplayLine) (end : End) (old : Seen) (err : Option (List ℕ)) (errs loads : ℕ) (store : Stored) → StopsAtReplayStage line end old.store store →
+    (end ≡ ReadFault → Rose old.load_faults loads) → err ≡ old.err → StopsUnbegun line old (record old { err = err; err_faults = errs; load_faults = loads; store = store }) 0 end
+only_loaded line end old err errs loads store at_stage cause same = record {
+  at_stage = at_stage;
+  cause = cause;
+  nothing = record { no_turn = refl; untaken = refl; wrote = record { to_out = GainsText-nothing old.out; to_err = unchanged old.err err same }; stands = refl };
+}
+
 pub unbegun : (line : ReplayLine) (reason : NotRun) (end : End) (old : Seen) (err : Option (List ℕ)) (errs loads : ℕ) (store : Stored) → IsLoadedFor line old.store.files (Err reason) →
     EndsWithoutRun reason end old.err err → LineFailsOnlyIfRose end old.err_faults errs → LoadsBoth {T = Loaded} line (Err reason) old.store store →
     ReasonOnlyIfRose {T = Loaded} (Err reason) old.load_faults loads →
     AnswersReplayReading (AsksReplay line) old (record old { err = err; err_faults = errs; load_faults = loads; store = store }) 0 end
 unbegun line (reasons.Refused refusal) end old err errs loads store is so cause loaded rose =
     inr (RefuseReplay refusal, is, refused refusal no_names end (once_replay_loaded (RefuseReplay refusal) line old) err errs loads store None so cause loaded)
-unbegun line reasons.ReadFault end old err errs loads store is so cause loaded rose = inl (record {
-  count = loaded.0;
-  early = subst (λ (e : End). StopsBefore loaded.0 e) (sym so.0) loaded.1;
-  cause = λ fault. rose;
-  nothing = record { no_turn = refl; untaken = refl; wrote = record { to_out = GainsText-nothing old.out; to_err = unchanged old.err err so.1 }; stands = loaded.2 };
-})
-unbegun line reasons.NoMemory end old err errs loads store is so cause loaded rose = inl (record {
-  count = loaded.0;
-  early = subst (λ (e : End). StopsBefore loaded.0 e) (sym so.0) tt;
-  cause = λ fault. not_both end so.0 fault;
-  nothing = record { no_turn = refl; untaken = refl; wrote = record { to_out = GainsText-nothing old.out; to_err = unchanged old.err err so.1 }; stands = loaded.1 };
-})
+unbegun line reasons.ReadFault end old err errs loads store is so cause loaded rose =
+    inl (only_loaded line end old err errs loads store (inl (so.0, loaded)) (λ fault. rose) so.1)
+unbegun line reasons.NoMemory end old err errs loads store is so cause loaded rose =
+    inl (only_loaded line end old err errs loads store (inr (so.0, loaded)) (λ fault. not_both end so.0 fault) so.1)
 
 -- what both loads make of the store is what comes before what is asked for
 loaded_sized : (line : ReplayLine) (plan : Plan) (journal : Kept) (old new : Seen) (turns : ℕ) (end : End) (long : Bool) →
@@ -377,19 +387,23 @@ loaded_all line plan (Ok journal) old new turns end answer =
     loaded_sized line plan journal old new turns end (nat_lt start_limit (start_size journal.args journal.env)) answer
 
 -- both files were loaded
-pub begun : (line : ReplayLine) (plan : Plan) (text : List ℕ) (old new : Seen) (turns : ℕ) (end : End) (loads : ℕ) (store : Stored) → ReplayAsksFor line old.store.files (asked_of_reading plan (reading_of text)) →
+pub begun : (line : ReplayLine) (plan : Plan) (text : List ℕ) (old new : Seen) (turns : ℕ) (end : End) (loads : ℕ) (store : Stored) → HasProgram old.store.files line.program → ReplayAsksFor line old.store.files (asked_of_reading plan (reading_of text)) →
     store ≡ after_loads old.store (both_names line) [] → loads ≡ old.load_faults → nothing_or (asked_of_reading plan (reading_of text)) (record old { load_faults = loads; store = store }) new turns end →
     AnswersReplayReading (AsksReplay line) old new turns end
-begun line plan text old new turns end loads store asks loaded same answer =
+begun line plan text old new turns end loads store program asks loaded same answer =
     let there : nothing_or (asked_of_reading plan (reading_of text)) (record old { store = after_loads old.store (both_names line) [] }) new turns end =
     subst (λ (s : Stored). nothing_or (asked_of_reading plan (reading_of text)) (record old { store = s }) new turns end) loaded
     (subst (λ (n : ℕ). nothing_or (asked_of_reading plan (reading_of text)) (record old { load_faults = n; store = store }) new turns end) same answer) in
     elim there as (λ _. AnswersReplayReading (AsksReplay line) old new turns end) [
       | inl memory ↦ inl (record {
-        count = 2;
-        early = subst (λ (e : End). StopsBefore 2 e) (sym memory.0) tt;
+        at_stage = inr (memory.0, record { stage = AtJournal; in_order = program; stands = inr memory.1.stands });
         cause = λ fault. not_both end memory.0 fault;
-        nothing = memory.1;
+        nothing = record {
+          no_turn = memory.1.no_turn;
+          untaken = memory.1.untaken;
+          wrote = record { to_out = memory.1.wrote.to_out; to_err = memory.1.wrote.to_err };
+          stands = refl;
+        };
       })
       | inr is ↦
           inr (asked_of_reading plan (reading_of text), asks, loaded_all line plan (reading_of text) old new turns end is)
@@ -399,6 +413,7 @@ begun line plan text old new turns end loads store asks loaded same answer =
 
 replay_end_of : (plan : Plan) (journal : Kept) (old new : Seen) (turns : ℕ) (end : End) → AnswersReplay (Repeat plan journal) old new turns end →
     (Rose old.out_faults new.out_faults → ⊥) → (Rose old.err_faults new.err_faults → ⊥) → (end ≡ NoMemory) ⊎ IsReplayEnd plan journal turns end
+replay_end_of plan journal old new turns (Soaked finish) answer out err = absurd answer
 replay_end_of plan journal old new turns (Replayed finish) answer out err = inr answer.over
 replay_end_of plan journal old new turns (Diverged turn wanted found) answer out err = inr answer.met
 replay_end_of plan journal old new turns NoMemory answer out err = inl refl
@@ -427,17 +442,12 @@ asks_replay words told replay asked asks =
     ∙ (ap (λ r. asked_of_reading plan r) replay.read
     ∙ ap (λ b. cond b (RefuseReplay Start) (Repeat plan replay.journal)) (le-ltb start_limit (start_size replay.journal.args replay.journal.env) replay.fits)))
 
-before_end : (P : Type 0) (count : ℕ) (end : End) → StopsBefore count end → (end ≡ ReadFault → ⊥) → (end ≡ NoMemory) ⊎ P
-before_end P count ReadFault early read = absurd (read refl)
-before_end P count NoMemory early read = inl refl
-before_end P count WriteFault early read = absurd early
-before_end P count (Refused given) early read = absurd early
-before_end P count (Replayed finish) early read = absurd early
-before_end P count (Diverged turn wanted found) early read = absurd early
-before_end P count (Exited status) early read = absurd early
-before_end P count (Killed signal) early read = absurd early
-before_end P count Budget early read = absurd early
-before_end P count Blocked early read = absurd early
+before_end : (P : Type 0) (line : ReplayLine) (end : End) (old new : Stored) → StopsAtReplayStage line end old new → (end ≡ ReadFault → ⊥) → (end ≡ NoMemory) ⊎ P
+before_end P line end old new at_stage read =
+    elim at_stage as (λ _. (end ≡ NoMemory) ⊎ P) [
+      | inl fault ↦ absurd (read fault.0)
+      | inr memory ↦ inl memory.0
+    ]
 
 -- Where a replay is asked for and no count rose, the answer is how it is over, unless memory ran out.
 pub replay_complete : (words : List (List ℕ)) (old new : Seen) (turns : ℕ) (end : End) (host : Option Emulated) (replay : AsksForReplay words old.store.files) →
@@ -449,7 +459,7 @@ replay_complete words old new turns end host replay answer load out err =
     subst (λ r. AnswersReplayReading r old new turns end) replay.in_order
     (subst (λ c. AnswersCommand c words old new turns end host) replay.replays answer) in
     elim known as (λ _. (end ≡ NoMemory) ⊎ EndsAsReplay words old.store.files replay turns end) [
-      | inl early ↦ before_end (EndsAsReplay words old.store.files replay turns end) early.count end early.early (λ fault. load (early.cause fault))
+      | inl early ↦ before_end (EndsAsReplay words old.store.files replay turns end) line end old.store new.store early.at_stage (λ fault. load (early.cause fault))
       | inr asked ↦
           let this : ReplayAsked = Repeat (plan_of replay.bytes) replay.journal in
           let is : asked.0 ≡ this = asks_replay words old.store.files replay asked.0 (subst (λ f. ReplayAsksFor line f asked.0) replay.is_told asked.1) in
@@ -459,15 +469,34 @@ replay_complete words old new turns end host replay answer load out err =
 
 -- Commands
 
-only_replay : (is : Bool) → cond is ReplayCommand RunCommand ≡ ReplayCommand → is ≡ true
-only_replay true same = refl
-only_replay false same = absurd cc
+-- the command by what its word is
+abbrev by_word : Bool → Bool → Command
+by_word replays soaks = cond replays ReplayCommand (cond soaks SoakCommand RunCommand)
 
--- words of a replay ask for no run
-no_run : (words : List (List ℕ)) (line : Line) → command_of words ≡ ReplayCommand → read_words words ≡ Asks line → ⊥
+only_replay : (replays soaks : Bool) → by_word replays soaks ≡ ReplayCommand → replays ≡ true
+only_replay true soaks same = refl
+only_replay false true same = absurd cc
+only_replay false false same = absurd cc
+
+only_soak : (replays soaks : Bool) → by_word replays soaks ≡ SoakCommand → soaks ≡ true
+only_soak true soaks same = absurd cc
+only_soak false true same = refl
+only_soak false false same = absurd cc
+
+-- words of a replay ask for no run, and neither do those of a soak
+pub no_run : (words : List (List ℕ)) (line : Line) → command_of words ≡ ReplayCommand → read_words words ≡ Asks line → ⊥
 no_run [] line is asks = absurd cc
 no_run (word ∷ rest) line is asks =
-    let same : word ≡ codes "replay" = (bytes_eq-Decides word (codes "replay")).0 (only_replay (bytes_eq word (codes "replay")) is) in
+    let replays : bytes_eq word (codes "replay") ≡ true = only_replay (bytes_eq word (codes "replay")) (bytes_eq word (codes "soak")) is in
+    let same : word ≡ codes "replay" = (bytes_eq-Decides word (codes "replay")).0 replays in
+    let wrong : WrongAt 0 ≡ Asks line = subst (λ (w : List ℕ). read_words (w ∷ rest) ≡ Asks line) same asks in
+    cc
+
+pub no_run_of_soak : (words : List (List ℕ)) (line : Line) → command_of words ≡ SoakCommand → read_words words ≡ Asks line → ⊥
+no_run_of_soak [] line is asks = absurd cc
+no_run_of_soak (word ∷ rest) line is asks =
+    let soaks : bytes_eq word (codes "soak") ≡ true = only_soak (bytes_eq word (codes "replay")) (bytes_eq word (codes "soak")) is in
+    let same : word ≡ codes "soak" = (bytes_eq-Decides word (codes "soak")).0 soaks in
     let wrong : WrongAt 0 ≡ Asks line = subst (λ (w : List ℕ). read_words (w ∷ rest) ≡ Asks line) same asks in
     cc
 
@@ -477,13 +506,15 @@ pub run_complete : (command : Command) (words : List (List ℕ)) (old new : Seen
     (Rose old.out_faults new.out_faults → ⊥) → (Rose old.err_faults new.err_faults → ⊥) → (end ≡ NoMemory) ⊎ EndsAsRun words old.store.files run left turns end
 run_complete RunCommand words old new turns end host run left is answer told read file out err = complete words old new turns end host run left answer told read file out err
 run_complete ReplayCommand words old new turns end host run left is answer told read file out err = absurd (no_run words run.line is run.in_order)
+run_complete SoakCommand words old new turns end host run left is answer told read file out err = absurd (no_run_of_soak words run.line is run.in_order)
 
--- A replay changes no file
+-- A replay changes no file, and neither does a soak
 
 asked_files : (line : ReplayLine) (old new : Seen) (turns : ℕ) (end : End) (asked : ReplayAsked) → AnswersReplay asked (once_replay_loaded asked line old) new turns end →
     new.store.files ≡ old.store.files
 asked_files line old new turns end (RefuseReplay refusal) answer =
     (refused_stands refusal no_names (once_replay_loaded (RefuseReplay refusal) line old) new turns end None answer).1
+asked_files line old new turns (Soaked finish) (Repeat plan journal) answer = absurd answer
 asked_files line old new turns (Replayed finish) (Repeat plan journal) answer = ap (λ (s : Stored). s.files) answer.rest.stands
 asked_files line old new turns (Diverged turn wanted found) (Repeat plan journal) answer = ap (λ (s : Stored). s.files) answer.rest.stands
 asked_files line old new turns WriteFault (Repeat plan journal) answer =
@@ -503,11 +534,23 @@ asked_files line old new turns (Killed signal) (Repeat plan journal) answer = ab
 asked_files line old new turns Budget (Repeat plan journal) answer = absurd answer
 asked_files line old new turns Blocked (Repeat plan journal) answer = absurd answer
 
+-- loads change no file
+stage_files : (line : ReplayLine) (end : End) (old new : Stored) → StopsAtReplayStage line end old new → new.files ≡ old.files
+stage_files line end old new at_stage =
+    elim at_stage as (λ _. new.files ≡ old.files) [
+      | inl fault ↦ ap (λ (s : Stored). s.files) fault.1.stands
+      | inr memory ↦
+          elim memory.1.stands as (λ _. new.files ≡ old.files) [
+            | inl before ↦ ap (λ (s : Stored). s.files) before
+            | inr behind ↦ ap (λ (s : Stored). s.files) behind
+          ]
+    ]
+
 replay_files : (reading : ReplayReading) (old new : Seen) (turns : ℕ) (end : End) → AnswersReplayReading reading old new turns end → new.store.files ≡ old.store.files
 replay_files (WrongReplayAt word) old new turns end answer = (refused_stands (Usage word) no_names old new turns end None answer).1
 replay_files (AsksReplay line) old new turns end answer =
     elim answer as (λ _. new.store.files ≡ old.store.files) [
-      | inl early ↦ ap (λ (s : Stored). s.files) early.nothing.stands
+      | inl early ↦ stage_files line end old.store new.store early.at_stage
       | inr asked ↦ asked_files line old new turns end asked.0 asked.2
     ]
 
@@ -516,3 +559,4 @@ pub command_saves : (command : Command) (words : List (List ℕ)) (old new : See
     SavesCommand command words end old.store.files new.store.files
 command_saves RunCommand words old new turns end host answer = saves words (read_words words) old new turns end host answer
 command_saves ReplayCommand words old new turns end host answer = replay_files (read_replay words) old new turns end answer
+command_saves SoakCommand words old new turns end host answer = soak_files (read_soak words) old new turns end host answer

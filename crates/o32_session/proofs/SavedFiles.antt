@@ -1,5 +1,5 @@
 -- What an answer says of the files alone.
-use Rattle.std.proofs.Common.{◌≡◌, ℕ, List, [], Option, Some, None, Ok, Err, ◌⊎◌, inl, inr, refl, sym, ap, subst}
+use Rattle.std.proofs.Common.{◌≡◌, ℕ, List, [], Option, Some, None, Ok, Err, inl, inr, refl, sym, ap, subst}
 use Rattle.outside.specs.Files.{Files, ChangesFile, IsUnchangedOrEmptied}
 use Rattle.kernel_core.specs.declared.finish.Finish.{Finish}
 use Rattle.kernel_core.specs.declared.finish.Finish.TheVariants as finishes
@@ -7,21 +7,23 @@ use Rattle.kernel_core.specs.declared.core_error.Stop.{Stop}
 use Rattle.kernel_core.specs.declared.core_error.Stop.TheVariants as stops
 use Rattle.kernel_core.specs.declared.tree.Tree.{Tree}
 use Rattle.fs_image.specs.Text.{text_of}
-use Rattle.o32_machine.specs.Emulator.{Emulated}
+use Rattle.o32_runner.specs.Emulators.{Emulated}
 use Rattle.o32_turns.specs.Machine.{Machine}
 use Rattle.o32_session.specs.Asked.{Asked, Refuse, Run, Names, names_of}
 use Rattle.o32_session.specs.Saved.{SavesPart, SavesTree, SavesTreeInPart, StandsOrBegins}
 use Rattle.o32_runner.specs.JournalText.{IsCutJournal, IsWholeJournal, KeepsAs}
+use Rattle.o32_runner.specs.Making.{Makes, MakesNone, MakesNotAll}
 use Rattle.o32_runner.specs.NativeText.{IsCutLog, IsWholeLog, LogsAs}
 use Rattle.o32_runner.specs.Stored.{HasText, IfNamed, IsUnmade, Stored, WritesText}
+use Rattle.o32_runner.specs.Texts.{WritesTexts}
 use Rattle.o32_runner.specs.Traced.{IsCutTrace, IsWholeTrace, TracesAs}
 use Rattle.o32_session.specs.SavedFile.{HasTreeText, IsFileAfter, IsTextAfter, SavesReading, SavesTo, StandsOrHasPart, StandsOrIsThere, TextsTo, WritesFiles}
-use Rattle.o32_session.specs.Session.{Answers, AnswersReading, Finishes, Seen, StopsAfter, StopsAtSave, StopsInRun, final_tree, no_names, once_loaded}
+use Rattle.o32_session.specs.Session.{Answers, AnswersReading, Finishes, Seen, StopsAtSave, StopsAtStage, StopsInRun, contents_of, final_tree, no_names, once_loaded}
 use Rattle.o32_session.specs.Words.{Reading, Asks, WrongAt}
 use Rattle.o32_session.specs.declared.answer.Refusal.{Refusal}
 use Rattle.o32_session.specs.declared.answer.Refusal.TheVariants.{Usage}
 use Rattle.o32_session.specs.declared.answer.End.{End}
-use Rattle.o32_session.specs.declared.answer.End.TheVariants.{Exited, Killed, Budget, Blocked, Replayed, Refused, Diverged, ReadFault, WriteFault, NoMemory}
+use Rattle.o32_session.specs.declared.answer.End.TheVariants.{Exited, Killed, Budget, Blocked, Soaked, Replayed, Refused, Diverged, ReadFault, WriteFault, NoMemory}
 
 -- One file
 
@@ -54,17 +56,18 @@ stands_part name text store = record {
 abbrev IsNoFinish : End → Type 0
 IsNoFinish end = (file : Option (List ℕ)) → IsFileAfter end file file × IsTextAfter end file file
 
-early_stands : (count : ℕ) (names : Names) (end : End) → StopsAfter count names end → IsNoFinish end
-early_stands count names ReadFault early = λ file. (refl, inl refl)
-early_stands count names NoMemory early = λ file. (inl refl, inl refl)
-early_stands count names (Exited status) early = absurd early
-early_stands count names (Killed signal) early = absurd early
-early_stands count names Budget early = absurd early
-early_stands count names Blocked early = absurd early
-early_stands count names (Replayed over) early = absurd early
-early_stands count names (Diverged turn wanted found) early = absurd early
-early_stands count names (Refused given) early = absurd early
-early_stands count names WriteFault early = absurd early
+early_stands : (names : Names) (end : End) (old new : Stored) → StopsAtStage names end old new → IsNoFinish end × (new.files ≡ old.files)
+early_stands names end old new at_stage =
+    elim at_stage as (λ _. IsNoFinish end × (new.files ≡ old.files)) [
+      | inl fault ↦ (subst (λ (e : End). IsNoFinish e) (sym fault.0) (λ file. (refl, inl refl)), ap (λ (s : Stored). s.files) fault.1.stands)
+      | inr memory ↦ (
+        subst (λ (e : End). IsNoFinish e) (sym memory.0) (λ file. (inl refl, inl refl)),
+        elim memory.1.stands as (λ _. new.files ≡ old.files) [
+          | inl before ↦ ap (λ (s : Stored). s.files) before
+          | inr behind ↦ ap (λ (s : Stored). s.files) behind
+        ],
+      )
+    ]
 
 save_stands : (end : End) (old new : Option Files) → IsNoFinish end → new ≡ old → (save : Option (List ℕ)) → SavesTo save end old new
 save_stands end old new stands same None = same
@@ -89,6 +92,7 @@ refused_stands refusal names old new turns (Exited status) host answer = absurd 
 refused_stands refusal names old new turns (Killed signal) host answer = absurd answer
 refused_stands refusal names old new turns Budget host answer = absurd answer
 refused_stands refusal names old new turns Blocked host answer = absurd answer
+refused_stands refusal names old new turns (Soaked over) host answer = absurd answer
 refused_stands refusal names old new turns (Replayed over) host answer = absurd answer
 refused_stands refusal names old new turns (Diverged turn wanted found) host answer = absurd answer
 
@@ -128,13 +132,49 @@ emptied_says before after is =
       | inr empty ↦ inr ([], empty)
     ]
 
-text_part : (name : List ℕ) (HasForm : List ℕ → Type 0) (turns : ℕ) (old new : Stored) (end : End) → ((before after : Option (List ℕ)) → StandsOrIsThere before after → IsTextAfter end before after)
-    → WritesText name HasForm old new ⊎ ((turns ≡ 0) × IsUnmade name old new) → ChangesFile old.files new.files name (IsTextAfter end)
-text_part name HasForm turns old new end says wrote =
-    elim wrote as (λ _. ChangesFile old.files new.files name (IsTextAfter end)) [
-      | inl part ↦ changed_file old.files new.files name (HasText part.0) (IsTextAfter end) (λ before after is. says before after (inr (part.0, is))) part.2.files
-      | inr unmade ↦ changed_file old.files new.files name IsUnchangedOrEmptied (IsTextAfter end) (λ before after is. says before after (emptied_says before after is)) unmade.1.files
-    ]
+text_part : (name : List ℕ) (HasForm : List ℕ → Type 0) (old new : Stored) (end : End) → ((before after : Option (List ℕ)) → StandsOrIsThere before after → IsTextAfter end before after)
+    → WritesText name HasForm old new → ChangesFile old.files new.files name (IsTextAfter end)
+text_part name HasForm old new end says wrote =
+    changed_file old.files new.files name (HasText wrote.0) (IsTextAfter end) (λ before after is. says before after (inr (wrote.0, is))) wrote.2.files
+
+-- a file could not be made, or was made and has nothing
+
+text_unmade : (name : List ℕ) (old new : Stored) (end : End) → ((before after : Option (List ℕ)) → StandsOrIsThere before after → IsTextAfter end before after)
+    → IsUnmade name old new → ChangesFile old.files new.files name (IsTextAfter end)
+text_unmade name old new end says unmade =
+    changed_file old.files new.files name IsUnchangedOrEmptied (IsTextAfter end) (λ before after is. says before after (emptied_says before after is)) unmade.files
+
+module _ (end : End) (says : (before after : Option (List ℕ)) → StandsOrIsThere before after → IsTextAfter end before after) where
+  made_says : (name : Option (List ℕ)) (old new : Stored) → Makes name old new → TextsTo name end old.files new.files
+  made_says None old new made = ap (λ (s : Stored). s.files) made
+  made_says (Some name) old new made =
+      changed_file old.files new.files name (HasText []) (IsTextAfter end) (λ before after is. says before after (inr ([], is))) made.files
+
+  unmade_says : (name : Option (List ℕ)) (old new : Stored) → MakesNone name old new → TextsTo name end old.files new.files
+  unmade_says None old new none = absurd none
+  unmade_says (Some name) old new none = text_unmade name old new end says none
+
+  stands_says : (name : Option (List ℕ)) (files : Option Files) → TextsTo name end files files
+  stands_says None files = refl
+  stands_says (Some name) files = unchanged_file files files name (IsTextAfter end) refl (λ file. says file file (inl refl))
+
+  -- what becomes of all three where one was not made
+  abbrev pub TextsStand : Option (List ℕ) → Option (List ℕ) → Option (List ℕ) → Option Files → Option Files → Type 0
+  TextsStand trace native journal old new =
+      (traced : Option Files) × (logged : Option Files) × TextsTo trace end old traced × TextsTo native end traced logged × TextsTo journal end logged new
+
+  pub not_all : (trace native journal : Option (List ℕ)) (old new : Stored) → MakesNotAll trace native journal old new → TextsStand trace native journal old.files new.files
+  not_all trace native journal old new (inl (inl none)) =
+      (new.files, new.files, unmade_says trace old new none, stands_says native new.files, stands_says journal new.files)
+  not_all trace native journal old new (inl (inr (traced, made, none))) =
+      (traced.files, new.files, made_says trace old traced made, unmade_says native traced new none, stands_says journal new.files)
+  not_all trace native journal old new (inr (logged, made, none)) = (
+    made.middle.files,
+    logged.files,
+    made_says trace old made.middle made.first,
+    made_says native made.middle logged made.second,
+    unmade_says journal logged new none,
+  )
 
 module _ (quantum : ℕ) (machine : Machine) (budget turns : ℕ) (told : Option (List ℕ)) (old new : Stored) (end : End) where
   traces_whole : (name : Option (List ℕ)) (finish : Finish) → ((before after : Option (List ℕ)) → (text : List ℕ) × (after ≡ Some text) → IsTextAfter end before after)
@@ -150,12 +190,12 @@ module _ (quantum : ℕ) (machine : Machine) (budget turns : ℕ) (told : Option
   traces_part : (name : Option (List ℕ)) (stop : Stop) → ((before after : Option (List ℕ)) → StandsOrIsThere before after → IsTextAfter end before after)
       → IfNamed name (λ n. TracesAs n quantum machine budget turns (Err stop) told) old new → TextsTo name end old.files new.files
   traces_part None stop says wrote = ap (λ (s : Stored). s.files) wrote
-  traces_part (Some name) stop says wrote = text_part name (IsCutTrace quantum machine budget turns told) turns old new end says wrote
+  traces_part (Some name) stop says wrote = text_part name (IsCutTrace quantum machine budget turns told) old new end says wrote
 
   logs_part : (name : Option (List ℕ)) (stop : Stop) → ((before after : Option (List ℕ)) → StandsOrIsThere before after → IsTextAfter end before after)
       → IfNamed name (λ n. LogsAs n quantum machine budget turns (Err stop) told) old new → TextsTo name end old.files new.files
   logs_part None stop says wrote = ap (λ (s : Stored). s.files) wrote
-  logs_part (Some name) stop says wrote = text_part name (IsCutLog quantum machine budget turns told) turns old new end says wrote
+  logs_part (Some name) stop says wrote = text_part name (IsCutLog quantum machine budget turns told) old new end says wrote
 
 module _ (front : List ℕ) (quantum : ℕ) (machine : Machine) (budget turns : ℕ) (told : Option (List ℕ)) (old new : Stored) (end : End) where
   keeps_whole : (name : Option (List ℕ)) (finish : Finish) → ((before after : Option (List ℕ)) → (text : List ℕ) × (after ≡ Some text) → IsTextAfter end before after)
@@ -166,7 +206,7 @@ module _ (front : List ℕ) (quantum : ℕ) (machine : Machine) (budget turns : 
   keeps_part : (name : Option (List ℕ)) (stop : Stop) → ((before after : Option (List ℕ)) → StandsOrIsThere before after → IsTextAfter end before after)
       → IfNamed name (λ n. KeepsAs n front quantum machine budget turns (Err stop) told) old new → TextsTo name end old.files new.files
   keeps_part None stop says wrote = ap (λ (s : Stored). s.files) wrote
-  keeps_part (Some name) stop says wrote = text_part name (IsCutJournal front quantum machine budget turns told) turns old new end says wrote
+  keeps_part (Some name) stop says wrote = text_part name (IsCutJournal front quantum machine budget turns told) old new end says wrote
 
 -- a run that stopped saves nothing
 stopped_saves : (save : Option (List ℕ)) (end : End) (files : Option Files) → ((file : Option (List ℕ)) → IsFileAfter end file file) → SavesTo save end files files
@@ -187,17 +227,24 @@ module _ (quantum : ℕ) (machine : Machine) (budget : ℕ) (front : List ℕ) (
     finish_saves names.save (final_tree answer.emulated.machine) answer.middle new.store end saves answer.saves,
   )
 
-  in_run : (stop : Stop) (end : End) → ((file : Option (List ℕ)) → IsFileAfter end file file) → ((before after : Option (List ℕ)) → StandsOrIsThere before after → IsTextAfter end before after)
-      → StopsInRun quantum machine budget front names stop old new turns → WritesFiles names end old.store.files new.store.files
-  in_run stop end stands says answer = (
-    answer.texts.traced.files,
-    answer.texts.logged.files,
+  in_run_texts : (stop : Stop) (end : End) → ((file : Option (List ℕ)) → IsFileAfter end file file) → ((before after : Option (List ℕ)) → StandsOrIsThere before after → IsTextAfter end before after)
+      → WritesTexts names.trace names.native names.journal front quantum machine budget turns (Err stop) (contents_of old) (contents_of new) old.store new.store → WritesFiles names end old.store.files new.store.files
+  in_run_texts stop end stands says (inl each) = (
+    each.traced.files,
+    each.logged.files,
     new.store.files,
-    traces_part quantum machine budget turns old.left old.store answer.texts.traced end names.trace stop says answer.texts.traces,
-    logs_part quantum machine budget turns old.left answer.texts.traced answer.texts.logged end names.native stop says answer.texts.logs,
-    keeps_part front quantum machine budget turns old.left answer.texts.logged new.store end names.journal stop says answer.texts.keeps,
+    traces_part quantum machine budget turns old.left old.store each.traced end names.trace stop says each.traces,
+    logs_part quantum machine budget turns old.left each.traced each.logged end names.native stop says each.logs,
+    keeps_part front quantum machine budget turns old.left each.logged new.store end names.journal stop says each.keeps,
     stopped_saves names.save end new.store.files stands,
   )
+  in_run_texts stop end stands says (inr unbegun) =
+      let texts = not_all end says names.trace names.native names.journal old.store new.store unbegun.unmade in
+      (texts.0, texts.1, new.store.files, texts.2, texts.3, texts.4, stopped_saves names.save end new.store.files stands)
+
+  in_run : (stop : Stop) (end : End) → ((file : Option (List ℕ)) → IsFileAfter end file file) → ((before after : Option (List ℕ)) → StandsOrIsThere before after → IsTextAfter end before after)
+      → StopsInRun quantum machine budget front names stop old new turns → WritesFiles names end old.store.files new.store.files
+  in_run stop end stands says answer = in_run_texts stop end stands says answer.texts
 
   at_save : (end : End) → ((tree : Tree) (before after : Option (List ℕ)) → StandsOrBegins (text_of tree) before after → IsFileAfter end before after)
       → ((before after : Option (List ℕ)) → (text : List ℕ) × (after ≡ Some text) → IsTextAfter end before after)
@@ -217,6 +264,7 @@ module _ (quantum : ℕ) (machine : Machine) (budget : ℕ) (front : List ℕ) (
   run_saves (Killed signal) host answer = finished (finishes.Killed signal) (Killed signal) host (λ before after is. is) (λ before after is. is) answer
   run_saves Budget host answer = finished finishes.Budget Budget host (λ before after is. is) (λ before after is. is) answer
   run_saves Blocked host answer = finished finishes.Blocked Blocked host (λ before after is. is) (λ before after is. is) answer
+  run_saves (Soaked over) host answer = absurd answer
   run_saves (Replayed over) host answer = absurd answer
   run_saves (Diverged turn wanted found) host answer = absurd answer
   run_saves (Refused given) host answer = absurd answer
@@ -252,7 +300,7 @@ saves words (WrongAt word) old new turns end host answer =
 saves words (Asks line) old new turns end host answer =
     elim answer as (λ _. WritesFiles (names_of words line) end old.store.files new.store.files) [
       | inl early ↦
-          stands_so end old.store.files new.store.files (early_stands early.count (names_of words line) end early.early)
-          (ap (λ (s : Stored). s.files) early.nothing.stands) (names_of words line)
+          let stands = early_stands (names_of words line) end old.store new.store early.at_stage in
+          stands_so end old.store.files new.store.files stands.0 stands.1 (names_of words line)
       | inr asked ↦ asked_saves (names_of words line) old new turns end host asked.0 asked.2
     ]

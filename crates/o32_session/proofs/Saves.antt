@@ -3,7 +3,7 @@ use Rattle.std.proofs.Common.{◌≡◌, ℕ, List, Option, Some, None, Result, 
 use Rattle.kernel_core.specs.ValidTree.{IsValidTree}
 use Rattle.kernel_core.specs.declared.tree.Tree.{Tree}
 use Rattle.fs_image.specs.Text.{text_of}
-use Rattle.o32_machine.specs.Emulator.{Emulated}
+use Rattle.o32_runner.specs.Emulators.{Emulated}
 use Rattle.o32_session.specs.Saved.{SavesPart}
 use Rattle.o32_runner.specs.Stored.{SavesText, Stored}
 use Rattle.o32_session.specs.Session.{final_tree}

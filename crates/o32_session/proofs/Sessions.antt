@@ -9,6 +9,7 @@ use Rattle.outside.specs.declared.devices.Devices.{Devices}
 use Rattle.outside.proofs.OutputLemmas.{GainsText-nothing}
 use Rattle.kernel_core.specs.declared.core_error.Stop.{Stop}
 use Rattle.kernel_core.specs.declared.core_error.Stop.TheVariants as stops
+use Rattle.journal.specs.Form.{IsFinish}
 use Rattle.kernel_core.specs.declared.finish.Finish.{Finish}
 use Rattle.kernel_core.specs.declared.finish.Finish.TheVariants as finishes
 use Rattle.kernel_core.specs.declared.tree.Tree.{Tree}
@@ -19,22 +20,23 @@ use Rattle.elf_image.specs.Loading.{plan_of}
 use Rattle.elf_image.specs.declared.load_plan.Plan.{Plan}
 use Rattle.schedule.specs.declared.Schedule.{Schedule}
 use Rattle.start_stack.specs.Stack.{start_size, start_limit}
-use Rattle.o32_machine.specs.Emulator.{Emulated}
+use Rattle.o32_runner.specs.Emulators.{Emulated}
 use Rattle.o32_turns.specs.Machine.{Machine}
 use Rattle.o32_session.specs.Answers.{IsRefusal}
 use Rattle.o32_session.specs.Asked.{Asked, Refuse, Run, Names, names_of, Found, Bytes, found_at, IsOpened, IsOpenedBy, AsksOf, AsksOfPlan, AsksUnless, AsksFor, IsScheduled, arguments_of, asked_of_schedule, asked_of_tree, first_machine, empty_tree, image_limit, schedule_of_found, journal_front}
 use Rattle.o32_session.specs.Saved.{SavesTree, SavesTreeInPart}
 use Rattle.o32_runner.specs.Stored.{Stored}
-use Rattle.o32_session.specs.Session.{Seen, DoesNothing, Answers, final_tree, StopsAfter, StopsEarly, first_loaded, once_loaded, Finishes, IsRun, IsPartOfRun, StopsAtSave, no_names, AnswersReading, AsksForRun, EndsAsRun, HasImage, HasSchedule, IsRunEnd}
+use Rattle.o32_session.specs.Session.{Seen, contents_of, DoesNothing, Answers, final_tree, StopsAtStage, StopsEarly, once_loaded, Finishes, IsRun, IsPartOfRun, StopsAtSave, no_names, AnswersReading, AsksForRun, EndsAsRun, HasImage, HasSchedule, IsRunEnd}
 use Rattle.o32_session.specs.Words.{Line, Reading, Asks, WrongAt, read_words, word_at}
 use Rattle.o32_session.specs.inside.Ends.{end_of, end_of_stop}
 use Rattle.o32_session.specs.inside.Prepared.{EndsRefused, EndsWithoutRun, IsPrepared, LineFailsOnlyIfRose, LoadsReading, ReasonOnlyIfRose}
+use Rattle.o32_runner.specs.Making.{IsByStore}
 use Rattle.o32_runner.specs.Runs.{RunsAs}
 use Rattle.o32_runner.specs.Texts.{WritesTexts}
 use Rattle.o32_session.specs.inside.Runs.{AnswersRun}
 use Rattle.o32_session.specs.declared.answer.Answer.{Answer}
 use Rattle.o32_session.specs.declared.answer.End.{End}
-use Rattle.o32_session.specs.declared.answer.End.TheVariants.{Exited, Killed, Budget, Blocked, Replayed, Refused, Diverged, ReadFault, WriteFault, NoMemory}
+use Rattle.o32_session.specs.declared.answer.End.TheVariants.{Exited, Killed, Budget, Blocked, Soaked, Replayed, Refused, Diverged, ReadFault, WriteFault, NoMemory}
 use Rattle.o32_session.specs.declared.answer.Refusal.{Refusal}
 use Rattle.o32_session.specs.declared.answer.Refusal.TheVariants.{Usage, Start}
 use Rattle.o32_session.specs.declared.not_run.NotRun.{NotRun}
@@ -78,14 +80,15 @@ refused refusal names (Exited status) old err faults loads store host so cause s
 refused refusal names (Killed signal) old err faults loads store host so cause stands = absurd so
 refused refusal names Budget old err faults loads store host so cause stands = absurd so
 refused refusal names Blocked old err faults loads store host so cause stands = absurd so
+refused refusal names (Soaked over) old err faults loads store host so cause stands = absurd so
 refused refusal names (Replayed over) old err faults loads store host so cause stands = absurd so
 refused refusal names (Diverged turn wanted found) old err faults loads store host so cause stands = absurd so
 
--- a load failed, or memory ran out, after so many loads
-stopped : (names : Names) (count : ℕ) (end : End) (old : Seen) (err : Option (List ℕ)) (faults loads : ℕ) (store : Stored) → StopsAfter count names end → (end ≡ ReadFault → Rose old.load_faults loads) → err ≡ old.err →
-    store ≡ (first_loaded count names old).store → StopsEarly names old (beside old err faults loads store) 0 end
-stopped names count end old err faults loads store early cause same stands =
-    record { count = count; early = early; cause = cause; nothing = nothing_done (first_loaded count names old) err faults loads store same stands }
+-- a load failed, or memory ran out, at a stage
+stopped : (names : Names) (end : End) (old : Seen) (err : Option (List ℕ)) (faults loads : ℕ) (store : Stored) → StopsAtStage names end old.store store → (end ≡ ReadFault → Rose old.load_faults loads) → err ≡ old.err →
+    StopsEarly names old (beside old err faults loads store) 0 end
+stopped names end old err faults loads store at_stage cause same =
+    record { at_stage = at_stage; cause = cause; nothing = nothing_done (record old { store = store }) err faults loads store same refl }
 
 -- want of memory is no fault
 no_fault : {P : Type 0} (end : End) → end ≡ NoMemory → end ≡ ReadFault → P
@@ -105,14 +108,11 @@ unrun words (WrongAt word) reasons.NoMemory end old err faults loads store host 
 unrun words (Asks line) (reasons.Refused refusal) end old err faults loads store host is so cause loaded rose =
     inr (Refuse refusal, is, refused refusal (names_of words line) end (once_loaded (Refuse refusal) (names_of words line) old) err faults loads store host so cause loaded)
 unrun words (Asks line) reasons.ReadFault end old err faults loads store host is so cause loaded rose =
-    inl (stopped (names_of words line) loaded.0 end old err faults loads store (subst (λ e. StopsAfter loaded.0 (names_of words line) e) (sym so.0) loaded.1) (λ fault. rose) so.1 loaded.2)
+    inl (stopped (names_of words line) end old err faults loads store (inl (so.0, loaded)) (λ fault. rose) so.1)
 unrun words (Asks line) reasons.NoMemory end old err faults loads store host is so cause loaded rose =
-    inl (stopped (names_of words line) loaded.0 end old err faults loads store (subst (λ e. StopsAfter loaded.0 (names_of words line) e) (sym so.0) tt) (λ fault. no_fault end so.0 fault) so.1 loaded.1)
+    inl (stopped (names_of words line) end old err faults loads store (inr (so.0, loaded)) (λ fault. no_fault end so.0 fault) so.1)
 
 -- There is a run
-
-abbrev contents_of : Seen → Contents
-contents_of seen = record { left = seen.left; out = seen.out; err = seen.err }
 
 run_told : (quantum : ℕ) (machine : Machine) (budget turns : ℕ) (finish : Finish) (old new : Seen) (final : Machine) → RunsAs quantum machine budget turns (Ok finish) (contents_of old) (contents_of new) final
     → (left : List ℕ) → old.left ≡ Some left → IsRun quantum machine left budget old new turns finish final
@@ -126,26 +126,27 @@ cut_told quantum machine budget turns stop old new final runs left told =
     let so = runs left told in record { alive = so.alive; first = so.first; to_out = so.to_out; to_err = so.to_err; rest = so.rest }
 
 -- the texts of a run by other names of the same files
-pub texts_named : (front : List ℕ) (quantum : ℕ) (machine : Machine) (budget turns : ℕ) (end : Result Finish Stop) (told : Option (List ℕ)) (old new : Stored) (trace other_trace native other_native journal other_journal : Option (List ℕ))
+pub texts_named : (front : List ℕ) (quantum : ℕ) (machine : Machine) (budget turns : ℕ) (end : Result Finish Stop) (before after : Contents) (old new : Stored) (trace other_trace native other_native journal other_journal : Option (List ℕ))
     → trace ≡ other_trace → native ≡ other_native → journal ≡ other_journal
-    → WritesTexts trace native journal front quantum machine budget turns end told old new → WritesTexts other_trace other_native other_journal front quantum machine budget turns end told old new
-texts_named front quantum machine budget turns end told old new trace other_trace native other_native journal other_journal traced logged kept texts =
-    subst (λ (n : Option (List ℕ)). WritesTexts n other_native other_journal front quantum machine budget turns end told old new) traced
-    (subst (λ (n : Option (List ℕ)). WritesTexts trace n other_journal front quantum machine budget turns end told old new) logged
-    (subst (λ (n : Option (List ℕ)). WritesTexts trace native n front quantum machine budget turns end told old new) kept texts))
+    → WritesTexts trace native journal front quantum machine budget turns end before after old new → WritesTexts other_trace other_native other_journal front quantum machine budget turns end before after old new
+texts_named front quantum machine budget turns end before after old new trace other_trace native other_native journal other_journal traced logged kept texts =
+    subst (λ (n : Option (List ℕ)). WritesTexts n other_native other_journal front quantum machine budget turns end before after old new) traced
+    (subst (λ (n : Option (List ℕ)). WritesTexts trace n other_journal front quantum machine budget turns end before after old new) logged
+    (subst (λ (n : Option (List ℕ)). WritesTexts trace native n front quantum machine budget turns end before after old new) kept texts))
 
 -- the run stopped early
 pub cut_answer : (quantum : ℕ) (machine : Machine) (budget turns : ℕ) (front : List ℕ) (names : Names) (stop : Stop) (old new : Seen) (final : Machine) (host : Option Emulated) → turns ≤ budget → (names.trace ≡ None → names.journal ≡ None → turns < budget)
-    → WritesTexts names.trace names.native names.journal front quantum machine budget turns (Err stop) old.left old.store new.store
+    → (turns ≡ budget → IsByStore stop old.store.write_faults new.store.write_faults)
+    → WritesTexts names.trace names.native names.journal front quantum machine budget turns (Err stop) (contents_of old) (contents_of new) old.store new.store
     → RunsAs quantum machine budget turns (Err stop) (contents_of old) (contents_of new) final
     → (stop ≡ stops.ReadFault → Rose old.read_faults new.read_faults) → (stop ≡ stops.WriteFault → Rose old.out_faults new.out_faults ⊎ (Rose old.err_faults new.err_faults ⊎ Rose old.store.write_faults new.store.write_faults))
     → Answers (Run quantum machine budget front) names old new turns (end_of_stop stop) host
-cut_answer quantum machine budget turns front names stops.ReadFault old new final host within early texts runs read write =
-    (record { within = within; early = early; texts = texts; told = cut_told quantum machine budget turns stops.ReadFault old new final runs }, read refl)
-cut_answer quantum machine budget turns front names stops.WriteFault old new final host within early texts runs read write =
-    inl (record { within = within; early = early; texts = texts; told = cut_told quantum machine budget turns stops.WriteFault old new final runs }, write refl)
-cut_answer quantum machine budget turns front names stops.NoMemory old new final host within early texts runs read write =
-    inl (record { within = within; early = early; texts = texts; told = cut_told quantum machine budget turns stops.NoMemory old new final runs })
+cut_answer quantum machine budget turns front names stops.ReadFault old new final host within early behind texts runs read write =
+    (record { within = within; early = early; behind = behind; texts = texts; told = cut_told quantum machine budget turns stops.ReadFault old new final runs }, read refl)
+cut_answer quantum machine budget turns front names stops.WriteFault old new final host within early behind texts runs read write =
+    inl (record { within = within; early = early; behind = behind; texts = texts; told = cut_told quantum machine budget turns stops.WriteFault old new final runs }, write refl)
+cut_answer quantum machine budget turns front names stops.NoMemory old new final host within early behind texts runs read write =
+    inl (record { within = within; early = early; behind = behind; texts = texts; told = cut_told quantum machine budget turns stops.NoMemory old new final runs })
 
 finish_answers : (quantum : ℕ) (machine : Machine) (budget turns : ℕ) (front : List ℕ) (names : Names) (finish : Finish) (old new : Seen) (host : Option Emulated) → Finishes quantum machine budget front names old new turns finish host
     → Answers (Run quantum machine budget front) names old new turns (end_of finish) host
@@ -155,14 +156,15 @@ finish_answers quantum machine budget turns front names finishes.Budget old new 
 finish_answers quantum machine budget turns front names finishes.Blocked old new host so = so
 
 -- the run is over, and what follows it says the answer
-pub run_answer : (quantum : ℕ) (machine : Machine) (budget turns : ℕ) (front : List ℕ) (names : Names) (name : Option (List ℕ)) (finish : Finish) (emulated : Emulated) (answer : Answer) (old new : Seen) (middle : Stored) → names.save ≡ name → middle.write_faults ≡ old.store.write_faults → turns ≤ budget
-    → WritesTexts names.trace names.native names.journal front quantum machine budget turns (Ok finish) old.left old.store middle → emulated.turns ≡ turns
+pub run_answer : (quantum : ℕ) (machine : Machine) (budget turns : ℕ) (front : List ℕ) (names : Names) (name : Option (List ℕ)) (finish : Finish) (emulated : Emulated) (answer : Answer) (old new : Seen) (middle : Stored) → names.save ≡ name → middle.write_faults ≡ old.store.write_faults → turns ≤ budget → IsFinish finish
+    → WritesTexts names.trace names.native names.journal front quantum machine budget turns (Ok finish) (contents_of old) (contents_of new) old.store middle → emulated.turns ≡ turns
     → RunsAs quantum machine budget turns (Ok finish) (contents_of old) (contents_of new) emulated.machine → AnswersRun name emulated finish answer middle new.store
     → Answers (Run quantum machine budget front) names old new answer.turns answer.end answer.host
-run_answer quantum machine budget turns front names name finish emulated answer old new middle named unfaulty within texts counted runs (inl done) =
+run_answer quantum machine budget turns front names name finish emulated answer old new middle named unfaulty within small texts counted runs (inl done) =
     let same : answer.turns ≡ turns = done.turns ∙ counted in
     let so : Finishes quantum machine budget front names old new turns finish answer.host = record {
       within = within;
+      small = small;
       emulated = emulated;
       hosted = done.host;
       turned = counted;
@@ -173,7 +175,7 @@ run_answer quantum machine budget turns front names name finish emulated answer 
     } in
     subst (λ (n : ℕ). Answers (Run quantum machine budget front) names old new n answer.end answer.host) (sym same)
     (subst (λ (e : End). Answers (Run quantum machine budget front) names old new turns e answer.host) (sym done.end) (finish_answers quantum machine budget turns front names finish old new answer.host so))
-run_answer quantum machine budget turns front names name finish emulated answer old new middle named unfaulty within texts counted runs (inr failed) =
+run_answer quantum machine budget turns front names name finish emulated answer old new middle named unfaulty within small texts counted runs (inr failed) =
     let same : answer.turns ≡ turns = failed.turns ∙ counted in
     let so : StopsAtSave quantum machine budget front names old new turns = record {
       within = within;
@@ -220,6 +222,7 @@ ran_on quantum machine budget front names old new turns (Exited status) host ans
 ran_on quantum machine budget front names old new turns (Killed signal) host answer refused = refused
 ran_on quantum machine budget front names old new turns Budget host answer refused = refused
 ran_on quantum machine budget front names old new turns Blocked host answer refused = refused
+ran_on quantum machine budget front names old new turns (Soaked over) host answer refused = refused
 ran_on quantum machine budget front names old new turns (Replayed over) host answer refused = refused
 ran_on quantum machine budget front names old new turns (Diverged turn wanted found) host answer refused = refused
 ran_on quantum machine budget front names old new turns (Refused given) host answer refused = answer
@@ -253,6 +256,7 @@ run_end_of quantum machine budget front names old new turns (Exited status) host
 run_end_of quantum machine budget front names old new turns (Killed signal) host left told answer read file out err = inr (answer.told left told).over
 run_end_of quantum machine budget front names old new turns Budget host left told answer read file out err = inr (answer.told left told).over
 run_end_of quantum machine budget front names old new turns Blocked host left told answer read file out err = inr (answer.told left told).over
+run_end_of quantum machine budget front names old new turns (Soaked over) host left told answer read file out err = absurd answer
 run_end_of quantum machine budget front names old new turns (Replayed over) host left told answer read file out err = absurd answer
 run_end_of quantum machine budget front names old new turns (Diverged turn wanted found) host left told answer read file out err = absurd answer
 run_end_of quantum machine budget front names old new turns (Refused given) host left told answer read file out err = absurd answer
@@ -264,17 +268,12 @@ run_end_of quantum machine budget front names old new turns WriteFault host left
     ]
 run_end_of quantum machine budget front names old new turns NoMemory host left told answer read file out err = inl refl
 
-early_end : (P : Type 0) (count : ℕ) (names : Names) (end : End) → StopsAfter count names end → (end ≡ ReadFault → ⊥) → (end ≡ NoMemory) ⊎ P
-early_end P count names (Exited status) early read = absurd early
-early_end P count names (Killed signal) early read = absurd early
-early_end P count names Budget early read = absurd early
-early_end P count names Blocked early read = absurd early
-early_end P count names (Replayed over) early read = absurd early
-early_end P count names (Diverged turn wanted found) early read = absurd early
-early_end P count names (Refused given) early read = absurd early
-early_end P count names ReadFault early read = absurd (read refl)
-early_end P count names WriteFault early read = absurd early
-early_end P count names NoMemory early read = inl refl
+early_end : (P : Type 0) (names : Names) (end : End) (old new : Stored) → StopsAtStage names end old new → (end ≡ ReadFault → ⊥) → (end ≡ NoMemory) ⊎ P
+early_end P names end old new at_stage read =
+    elim at_stage as (λ _. (end ≡ NoMemory) ⊎ P) [
+      | inl fault ↦ absurd (read fault.0)
+      | inr memory ↦ inl memory.0
+    ]
 
 -- the arguments fit
 fits_run : (args : List (List ℕ)) (line : Line) (plan : Plan) (tree : Tree) (schedule : Schedule) → start_size args line.environment ≤ start_limit →
@@ -297,7 +296,7 @@ runs_so args line names files plan tree schedule asked has fits asks =
     asks.2 ∙ (ap (λ (r : Result Schedule Refusal). asked_of_tree args line plan tree r) (scheduled files names.schedule schedule asks.0 has asks.1) ∙ fits_run args line plan tree schedule fits)
 
 -- what is asked for is the run beside the tree that was opened
-asks_run : (words : List (List ℕ)) (told : Option Files) (run : AsksForRun words told) (asked : Asked) → AsksFor words run.line (Some run.files) asked
+pub asks_run : (words : List (List ℕ)) (told : Option Files) (run : AsksForRun words told) (asked : Asked) → AsksFor words run.line (Some run.files) asked
     → (tree : Tree) × IsOpened (Some run.files) (names_of words run.line).image (Ok tree)
     × (asked ≡ Run run.schedule.quantum (first_machine (plan_of run.bytes) (arguments_of words run.line) run.line.environment tree run.schedule) run.line.budget (journal_front (arguments_of words run.line) run.line.environment run.schedule))
 asks_run words told run asked asks =
@@ -322,7 +321,7 @@ complete words old new turns end host run left answer told read file out err =
     let known : AnswersReading words (Asks run.line) old new turns end host =
     subst (λ r. AnswersReading words r old new turns end host) run.in_order answer in
     elim known as (λ _. (end ≡ NoMemory) ⊎ EndsAsRun words old.store.files run left turns end) [
-      | inl early ↦ early_end (EndsAsRun words old.store.files run left turns end) early.count (names_of words run.line) end early.early read
+      | inl early ↦ early_end (EndsAsRun words old.store.files run left turns end) (names_of words run.line) end old.store new.store early.at_stage read
       | inr asked ↦
           let asks = asks_run words old.store.files run asked.0 (subst (λ f. AsksFor words run.line f asked.0) run.is_told asked.1) in
           let names = names_of words run.line in

@@ -22,7 +22,7 @@ use Rattle.native_kernel.specs.Settings.{settings_of}
 use Rattle.schedule.specs.Grammar.{meaning_of}
 use Rattle.schedule.specs.declared.Schedule.{Schedule}
 use Rattle.schedule.specs.declared.refusal.ScheduleRefusal.{ScheduleRefusal}
-use Rattle.o32_machine.specs.Emulator as emulators
+use Rattle.o32_runner.specs.Emulators as emulators
 use Rattle.o32_turns.specs.Machine.{Machine}
 use Rattle.o32_session.specs.declared.answer.Refusal.{Refusal}
 use Rattle.o32_session.specs.declared.answer.Refusal.TheVariants.{Missing, TooLong, Elf, Image, Start}
@@ -217,3 +217,17 @@ AsksFor words line files asked =
     (found : Found)
     × IsFound files program_limit (names_of words line).program found
     × AsksOf (arguments_of words line) line (names_of words line) files found asked
+
+-- The files in order, one by one
+
+-- the program is there, within its limit and breaks no rule
+abbrev pub HasProgram : Option Files → List ℕ → Type 0
+HasProgram files name = (bytes : List ℕ) × IsFound files program_limit name (Bytes bytes) × (elf.first_failure bytes ≡ None)
+
+-- there is a tree to begin with
+abbrev pub HasTree : Option Files → Option (List ℕ) → Type 0
+HasTree files image = (tree : Tree) × IsOpened files image (Ok tree)
+
+-- and a schedule
+abbrev pub HasSettings : Option Files → Option (List ℕ) → Type 0
+HasSettings files name = (schedule : Schedule) × IsScheduled files name (Ok schedule)

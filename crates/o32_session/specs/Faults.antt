@@ -3,7 +3,7 @@ use Rattle.std.specs.Prelude.{◌≡◌, ◌⊎◌}
 use Rattle.outside.specs.Count.{Rose}
 use Rattle.o32_session.specs.Session.{Seen}
 use Rattle.o32_session.specs.declared.answer.End.{End}
-use Rattle.o32_session.specs.declared.answer.End.TheVariants.{Exited, Killed, Budget, Blocked, Replayed, Refused, Diverged, ReadFault, WriteFault, NoMemory}
+use Rattle.o32_session.specs.declared.answer.End.TheVariants.{Exited, Killed, Budget, Blocked, Soaked, Replayed, Refused, Diverged, ReadFault, WriteFault, NoMemory}
 
 -- no count rose: of the input, of the outputs, of the store's loads and of its writes
 pub record NoneRose (old new : Seen) : Type 0 where
@@ -25,5 +25,6 @@ TellsFaults (Exited status) old new = NoneRose old new
 TellsFaults (Killed signal) old new = NoneRose old new
 TellsFaults Budget old new = NoneRose old new
 TellsFaults Blocked old new = NoneRose old new
+TellsFaults (Soaked finish) old new = NoneRose old new
 TellsFaults (Replayed finish) old new = NoneRose old new
 TellsFaults (Diverged turn wanted found) old new = NoneRose old new

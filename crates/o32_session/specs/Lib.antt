@@ -5,6 +5,8 @@ pub mod Asked
 pub mod Saved
 pub mod Session
 pub mod Replayed
+pub mod Soaked
 pub mod Faults
 pub mod SavedFile
+pub mod LeftJournal
 pub mod inside

@@ -1,5 +1,5 @@
 -- What `replay PROGRAM JOURNAL` asks for, and what an answer says of it. This project's own.
-use Rattle.std.specs.Prelude.{ℕ, ◌≡◌, ◌<◌, ◌≤◌, ⊤, ◌⊎◌, List, [], ◌∷◌, ◌++◌, take, Option, Some, None, Result, Ok, Err, nat_lt, ◌==◌, if◌then◌else◌}
+use Rattle.std.specs.Prelude.{ℕ, ◌≡◌, ◌≤◌, ⊤, ◌⊎◌, List, [], ◌∷◌, ◌++◌, Option, Some, None, Result, Ok, Err, nat_lt, ◌==◌, if◌then◌else◌}
 use Rattle.outside.specs.Count.{Rose}
 use Rattle.outside.specs.Files.{Files}
 use Rattle.outside.specs.Output.{GainsText, GainsBetween}
@@ -16,16 +16,16 @@ use Rattle.journal.specs.Text.{Kept}
 use Rattle.journal.specs.Reading.{reading_of}
 use Rattle.replay_core.specs.Answered.{Written, EndsBy, DivergesBy, StopsAt}
 use Rattle.replay_core.specs.Whole.{last_of, replay_of, start_of}
-use Rattle.o32_machine.specs.Emulator.{Emulated}
-use Rattle.o32_session.specs.Words.{Command, ReplayCommand, RunCommand, ReplayLine, ReplayReading, AsksReplay, WrongReplayAt, command_of, read_replay}
-use Rattle.o32_session.specs.Asked.{Refuse, Found, Absent, Long, Bytes, IsFound, found_at, program_file, program_limit, journal_file, journal_limit}
+use Rattle.o32_runner.specs.Stored.{Stored}
+use Rattle.o32_session.specs.Words.{ReplayCommand, ReplayLine, ReplayReading, AsksReplay, WrongReplayAt, command_of, read_replay}
+use Rattle.o32_session.specs.Asked.{Refuse, Found, Absent, Long, Bytes, HasProgram, IsFound, found_at, program_file, program_limit, journal_file, journal_limit}
 use Rattle.o32_session.specs.Saved.{after_loads}
-use Rattle.o32_session.specs.Session.{Seen, Answers, AnswersWords, DoesNothing, Writes, no_names}
+use Rattle.o32_session.specs.Session.{Seen, Answers, DoesNothing, Writes, no_names}
 use Rattle.o32_session.specs.Lines.{divergence_line}
 use Rattle.o32_session.specs.declared.answer.Refusal.{Refusal}
 use Rattle.o32_session.specs.declared.answer.Refusal.TheVariants.{Usage, Missing, TooLong, Elf, Image, Schedule, Start, Journal}
 use Rattle.o32_session.specs.declared.answer.End.{End}
-use Rattle.o32_session.specs.declared.answer.End.TheVariants.{Exited, Killed, Budget, Blocked, Replayed, Refused, Diverged, ReadFault, WriteFault, NoMemory}
+use Rattle.o32_session.specs.declared.answer.End.TheVariants.{Exited, Killed, Budget, Blocked, Soaked, Replayed, Refused, Diverged, ReadFault, WriteFault, NoMemory}
 
 -- What is asked for: a refusal, or the replay of a journal from the program's plan
 pub data ReplayAsked : Type 0 where
@@ -149,6 +149,7 @@ pub record StopsInReplay (plan : Plan) (journal : Kept) (old new : Seen) (turns 
 -- What an end with its turns says where this was asked for, once both files are loaded. A fault has its cause in the output that it came from.
 abbrev pub AnswersReplay : ReplayAsked → Seen → Seen → ℕ → End → Type 0
 AnswersReplay (RefuseReplay refusal) old new turns end = Answers (Refuse refusal) no_names old new turns end None
+AnswersReplay (Repeat plan journal) old new turns (Soaked finish) = ⊥
 AnswersReplay (Repeat plan journal) old new turns (Replayed finish) = IsReplayed plan journal old new turns finish
 AnswersReplay (Repeat plan journal) old new turns (Diverged turn wanted found) = HasDiverged plan journal old new turns turn wanted found
 AnswersReplay (Repeat plan journal) old new turns WriteFault =
@@ -163,25 +164,45 @@ AnswersReplay (Repeat plan journal) old new turns (Killed signal) = ⊥
 AnswersReplay (Repeat plan journal) old new turns Budget = ⊥
 AnswersReplay (Repeat plan journal) old new turns Blocked = ⊥
 
--- a fault of the load after so many of both, or want of memory
-abbrev pub StopsBefore : ℕ → End → Type 0
-StopsBefore count ReadFault = count < 2
-StopsBefore count NoMemory = ⊤
-StopsBefore count WriteFault = ⊥
-StopsBefore count (Refused given) = ⊥
-StopsBefore count (Replayed finish) = ⊥
-StopsBefore count (Diverged turn wanted found) = ⊥
-StopsBefore count (Exited status) = ⊥
-StopsBefore count (Killed signal) = ⊥
-StopsBefore count Budget = ⊥
-StopsBefore count Blocked = ⊥
+-- How far the loads have come
+pub data ReplayStage : Type 0 where
+  AtPlan : ReplayStage
+  AtJournal : ReplayStage
 
--- Nothing is done but that the first files are loaded: memory ran out, or a load failed, whose count rose.
+abbrev pub replay_name_at : ReplayStage → ReplayLine → List ℕ
+replay_name_at AtPlan line = line.program
+replay_name_at AtJournal line = line.journal
+
+abbrev pub replay_loaded_before : ReplayStage → ReplayLine → List (List ℕ)
+replay_loaded_before AtPlan line = []
+replay_loaded_before AtJournal line = line.program ∷ []
+
+-- the program is in order before the journal is loaded
+abbrev pub IsReplayInOrder : ReplayStage → ReplayLine → Option Files → Type 0
+IsReplayInOrder AtPlan line files = ⊤
+IsReplayInOrder AtJournal line files = HasProgram files line.program
+
+-- the load of a stage failed
+pub record ReplayFailsToLoad (line : ReplayLine) (old new : Stored) : Type 0 where
+  pub stage : ReplayStage
+  pub in_order : IsReplayInOrder stage line old.files
+  pub stands : new ≡ after_loads old (replay_loaded_before stage line) []
+
+-- memory ran out at a stage, before or behind its load
+pub record ReplayWantsMemory (line : ReplayLine) (old new : Stored) : Type 0 where
+  pub stage : ReplayStage
+  pub in_order : IsReplayInOrder stage line old.files
+  pub stands : (new ≡ after_loads old (replay_loaded_before stage line) [])
+      ⊎ (new ≡ after_loads old (replay_loaded_before stage line ++ replay_name_at stage line ∷ []) [])
+
+abbrev pub StopsAtReplayStage : ReplayLine → End → Stored → Stored → Type 0
+StopsAtReplayStage line end old new = ((end ≡ ReadFault) × ReplayFailsToLoad line old new) ⊎ ((end ≡ NoMemory) × ReplayWantsMemory line old new)
+
+-- Nothing is done but that files are loaded: a load failed, whose count rose, or memory ran out.
 pub record StopsUnbegun (line : ReplayLine) (old new : Seen) (turns : ℕ) (end : End) : Type 0 where
-  pub count : ℕ
-  pub early : StopsBefore count end
+  pub at_stage : StopsAtReplayStage line end old.store new.store
   pub cause : end ≡ ReadFault → Rose old.load_faults new.load_faults
-  pub nothing : DoesNothing (record old { store = after_loads old.store (take count (both_names line)) [] }) new turns
+  pub nothing : DoesNothing (record old { store = new.store }) new turns
 
 -- The same by the reading of the words. Wrong words are refused before any load.
 abbrev pub AnswersReplayReading : ReplayReading → Seen → Seen → ℕ → End → Type 0
@@ -192,15 +213,6 @@ AnswersReplayReading (AsksReplay line) old new turns end =
 
 abbrev pub AnswersReplayWords : List (List ℕ) → Seen → Seen → ℕ → End → Type 0
 AnswersReplayWords words old new turns end = AnswersReplayReading (read_replay words) old new turns end
-
--- All words, by the command that they begin with
-
-abbrev pub AnswersCommand : Command → List (List ℕ) → Seen → Seen → ℕ → End → Option Emulated → Type 0
-AnswersCommand RunCommand words old new turns end host = AnswersWords words old new turns end host
-AnswersCommand ReplayCommand words old new turns end host = AnswersReplayWords words old new turns end
-
-abbrev pub AnswersSession : List (List ℕ) → Seen → Seen → ℕ → End → Option Emulated → Type 0
-AnswersSession words old new turns end host = AnswersCommand (command_of words) words old new turns end host
 
 -- Where nothing fails
 
@@ -223,6 +235,7 @@ pub record AsksForReplay (words : List (List ℕ)) (told : Option Files) : Type 
 
 -- this is how the replay is over
 abbrev pub IsReplayEnd : Plan → Kept → ℕ → End → Type 0
+IsReplayEnd plan journal turns (Soaked finish) = ⊥
 IsReplayEnd plan journal turns (Replayed finish) =
     EndsBy (replay_of plan journal) (last_of journal.records).turn (last_of journal.records).finish turns finish
 IsReplayEnd plan journal turns (Diverged turn wanted found) = DivergesBy (replay_of plan journal) turns turn wanted found

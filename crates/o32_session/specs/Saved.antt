@@ -24,9 +24,31 @@ abbrev pub named : Option (List ℕ) → List (List ℕ)
 named None = []
 named (Some name) = name ∷ []
 
--- the names of the files of a line that are loaded, each once, in their order: of the program, of the image, of the schedule
+-- How far the steps before a run have come: to the load of the program, to that of the image or of the schedule, where one is named, or to the first
+-- machine.
+pub data Stage : Type 0 where
+  AtProgram : Stage
+  AtImage : Stage
+  AtSchedule : Stage
+  AtMachine : Stage
+
+-- the name of the file that is loaded there
+abbrev pub name_at : Stage → Names → Option (List ℕ)
+name_at AtProgram names = Some names.program
+name_at AtImage names = names.image
+name_at AtSchedule names = names.schedule
+name_at AtMachine names = None
+
+-- the names of the files that are loaded before, each once, in their order
+abbrev pub loaded_before : Stage → Names → List (List ℕ)
+loaded_before AtProgram names = []
+loaded_before AtImage names = names.program ∷ []
+loaded_before AtSchedule names = names.program ∷ named names.image
+loaded_before AtMachine names = names.program ∷ (named names.image ++ named names.schedule)
+
+-- those of all files of a line: of the program, of the image, of the schedule
 abbrev pub loaded_names : Names → List (List ℕ)
-loaded_names names = names.program ∷ (named names.image ++ named names.schedule)
+loaded_names names = loaded_before AtMachine names
 
 -- those of them up to the file of this number
 abbrev pub names_up_to : Names → ℕ → List (List ℕ)

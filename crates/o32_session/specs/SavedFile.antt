@@ -5,10 +5,10 @@ use Rattle.outside.specs.Output.{IsPrefix}
 use Rattle.kernel_core.specs.ValidTree.{IsValidTree}
 use Rattle.kernel_core.specs.declared.tree.Tree.{Tree}
 use Rattle.fs_image.specs.Text.{text_of}
-use Rattle.o32_session.specs.Words.{Command, Reading, Asks, ReplayCommand, RunCommand, WrongAt, command_of, read_words}
+use Rattle.o32_session.specs.Words.{Command, Reading, Asks, ReplayCommand, RunCommand, SoakCommand, WrongAt, command_of, read_words}
 use Rattle.o32_session.specs.Asked.{Names, names_of}
 use Rattle.o32_session.specs.declared.answer.End.{End}
-use Rattle.o32_session.specs.declared.answer.End.TheVariants.{Exited, Killed, Budget, Blocked, Replayed, Refused, Diverged, ReadFault, WriteFault, NoMemory}
+use Rattle.o32_session.specs.declared.answer.End.TheVariants.{Exited, Killed, Budget, Blocked, Soaked, Replayed, Refused, Diverged, ReadFault, WriteFault, NoMemory}
 
 -- the file has the text of a valid tree
 abbrev pub HasTreeText : Option (List ℕ) → Type 0
@@ -24,6 +24,7 @@ IsFileAfter (Exited status) before after = HasTreeText after
 IsFileAfter (Killed signal) before after = HasTreeText after
 IsFileAfter Budget before after = HasTreeText after
 IsFileAfter Blocked before after = HasTreeText after
+IsFileAfter (Soaked finish) before after = after ≡ before
 IsFileAfter (Replayed finish) before after = after ≡ before
 IsFileAfter (Diverged turn wanted found) before after = after ≡ before
 IsFileAfter (Refused given) before after = after ≡ before
@@ -41,6 +42,7 @@ IsTextAfter (Exited status) before after = (text : List ℕ) × (after ≡ Some 
 IsTextAfter (Killed signal) before after = (text : List ℕ) × (after ≡ Some text)
 IsTextAfter Budget before after = (text : List ℕ) × (after ≡ Some text)
 IsTextAfter Blocked before after = (text : List ℕ) × (after ≡ Some text)
+IsTextAfter (Soaked finish) before after = after ≡ before
 IsTextAfter (Replayed finish) before after = after ≡ before
 IsTextAfter (Diverged turn wanted found) before after = after ≡ before
 IsTextAfter (Refused given) before after = after ≡ before
@@ -73,10 +75,11 @@ abbrev pub SavesReading : List (List ℕ) → Reading → End → Option Files �
 SavesReading words (WrongAt word) end old new = new ≡ old
 SavesReading words (Asks line) end old new = WritesFiles (names_of words line) end old new
 
--- a replay changes no file
+-- a replay changes no file, and neither does the soak program's run
 abbrev pub SavesCommand : Command → List (List ℕ) → End → Option Files → Option Files → Type 0
 SavesCommand RunCommand words end old new = SavesReading words (read_words words) end old new
 SavesCommand ReplayCommand words end old new = new ≡ old
+SavesCommand SoakCommand words end old new = new ≡ old
 
 abbrev pub SavesWords : List (List ℕ) → End → Option Files → Option Files → Type 0
 SavesWords words end old new = SavesCommand (command_of words) words end old new

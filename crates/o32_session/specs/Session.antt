@@ -1,20 +1,23 @@
 -- What an answer says where a refusal or a run is asked for. This project's own.
-use Rattle.std.specs.Prelude.{ℕ, ◌≡◌, ◌<◌, ◌≤◌, ⊤, ◌⊎◌, List, [], length, take, Option, Some, None, Ok, Err}
+use Rattle.std.specs.Prelude.{ℕ, ◌≡◌, ◌<◌, ◌≤◌, ⊤, ◌⊎◌, true, List, [], ◌++◌, Option, Some, None, is_some, Ok, Err}
 use Rattle.outside.specs.Files.{Files}
 use Rattle.outside.specs.Count.{Rose}
 use Rattle.outside.specs.Output.{GainsText, GainsBetween}
+use Rattle.outside.specs.Streams.{Contents}
 use Rattle.outside.specs.declared.devices.Devices.{Devices}
+use Rattle.journal.specs.Form.{IsFinish}
 use Rattle.kernel_core.specs.LoadedTree.{saved}
 use Rattle.kernel_core.specs.declared.tree.Tree.{Tree}
-use Rattle.o32_machine.specs.Emulator.{Emulated}
+use Rattle.o32_runner.specs.Emulators.{Emulated}
 use Rattle.fs_image.specs.Meaning as images
 use Rattle.elf_image.specs.Rules as elf
 use Rattle.elf_image.specs.Loading.{plan_of}
 use Rattle.start_stack.specs.Stack.{start_size, start_limit}
 use Rattle.schedule.specs.declared.Schedule.{Schedule}
 use Rattle.o32_session.specs.Words.{Line, Reading, Asks, WrongAt, read_words}
-use Rattle.o32_session.specs.Asked.{Asked, Refuse, Run, Names, names_of, Bytes, found_at, program_limit, image_limit, AsksFor, IsOpened, arguments_of, first_machine, schedule_limit, schedule_of_text, empty_schedule}
-use Rattle.o32_session.specs.Saved.{after_loads, loaded_by, loaded_names, turned_by, SavesTree, SavesTreeInPart}
+use Rattle.o32_session.specs.Asked.{Asked, Refuse, Run, Names, names_of, Bytes, found_at, program_limit, image_limit, AsksFor, IsOpened, arguments_of, first_machine, schedule_limit, schedule_of_text, empty_schedule, HasProgram, HasTree, HasSettings}
+use Rattle.o32_session.specs.Saved.{Stage, AtProgram, AtImage, AtSchedule, AtMachine, after_loads, loaded_before, loaded_by, loaded_names, name_at, named, turned_by, SavesTree, SavesTreeInPart}
+use Rattle.o32_runner.specs.Making.{IsByStore}
 use Rattle.o32_runner.specs.Runs.{turns_begun}
 use Rattle.o32_runner.specs.Stored.{Stored}
 use Rattle.o32_turns.specs.Runs.{IsOverAt, IsRunningAt, last_machine, reached}
@@ -28,7 +31,7 @@ use Rattle.kernel_core.specs.declared.finish.Finish.TheVariants as finishes
 use Rattle.kernel_core.specs.declared.core_error.Stop.{Stop}
 use Rattle.kernel_core.specs.declared.core_error.Stop.TheVariants as stops
 use Rattle.o32_session.specs.declared.answer.End.{End}
-use Rattle.o32_session.specs.declared.answer.End.TheVariants.{Exited, Killed, Budget, Blocked, Replayed, Refused, Diverged, ReadFault, WriteFault, NoMemory}
+use Rattle.o32_session.specs.declared.answer.End.TheVariants.{Exited, Killed, Budget, Blocked, Soaked, Replayed, Refused, Diverged, ReadFault, WriteFault, NoMemory}
 
 -- what is seen of the devices, the counts of faults, and the store: what is left of the input, and what the outputs have
 pub record Seen : Type 0 where
@@ -54,6 +57,10 @@ seen_of left out err read_faults out_faults err_faults dev load_faults store = r
   load_faults = load_faults;
   store = store;
 }
+
+-- what the devices hold
+abbrev pub contents_of : Seen → Contents
+contents_of seen = record { left = seen.left; out = seen.out; err = seen.err }
 
 -- exactly these texts were written to `out` and `err`
 pub record Writes (old new : Seen) (out err : List ℕ) : Type 0 where
@@ -105,25 +112,27 @@ pub record IsPartOfRun (quantum : ℕ) (machine : Machine) (left : List ℕ) (bu
   pub to_err : GainsBetween old.err new.err (reached quantum machine left turns).sent.err (reached quantum machine left (turns_begun budget turns)).sent.err
   pub rest : (new.left ≡ Some (reached quantum machine left turns).left) ⊎ (new.left ≡ Some (reached quantum machine left (turns_begun budget turns)).left)
 
--- A run ended so, within the budget. Its trace, its native log and its journal were written to the files that are named for them, the emulator is
+-- A run ended so, within the budget; a status and a signal are bytes. Its trace, its native log and its journal were written to the files that are named for them, the emulator is
 -- handed out, and its final tree was saved. Where the input tells what is left of it, the run is the machine's.
 pub record Finishes (quantum : ℕ) (machine : Machine) (budget : ℕ) (front : List ℕ) (names : Names) (old new : Seen) (turns : ℕ) (finish : Finish) (host : Option Emulated) :
     Type 0 where
   pub within : turns ≤ budget
+  pub small : IsFinish finish
   pub emulated : Emulated
   pub hosted : host ≡ Some emulated
   pub turned : emulated.turns ≡ turns
   pub middle : Stored
-  pub texts : WritesTexts names.trace names.native names.journal front quantum machine budget turns (Ok finish) old.left old.store middle
+  pub texts : WritesTexts names.trace names.native names.journal front quantum machine budget turns (Ok finish) (contents_of old) (contents_of new) old.store middle
   pub saves : SavesTree names.save (final_tree emulated.machine) middle new.store
   pub told : (left : List ℕ) → old.left ≡ Some left → IsRun quantum machine left budget old new turns finish emulated.machine
 
--- A run stopped early after these turns, and had written parts of its texts. Where a trace or a journal is written, it may also stop once
--- the budget's turns are done.
+-- A run stopped early after these turns, and had written parts of its texts; or one of its files could not be made, and nothing was run. Where a trace
+-- or a journal is written, it may also stop once the budget's turns are done, by the store.
 pub record StopsInRun (quantum : ℕ) (machine : Machine) (budget : ℕ) (front : List ℕ) (names : Names) (stop : Stop) (old new : Seen) (turns : ℕ) : Type 0 where
   pub within : turns ≤ budget
   pub early : names.trace ≡ None → names.journal ≡ None → turns < budget
-  pub texts : WritesTexts names.trace names.native names.journal front quantum machine budget turns (Err stop) old.left old.store new.store
+  pub behind : turns ≡ budget → IsByStore stop old.store.write_faults new.store.write_faults
+  pub texts : WritesTexts names.trace names.native names.journal front quantum machine budget turns (Err stop) (contents_of old) (contents_of new) old.store new.store
   pub told : (left : List ℕ) → old.left ≡ Some left → IsPartOfRun quantum machine left budget old new turns
 
 -- a run ended, and at most a part of its final tree was saved
@@ -132,7 +141,7 @@ pub record StopsAtSave (quantum : ℕ) (machine : Machine) (budget : ℕ) (front
   pub finish : Finish
   pub final : Machine
   pub middle : Stored
-  pub texts : WritesTexts names.trace names.native names.journal front quantum machine budget turns (Ok finish) old.left old.store middle
+  pub texts : WritesTexts names.trace names.native names.journal front quantum machine budget turns (Ok finish) (contents_of old) (contents_of new) old.store middle
   pub saves : SavesTreeInPart names.save (final_tree final) middle new.store
   pub told : (left : List ℕ) → old.left ≡ Some left → IsRun quantum machine left budget old new turns finish final
 
@@ -148,6 +157,7 @@ Answers (Refuse refusal) names old new turns (Exited status) host = ⊥
 Answers (Refuse refusal) names old new turns (Killed signal) host = ⊥
 Answers (Refuse refusal) names old new turns Budget host = ⊥
 Answers (Refuse refusal) names old new turns Blocked host = ⊥
+Answers (Refuse refusal) names old new turns (Soaked finish) host = ⊥
 Answers (Refuse refusal) names old new turns (Replayed finish) host = ⊥
 Answers (Refuse refusal) names old new turns (Diverged turn wanted found) host = ⊥
 Answers (Run quantum machine budget front) names old new turns (Exited status) host =
@@ -156,6 +166,7 @@ Answers (Run quantum machine budget front) names old new turns (Killed signal) h
     Finishes quantum machine budget front names old new turns (finishes.Killed signal) host
 Answers (Run quantum machine budget front) names old new turns Budget host = Finishes quantum machine budget front names old new turns finishes.Budget host
 Answers (Run quantum machine budget front) names old new turns Blocked host = Finishes quantum machine budget front names old new turns finishes.Blocked host
+Answers (Run quantum machine budget front) names old new turns (Soaked finish) host = ⊥
 Answers (Run quantum machine budget front) names old new turns (Replayed finish) host = ⊥
 Answers (Run quantum machine budget front) names old new turns (Diverged turn wanted found) host = ⊥
 Answers (Run quantum machine budget front) names old new turns (Refused given) host = ⊥
@@ -173,29 +184,34 @@ abbrev pub once_loaded : Asked → Names → Seen → Seen
 once_loaded (Refuse refusal) names seen = record seen { store = after_loads seen.store (loaded_by names refusal) (turned_by names refusal) }
 once_loaded (Run quantum machine budget front) names seen = record seen { store = after_loads seen.store (loaded_names names) [] }
 
--- the same where only so many of them are answered, and none is turned away
-abbrev pub first_loaded : ℕ → Names → Seen → Seen
-first_loaded count names seen = record seen { store = after_loads seen.store (take count (loaded_names names)) [] }
+-- Before a stage of the steps before a run all files are in order
+abbrev pub AreInOrder : Stage → Names → Option Files → Type 0
+AreInOrder AtProgram names files = ⊤
+AreInOrder AtImage names files = HasProgram files names.program
+AreInOrder AtSchedule names files = HasProgram files names.program × HasTree files names.image
+AreInOrder AtMachine names files = HasProgram files names.program × HasTree files names.image × HasSettings files names.schedule
 
--- a fault of the load after so many, or want of memory
-abbrev pub StopsAfter : ℕ → Names → End → Type 0
-StopsAfter count names ReadFault = count < length (loaded_names names)
-StopsAfter count names NoMemory = ⊤
-StopsAfter count names (Exited status) = ⊥
-StopsAfter count names (Killed signal) = ⊥
-StopsAfter count names Budget = ⊥
-StopsAfter count names Blocked = ⊥
-StopsAfter count names (Replayed finish) = ⊥
-StopsAfter count names (Diverged turn wanted found) = ⊥
-StopsAfter count names (Refused given) = ⊥
-StopsAfter count names WriteFault = ⊥
+-- A load failed at a stage: the files before it were loaded and are in order.
+pub record FailsToLoad (names : Names) (old new : Stored) : Type 0 where
+  pub stage : Stage
+  pub some : is_some (name_at stage names) ≡ true
+  pub in_order : AreInOrder stage names old.files
+  pub stands : new ≡ after_loads old (loaded_before stage names) []
 
--- Nothing is done but that the first files are loaded: memory ran out, or a load failed, whose count rose.
+-- Memory ran out at a stage, before or behind its load: the files before it were loaded and are in order.
+pub record WantsMemory (names : Names) (old new : Stored) : Type 0 where
+  pub stage : Stage
+  pub in_order : AreInOrder stage names old.files
+  pub stands : (new ≡ after_loads old (loaded_before stage names) []) ⊎ (new ≡ after_loads old (loaded_before stage names ++ named (name_at stage names)) [])
+
+abbrev pub StopsAtStage : Names → End → Stored → Stored → Type 0
+StopsAtStage names end old new = ((end ≡ ReadFault) × FailsToLoad names old new) ⊎ ((end ≡ NoMemory) × WantsMemory names old new)
+
+-- Nothing is done but that files are loaded: a load failed, whose count rose, or memory ran out.
 pub record StopsEarly (names : Names) (old new : Seen) (turns : ℕ) (end : End) : Type 0 where
-  pub count : ℕ
-  pub early : StopsAfter count names end
+  pub at_stage : StopsAtStage names end old.store new.store
   pub cause : end ≡ ReadFault → Rose old.load_faults new.load_faults
-  pub nothing : DoesNothing (first_loaded count names old) new turns
+  pub nothing : DoesNothing (record old { store = new.store }) new turns
 
 -- a line that names no file
 abbrev pub no_names : Names
@@ -221,6 +237,7 @@ IsRunEnd quantum machine left budget turns (Exited status) = IsOverAt quantum ma
 IsRunEnd quantum machine left budget turns (Killed signal) = IsOverAt quantum machine left budget turns (finishes.Killed signal)
 IsRunEnd quantum machine left budget turns Budget = IsOverAt quantum machine left budget turns finishes.Budget
 IsRunEnd quantum machine left budget turns Blocked = IsOverAt quantum machine left budget turns finishes.Blocked
+IsRunEnd quantum machine left budget turns (Soaked finish) = ⊥
 IsRunEnd quantum machine left budget turns (Replayed finish) = ⊥
 IsRunEnd quantum machine left budget turns (Diverged turn wanted found) = ⊥
 IsRunEnd quantum machine left budget turns (Refused given) = ⊥

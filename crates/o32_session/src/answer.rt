@@ -7,7 +7,7 @@ ghost use Rattle.o32_session.specs.inside.Ends.{end_of};
 use elf_image::ElfRefusal;
 use fs_image::ImageRefusal;
 use kernel_core::Finish;
-use o32_machine::Emulator;
+use o32_runner::Emulator;
 use schedule::ScheduleRefusal;
 use std::fmt;
 
@@ -45,6 +45,8 @@ pub enum End {
     Budget,
     /// A call of the guest waits, and nothing can come any more that would end its wait.
     Blocked,
+    /// The soak program was run, and its run was over so.
+    Soaked(Finish),
     /// A journal was replayed to the end of its run, which was over so.
     Replayed(Finish),
     /// Nothing was run.
@@ -68,7 +70,7 @@ pub struct Answer {
     pub end: End,
     /// The number of turns that were finished, at most the budget, and 0 where nothing ran.
     pub turns: u64,
-    /// The emulator that made the run, in the run's last state: Some exactly where the run ended by itself.
+    /// The emulator that made the run, in the run's last state: Some exactly where the run ended by itself, that of the soak program among them.
     pub host: Option<Emulator>,
 }
 
@@ -128,7 +130,7 @@ impl From<Finish> for End {
 impl End {
     /// The exit status of the emulator: that of the guest, the lesser of 128 and the signal's number or 255, 124 where
     /// the budget is done, 123 where the guest is blocked, 125 where nothing was run, 120 where a replay differs from its journal, 122 and 119 for
-    /// faults, and 121 for want of memory. A replay has the status of its run. The numbers are this project's own, after those of a shell and of
+    /// faults, and 121 for want of memory. A replay has the status of its run, and so has a soak. The numbers are this project's own, after those of a shell and of
     /// timeout(1).
     pub fn status(self) -> u8
         ensures status { result ≡ status_of self }
@@ -138,7 +140,7 @@ impl End {
             End::Killed(signal) => signal.saturating_add(128),
             End::Budget => 124,
             End::Blocked => 123,
-            End::Replayed(finish) => status_of_finish(finish),
+            End::Soaked(finish) | End::Replayed(finish) => status_of_finish(finish),
             End::Refused(_) => 125,
             End::Diverged { .. } => 120,
             End::ReadFault => 122,

@@ -8,10 +8,10 @@ ghost use Rattle.o32_session.specs.declared.load.SessionFile.TheVariants as whic
 
 use crate::load::{SessionFile, load_file};
 use crate::not_run::NotRun;
-use crate::words::word_at;
 use fs_image::decode;
 use kernel_core::{Items, Kind, Node, Tree};
 use outside::Store;
+use session_words::word_at;
 use std::alloc::{AllocError, Global};
 
 /// The number of the root.
@@ -21,7 +21,7 @@ const ROOT: u64 = 1;
 const ROOT_MODE: u16 = 0o755;
 
 /// The tree without an image: one empty root directory.
-fn empty_tree(alloc: Global) -> Result<Tree, AllocError>
+pub(crate) fn empty_tree(alloc: Global) -> Result<Tree, AllocError>
     ensures { IfOk result (λ tree. tree ≡ empty_tree) }
 {
     let mut nodes = Vec::new(alloc);

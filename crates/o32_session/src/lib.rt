@@ -1,4 +1,4 @@
-//! One run of the emulator, or the replay of one, from words and devices to an answer.
+//! One run of the emulator, the replay of one, or a run of the soak program, from words and devices to an answer.
 #![tactic(auto)]
 
 mod answer;
@@ -11,8 +11,8 @@ mod replay;
 mod run;
 mod save;
 mod settings;
+mod soak;
 mod top_call;
-mod words;
 
 pub use answer::{Answer, End, Refusal};
 pub use kernel_core::Finish;

@@ -3,13 +3,13 @@ ghost use Rattle.std.specs.Prelude.{◌≡◌};
 ghost use Rattle.o32_session.specs.inside.Prepared.{of_words, of_load, of_elf, of_image, of_schedule, of_start, of_journal};
 
 use crate::answer::Refusal;
-use crate::words::WordsError;
 use elf_image::ElfError;
 use fs_image::ImageError;
 use journal::JournalError;
 use kernel_core::NoMemory;
 use outside::LoadError;
 use schedule::ScheduleError;
+use session_words::WordsError;
 use start_stack::StartError;
 use std::alloc::AllocError;
 

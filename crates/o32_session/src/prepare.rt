@@ -8,7 +8,7 @@ ghost use Rattle.journal.specs.Form.{AreTexts};
 ghost use Rattle.journal.specs.Text.{head_text};
 ghost use Rattle.native_log.specs.NativeLog.{first_log};
 ghost use Rattle.o32_session.specs.Words.{IsPlain, texts, read_words};
-ghost use Rattle.o32_session.specs.inside.Reader.{line_seen};
+ghost use Rattle.session_words.specs.Read.{line_seen};
 ghost use Rattle.schedule.specs.Ranges.{IsGivenSchedule};
 ghost use Rattle.o32_session.specs.Asked.{asked_of_schedule, names_of, Run};
 ghost use Rattle.o32_runner.specs.Runs.{IsFresh};
@@ -21,13 +21,13 @@ use crate::image::first_tree;
 use crate::load::{SessionFile, load_file};
 use crate::not_run::NotRun;
 use crate::settings::{run_schedule, stack_chance};
-use crate::words::{RunLine, read, word_at};
 use elf_image::{Plan, parse};
 use journal::head;
 use kernel_core::{NoMemory, Tree};
-use o32_machine::Emulator;
+use o32_runner::Emulator;
 use outside::Store;
 use schedule::Schedule;
+use session_words::{RunLine, read, word_at};
 use start_stack::build;
 use std::alloc::Global;
 
@@ -87,7 +87,7 @@ fn journal_front(
 }
 
 /// The emulator of a plan with these arguments, beside this tree of files, under this schedule.
-fn machine_of_plan(
+pub(crate) fn machine_of_plan(
     alloc: Global,
     args: &[String],
     line: RunLine,

@@ -11,7 +11,8 @@ ghost use Rattle.o32_session.specs.Session.{DoesNothing, seen_of};
 ghost use Rattle.o32_session.specs.Replayed.{AnswersReplay, AnswersReplayReading, AnswersReplayWords, asked_of_reading};
 ghost use Rattle.o32_session.specs.Words as Words;
 ghost use Rattle.o32_session.specs.inside.Prepared.{ReasonOnlyIfRose};
-ghost use Rattle.o32_session.specs.inside.Repeated.{EndFailsOnlyIfRose, EndsReplay, IsLoadedFor, LoadsBoth, ReplayFailsOnlyIfRose, Replays, replay_line_seen};
+ghost use Rattle.o32_session.specs.inside.Repeated.{EndFailsOnlyIfRose, EndsReplay, IsLoadedFor, LoadsBoth, ReplayFailsOnlyIfRose, Replays};
+ghost use Rattle.session_words.specs.Read.{replay_line_seen};
 ghost use Rattle.o32_session.specs.declared.answer.End.TheVariants as ends;
 
 use crate::answer::{End, Refusal};
@@ -19,11 +20,11 @@ use crate::lines::{Divergence, diverge, end_without_run, refuse};
 use crate::load::{SessionFile, load_file};
 use crate::not_run::NotRun;
 use crate::prepare::load_plan;
-use crate::words::{ReplayLine, read_replay};
 use elf_image::Plan;
 use journal::parse;
 use outside::{Devices, Sink, Source, Store};
 use replay_core::{ReplayAnswer, ReplayEnd, replay};
+use session_words::{ReplayLine, read_replay};
 use std::alloc::Global;
 
 /// What a replay begins with.

@@ -2,13 +2,13 @@
 ghost use Rattle.std.specs.Prelude.{◌≡◌, ◌<◌, ◌≤◌, IfOk, None};
 ghost use Rattle.std.specs.Option.{option_copied};
 ghost use Rattle.outside.specs.Streams.{NoCountFell, contents};
+ghost use Rattle.o32_runner.specs.Making.{StopsBehind};
 ghost use Rattle.o32_runner.specs.Runs.{IsFresh, RunsAs, WithinBudget};
 ghost use Rattle.o32_runner.specs.Stored.{stored_of};
 ghost use Rattle.o32_runner.specs.Texts.{AllDiffer, BeginsJournal, BeginsLog, WritesTexts};
 ghost use Rattle.o32_runner.specs.Traced.{StopsOnlyIfAnyRose};
 
-use o32_machine::Emulator;
-use o32_runner::{Names, Ran, run, run_told};
+use o32_runner::{Emulator, Names, Ran, run, run_told};
 use outside::{Devices, Sink, Source, Store};
 use std::alloc::Global;
 
@@ -31,11 +31,13 @@ pub(crate) fn run_named<F: Store, I: Source, O: Sink, E: Sink>(
     requires differ { AllDiffer (option_copied names.trace) (option_copied names.native) (option_copied names.journal) }
     ensures run { RunsAs emulator.old.quantum emulator.old.machine budget result.turns result.end
         (contents I.left O.written E.written dev.old) (contents I.left O.written E.written dev.new) emulator.new.machine }
-    ensures texts { WritesTexts (option_copied names.entry.trace) (option_copied names.entry.native) (option_copied names.entry.journal) front.now emulator.old.quantum emulator.old.machine budget result.turns result.end (I.left dev.old.input)
+    ensures texts { WritesTexts (option_copied names.entry.trace) (option_copied names.entry.native) (option_copied names.entry.journal) front.now emulator.old.quantum emulator.old.machine budget result.turns result.end
+        (contents I.left O.written E.written dev.old) (contents I.left O.written E.written dev.new)
         (stored_of F.files F.created F.loads F.turned_away F.write_faults files.old)
         (stored_of F.files F.created F.loads F.turned_away F.write_faults files.new) }
     ensures within { result.turns ≤ budget }
     ensures early { (option_copied names.entry.trace ≡ None) → (option_copied names.entry.journal ≡ None) → WithinBudget result.end result.turns budget }
+    ensures behind { StopsBehind result.end result.turns budget (F.write_faults files.old) (F.write_faults files.new) }
     ensures turns { IfOk result.end (λ finish. emulator.new.turns ≡ result.turns) }
     ensures cause { StopsOnlyIfAnyRose I.faults O.faults E.faults result.end (F.write_faults files.old) (F.write_faults files.new) dev.old dev.new }
     ensures counts { NoCountFell I.faults O.faults E.faults dev.old dev.new }

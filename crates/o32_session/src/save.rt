@@ -10,11 +10,11 @@ ghost use Rattle.o32_runner.specs.Stored.{stored_of, SavesText};
 ghost use Rattle.o32_session.specs.Session.{final_tree};
 ghost use Rattle.o32_session.specs.Words.{texts, word_at};
 
-use crate::words::word_at;
 use fs_image::encode;
 use kernel_core::{NoMemory, Tree};
-use o32_machine::Emulator;
+use o32_runner::Emulator;
 use outside::{DevError, Store};
+use session_words::word_at;
 use std::alloc::Global;
 
 /// Why the final tree was not saved whole.

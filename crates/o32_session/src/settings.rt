@@ -10,9 +10,9 @@ ghost use Rattle.o32_session.specs.declared.load.SessionFile.TheVariants as whic
 
 use crate::load::{SessionFile, load_file};
 use crate::not_run::NotRun;
-use crate::words::word_at;
 use outside::Store;
 use schedule::{Schedule, parse};
+use session_words::word_at;
 use std::alloc::Global;
 
 /// How many bytes of chance the first stack takes. (This project's own.)
@@ -20,7 +20,7 @@ const STACK_CHANCE: usize = 16;
 
 /// The schedule of the empty text.
 #[tactic(auto, unfolding(schedule::specs::Grammar::meaning_of))]
-fn empty_schedule(alloc: Global) -> Result<Schedule, NotRun>
+pub(crate) fn empty_schedule(alloc: Global) -> Result<Schedule, NotRun>
     ensures empty { IfOk result (λ schedule. schedule ≡ empty_schedule) }
     ensures given { IfOk result IsGivenSchedule }
     ensures reason { IfErr result (λ reason. reason ≡ NotRun.NoMemory) }

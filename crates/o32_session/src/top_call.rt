@@ -2,20 +2,23 @@
 ghost use Rattle.std.specs.Prelude.{ℕ, List, ◌≡◌, ◌<◌, ◌≤◌, ◌⊎◌, Some, None, is_some, option_map};
 ghost use Rattle.outside.specs.Count.{Rose};
 ghost use Rattle.outside.specs.Streams.{NoCountFell};
+ghost use Rattle.journal.specs.Form.{IsFinish};
 ghost use Rattle.native_log.specs.NativeLog.{first_log};
 ghost use Rattle.o32_session.specs.Answers.{IsRefusal, finish_of, status_of};
-ghost use Rattle.o32_session.specs.Asked.{Names, Run};
+ghost use Rattle.o32_session.specs.Asked.{Names, Run, names_of};
 ghost use Rattle.o32_session.specs.inside.Ends.{end_of_error, end_of_stop};
 ghost use Rattle.o32_session.specs.Faults.{TellsFaults};
+ghost use Rattle.o32_session.specs.LeftJournal.{LeavesJournal};
 ghost use Rattle.o32_runner.specs.Runs.{IsFresh};
 ghost use Rattle.o32_session.specs.inside.Runs.{AnswersRun};
-ghost use Rattle.o32_session.specs.Replayed.{AnswersReplayWords, AnswersSession, AsksForReplay, EndsAsReplay};
+ghost use Rattle.o32_session.specs.Replayed.{AnswersReplayWords, AsksForReplay, EndsAsReplay};
+ghost use Rattle.o32_session.specs.Soaked.{AnswersSession, AnswersSoakReading, AsksForSoak, EndsAsSoak};
 ghost use Rattle.o32_session.specs.Session.{Answers, AnswersWords, AsksForRun, EndsAsRun, seen_of};
-ghost use Rattle.o32_runner.specs.Stored.{stored_of};
+ghost use Rattle.o32_runner.specs.Stored.{Stored, stored_of};
 ghost use Rattle.o32_runner.specs.Texts.{AllDiffer};
 ghost use Rattle.o32_session.specs.SavedFile.{SavesWords};
 ghost use Rattle.turn_records.specs.Keeping.{first_records};
-ghost use Rattle.o32_session.specs.Words.{ReplayCommand, command_of, texts, word_at};
+ghost use Rattle.o32_session.specs.Words.{ReplayCommand, SoakCommand, command_of, read_soak, texts, word_at};
 
 use crate::answer::{Answer, End};
 use crate::lines::end_without_run;
@@ -23,11 +26,11 @@ use crate::prepare::{Ready, prepare};
 use crate::replay::replay_words;
 use crate::run::run_named;
 use crate::save::{SaveError, save_final};
-use crate::words::{Command, command_of, word_of};
+use crate::soak::soak_words;
 use kernel_core::{Finish, Stop};
-use o32_machine::Emulator;
-use o32_runner::Names as TextNames;
+use o32_runner::{Emulator, Names as TextNames};
 use outside::{Devices, Sink, Source, Store};
+use session_words::{Command, command_of, word_of};
 use std::alloc::Global;
 
 impl From<Stop> for End {
@@ -71,10 +74,11 @@ fn answer_of(end: End, turns: u64, host: Option<Emulator>) -> Answer
 /// One run of the emulator: reads the words after its own name, loads the program, the image and the schedule that
 /// they name from `files`, runs the program over the devices, writes its trace, its native log and its journal where the
 /// words name files for them, and saves the final tree of files where they name one for that. Or the replay of a run, from the program and the
-/// journal that the words name, with no kernel behind it.
+/// journal that the words name, with no kernel behind it. Or a run of the soak program, which looks at no file and takes no input.
 /// Every list of words, every file and every budget has an answer.
 ///
 /// What the program writes to standard output goes to `dev.out`, and the line of a refusal or of a divergence to `dev.err`. The
+/// line on a run of the soak program goes to `dev.out`. The
 /// answers, their statuses and the lines are this project's own.
 pub fn session<F: Store, I: Source, O: Sink, E: Sink>(
     alloc: Global,
@@ -82,7 +86,7 @@ pub fn session<F: Store, I: Source, O: Sink, E: Sink>(
     files: &mut F,
     dev: &mut Devices<I, O, E>,
 ) -> Answer
-    // What the words, the files, the input and the machine say, and of a replay the words, the program and the journal alone: each refusal and its line; the run's end, turns, outputs and what it leaves of the
+    // What the words, the files, the input and the machine say, of a replay the words, the program and the journal alone, and of a soak the words alone: each refusal and its line; the run's end, turns, outputs and what it leaves of the
     // input, the files of the trace, of the native log, of the journal and of the final tree, and the emulator in its last state; the moment of the run at an early stop. Each says
     // what became of the whole store.
     ensures answer { AnswersSession (texts words.now)
@@ -92,12 +96,18 @@ pub fn session<F: Store, I: Source, O: Sink, E: Sink>(
     ensures status { result.status ≡ status_of result.end }
     ensures no_host { finish_of result.end ≡ None → result.host ≡ None }
 
-    // A refusal leaves the input as it was, and so does every replay.
+    // A refusal leaves the input as it was, and so does every replay and every soak.
     ensures input { IsRefusal result.end → dev.new.input ≡ dev.old.input }
     ensures untaken { command_of (texts words.now) ≡ ReplayCommand → dev.new.input ≡ dev.old.input }
+    ensures unread { command_of (texts words.now) ≡ SoakCommand → dev.new.input ≡ dev.old.input }
 
     // The same of the files alone: after each finish those of `--trace`, `--native` and `--journal` are there, that of `--save` holds the image of a tree, and no other changes.
     ensures saved { SavesWords (texts words.now) result.end (F.files files.old) (F.files files.new) }
+
+    // A run that is over leaves its journal in the file of `--journal`, whole and in the form that a replay asks for.
+    ensures journal { (run : AsksForRun (texts words.now) (F.files files.old)) (left name : List ℕ) (finish : Finish) → I.left dev.old.input ≡ Some left
+        → (names_of (texts words.now) run.line).journal ≡ Some name → finish_of result.end ≡ Some finish
+        → LeavesJournal (texts words.now) (F.files files.old) run left result.turns finish name (F.files files.new) }
 
     // Where a run is asked for, the input tells what is left of it, and no device failed, the answer is the run's end, unless memory ran out.
     ensures complete { (run : AsksForRun (texts words.now) (F.files files.old)) (left : List ℕ) → I.left dev.old.input ≡ Some left
@@ -114,6 +124,11 @@ pub fn session<F: Store, I: Source, O: Sink, E: Sink>(
         → (Rose (O.faults dev.old.out) (O.faults dev.new.out) → ⊥)
         → (Rose (E.faults dev.old.err) (E.faults dev.new.err) → ⊥)
         → (result.end ≡ End.NoMemory) ⊎ EndsAsReplay (texts words.now) (F.files files.old) replay result.turns result.end }
+
+    // The same of a run of the soak program.
+    ensures soaks { (count : ℕ) → AsksForSoak (texts words.now) count
+        → (Rose (O.faults dev.old.out) (O.faults dev.new.out) → ⊥)
+        → (result.end ≡ End.NoMemory) ⊎ EndsAsSoak count result.turns result.end }
 
     // A count of faults rose where a fault is told, and nowhere else: want of memory is told for no device that failed.
     ensures faults { TellsFaults result.end
@@ -143,6 +158,7 @@ fn answer_command<F: Store, I: Source, O: Sink, E: Sink>(
     ensures no_host { finish_of result.end ≡ None → result.host ≡ None }
     ensures input { IsRefusal result.end → dev.new.input ≡ dev.old.input }
     ensures untaken { command_of (texts words.now) ≡ ReplayCommand → dev.new.input ≡ dev.old.input }
+    ensures unread { command_of (texts words.now) ≡ SoakCommand → dev.new.input ≡ dev.old.input }
     ensures faults { TellsFaults result.end
         (seen_of I.left O.written E.written I.faults O.faults E.faults dev.old (F.load_faults files.old) (stored_of F.files F.created F.loads F.turned_away F.write_faults files.old))
         (seen_of I.left O.written E.written I.faults O.faults E.faults dev.new (F.load_faults files.new) (stored_of F.files F.created F.loads F.turned_away F.write_faults files.new)) }
@@ -153,6 +169,7 @@ fn answer_command<F: Store, I: Source, O: Sink, E: Sink>(
     match command_of(words) {
         Command::Run => answer_words(alloc, words, files, dev),
         Command::Replay => answer_replay(alloc, words, files, dev),
+        Command::Soak => answer_soak(alloc, words, dev),
     }
 }
 
@@ -179,6 +196,27 @@ fn answer_replay<F: Store, I: Source, O: Sink, E: Sink>(
 {
     let replied = replay_words(alloc, words, files, dev);
     answer_of(replied.end, replied.turns, None)
+}
+
+/// The answer to the words of a soak.
+fn answer_soak<I: Source, O: Sink, E: Sink>(
+    alloc: Global,
+    words: &[String],
+    dev: &mut Devices<I, O, E>,
+) -> Answer
+    ensures answer { (loads : ℕ) (store : Stored) → AnswersSoakReading (read_soak (texts words.now))
+        (seen_of I.left O.written E.written I.faults O.faults E.faults dev.old loads store)
+        (seen_of I.left O.written E.written I.faults O.faults E.faults dev.new loads store) result.turns result.end result.host }
+    ensures status { result.status ≡ status_of result.end }
+    ensures no_host { finish_of result.end ≡ None → result.host ≡ None }
+    ensures input { dev.new.input ≡ dev.old.input }
+    ensures faults { (loads : ℕ) (store : Stored) → TellsFaults result.end
+        (seen_of I.left O.written E.written I.faults O.faults E.faults dev.old loads store)
+        (seen_of I.left O.written E.written I.faults O.faults E.faults dev.new loads store) }
+    ensures later { NoCountFell I.faults O.faults E.faults dev.old dev.new }
+{
+    let told = soak_words(alloc, words, dev);
+    answer_of(told.end, told.turns, told.host)
 }
 
 /// The answer, by what the words, the files and the run say.
@@ -279,6 +317,7 @@ fn answer_run<F: Store>(
     ensures answer { AnswersRun (option_map (word_at (texts words.now)) save) emulator finish result
         (stored_of F.files F.created F.loads F.turned_away F.write_faults files.old)
         (stored_of F.files F.created F.loads F.turned_away F.write_faults files.new) }
+    ensures small { IsFinish finish }
     ensures status { result.status ≡ status_of result.end }
     ensures loads { F.load_faults files.new ≡ F.load_faults files.old }
     ensures writes_later { F.write_faults files.old ≤ F.write_faults files.new }

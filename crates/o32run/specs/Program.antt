@@ -3,7 +3,7 @@ use Rattle.std.specs.Prelude.{ℕ, ◌≡◌, List, Option}
 use Rattle.o32_machine.specs.Emulator.{Emulated}
 use Rattle.o32_session.specs.Answers.{status_of}
 use Rattle.o32_session.specs.Faults.{TellsFaults}
-use Rattle.o32_session.specs.Replayed.{AnswersSession}
+use Rattle.o32_session.specs.Soaked.{AnswersSession}
 use Rattle.o32_session.specs.Session.{Seen}
 use Rattle.o32_session.specs.declared.answer.End.{End}
 

@@ -1,5 +1,5 @@
 -- How the steps before a run stand for what is asked for.
-use Rattle.std.specs.Prelude.{ℕ, ◌≡◌, ◌<◌, ⊤, ◌⊎◌, List, [], ◌∷◌, length, take, is_some, true, Option, Some, None, Result, Ok, Err, Vec}
+use Rattle.std.specs.Prelude.{ℕ, ◌≡◌, ⊤, ◌⊎◌, List, [], ◌∷◌, is_some, true, Option, Some, None, Result, Ok, Err, Vec}
 use Rattle.outside.specs.Output.{GainsText, GainsBetween}
 use Rattle.outside.specs.Count.{Rose}
 use Rattle.outside.specs.Files.{Files}
@@ -27,13 +27,14 @@ use Rattle.o32_session.specs.Lines.{line_of}
 use Rattle.o32_session.specs.Words.{Line, Reading, Asks, WrongAt}
 use Rattle.o32_session.specs.Asked.{Asked, Names, Refuse, Run, Absent, Long, Bytes, IsFound, IsReadAs, IsOpened, IsScheduled, AsksFor, names_of, schedule_of_text, program_file, image_file, schedule_file, journal_file, program_limit, image_limit, schedule_limit, journal_limit}
 use Rattle.o32_session.specs.Saved.{after_loads, loaded_by, loaded_names, named, turned_by}
+use Rattle.o32_session.specs.Session.{FailsToLoad, WantsMemory}
 use Rattle.o32_runner.specs.Stored.{Stored}
 use Rattle.o32_session.specs.declared.answer.Refusal.{Refusal}
 use Rattle.o32_session.specs.declared.answer.Refusal.TheVariants as refusals
 use Rattle.o32_session.specs.declared.answer.End.{End}
 use Rattle.o32_session.specs.declared.answer.End.TheVariants as ends
-use Rattle.o32_session.specs.declared.words.WordsError.{WordsError}
-use Rattle.o32_session.specs.declared.words.WordsError.TheVariants as words
+use Rattle.session_words.specs.declared.words.WordsError.{WordsError}
+use Rattle.session_words.specs.declared.words.WordsError.TheVariants as words
 use Rattle.o32_session.specs.declared.not_run.NotRun.{NotRun}
 use Rattle.o32_session.specs.declared.not_run.NotRun.TheVariants.{Refused, ReadFault, NoMemory}
 use Rattle.o32_session.specs.declared.prepare.Ready.{Ready}
@@ -136,9 +137,8 @@ LoadsFile file name (Err NoMemory) old new = (new ≡ after_loads old [] []) ⊎
 abbrev pub LoadsFiles : {T : Type 0} → Names → Result T NotRun → Stored → Stored → Type 0
 LoadsFiles names (Ok value) old new = new ≡ after_loads old (loaded_names names) []
 LoadsFiles names (Err (Refused refusal)) old new = new ≡ after_loads old (loaded_by names refusal) (turned_by names refusal)
-LoadsFiles names (Err ReadFault) old new =
-    (count : ℕ) × (count < length (loaded_names names)) × (new ≡ after_loads old (take count (loaded_names names)) [])
-LoadsFiles names (Err NoMemory) old new = (count : ℕ) × (new ≡ after_loads old (take count (loaded_names names)) [])
+LoadsFiles names (Err ReadFault) old new = FailsToLoad names old new
+LoadsFiles names (Err NoMemory) old new = WantsMemory names old new
 
 -- The program
 
@@ -245,6 +245,7 @@ EndsRefused refusal (ends.Exited status) old new = ⊥
 EndsRefused refusal (ends.Killed signal) old new = ⊥
 EndsRefused refusal ends.Budget old new = ⊥
 EndsRefused refusal ends.Blocked old new = ⊥
+EndsRefused refusal (ends.Soaked finish) old new = ⊥
 EndsRefused refusal (ends.Replayed finish) old new = ⊥
 EndsRefused refusal (ends.Diverged turn wanted found) old new = ⊥
 
@@ -258,6 +259,7 @@ LineFailsOnlyIfRose (ends.Exited status) before now = now ≡ before
 LineFailsOnlyIfRose (ends.Killed signal) before now = now ≡ before
 LineFailsOnlyIfRose ends.Budget before now = now ≡ before
 LineFailsOnlyIfRose ends.Blocked before now = now ≡ before
+LineFailsOnlyIfRose (ends.Soaked finish) before now = now ≡ before
 LineFailsOnlyIfRose (ends.Replayed finish) before now = now ≡ before
 LineFailsOnlyIfRose (ends.Diverged turn wanted found) before now = now ≡ before
 

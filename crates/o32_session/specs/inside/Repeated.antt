@@ -1,5 +1,5 @@
 -- How the steps of a replay stand for what is asked for.
-use Rattle.std.specs.Prelude.{ℕ, ◌≡◌, ◌<◌, ⊤, ◌↔◌, List, [], take, Result, Ok, Err, Option}
+use Rattle.std.specs.Prelude.{ℕ, ◌≡◌, ◌<◌, ⊤, ◌↔◌, List, [], Result, Ok, Err, Option}
 use Rattle.outside.specs.Files.{Files}
 use Rattle.outside.specs.Output.{GainsText, GainsBetween}
 use Rattle.elf_image.specs.Loading.{IsValidPlan}
@@ -13,15 +13,12 @@ use Rattle.replay_core.specs.declared.answer.ReplayAnswer.{ReplayAnswer}
 use Rattle.replay_core.specs.declared.answer.ReplayEnd.{ReplayEnd}
 use Rattle.replay_core.specs.declared.answer.ReplayEnd.TheVariants as replays
 use Rattle.o32_runner.specs.Stored.{Stored}
+use Rattle.o32_session.specs.Asked.{HasProgram}
 use Rattle.o32_session.specs.Lines.{divergence_line}
 use Rattle.o32_session.specs.Saved.{after_loads}
 use Rattle.o32_session.specs.Words as Words
-use Rattle.o32_session.specs.Words.{Command, RunCommand, ReplayCommand, ReplayReading, AsksReplay, WrongReplayAt}
-use Rattle.o32_session.specs.Replayed.{RefuseReplay, ReplayAsksFor, asked_of_reading, both_names, replay_loaded_by, replay_turned_by}
+use Rattle.o32_session.specs.Replayed.{RefuseReplay, ReplayAsksFor, ReplayFailsToLoad, ReplayWantsMemory, asked_of_reading, both_names, replay_loaded_by, replay_turned_by}
 use Rattle.o32_session.specs.inside.Prepared.{EndsRefused, LineFailsOnlyIfRose}
-use Rattle.o32_session.specs.declared.words.Command as code
-use Rattle.o32_session.specs.declared.words.Command.TheVariants as commands
-use Rattle.o32_session.specs.declared.words.ReplayLine.{ReplayLine}
 use Rattle.o32_session.specs.declared.replay.Loaded.{Loaded}
 use Rattle.o32_session.specs.declared.not_run.NotRun.{NotRun}
 use Rattle.o32_session.specs.declared.not_run.NotRun.TheVariants.{Refused, ReadFault, NoMemory}
@@ -29,24 +26,12 @@ use Rattle.o32_session.specs.declared.answer.Refusal.TheVariants as refusals
 use Rattle.o32_session.specs.declared.answer.End.{End}
 use Rattle.o32_session.specs.declared.answer.End.TheVariants as ends
 
--- The words
-
-abbrev pub command_seen : code.Command → Command
-command_seen commands.Run = RunCommand
-command_seen commands.Replay = ReplayCommand
-
-abbrev pub replay_line_seen : ReplayLine → Words.ReplayLine
-replay_line_seen line = record { program = line.program.now; journal = line.journal.now }
-
-abbrev pub reading_seen : Result ReplayLine ℕ → ReplayReading
-reading_seen (Ok line) = AsksReplay (replay_line_seen line)
-reading_seen (Err word) = WrongReplayAt word
-
 -- The files
 
--- what was loaded for a line is what it asks for; a fault or want of memory says nothing
+-- what was loaded for a line is what it asks for, and its program is in order; a fault or want of memory says nothing
 abbrev pub IsLoadedFor : Words.ReplayLine → Option Files → Result Loaded NotRun → Type 0
-IsLoadedFor line told (Ok loaded) = IsValidPlan loaded.plan × ReplayAsksFor line told (asked_of_reading loaded.plan (reading_of loaded.bytes.items))
+IsLoadedFor line told (Ok loaded) =
+    IsValidPlan loaded.plan × HasProgram told line.program × ReplayAsksFor line told (asked_of_reading loaded.plan (reading_of loaded.bytes.items))
 IsLoadedFor line told (Err (Refused refusal)) = ReplayAsksFor line told (RefuseReplay refusal)
 IsLoadedFor line told (Err ReadFault) = ⊤
 IsLoadedFor line told (Err NoMemory) = ⊤
@@ -55,8 +40,8 @@ IsLoadedFor line told (Err NoMemory) = ⊤
 abbrev pub LoadsBoth : {T : Type 0} → Words.ReplayLine → Result T NotRun → Stored → Stored → Type 0
 LoadsBoth line (Ok value) old new = new ≡ after_loads old (both_names line) []
 LoadsBoth line (Err (Refused refusal)) old new = new ≡ after_loads old (replay_loaded_by line refusal) (replay_turned_by line refusal)
-LoadsBoth line (Err ReadFault) old new = (count : ℕ) × (count < 2) × (new ≡ after_loads old (take count (both_names line)) [])
-LoadsBoth line (Err NoMemory) old new = (count : ℕ) × (new ≡ after_loads old (take count (both_names line)) [])
+LoadsBoth line (Err ReadFault) old new = ReplayFailsToLoad line old new
+LoadsBoth line (Err NoMemory) old new = ReplayWantsMemory line old new
 
 -- The replay
 
@@ -85,6 +70,7 @@ EndsDiverged turn wanted found ends.WriteFault old new = GainsBetween old new []
 EndsDiverged turn wanted found ends.NoMemory old new = GainsBetween old new [] (divergence_line turn wanted found)
 EndsDiverged turn wanted found ends.ReadFault old new = ⊥
 EndsDiverged turn wanted found (ends.Refused refusal) old new = ⊥
+EndsDiverged turn wanted found (ends.Soaked finish) old new = ⊥
 EndsDiverged turn wanted found (ends.Replayed finish) old new = ⊥
 EndsDiverged turn wanted found (ends.Exited status) old new = ⊥
 EndsDiverged turn wanted found (ends.Killed signal) old new = ⊥

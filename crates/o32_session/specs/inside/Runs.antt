@@ -3,7 +3,7 @@ use Rattle.std.specs.Prelude.{ℕ, ◌≡◌, ⊤, ◌⊎◌, List, Option, Some
 use Rattle.outside.specs.Count.{Rose}
 use Rattle.kernel_core.specs.declared.finish.Finish.{Finish}
 use Rattle.kernel_core.specs.declared.tree.Tree.{Tree}
-use Rattle.o32_machine.specs.Emulator.{Emulated}
+use Rattle.o32_runner.specs.Emulators.{Emulated}
 use Rattle.o32_runner.specs.Stored.{Stored}
 use Rattle.o32_session.specs.Saved.{SavesTree, SavesTreeInPart}
 use Rattle.o32_session.specs.Session.{final_tree}

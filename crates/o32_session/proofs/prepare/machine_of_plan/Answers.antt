@@ -1,11 +1,11 @@
 use Rattle.std.proofs.Common.{◌≡◌, ◌<◌, ℕ, List, ap, subst, ◌∙◌}
 use Rattle.kernel_model.specs.System.{round}
-use Rattle.o32_machine.specs.Emulator.{Emulated}
+use Rattle.o32_runner.specs.Emulators.{Emulated}
 use Rattle.start_stack.specs.Stack.{start_size, start_limit}
 use Rattle.start_stack.specs.Start.{start_memory, start_processor}
 use Rattle.o32_session.specs.Asked.{journal_front, stack_chance}
 use Rattle.o32_session.specs.Words.{texts}
-use Rattle.o32_session.specs.inside.Reader.{line_seen}
+use Rattle.session_words.specs.Read.{line_seen}
 use Rattle.o32_session.proofs.Preparing.{machine_ready}
 use Rattle.journal.specs.Text.{head_text}
 use Rattle.native_log.specs.NativeLog.{first_log}

@@ -1,6 +1,6 @@
 use Rattle.o32_session.specs.Words.{texts}
-use Rattle.o32_session.specs.inside.Reader.{line_seen}
-use Rattle.o32_session.proofs.Budgets.{budget_within}
+use Rattle.session_words.specs.Read.{line_seen}
+use Rattle.session_words.proofs.Budgets.{budget_within}
 use Rattle.o32_session.proofs.Plain.{asked_plain}
 use Rattle.o32_session.proofs.prepare.prepare.Goals as goal
 

@@ -1,14 +1,15 @@
 use Rattle.std.proofs.Common.{◌≡◌, [], ◌∷◌, Some, Ok, Err, ap, subst, ◌∙◌}
 use Rattle.std.proofs.lemmas.Result.{err_from_is_err_and}
 use Rattle.o32_session.specs.Words.{texts}
-use Rattle.o32_session.specs.inside.Reader.{line_seen}
+use Rattle.session_words.specs.Read.{line_seen}
 use Rattle.o32_session.specs.Asked.{asked_of_schedule, names_of}
 use Rattle.o32_session.specs.inside.Prepared.{IsPlanned, IsTree, IsScheduledAs, LoadsFile}
 use Rattle.o32_session.specs.declared.load.SessionFile.TheVariants as which
-use Rattle.o32_session.specs.Saved.{after_loads}
+use Rattle.o32_session.specs.Saved.{AtMachine, after_loads}
+use Rattle.o32_session.specs.Session.{AreInOrder}
 use Rattle.o32_runner.specs.Stored.{Stored, stored_of}
 use Rattle.elf_image.specs.declared.load_plan.Plan.{Plan}
-use Rattle.o32_session.proofs.Loading.{image_loads, loads, program_loads, schedule_loads}
+use Rattle.o32_session.proofs.Loading.{image_loads, loads, program_is, program_loads, schedule_loads}
 use Rattle.o32_session.proofs.Preparing.{prepared, unplanned_line}
 use Rattle.o32_session.proofs.prepare.prepare_line.Goals as goal
 
@@ -55,6 +56,8 @@ returns-in_err-tree-clause-loads g c =
     let reason = c.in_err-tree.field-0.0 in
     let same : g.F.Store.files c.load_plan.new.files ≡ g.F.Store.files c.args.files.now = ap (λ (s : Stored). s.files) c.in_ok-plan.ensures.loads in
     rw (p.1, p.2) (image_loads (g.F.Store.files c.args.files.now) names reason old first new
+    (program_is (g.F.Store.files c.args.files.now) names.program c.in_ok-plan.plan
+    (subst (λ n. IsPlanned (g.F.Store.files c.args.files.now) n (Ok c.in_ok-plan.plan)) c.word_at.ensures c.in_ok-plan.ensures.plan))
     (subst (λ f. IsTree f names.image (Err reason)) same c.in_err-tree.ensures.tree)
     (subst (λ n. first ≡ after_loads old (n ∷ []) []) c.word_at.ensures c.in_ok-plan.ensures.loads) c.in_err-tree.ensures.loads)
 
@@ -70,6 +73,9 @@ returns-in_err-schedule-clause-loads g c =
     let same : g.F.Store.files c.load_plan.new.files ≡ g.F.Store.files c.args.files.now = ap (λ (s : Stored). s.files) c.in_ok-plan.ensures.loads in
     let same_too : g.F.Store.files c.first_tree.new.files ≡ g.F.Store.files c.load_plan.new.files = ap (λ (s : Stored). s.files) c.in_ok-tree.ensures.loads in
     rw (p.1, p.2) (schedule_loads (g.F.Store.files c.args.files.now) names reason old first second new
+    (program_is (g.F.Store.files c.args.files.now) names.program c.in_ok-plan.plan
+    (subst (λ n. IsPlanned (g.F.Store.files c.args.files.now) n (Ok c.in_ok-plan.plan)) c.word_at.ensures c.in_ok-plan.ensures.plan))
+    (c.in_ok-tree.tree, (subst (λ f. IsTree f names.image (Ok c.in_ok-tree.tree)) same c.in_ok-tree.ensures.tree).0)
     (subst (λ f. IsScheduledAs f names.schedule (Err reason)) (same_too ∙ same) c.in_err-schedule.ensures.scheduled)
     (subst (λ n. first ≡ after_loads old (n ∷ []) []) c.word_at.ensures c.in_ok-plan.ensures.loads) c.in_ok-tree.ensures.loads c.in_err-schedule.ensures.loads)
 
@@ -80,5 +86,13 @@ returns-clause-loads g c =
     let first = stored_of g.F.Store.files g.F.Store.created g.F.Store.loads g.F.Store.turned_away g.F.Store.write_faults c.load_plan.new.files in
     let second = stored_of g.F.Store.files g.F.Store.created g.F.Store.loads g.F.Store.turned_away g.F.Store.write_faults c.first_tree.new.files in
     let new = stored_of g.F.Store.files g.F.Store.created g.F.Store.loads g.F.Store.turned_away g.F.Store.write_faults c.run_schedule.new.files in
-    loads names (asked_of_schedule (texts c.arguments.result.now) (line_seen c.args.line) c.in_ok-plan.plan c.in_ok-tree.tree c.in_ok-schedule.schedule) c.machine_of_plan.result old first second new
+    let same : g.F.Store.files c.load_plan.new.files ≡ g.F.Store.files c.args.files.now = ap (λ (s : Stored). s.files) c.in_ok-plan.ensures.loads in
+    let same_too : g.F.Store.files c.first_tree.new.files ≡ g.F.Store.files c.load_plan.new.files = ap (λ (s : Stored). s.files) c.in_ok-tree.ensures.loads in
+    let ordered : AreInOrder AtMachine names (g.F.Store.files c.args.files.now) = (
+      program_is (g.F.Store.files c.args.files.now) names.program c.in_ok-plan.plan
+          (subst (λ n. IsPlanned (g.F.Store.files c.args.files.now) n (Ok c.in_ok-plan.plan)) c.word_at.ensures c.in_ok-plan.ensures.plan),
+      (c.in_ok-tree.tree, (subst (λ f. IsTree f names.image (Ok c.in_ok-tree.tree)) same c.in_ok-tree.ensures.tree).0),
+      (c.in_ok-schedule.schedule, subst (λ f. IsScheduledAs f names.schedule (Ok c.in_ok-schedule.schedule)) (same_too ∙ same) c.in_ok-schedule.ensures.scheduled),
+    ) in
+    loads names (asked_of_schedule (texts c.arguments.result.now) (line_seen c.args.line) c.in_ok-plan.plan c.in_ok-tree.tree c.in_ok-schedule.schedule) c.machine_of_plan.result old first second new ordered
     (subst (λ n. first ≡ after_loads old (n ∷ []) []) c.word_at.ensures c.in_ok-plan.ensures.loads) c.in_ok-tree.ensures.loads c.in_ok-schedule.ensures.loads c.machine_of_plan.ensures.reason

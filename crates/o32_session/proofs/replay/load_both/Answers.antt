@@ -3,8 +3,9 @@ use Rattle.std.proofs.lemmas.Result.{err_from_is_err_and}
 use Rattle.o32_runner.specs.Stored.{Stored, stored_of}
 use Rattle.o32_session.specs.Asked.{Bytes, IsFound, journal_limit}
 use Rattle.o32_session.specs.inside.Prepared.{IsLoaded}
-use Rattle.o32_session.specs.inside.Repeated.{replay_line_seen}
+use Rattle.session_words.specs.Read.{replay_line_seen}
 use Rattle.o32_session.specs.declared.load.SessionFile.TheVariants as which
+use Rattle.o32_session.proofs.Loading.{program_is}
 use Rattle.o32_session.proofs.Repeating.{all_loads, both_loaded, journal_loads, no_journal, no_plan, plan_loads}
 use Rattle.o32_session.proofs.replay.load_both.Goals as goal
 
@@ -33,7 +34,8 @@ returns-in_err-bytes-clause-loads g c =
     let old = stored_of g.F.Store.files g.F.Store.created g.F.Store.loads g.F.Store.turned_away g.F.Store.write_faults c.args.files.now in
     let middle = stored_of g.F.Store.files g.F.Store.created g.F.Store.loads g.F.Store.turned_away g.F.Store.write_faults c.load_plan.new.files in
     let new = stored_of g.F.Store.files g.F.Store.created g.F.Store.loads g.F.Store.turned_away g.F.Store.write_faults c.load_file.new.files in
-    rw (p.1, p.2) (journal_loads (g.F.Store.files c.load_plan.new.files) (replay_line_seen c.args.line) c.in_err-bytes.field-0.0 old middle new c.in_err-bytes.ensures.bytes c.in_ok-plan.ensures.loads
+    rw (p.1, p.2) (journal_loads (g.F.Store.files c.load_plan.new.files) (replay_line_seen c.args.line) c.in_err-bytes.field-0.0 old middle new
+    (program_is (g.F.Store.files c.args.files.now) c.args.line.program.now c.in_ok-plan.plan c.in_ok-plan.ensures.plan) c.in_err-bytes.ensures.bytes c.in_ok-plan.ensures.loads
     c.in_err-bytes.ensures.loads)
 
 pub returns-clause-loaded : goal.returns-clause-loaded

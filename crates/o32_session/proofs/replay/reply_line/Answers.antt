@@ -2,7 +2,7 @@ use Rattle.std.proofs.Common.{Ok, Err, refl}
 use Rattle.o32_runner.specs.Stored.{stored_of}
 use Rattle.o32_session.specs.Faults.{NoneRose}
 use Rattle.o32_session.specs.Session.{seen_of}
-use Rattle.o32_session.specs.inside.Repeated.{replay_line_seen}
+use Rattle.session_words.specs.Read.{replay_line_seen}
 use Rattle.o32_session.proofs.Faults.{tells_since, unrun_faults}
 use Rattle.o32_session.proofs.Repeating.{begun, both_writes, reason_of_run, unbegun}
 use Rattle.o32_session.proofs.replay.reply_line.Goals as goal
@@ -13,7 +13,7 @@ returns-in-Ok-clause-answer g c =
     let store = stored_of g.F.Store.files g.F.Store.created g.F.Store.loads g.F.Store.turned_away g.F.Store.write_faults c.load_both.new.files in
     begun (replay_line_seen c.args.line) c.in-Ok.loaded.plan c.in-Ok.loaded.bytes.items (seen_of g.I.Source.left g.O.Sink.written g.E.Sink.written g.I.Source.faults g.O.Sink.faults g.E.Sink.faults c.args.dev.now (g.F.Store.load_faults c.args.files.now) (stored_of g.F.Store.files g.F.Store.created g.F.Store.loads g.F.Store.turned_away g.F.Store.write_faults c.args.files.now))
     (seen_of g.I.Source.left g.O.Sink.written g.E.Sink.written g.I.Source.faults g.O.Sink.faults g.E.Sink.faults c.reply_loaded.new.dev loads store) c.reply_loaded.result.turns c.reply_loaded.result.end loads store
-    c.in-Ok.ensures.loaded.1 c.in-Ok.ensures.loads c.in-Ok.ensures.cause (c.reply_loaded.ensures.answer loads store)
+    c.in-Ok.ensures.loaded.1 c.in-Ok.ensures.loaded.2 c.in-Ok.ensures.loads c.in-Ok.ensures.cause (c.reply_loaded.ensures.answer loads store)
 
 pub returns-in-Ok-clause-faults : goal.returns-in-Ok-clause-faults
 returns-in-Ok-clause-faults g c =

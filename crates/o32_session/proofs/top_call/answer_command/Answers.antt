@@ -1,6 +1,6 @@
 use Rattle.std.proofs.Common.{subst}
 use Rattle.o32_runner.specs.Stored.{stored_of}
-use Rattle.o32_session.specs.Replayed.{AnswersCommand}
+use Rattle.o32_session.specs.Soaked.{AnswersCommand}
 use Rattle.o32_session.specs.Session.{seen_of}
 use Rattle.o32_session.specs.Words.{texts}
 use Rattle.o32_session.proofs.top_call.answer_command.Goals as goal
@@ -18,3 +18,12 @@ returns-in-Replay-clause-answer g c =
     let new = seen_of g.I.Source.left g.O.Sink.written g.E.Sink.written g.I.Source.faults g.O.Sink.faults g.E.Sink.faults c.answer_replay.new.dev (g.F.Store.load_faults c.answer_replay.new.files) (stored_of g.F.Store.files g.F.Store.created g.F.Store.loads g.F.Store.turned_away g.F.Store.write_faults c.answer_replay.new.files) in
     let answer = c.answer_replay.result in
     subst (λ k. AnswersCommand k (texts c.args.words.now) old new answer.turns answer.end answer.host) c.in-Replay.ensures c.answer_replay.ensures.answer
+
+pub returns-in-Soak-clause-answer : goal.returns-in-Soak-clause-answer
+returns-in-Soak-clause-answer g c =
+    let loads = g.F.Store.load_faults c.args.files.now in
+    let store = stored_of g.F.Store.files g.F.Store.created g.F.Store.loads g.F.Store.turned_away g.F.Store.write_faults c.args.files.now in
+    let old = seen_of g.I.Source.left g.O.Sink.written g.E.Sink.written g.I.Source.faults g.O.Sink.faults g.E.Sink.faults c.args.dev.now loads store in
+    let new = seen_of g.I.Source.left g.O.Sink.written g.E.Sink.written g.I.Source.faults g.O.Sink.faults g.E.Sink.faults c.answer_soak.new.dev loads store in
+    let answer = c.answer_soak.result in
+    subst (λ k. AnswersCommand k (texts c.args.words.now) old new answer.turns answer.end answer.host) c.in-Soak.ensures (c.answer_soak.ensures.answer loads store)

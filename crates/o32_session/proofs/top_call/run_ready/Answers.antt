@@ -1,8 +1,9 @@
-use Rattle.std.proofs.Common.{ℕ, IfOk, List, Option, Ok, Err, Result, option_map, refl, subst, sym, ◌≡◌, ◌∙◌}
+use Rattle.std.proofs.Common.{ℕ, IfOk, List, Ok, Err, Result, option_map, refl, subst, sym, ◌≡◌, ◌∙◌}
 use Rattle.std.specs.Option.{option_copied}
 use Rattle.kernel_core.specs.declared.core_error.Stop.{Stop}
 use Rattle.kernel_core.specs.declared.finish.Finish.{Finish}
 use Rattle.outside.specs.Streams.{contents}
+use Rattle.o32_runner.specs.Making.{StopsBehind}
 use Rattle.o32_runner.specs.Runs.{RunsAs, WithinBudget}
 use Rattle.o32_runner.specs.Stored.{stored_of}
 use Rattle.o32_runner.specs.Texts.{WritesTexts}
@@ -30,10 +31,10 @@ returns-in-Ok-clause-run g c = λ names named traced logged kept.
     run_answer quantum machine budget turns front names (option_map (word_at (texts c.args.words.now)) c.args.ready.save) c.in-Ok.finish c.run_named-ran.new.emulator c.answer_run.result
     (seen_of g.I.Source.left g.O.Sink.written g.E.Sink.written g.I.Source.faults g.O.Sink.faults g.E.Sink.faults c.args.dev.now (g.F.Store.load_faults c.args.files.now) (stored_of g.F.Store.files g.F.Store.created g.F.Store.loads g.F.Store.turned_away g.F.Store.write_faults c.args.files.now)) (seen_of g.I.Source.left g.O.Sink.written g.E.Sink.written g.I.Source.faults g.O.Sink.faults g.E.Sink.faults c.run_named-ran.new.dev (g.F.Store.load_faults c.answer_run.new.files) (stored_of g.F.Store.files g.F.Store.created g.F.Store.loads g.F.Store.turned_away g.F.Store.write_faults c.answer_run.new.files)) (stored_of g.F.Store.files g.F.Store.created g.F.Store.loads g.F.Store.turned_away g.F.Store.write_faults c.run_named-ran.new.files) named
     (subst (λ (e : Result Finish Stop). StopsOnlyIfAnyRose {T = Finish} g.I.Source.faults g.O.Sink.faults g.E.Sink.faults e (g.F.Store.write_faults c.args.files.now) (g.F.Store.write_faults c.run_named-ran.new.files) c.args.dev.now c.run_named-ran.new.dev) c.in-Ok.is c.run_named-ran.ensures.cause).1
-    c.run_named-ran.ensures.within
-    (texts_named front quantum machine budget turns (Ok c.in-Ok.finish) (g.I.Source.left c.args.dev.now.input) (stored_of g.F.Store.files g.F.Store.created g.F.Store.loads g.F.Store.turned_away g.F.Store.write_faults c.args.files.now) (stored_of g.F.Store.files g.F.Store.created g.F.Store.loads g.F.Store.turned_away g.F.Store.write_faults c.run_named-ran.new.files) (option_copied c.word_of.result) names.trace (option_copied c.word_of-2.result) names.native (option_copied c.word_of-3.result) names.journal (trace_is ∙ sym traced) (native_is ∙ sym logged) (journal_is ∙ sym kept)
-    (subst (λ (text : List ℕ). WritesTexts (option_copied c.word_of.result) (option_copied c.word_of-2.result) (option_copied c.word_of-3.result) text quantum machine budget turns (Ok c.in-Ok.finish) (g.I.Source.left c.args.dev.now.input) (stored_of g.F.Store.files g.F.Store.created g.F.Store.loads g.F.Store.turned_away g.F.Store.write_faults c.args.files.now) (stored_of g.F.Store.files g.F.Store.created g.F.Store.loads g.F.Store.turned_away g.F.Store.write_faults c.run_named-ran.new.files)) front_is
-    (subst (λ (e : Result Finish Stop). WritesTexts (option_copied c.word_of.result) (option_copied c.word_of-2.result) (option_copied c.word_of-3.result) c.as_slice.result.now quantum machine budget turns e (g.I.Source.left c.args.dev.now.input) (stored_of g.F.Store.files g.F.Store.created g.F.Store.loads g.F.Store.turned_away g.F.Store.write_faults c.args.files.now) (stored_of g.F.Store.files g.F.Store.created g.F.Store.loads g.F.Store.turned_away g.F.Store.write_faults c.run_named-ran.new.files)) c.in-Ok.is c.run_named-ran.ensures.texts)))
+    c.run_named-ran.ensures.within c.answer_run.ensures.small
+    (texts_named front quantum machine budget turns (Ok c.in-Ok.finish) (contents g.I.Source.left g.O.Sink.written g.E.Sink.written c.args.dev.now) (contents g.I.Source.left g.O.Sink.written g.E.Sink.written c.run_named-ran.new.dev) (stored_of g.F.Store.files g.F.Store.created g.F.Store.loads g.F.Store.turned_away g.F.Store.write_faults c.args.files.now) (stored_of g.F.Store.files g.F.Store.created g.F.Store.loads g.F.Store.turned_away g.F.Store.write_faults c.run_named-ran.new.files) (option_copied c.word_of.result) names.trace (option_copied c.word_of-2.result) names.native (option_copied c.word_of-3.result) names.journal (trace_is ∙ sym traced) (native_is ∙ sym logged) (journal_is ∙ sym kept)
+    (subst (λ (text : List ℕ). WritesTexts (option_copied c.word_of.result) (option_copied c.word_of-2.result) (option_copied c.word_of-3.result) text quantum machine budget turns (Ok c.in-Ok.finish) (contents g.I.Source.left g.O.Sink.written g.E.Sink.written c.args.dev.now) (contents g.I.Source.left g.O.Sink.written g.E.Sink.written c.run_named-ran.new.dev) (stored_of g.F.Store.files g.F.Store.created g.F.Store.loads g.F.Store.turned_away g.F.Store.write_faults c.args.files.now) (stored_of g.F.Store.files g.F.Store.created g.F.Store.loads g.F.Store.turned_away g.F.Store.write_faults c.run_named-ran.new.files)) front_is
+    (subst (λ (e : Result Finish Stop). WritesTexts (option_copied c.word_of.result) (option_copied c.word_of-2.result) (option_copied c.word_of-3.result) c.as_slice.result.now quantum machine budget turns e (contents g.I.Source.left g.O.Sink.written g.E.Sink.written c.args.dev.now) (contents g.I.Source.left g.O.Sink.written g.E.Sink.written c.run_named-ran.new.dev) (stored_of g.F.Store.files g.F.Store.created g.F.Store.loads g.F.Store.turned_away g.F.Store.write_faults c.args.files.now) (stored_of g.F.Store.files g.F.Store.created g.F.Store.loads g.F.Store.turned_away g.F.Store.write_faults c.run_named-ran.new.files)) c.in-Ok.is c.run_named-ran.ensures.texts)))
     (subst (λ (e : Result Finish Stop). IfOk e (λ finish. c.run_named-ran.new.emulator.turns ≡ turns)) c.in-Ok.is c.run_named-ran.ensures.turns)
     (subst (λ (e : Result Finish Stop). RunsAs quantum machine budget turns e (contents g.I.Source.left g.O.Sink.written g.E.Sink.written c.args.dev.now) (contents g.I.Source.left g.O.Sink.written g.E.Sink.written c.run_named-ran.new.dev) c.run_named-ran.new.emulator.machine) c.in-Ok.is c.run_named-ran.ensures.run)
     c.answer_run.ensures.answer
@@ -58,9 +59,10 @@ returns-in-Err-clause-run g c = λ names named traced logged kept.
     (cut_answer quantum machine budget turns front names c.in-Err.stop old new c.run_named-ran.new.emulator.machine answer.host
     c.run_named-ran.ensures.within
     (λ none unkept. subst (λ (e : Result Finish Stop). WithinBudget e turns budget) c.in-Err.is (c.run_named-ran.ensures.early (trace_is ∙ (sym traced ∙ none)) (journal_is ∙ (sym kept ∙ unkept))))
-    (texts_named front quantum machine budget turns (Err c.in-Err.stop) (g.I.Source.left c.args.dev.now.input) (stored_of g.F.Store.files g.F.Store.created g.F.Store.loads g.F.Store.turned_away g.F.Store.write_faults c.args.files.now) (stored_of g.F.Store.files g.F.Store.created g.F.Store.loads g.F.Store.turned_away g.F.Store.write_faults c.run_named-ran.new.files) (option_copied c.word_of.result) names.trace (option_copied c.word_of-2.result) names.native (option_copied c.word_of-3.result) names.journal (trace_is ∙ sym traced) (native_is ∙ sym logged) (journal_is ∙ sym kept)
-    (subst (λ (text : List ℕ). WritesTexts (option_copied c.word_of.result) (option_copied c.word_of-2.result) (option_copied c.word_of-3.result) text quantum machine budget turns (Err c.in-Err.stop) (g.I.Source.left c.args.dev.now.input) (stored_of g.F.Store.files g.F.Store.created g.F.Store.loads g.F.Store.turned_away g.F.Store.write_faults c.args.files.now) (stored_of g.F.Store.files g.F.Store.created g.F.Store.loads g.F.Store.turned_away g.F.Store.write_faults c.run_named-ran.new.files)) front_is
-    (subst (λ (e : Result Finish Stop). WritesTexts (option_copied c.word_of.result) (option_copied c.word_of-2.result) (option_copied c.word_of-3.result) c.as_slice.result.now quantum machine budget turns e (g.I.Source.left c.args.dev.now.input) (stored_of g.F.Store.files g.F.Store.created g.F.Store.loads g.F.Store.turned_away g.F.Store.write_faults c.args.files.now) (stored_of g.F.Store.files g.F.Store.created g.F.Store.loads g.F.Store.turned_away g.F.Store.write_faults c.run_named-ran.new.files)) c.in-Err.is c.run_named-ran.ensures.texts)))
+    (subst (λ (e : Result Finish Stop). StopsBehind e turns budget (g.F.Store.write_faults c.args.files.now) (g.F.Store.write_faults c.run_named-ran.new.files)) c.in-Err.is c.run_named-ran.ensures.behind)
+    (texts_named front quantum machine budget turns (Err c.in-Err.stop) (contents g.I.Source.left g.O.Sink.written g.E.Sink.written c.args.dev.now) (contents g.I.Source.left g.O.Sink.written g.E.Sink.written c.run_named-ran.new.dev) (stored_of g.F.Store.files g.F.Store.created g.F.Store.loads g.F.Store.turned_away g.F.Store.write_faults c.args.files.now) (stored_of g.F.Store.files g.F.Store.created g.F.Store.loads g.F.Store.turned_away g.F.Store.write_faults c.run_named-ran.new.files) (option_copied c.word_of.result) names.trace (option_copied c.word_of-2.result) names.native (option_copied c.word_of-3.result) names.journal (trace_is ∙ sym traced) (native_is ∙ sym logged) (journal_is ∙ sym kept)
+    (subst (λ (text : List ℕ). WritesTexts (option_copied c.word_of.result) (option_copied c.word_of-2.result) (option_copied c.word_of-3.result) text quantum machine budget turns (Err c.in-Err.stop) (contents g.I.Source.left g.O.Sink.written g.E.Sink.written c.args.dev.now) (contents g.I.Source.left g.O.Sink.written g.E.Sink.written c.run_named-ran.new.dev) (stored_of g.F.Store.files g.F.Store.created g.F.Store.loads g.F.Store.turned_away g.F.Store.write_faults c.args.files.now) (stored_of g.F.Store.files g.F.Store.created g.F.Store.loads g.F.Store.turned_away g.F.Store.write_faults c.run_named-ran.new.files)) front_is
+    (subst (λ (e : Result Finish Stop). WritesTexts (option_copied c.word_of.result) (option_copied c.word_of-2.result) (option_copied c.word_of-3.result) c.as_slice.result.now quantum machine budget turns e (contents g.I.Source.left g.O.Sink.written g.E.Sink.written c.args.dev.now) (contents g.I.Source.left g.O.Sink.written g.E.Sink.written c.run_named-ran.new.dev) (stored_of g.F.Store.files g.F.Store.created g.F.Store.loads g.F.Store.turned_away g.F.Store.write_faults c.args.files.now) (stored_of g.F.Store.files g.F.Store.created g.F.Store.loads g.F.Store.turned_away g.F.Store.write_faults c.run_named-ran.new.files)) c.in-Err.is c.run_named-ran.ensures.texts)))
     (subst (λ (e : Result Finish Stop). RunsAs quantum machine budget turns e (contents g.I.Source.left g.O.Sink.written g.E.Sink.written c.args.dev.now) (contents g.I.Source.left g.O.Sink.written g.E.Sink.written c.run_named-ran.new.dev) c.run_named-ran.new.emulator.machine) c.in-Err.is c.run_named-ran.ensures.run)
     (read_cause g.I.Source.faults g.O.Sink.faults g.E.Sink.faults c.in-Err.stop (g.F.Store.write_faults c.args.files.now) (g.F.Store.write_faults c.run_named-ran.new.files) c.args.dev.now c.run_named-ran.new.dev cause)
     (write_cause g.I.Source.faults g.O.Sink.faults g.E.Sink.faults c.in-Err.stop (g.F.Store.write_faults c.args.files.now) (g.F.Store.write_faults c.run_named-ran.new.files) c.args.dev.now c.run_named-ran.new.dev cause)))

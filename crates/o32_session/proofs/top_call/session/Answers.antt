@@ -4,7 +4,10 @@ use Rattle.o32_session.specs.Faults.{TellsFaults}
 use Rattle.o32_runner.specs.Stored.{stored_of}
 use Rattle.o32_session.specs.Session.{seen_of}
 use Rattle.o32_session.specs.declared.answer.End.{End}
+use Rattle.o32_session.proofs.LeftJournals.{journal_left}
+use Rattle.o32_session.proofs.ReadWords.{words_utf8}
 use Rattle.o32_session.proofs.Repeating.{command_saves, replay_complete, run_complete}
+use Rattle.o32_session.proofs.Soaking.{soak_complete}
 use Rattle.o32_session.proofs.top_call.session.Goals as goal
 
 pub returns-clause-complete : goal.returns-clause-complete
@@ -27,3 +30,16 @@ returns-clause-replays g c replay no_load no_out no_err =
     let new = seen_of g.I.Source.left g.O.Sink.written g.E.Sink.written g.I.Source.faults g.O.Sink.faults g.E.Sink.faults c.answer_command.new.dev (g.F.Store.load_faults c.answer_command.new.files) (stored_of g.F.Store.files g.F.Store.created g.F.Store.loads g.F.Store.turned_away g.F.Store.write_faults c.answer_command.new.files) in
     replay_complete (texts c.args.words.now) old new c.answer_command.result.turns c.answer_command.result.end c.answer_command.result.host replay c.answer_command.ensures.answer
     no_load no_out no_err
+
+pub returns-clause-soaks : goal.returns-clause-soaks
+returns-clause-soaks g c count asks no_out =
+    let old = seen_of g.I.Source.left g.O.Sink.written g.E.Sink.written g.I.Source.faults g.O.Sink.faults g.E.Sink.faults c.args.dev.now (g.F.Store.load_faults c.args.files.now) (stored_of g.F.Store.files g.F.Store.created g.F.Store.loads g.F.Store.turned_away g.F.Store.write_faults c.args.files.now) in
+    let new = seen_of g.I.Source.left g.O.Sink.written g.E.Sink.written g.I.Source.faults g.O.Sink.faults g.E.Sink.faults c.answer_command.new.dev (g.F.Store.load_faults c.answer_command.new.files) (stored_of g.F.Store.files g.F.Store.created g.F.Store.loads g.F.Store.turned_away g.F.Store.write_faults c.answer_command.new.files) in
+    soak_complete (texts c.args.words.now) old new c.answer_command.result.turns c.answer_command.result.end c.answer_command.result.host count asks c.answer_command.ensures.answer no_out
+
+pub returns-clause-journal : goal.returns-clause-journal
+returns-clause-journal g c run left name finish told named over =
+    let old = seen_of g.I.Source.left g.O.Sink.written g.E.Sink.written g.I.Source.faults g.O.Sink.faults g.E.Sink.faults c.args.dev.now (g.F.Store.load_faults c.args.files.now) (stored_of g.F.Store.files g.F.Store.created g.F.Store.loads g.F.Store.turned_away g.F.Store.write_faults c.args.files.now) in
+    let new = seen_of g.I.Source.left g.O.Sink.written g.E.Sink.written g.I.Source.faults g.O.Sink.faults g.E.Sink.faults c.answer_command.new.dev (g.F.Store.load_faults c.answer_command.new.files) (stored_of g.F.Store.files g.F.Store.created g.F.Store.loads g.F.Store.turned_away g.F.Store.write_faults c.answer_command.new.files) in
+    journal_left (command_of (texts c.args.words.now)) (texts c.args.words.now) old new c.answer_command.result.turns c.answer_command.result.end c.answer_command.result.host run left name finish
+    (words_utf8 c.args.words.now) refl c.answer_command.ensures.answer told named over

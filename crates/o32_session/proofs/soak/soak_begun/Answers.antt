@@ -1,0 +1,8 @@
+use Rattle.std.proofs.Common.{subst}
+use Rattle.o32_turns.specs.Machine.{Machine}
+use Rattle.o32_session.specs.Soaked.{GoesSoFar, stops_within}
+use Rattle.o32_session.proofs.soak.soak_begun.Goals as goal
+
+pub returns-in-Err-clause-stopped : goal.returns-in-Err-clause-stopped
+returns-in-Err-clause-stopped c =
+    stops_within c.in-Err.stopped.turns (subst (λ (m : Machine). GoesSoFar m c.in-Err.stopped.turns) c.requires.machine c.in-Err.ensures.stopped)
