@@ -1,0 +1,4 @@
+pub mod Asking
+pub mod Prefixes
+pub mod Ran
+pub mod Repeating
