@@ -315,3 +315,14 @@ def untouched_mapping(pages):
     """A program that maps so many pages, counts down, and never touches them; the status is 0 where it could map them."""
     setup = [*MMAP2_SETUP, *load_constant(A1, pages * PAGE), *mmap2()]
     return Program(f"{pages:,} pages of a mapping", setup, count_round, FAILED)
+
+
+def map_round(_start, _function):
+    mapping = mmap2()
+    return [*mapping, addiu(COUNTER, COUNTER, -1), bne(COUNTER, ZERO, -len(mapping) - 2), addiu(T6, T6, 1)]
+
+
+def mappings_of_a_page():
+    """A program that maps one page a round, at any place; the status is 0 where it could map each."""
+    setup = [*MMAP2_SETUP, *load_constant(A1, PAGE)]
+    return Program("mappings of a page", setup, map_round, FAILED)

@@ -1,72 +1,72 @@
 //! Sessions of programs over an image.
-use crate::guest::{code_of, data, executable};
-use crate::image::image_of;
-use crate::script::{Script, read};
+use guest_scripts::calls::{Script, read};
+use guest_scripts::guest::{code_of, data, executable};
+use guest_scripts::image::image_of;
 use o32_session::{End, session};
-use outside::{Devices, MemSink, MemSource, MemStore, NamedFile};
+use outside::{Devices, MemSink, MemSource, MemStore};
+use session_settings::Given;
 use std::alloc::Global;
 use std::test::Fail;
 
-/// The end of a session, its turns, what it wrote to standard output, its trace, and what it saved.
+/// What comes of a session.
 #[derive(Drop)]
 pub struct Came {
+    /// Its end.
     pub end: End,
+    /// Its turns.
     pub turns: u64,
+    /// What it wrote to standard output.
     pub out: Vec<u8>,
+    /// Its trace.
     pub trace: Vec<u8>,
+    /// What it saved.
     pub saved: Vec<u8>,
 }
 
-/// A file of a store.
-fn file(alloc: Global, name: &str, bytes: Vec<u8>) -> Result<NamedFile, Fail> {
-    Ok(NamedFile {
-        name: String::from_str(alloc, name)?,
-        bytes,
-    })
-}
-
-/// The program `p`, the image `i` and the schedule `c`.
-fn files(
-    alloc: Global,
-    program: Vec<u8>,
-    image: Vec<u8>,
-    schedule: &str,
-) -> Result<Vec<NamedFile>, Fail> {
-    let mut files = Vec::new(alloc);
-    files
-        .push(file(alloc, "p", program)?)
-        .ok()
-        .ok_or("no memory")?;
-    files
-        .push(file(alloc, "i", image)?)
-        .ok()
-        .ok_or("no memory")?;
-    let text = schedule.as_bytes().to_vec(alloc)?;
-    files.push(file(alloc, "c", text)?).ok().ok_or("no memory")?;
-    Ok(files)
+/// What a session did.
+#[derive(Drop)]
+struct Done {
+    end: End,
+    turns: u64,
+    out: MemSink,
+    store: MemStore,
 }
 
 /// The words that run the program over the image under the schedule, write the trace to `t`, and save the tree in `s`.
-fn words(alloc: Global) -> Result<Vec<String>, Fail> {
-    let mut words = Vec::new(alloc);
-    for word in "run --image i --schedule c --trace t --save s p".split_whitespace() {
-        words
-            .push(String::from_str(alloc, word)?)
-            .ok()
-            .ok_or("no memory")?;
-    }
-    Ok(words)
+const WORDS: &str = "run --image i --schedule c --trace t --save s p";
+
+/// Gives a session its words, the program `p`, the image `i`, the schedule `c`, and one byte of input, `x`.
+fn give(
+    alloc: Global,
+    given: &mut Given,
+    program: Vec<u8>,
+    image: Vec<u8>,
+    schedule: &str,
+) -> Result<(), Fail> {
+    given.add_file(alloc, "p", program)?;
+    given.add_file(alloc, "i", image)?;
+    given.add_file(alloc, "c", schedule.as_bytes().to_vec(alloc)?)?;
+    given.add_words(alloc, WORDS)?;
+    given.input.push(b'x')?;
+    Ok(())
 }
 
-/// Streams with one byte of input, `x`.
-fn streams(alloc: Global) -> Result<Devices<MemSource, MemSink, MemSink>, Fail> {
-    let mut input = Vec::new(alloc);
-    input.push(b'x')?;
-    Ok(Devices {
-        input: MemSource::new(input, Vec::new(alloc)),
-        out: MemSink::new(alloc, Vec::new(alloc)),
-        err: MemSink::new(alloc, Vec::new(alloc)),
-    })
+/// Carries out a session.
+fn carry_out(alloc: Global, given: Given) -> Done {
+    let failing = given.failing;
+    let mut store = MemStore::new(alloc, given.files, failing.calls);
+    let mut dev = Devices {
+        input: MemSource::new(given.input, failing.takes),
+        out: MemSink::new(alloc, failing.puts),
+        err: MemSink::new(alloc, failing.lines),
+    };
+    let answer = session(alloc, &given.words, &mut store, &mut dev);
+    Done {
+        end: answer.end,
+        turns: answer.turns,
+        out: dev.out,
+        store,
+    }
 }
 
 /// What stands in a file, or nothing.
@@ -77,35 +77,23 @@ fn bytes_of(alloc: Global, store: &MemStore, name: &str) -> Result<Vec<u8>, Fail
     }
 }
 
-/// Carries out a session, and tells its end and its turns.
-fn carry_out(
-    alloc: Global,
-    words: &[String],
-    store: &mut MemStore,
-    dev: &mut Devices<MemSource, MemSink, MemSink>,
-) -> (End, u64) {
-    let answer = session(alloc, words, store, dev);
-    (answer.end, answer.turns)
+/// What came of a session that is carried out.
+fn came_of(alloc: Global, done: &Done) -> Result<Came, Fail> {
+    Ok(Came {
+        end: done.end,
+        turns: done.turns,
+        out: done.out.bytes().to_vec(alloc)?,
+        trace: bytes_of(alloc, &done.store, "t")?,
+        saved: bytes_of(alloc, &done.store, "s")?,
+    })
 }
 
 /// Runs the program of this file over a tree, under a schedule.
 pub fn run(alloc: Global, program: Vec<u8>, tree: &str, schedule: &str) -> Result<Came, Fail> {
     let image = image_of(alloc, tree)?;
-    let words = words(alloc)?;
-    let mut dev = streams(alloc)?;
-    let mut store = MemStore::new(
-        alloc,
-        files(alloc, program, image, schedule)?,
-        Vec::new(alloc),
-    );
-    let (end, turns) = carry_out(alloc, &words, &mut store, &mut dev);
-    Ok(Came {
-        end,
-        turns,
-        out: dev.out.bytes().to_vec(alloc)?,
-        trace: bytes_of(alloc, &store, "t")?,
-        saved: bytes_of(alloc, &store, "s")?,
-    })
+    let mut given = Given::new(alloc);
+    give(alloc, &mut given, program, image, schedule)?;
+    came_of(alloc, &carry_out(alloc, given))
 }
 
 /// The place of the first call that gives anything else, counted from 1, or 0; None where the program ends otherwise or writes

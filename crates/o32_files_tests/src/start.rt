@@ -1,44 +1,13 @@
 //! The calls that a C library makes before and around a small `main`, one after the other.
-use call_scripts::guest::{ROOM_ON_THE_STACK, STORE_T0_FIFTH, code_of, executable, straight_code};
+use call_scripts::End;
+use call_scripts::guest::{code_of, executable};
 use call_scripts::image::image_of;
+use call_scripts::listing::{TRACE, TREE, data, program};
 use call_scripts::script::read;
 use call_scripts::sessions::{Came, place_of, run};
-use o32_session::End;
-use std::alloc::{AllocError, Global};
 use std::test::Fail;
 
-/// A directory of three files.
-const TREE: &str = "5
-    1 directory 0o755 0 1 3 d 2
-    2 directory 0o755 0 3 3 a 3 4 bb 4 5 ccc 5
-    3 file 0o644 0 0 -
-    4 file 0o644 0 0 -
-    5 file 0o644 0 0 -
-";
-
-/// `addiu $t0, $zero, -1`.
-const SET_T0_TO_MINUS_1: u32 = 0x2408_FFFF;
-
-/// `sw $zero, 20($sp)`.
-const STORE_0_SIXTH: u32 = 0xAFA0_0014;
-
-/// The calls, with four arguments each. The descriptor of the mapping and its offset stand on the stack.
-const CALLS: &str = "
-    set_thread_area 0x418000 0 0 0
-    set_tid_address 0x410800 0 0 0
-    ioctl 1 0x40087468 0x410810 0
-    brk 0 0 0 0
-    brk 0x413000 0 0 0
-    mmap2 0 0x2000 3 0x802
-    openat at_fdcwd 0x410000 0x12000 0
-    fstat64 3 0x410820 0 0
-    getdents64 3 0x6FFFE000 0x2000 0
-    getdents64 3 0x6FFFE000 0x2000 0
-    writev 1 0x410100 2 0
-    exit_group 0 0 0 0
-";
-
-/// The same calls but the last, and what each gives: the process's id is this project's own, standard output is no terminal, and the
+/// The calls of the program but the last, and what each gives: the process's id is this project's own, standard output is no terminal, and the
 /// five entries of the directory have 24 bytes each.
 const ANSWERS: &str = "
     set_thread_area 0x418000 = 0
@@ -54,35 +23,6 @@ const ANSWERS: &str = "
     writev 1 0x410100 2 = 8
 ";
 
-/// The trace of these calls, which are ten turns each behind the first four.
-const TRACE: &str = "\
-14 call 4283 00418000 00000000 00000000 00000000 = 00000000 0
-24 call 4252 00410800 00000000 00000000 00000000 = 00000064 0
-34 call 4054 00000001 40087468 00410810 00000000 = 00000019 1
-44 call 4045 00000000 00000000 00000000 00000000 = 00411000 0
-54 call 4045 00413000 00000000 00000000 00000000 = 00413000 0
-64 call 4210 00000000 00002000 00000003 00000802 = 6fffe000 0
-74 call 4288 ffffff9c 00410000 00012000 00000000 = 00000003 0
-84 call 4215 00000003 00410820 00000000 00000000 = 00000000 0
-94 call 4219 00000003 6fffe000 00002000 00000000 = 00000078 0
-104 call 4219 00000003 6fffe000 00002000 00000000 = 00000000 0
-114 call 4146 00000001 00410100 00000002 00000000 = 00000008 0
-124 exit 0
-";
-
-/// A page with a path, and a vector of two pieces of text behind it.
-fn data(alloc: Global) -> Result<Vec<u8>, AllocError> {
-    let mut data = Vec::from_slice(alloc, b"/d")?;
-    data.resize(0x100, 0)?;
-    for word in [0x41_0120, 2, 0x41_0122, 6] {
-        data.extend_from_slice(&u32::to_be_bytes(word))?;
-    }
-    data.resize(0x120, 0)?;
-    data.extend_from_slice(b"3 files\n")?;
-    data.resize(0x1000, 0)?;
-    Ok(data)
-}
-
 /// Whether a session came out as it has to: three files, after 124 turns, with its trace, and the tree as it was.
 fn is_right(came: &Came, tree: &[u8]) -> bool {
     came.end == End::Exited(0)
@@ -95,15 +35,7 @@ fn is_right(came: &Came, tree: &[u8]) -> bool {
 #[test]
 fn start(rt: HostRuntime) -> Result<(), Fail> {
     let alloc = rt.alloc();
-    let first = [
-        ROOM_ON_THE_STACK,
-        SET_T0_TO_MINUS_1,
-        STORE_T0_FIFTH,
-        STORE_0_SIXTH,
-    ];
-    let code = straight_code(alloc, &first, CALLS)?;
-    let file = executable(alloc, &code, &data(alloc)?)?;
-    let came = run(alloc, file, TREE, "")?;
+    let came = run(alloc, program(alloc)?, TREE, "")?;
     let tree = image_of(alloc, TREE)?;
     let right = is_right(&came, &tree);
     assert_eq!(rt; right, true);

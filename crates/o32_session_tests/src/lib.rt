@@ -14,6 +14,8 @@ mod saves;
 #[cfg(test)]
 mod schedules;
 #[cfg(test)]
+mod soaks;
+#[cfg(test)]
 mod traces;
 #[cfg(test)]
 mod words;

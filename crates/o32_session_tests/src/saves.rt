@@ -97,3 +97,19 @@ fn streams_that_fail(rt: HostRuntime) -> Result<(), Fail> {
     );
     Ok(())
 }
+
+/// Three writes of one byte each, in ten instructions each, of which the third fails: its turn is none.
+const A_THIRD_WRITE: &str = r"
+    lui $a0 0; ori $a0 $a0 1; lui $a1 0x40; ori $a1 $a1 0xFFD; lui $a2 0; ori $a2 $a2 1; lui $a3 0; ori $a3 $a3 0; addiu $v0 $zero write; syscall
+    lui $a0 0; ori $a0 $a0 1; lui $a1 0x40; ori $a1 $a1 0xFFE; lui $a2 0; ori $a2 $a2 1; lui $a3 0; ori $a3 $a3 0; addiu $v0 $zero write; syscall
+    lui $a0 0; ori $a0 $a0 1; lui $a1 0x40; ori $a1 $a1 0xFFF; lui $a2 0; ori $a2 $a2 1; lui $a3 0; ori $a3 $a3 0; addiu $v0 $zero write; syscall
+    fails put 3
+    out ab
+    o32run run p = write_fault 119 29
+";
+
+#[test]
+fn a_third_write_that_fails(rt: HostRuntime) -> Result<(), Fail> {
+    assert_eq!(rt; first_wrong(rt.alloc(), "", A_THIRD_WRITE)?, None);
+    Ok(())
+}

@@ -1,5 +1,6 @@
 //! The trace of a run: what each line tells, and a store that fails.
 use session_scripts::first_wrong;
+use std::alloc::Global;
 use std::test::Fail;
 
 /// The program that writes `Hi`.
@@ -118,5 +119,42 @@ fn stores_that_fail(rt: HostRuntime) -> Result<(), Fail> {
 #[test]
 fn events(rt: HostRuntime) -> Result<(), Fail> {
     assert_eq!(rt; first_wrong(rt.alloc(), "", EVENTS)?, None);
+    Ok(())
+}
+
+/// A program that blocks signal 34 in its eighth turn and then goes round. The clock gains a nanosecond a turn, so that what comes at 100 is posted in
+/// turn 101: 1,024 signals queue, and one more is dropped, which has a line in the place of the other.
+const A_FULL_QUEUE: &str = r"
+    addiu $t0 $zero 2; sw $t0 0xFFC4 $sp
+    addiu $a0 $zero 1; addiu $a1 $sp 0xFFC0; addiu $a2 $zero 0; addiu $a3 $zero 16; addiu $v0 $zero rt_sigprocmask; syscall
+    beq $zero $zero 0xFFFF; nop
+    trace 8 call 4195 00000001 7ffeff00 00000000 00000010 = 00000000 0
+";
+
+/// How many signals queue.
+const QUEUED: usize = 1024;
+
+/// The session of that program, with one signal more than queue.
+fn session_of_a_full_queue(alloc: Global) -> Result<String, Fail> {
+    let mut script = String::from_str(alloc, "file t quantum 1\\n")?;
+    for _ in 0..QUEUED {
+        script.push_str("at 100 queue 34 1\\n")?;
+    }
+    script.push_str("at 100 queue 34 1\\n\n")?;
+    for _ in 0..QUEUED {
+        script.push_str("trace 101 post 34\n")?;
+    }
+    script.push_str("trace 101 drop 34\ntrace 110 budget\n")?;
+    script.push_str("o32run run --schedule t --trace trace --budget 110 p = budget 124 110\n")?;
+    Ok(script)
+}
+
+#[test]
+fn a_full_queue(rt: HostRuntime) -> Result<(), Fail> {
+    let script = session_of_a_full_queue(rt.alloc())?;
+    assert_eq!(rt;
+        first_wrong(rt.alloc(), A_FULL_QUEUE, script.as_str())?,
+        None
+    );
     Ok(())
 }

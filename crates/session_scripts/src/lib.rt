@@ -1,13 +1,10 @@
-//! Scripts of sessions, for the tests of whole sessions: programs as instructions, what each session is given, and what comes of it.
+//! Scripts of sessions, for the tests of whole sessions: what each session is given, and what comes of it.
 #![tactic(auto)]
 
-mod code;
 mod ends;
-mod images;
-mod numbers;
-mod reading;
 mod script;
 mod sessions;
-mod setting;
 
+// Passed on for the tests that stand on these scripts.
+pub use guest_scripts::{guest, image};
 pub use script::first_wrong;

@@ -23,87 +23,72 @@
 //!
 //! Among the words of a session `""` is the empty one, and `a*9` has nine letters.
 use crate::ends::{outcome_of, refused};
-use crate::numbers::number_of;
-use crate::reading::bytes_of;
-use crate::sessions::comes_out;
-use crate::setting::Setting;
+use crate::sessions::{Outcome, comes_out};
+use session_settings::Setting;
 use std::alloc::Global;
+use std::mem::replace;
 use std::test::Fail;
 
-/// A word of a session.
-fn word_of(alloc: Global, word: &str) -> Result<String, Fail> {
-    if word == "\"\"" {
-        return Ok(String::new(alloc));
-    }
-    let bytes = match word.strip_prefix("a*") {
-        Some(letters) => {
-            let letters = number_of(letters).ok_or("no number")?;
-            let letters = usize::try_from(letters).ok().ok_or("too many")?;
-            vec![in alloc; b'a'; letters]?
-        }
-        None => bytes_of(alloc, word)?,
-    };
-    Ok(String::from_utf8(bytes).ok().ok_or("no text")?)
-}
-
-/// The words of a session.
-fn words_of(alloc: Global, text: &str) -> Result<Vec<String>, Fail> {
-    let mut words = Vec::new(alloc);
-    for word in text.split_whitespace() {
-        words.push(word_of(alloc, word)?).ok().ok_or("no memory")?;
-    }
-    Ok(words)
+/// What a session comes to, by its words.
+fn comes_to(
+    alloc: Global,
+    setting: &mut Setting,
+    words: &str,
+    outcome: &Outcome,
+) -> Result<bool, Fail> {
+    setting.runs(alloc, words)?;
+    Ok(comes_out(alloc, replace(setting, Setting::new(alloc)), outcome))
 }
 
 /// Whether a session is refused so, with this line.
 fn is_refused(
     alloc: Global,
-    mut setting: Setting,
+    setting: &mut Setting,
     words: &str,
     refusal: &str,
 ) -> Result<bool, Fail> {
     let (refusal, line) = refusal.split_once(" : ").ok_or("no line")?;
-    setting.tells(alloc, line)?;
-    let (given, left) = setting.with_words(alloc, words_of(alloc, words)?)?;
-    let refused = refused(alloc, refusal)?;
-    Ok(comes_out(alloc, given, &refused, &left))
+    setting.tells(line)?;
+    comes_to(alloc, setting, words, &refused(alloc, refusal)?)
 }
 
 /// Whether a session comes out as the rest of its line says.
-fn is_right(alloc: Global, setting: Setting, text: &str) -> Result<bool, Fail> {
+fn is_right(alloc: Global, setting: &mut Setting, text: &str) -> Result<bool, Fail> {
     if let Some((words, refusal)) = text.split_once(" ! ") {
         return is_refused(alloc, setting, words, refusal);
     }
     let (words, outcome) = text.split_once(" = ").ok_or("no end")?;
-    let outcome = outcome_of(alloc, outcome)?;
-    let (given, left) = setting.with_words(alloc, words_of(alloc, words)?)?;
-    Ok(comes_out(alloc, given, &outcome, &left))
+    comes_to(alloc, setting, words, &outcome_of(alloc, outcome)?)
 }
 
-/// What is common to the sessions of a script.
-fn common(alloc: Global, text: &str) -> Result<Setting, Fail> {
-    let mut setting = Setting::new(alloc);
+/// Takes what is common to the sessions of a script.
+fn take_common(alloc: Global, setting: &mut Setting, text: &str) -> Result<(), Fail> {
     for line in text.lines() {
         let line = line.trim();
         if !line.is_empty() {
             setting.take(alloc, line)?;
         }
     }
-    Ok(setting)
+    Ok(())
 }
 
-/// The first session of a script that comes out otherwise, counted from 0. Some lines are common to all of them.
-pub fn first_wrong(alloc: Global, common_lines: &str, script: &str) -> Result<Option<usize>, Fail> {
+/// The first session that comes out otherwise, where nothing has been said of the first.
+fn first_wrong_from(
+    alloc: Global,
+    setting: &mut Setting,
+    common: &str,
+    script: &str,
+) -> Result<Option<usize>, Fail> {
     let mut place: usize = 0;
-    let mut setting = common(alloc, common_lines)?;
     let mut is_ended = false;
+    take_common(alloc, setting, common)?;
     for line in script.lines() {
         let line = line.trim();
         if let Some(text) = line.strip_prefix("o32run") {
             if !is_right(alloc, setting, text)? {
                 return Ok(Some(place));
             }
-            setting = common(alloc, common_lines)?;
+            take_common(alloc, setting, common)?;
             place = place.saturating_add(1);
             is_ended = true;
         } else if !line.is_empty() {
@@ -116,4 +101,10 @@ pub fn first_wrong(alloc: Global, common_lines: &str, script: &str) -> Result<Op
     } else {
         Err(Fail::from("a session is cut off"))
     }
+}
+
+/// The first session of a script that comes out otherwise, counted from 0. Some lines are common to all of them.
+pub fn first_wrong(alloc: Global, common: &str, script: &str) -> Result<Option<usize>, Fail> {
+    let mut setting = Setting::new(alloc);
+    first_wrong_from(alloc, &mut setting, common, script)
 }

@@ -1,33 +1,8 @@
 //! A session, and what it comes to.
 use o32_session::{Answer, End, session};
-use outside::{Devices, MemSink, MemSource, MemStore, NamedFile};
+use outside::{Devices, MemSink, MemSource, MemStore};
+use session_settings::{Given, Left, Setting};
 use std::alloc::Global;
-
-/// The numbers of the calls that fail, counted from 1.
-#[derive(Drop)]
-pub(crate) struct Failing {
-    /// Of the takes of standard input.
-    pub(crate) takes: Vec<u64>,
-    /// Of the puts of standard output.
-    pub(crate) puts: Vec<u64>,
-    /// Of the puts of standard error.
-    pub(crate) lines: Vec<u64>,
-    /// Of the calls on the store.
-    pub(crate) calls: Vec<u64>,
-}
-
-/// What a session is given.
-#[derive(Drop)]
-pub(crate) struct Given {
-    /// Its words.
-    pub(crate) words: Vec<String>,
-    /// The files of its store.
-    pub(crate) files: Vec<NamedFile>,
-    /// Its standard input.
-    pub(crate) input: Vec<u8>,
-    /// The calls that fail.
-    pub(crate) failing: Failing,
-}
 
 /// What a session answers.
 #[derive(Clone, Copy)]
@@ -38,21 +13,6 @@ pub(crate) struct Outcome {
     pub(crate) status: u8,
     /// The turns of its answer.
     pub(crate) turns: u64,
-}
-
-/// What a session leaves.
-#[derive(Drop)]
-pub(crate) struct Left {
-    /// What it wrote to standard output.
-    pub(crate) out: Vec<u8>,
-    /// What it wrote to standard error.
-    pub(crate) err: Vec<u8>,
-    /// What it left in the file `s`, where there is one.
-    pub(crate) saved: Option<Vec<u8>>,
-    /// What it left in the file `trace`, where there is one.
-    pub(crate) traced: Option<Vec<u8>>,
-    /// What it left in the file `native`, where there is one.
-    pub(crate) logged: Option<Vec<u8>>,
 }
 
 /// What a session did.
@@ -86,7 +46,7 @@ fn carry_out(alloc: Global, given: Given) -> Done {
 fn is_hosted(answer: &Answer) -> bool {
     let finished = matches!(
         answer.end,
-        End::Exited(_) | End::Killed(_) | End::Budget | End::Blocked
+        End::Exited(_) | End::Killed(_) | End::Budget | End::Blocked | End::Soaked(_)
     );
     match &answer.host {
         Some(host) => finished && host.turns() == answer.turns,
@@ -116,7 +76,8 @@ fn is_right(done: &Done, outcome: &Outcome, left: &Left) -> bool {
         && is_left(&done.store, "native", &left.logged)
 }
 
-/// Whether a session comes out so.
-pub(crate) fn comes_out(alloc: Global, given: Given, outcome: &Outcome, left: &Left) -> bool {
-    is_right(&carry_out(alloc, given), outcome, left)
+/// Whether a session comes out so, and leaves what it has to.
+pub(crate) fn comes_out(alloc: Global, setting: Setting, outcome: &Outcome) -> bool {
+    let left = setting.left;
+    is_right(&carry_out(alloc, setting.given), outcome, &left)
 }

@@ -3,9 +3,20 @@
 //! A tree is the number of its nodes, and each node its number, its kind, its mode and when it was modified, in seconds; then of a
 //! directory the number of its entries, and of each its cookie, its name and its node; of a file its size and what it begins with,
 //! or `-`; and of a link its text.
-use crate::numbers::number_of;
+use crate::reading::Words;
 use std::alloc::{AllocError, Global};
 use std::test::Fail;
+
+/// The tree of one empty root directory, of mode 0755 and time 0.
+pub const EMPTY_ROOT: &str = "1
+    1 directory 0o755 0 0
+";
+
+/// The tree of a root directory of mode 0700 whose entry `f`, of cookie 3, is the empty file 2 of mode 0644; both have the time 1.
+pub const ONE_FILE: &str = "2
+    1 directory 0o700 1 1 3 f 2
+    2 file 0o644 1 0 -
+";
 
 /// The tree of most programs: two files and an empty one in a directory `d`, links, a file whose number takes more than 32 bits, and
 /// one of 2^31 bytes.
@@ -22,26 +33,6 @@ pub const TREE: &str = "9
 ";
 
 const BLOCK: usize = 4096;
-
-/// The words of a tree that are left.
-#[derive(Drop)]
-struct Words<'a> {
-    words: &'a [&'a str],
-    place: usize,
-}
-
-impl<'a> Words<'a> {
-    fn next(&mut self) -> Result<&'a str, Fail> {
-        let word = *self.words.get(self.place).ok_or("a word is missing")?;
-        self.place = self.place.saturating_add(1);
-        Ok(word)
-    }
-
-    fn number(&mut self) -> Result<u64, Fail> {
-        let word = self.next()?;
-        Ok(number_of(word).ok_or("no number")?)
-    }
-}
 
 /// The low four bytes of a number.
 fn push_word(image: &mut Vec<u8>, number: u64) -> Result<(), AllocError> {
@@ -142,18 +133,25 @@ fn push_node(image: &mut Vec<u8>, words: &mut Words) -> Result<(), Fail> {
     }
 }
 
+/// The number of nodes, and each node.
+fn push_nodes(image: &mut Vec<u8>, words: &mut Words) -> Result<(), Fail> {
+    let count = words.number()?;
+    push_word(image, count)?;
+    for _ in 0..count {
+        push_node(image, words)?;
+    }
+    Ok(())
+}
+
+/// Puts the nodes of a tree behind what each image begins with.
+fn push_tree(alloc: Global, image: &mut Vec<u8>, tree: &str) -> Result<(), Fail> {
+    let items: Vec<&str> = tree.split_whitespace().collect(alloc)?;
+    push_nodes(image, &mut Words::new(items.as_slice()))
+}
+
 /// The image of a tree.
 pub fn image_of(alloc: Global, tree: &str) -> Result<Vec<u8>, Fail> {
-    let items: Vec<&str> = tree.split_whitespace().collect(alloc)?;
-    let mut words = Words {
-        words: items.as_slice(),
-        place: 0,
-    };
     let mut image = Vec::from_slice(alloc, b"O32IMG1\n")?;
-    let count = words.number()?;
-    push_word(&mut image, count)?;
-    for _ in 0..count {
-        push_node(&mut image, &mut words)?;
-    }
+    push_tree(alloc, &mut image, tree)?;
     Ok(image)
 }

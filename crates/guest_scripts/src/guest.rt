@@ -1,17 +1,12 @@
 //! Programs that make calls, one after the other, and look at what each gives.
-use crate::numbers::{DATA, PATHS, value};
-use crate::script::{Call, Gives};
+use crate::calls::{Call, Gives};
+use crate::executable::{Access, push_words};
+use crate::numbers::{PATHS, value};
 use std::alloc::{AllocError, Global};
 use std::test::Fail;
 
-/// The address of a program's code.
-const CODE: u32 = 0x40_0000;
-
 /// How many bytes of code there can be.
 const CODE_SIZE: usize = 0x1_0000;
-
-/// Where a program's file has its segment.
-const SEGMENT: usize = 0x1000;
 
 // Instruction words (MIPS32 Architecture for Programmers, Volume II). Where an instruction takes a number, `|` puts it in.
 
@@ -22,7 +17,7 @@ const SET_V0: u32 = 0x2402_0000;
 const SET_A0: u32 = 0x2404_0000;
 
 /// `addiu $sp, $sp, -32`.
-pub const ROOM_ON_THE_STACK: u32 = 0x27BD_FFE0;
+pub(crate) const ROOM_ON_THE_STACK: u32 = 0x27BD_FFE0;
 
 /// `nop`.
 const NOTHING: u32 = 0;
@@ -37,13 +32,29 @@ const NEXT_IF_A3_IS_T0: u32 = 0x10E8_0003;
 const AGAIN_IF_NO_ERROR: u32 = 0x10E0_FFFC;
 
 /// `sw $t0, 16($sp)`, where a call's fifth argument stands.
-pub const STORE_T0_FIFTH: u32 = 0xAFA8_0010;
+pub(crate) const STORE_T0_FIFTH: u32 = 0xAFA8_0010;
 
 /// `sw $t0, 20($sp)`, where its sixth argument stands.
 const STORE_T0_SIXTH: u32 = 0xAFA8_0014;
 
 /// `syscall`.
 const SYSCALL: u32 = 0x0000_000C;
+
+/// The times in a program's data, each of two words of 32 bits.
+const TIMES: [u32; 12] = [
+    5,
+    6,
+    7,
+    8,
+    1,
+    0x3FFF_FFFF,
+    1,
+    0x3FFF_FFFE,
+    5,
+    1_000_000_000,
+    1,
+    0,
+];
 
 /// exit(2) and dup(2).
 const EXIT: u32 = 4001;
@@ -137,17 +148,22 @@ fn push_call(code: &mut Vec<u32>, place: u32, call: &Call) -> Result<(), AllocEr
     code.extend_from_slice(&go_on(TO_T0, failed, NEXT_IF_A3_IS_T0))
 }
 
-/// The words of a program that makes these calls behind the first words, and exits with the place of the first that gives anything
-/// else, counted from 1, or with 0.
-pub fn code_of(alloc: Global, first: &[u32], calls: &[Call]) -> Result<Vec<u32>, AllocError> {
-    let mut code = Vec::from_slice(alloc, first)?;
+/// Makes calls, and exits with the place of the first that gives anything else, counted from 1, or with 0.
+fn push_calls(code: &mut Vec<u32>, calls: &[Call]) -> Result<(), AllocError> {
     code.push(ROOM_ON_THE_STACK)?;
     let mut place: u32 = 0;
     for call in calls {
         place = place.saturating_add(1);
-        push_call(&mut code, place, call)?;
+        push_call(code, place, call)?;
     }
-    code.extend_from_slice(&[SET_A0, SET_V0 | EXIT, SYSCALL])?;
+    code.extend_from_slice(&[SET_A0, SET_V0 | EXIT, SYSCALL])
+}
+
+/// The words of a program that makes these calls behind the first words, and exits with the place of the first that gives anything
+/// else, counted from 1, or with 0.
+pub fn code_of(alloc: Global, first: &[u32], calls: &[Call]) -> Result<Vec<u32>, AllocError> {
+    let mut code = Vec::from_slice(alloc, first)?;
+    push_calls(&mut code, calls)?;
     Ok(code)
 }
 
@@ -161,9 +177,8 @@ fn register(place: usize) -> ToRegister {
     }
 }
 
-/// The words of a program that makes calls of four arguments behind the first words, in ten instructions each, and looks at nothing.
-pub fn straight_code(alloc: Global, first: &[u32], calls: &str) -> Result<Vec<u32>, Fail> {
-    let mut code = Vec::from_slice(alloc, first)?;
+/// Makes calls of four arguments, in ten instructions each.
+fn push_straight(code: &mut Vec<u32>, calls: &str) -> Result<(), Fail> {
     let mut number = 0;
     let mut place: usize = 0;
     for word in calls.split_whitespace() {
@@ -178,14 +193,18 @@ pub fn straight_code(alloc: Global, first: &[u32], calls: &str) -> Result<Vec<u3
             code.extend_from_slice(&[SET_V0 | number, SYSCALL])?;
         }
     }
+    Ok(())
+}
+
+/// The words of a program that makes calls of four arguments behind the first words, in ten instructions each, and looks at nothing.
+pub fn straight_code(alloc: Global, first: &[u32], calls: &str) -> Result<Vec<u32>, Fail> {
+    let mut code = Vec::from_slice(alloc, first)?;
+    push_straight(&mut code, calls)?;
     Ok(code)
 }
 
-/// The data of most programs: the paths, each in its place; a name of 256 bytes, of which a directory takes 255; times; a page of
-/// zeros, and one without a NUL. Each time is its seconds and its nanoseconds: 5 and 6, 7 and 8; then `now` (UTIME_NOW) and `leave`
-/// (UTIME_OMIT); 5 and 10^9 nanoseconds, which are too many; and one second.
-pub fn data(alloc: Global) -> Result<Vec<u8>, AllocError> {
-    let mut data = Vec::new(alloc);
+/// The paths of a program's data, each in its place, and a name of 256 bytes.
+fn push_paths(data: &mut Vec<u8>) -> Result<(), AllocError> {
     data.resize(0x20, 0)?;
     for path in PATHS.split_whitespace() {
         let next = data.len().saturating_add(0x20);
@@ -195,47 +214,37 @@ pub fn data(alloc: Global) -> Result<Vec<u8>, AllocError> {
     data.resize(0x800, 0)?;
     data.push(b'/')?;
     data.resize(0x901, b'x')?;
-    data.resize(0xC00, 0)?;
-    for word in [
-        5,
-        6,
-        7,
-        8,
-        1,
-        0x3FFF_FFFF,
-        1,
-        0x3FFF_FFFE,
-        5,
-        1_000_000_000,
-        1,
-        0,
-    ] {
-        data.extend_from_slice(&u32::to_be_bytes(word))?;
-    }
+    data.resize(0xC00, 0)
+}
+
+/// The paths, the name, the times, and both pages.
+fn push_data(data: &mut Vec<u8>) -> Result<(), AllocError> {
+    push_paths(data)?;
+    push_words(data, &TIMES)?;
     data.resize(0x2000, 0)?;
-    data.resize(0x3000, b'y')?;
+    data.resize(0x3000, b'y')
+}
+
+/// The data of most programs: the paths, each in its place; a name of 256 bytes, of which a directory takes 255; times; a page of
+/// zeros, and one without a NUL. Each time is its seconds and its nanoseconds: 5 and 6, 7 and 8; then `now` (UTIME_NOW) and `leave`
+/// (UTIME_OMIT); 5 and 10^9 nanoseconds, which are too many; and one second.
+pub fn data(alloc: Global) -> Result<Vec<u8>, AllocError> {
+    let mut data = Vec::new(alloc);
+    push_data(&mut data)?;
     Ok(data)
+}
+
+/// The words at the beginning of a program's code, and the data behind the code.
+fn push_segment(segment: &mut Vec<u8>, code: &[u32], data: &[u8]) -> Result<(), AllocError> {
+    push_words(segment, code)?;
+    segment.resize(CODE_SIZE, 0)?;
+    segment.extend_from_slice(data)
 }
 
 /// An executable of one segment, which can be loaded from, stored to and executed: these words at 0x00400000, and the data at
 /// 0x00410000.
 pub fn executable(alloc: Global, code: &[u32], data: &[u8]) -> Result<Vec<u8>, AllocError> {
-    let mut file = Vec::from_slice(alloc, b"\x7fELF\x01\x02\x01")?;
-    file.resize(16, 0)?;
-    file.extend_from_slice(&[0, 2, 0, 8])?;
-    for word in [1, CODE, 52, 0, 0x1000] {
-        file.extend_from_slice(&u32::to_be_bytes(word))?;
-    }
-    file.extend_from_slice(&[0, 52, 0, 32, 0, 1, 0, 0, 0, 0, 0, 0])?;
-    let size = ((data.len() % 0x100_0000) as u32).saturating_add(DATA - CODE);
-    for word in [1, 0x1000, CODE, CODE, size, size, 7, 0x1000] {
-        file.extend_from_slice(&u32::to_be_bytes(word))?;
-    }
-    file.resize(SEGMENT, 0)?;
-    for word in code {
-        file.extend_from_slice(&word.to_be_bytes())?;
-    }
-    file.resize(SEGMENT + CODE_SIZE, 0)?;
-    file.extend_from_slice(data)?;
-    Ok(file)
+    let mut segment = Vec::new(alloc);
+    push_segment(&mut segment, code, data)?;
+    crate::executable::executable(alloc, &segment, Access::Store)
 }

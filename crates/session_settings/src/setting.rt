@@ -1,19 +1,20 @@
 //! What the lines of a script before a session say of it.
-use crate::code::{hello, one_page, push_code};
-use crate::images::{EMPTY_ROOT, ONE_FILE, image_of};
-use crate::reading::{Words, bytes_of, parts};
-use crate::sessions::{Failing, Given, Left};
-use outside::NamedFile;
+use crate::given::{Given, Left, nothing_left};
+use guest_scripts::code::{hello, one_page, push_code};
+use guest_scripts::image::{EMPTY_ROOT, ONE_FILE, image_of};
+use guest_scripts::reading::{Words, bytes_of, parts, push_text};
 use std::alloc::Global;
 use std::test::Fail;
 
-/// What a session is given, but for its words, and what it has to leave.
+/// What a session is given, and what it has to leave.
 #[derive(Drop)]
-pub(crate) struct Setting {
+pub struct Setting {
     /// The instructions of the file `p`, where there are any.
     code: Vec<u32>,
-    given: Given,
-    left: Left,
+    /// What it is given.
+    pub given: Given,
+    /// What it has to leave.
+    pub left: Left,
 }
 
 /// The bytes of a text, or those of a name behind `@`.
@@ -38,65 +39,21 @@ fn write_at(file: &mut [u8], place: usize, bytes: &[u8]) -> Result<(), Fail> {
     Ok(())
 }
 
-/// Puts the bytes of a text behind others.
-fn push_text(alloc: Global, bytes: &mut Vec<u8>, text: &str) -> Result<(), Fail> {
-    bytes.extend_from_slice(&bytes_of(alloc, text)?)?;
-    Ok(())
-}
-
 /// Puts the bytes of a text behind those that are left in a file, which is there then.
 fn push_left(alloc: Global, left: &mut Option<Vec<u8>>, text: &str) -> Result<(), Fail> {
-    let mut bytes = match left.take() {
-        Some(bytes) => bytes,
-        None => Vec::new(alloc),
-    };
-    push_text(alloc, &mut bytes, text)?;
-    *left = Some(bytes);
-    Ok(())
-}
-
-/// Adds a file, of a name that no other has.
-fn add_file(
-    alloc: Global,
-    files: &mut Vec<NamedFile>,
-    name: &str,
-    bytes: Vec<u8>,
-) -> Result<(), Fail> {
-    for file in files.iter() {
-        if file.name.as_str() == name {
-            return Err(Fail::from("two files of a name"));
-        }
+    if left.is_none() {
+        *left = Some(Vec::new(alloc));
     }
-    let file = NamedFile {
-        name: String::from_str(alloc, name)?,
-        bytes,
-    };
-    files.push(file).ok().ok_or("no memory")?;
-    Ok(())
+    push_text(left.as_mut().ok_or("no file")?, text)
 }
 
 impl Setting {
-    pub(crate) fn new(alloc: Global) -> Setting {
+    /// Nothing is said yet.
+    pub fn new(alloc: Global) -> Setting {
         Setting {
             code: Vec::new(alloc),
-            given: Given {
-                words: Vec::new(alloc),
-                files: Vec::new(alloc),
-                input: Vec::new(alloc),
-                failing: Failing {
-                    takes: Vec::new(alloc),
-                    puts: Vec::new(alloc),
-                    lines: Vec::new(alloc),
-                    calls: Vec::new(alloc),
-                },
-            },
-            left: Left {
-                out: Vec::new(alloc),
-                err: Vec::new(alloc),
-                saved: None,
-                traced: None,
-                logged: None,
-            },
+            given: Given::new(alloc),
+            left: nothing_left(alloc),
         }
     }
 
@@ -110,7 +67,7 @@ impl Setting {
     fn file(&mut self, alloc: Global, text: &str) -> Result<(), Fail> {
         let (name, content) = parts(text);
         let bytes = content_of(alloc, content)?;
-        add_file(alloc, &mut self.given.files, name, bytes)
+        self.given.add_file(alloc, name, bytes)
     }
 
     /// Bytes that are written over those of the last file, behind their place.
@@ -124,7 +81,10 @@ impl Setting {
     /// Bytes of the last file that are written over others of it: where they begin and end, and where they go.
     fn copy(&mut self, alloc: Global, text: &str) -> Result<(), Fail> {
         let items: Vec<&str> = text.split_whitespace().collect(alloc)?;
-        let mut words = Words::new(items.as_slice());
+        self.copy_bytes(alloc, &mut Words::new(items.as_slice()))
+    }
+
+    fn copy_bytes(&mut self, alloc: Global, words: &mut Words) -> Result<(), Fail> {
         let begin = words.place()?;
         let end = words.place()?;
         let place = words.place()?;
@@ -181,24 +141,24 @@ impl Setting {
     }
 
     /// A line that it writes to standard error.
-    pub(crate) fn tells(&mut self, alloc: Global, line: &str) -> Result<(), Fail> {
-        push_text(alloc, &mut self.left.err, line)?;
+    pub fn tells(&mut self, line: &str) -> Result<(), Fail> {
+        push_text(&mut self.left.err, line)?;
         self.left.err.push(b'\n')?;
         Ok(())
     }
 
     /// Takes a line.
-    pub(crate) fn take(&mut self, alloc: Global, line: &str) -> Result<(), Fail> {
+    pub fn take(&mut self, alloc: Global, line: &str) -> Result<(), Fail> {
         let (name, text) = parts(line);
         match name {
             "file" => self.file(alloc, text),
             "change" => self.change(alloc, text),
             "copy" => self.copy(alloc, text),
-            "more" => push_text(alloc, self.last_file()?, text),
+            "more" => push_text(self.last_file()?, text),
             "fails" => self.fails(text),
-            "input" => push_text(alloc, &mut self.given.input, text),
-            "out" => push_text(alloc, &mut self.left.out, text),
-            "err" => push_text(alloc, &mut self.left.err, text),
+            "input" => push_text(&mut self.given.input, text),
+            "out" => push_text(&mut self.left.out, text),
+            "err" => push_text(&mut self.left.err, text),
             "saved" => self.saved(alloc, text),
             "trace" => self.trace(alloc, text),
             "traced" => self.traced(alloc, text),
@@ -208,21 +168,13 @@ impl Setting {
         }
     }
 
-    /// What a session with these words is given, and what it has to leave.
-    pub(crate) fn with_words(
-        self,
-        alloc: Global,
-        words: Vec<String>,
-    ) -> Result<(Given, Left), Fail> {
-        let Setting {
-            code,
-            mut given,
-            left,
-        } = self;
-        given.words = words;
-        if !code.is_empty() {
-            add_file(alloc, &mut given.files, "p", one_page(alloc, &code)?)?;
+    /// Takes the words of its session, behind all lines.
+    pub fn runs(&mut self, alloc: Global, words: &str) -> Result<(), Fail> {
+        self.given.add_words(alloc, words)?;
+        if self.code.is_empty() {
+            return Ok(());
         }
-        Ok((given, left))
+        let program = one_page(alloc, &self.code)?;
+        self.given.add_file(alloc, "p", program)
     }
 }

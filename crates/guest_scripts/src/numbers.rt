@@ -1,17 +1,23 @@
-//! What the words of a script and of a tree stand for.
+//! What the words of scripts, of programs and of trees stand for.
 
-/// Names, each with its number behind it: calls (Linux `arch/mips/include/uapi/asm/unistd.h`, the o32 table); errors (Linux
+/// Names, each with its number behind it: registers (MIPS32 Architecture for Programmers, Volume I, by their o32 names), with the
+/// hardware register `$29` and the condition `$fcc0`; calls (Linux `arch/mips/include/uapi/asm/unistd.h`, the o32 table); errors (Linux
 /// `include/uapi/asm-generic/errno-base.h`, `arch/mips/include/uapi/asm/errno.h`); flags (Linux `arch/mips/include/uapi/asm/fcntl.h`
 /// and `mman.h`, `include/uapi/linux/fcntl.h`); and places in a program's data.
 const NAMES: &str = "
-    time 4013 gettimeofday 4078 nanosleep 4166 exit_group 4246 clock_gettime 4263 clock_getres 4264 clock_nanosleep 4265
-    read 4003 write 4004 open 4005 close 4006 creat 4008 link 4009 unlink 4010 chdir 4012 chmod 4015 lseek 4019
-    access 4033 rename 4038 mkdir 4039 rmdir 4040 pipe 4042 brk 4045 ioctl 4054 umask 4060 symlink 4083 readlink 4085 mmap 4090
-    munmap 4091 truncate 4092 ftruncate 4093 fchmod 4094 stat 4106 lstat 4107 fstat 4108 fsync 4118 fchdir 4133
-    llseek 4140 getdents 4141 writev 4146 fdatasync 4152 pread64 4200 pwrite64 4201 getcwd 4203 mmap2 4210 truncate64 4211 ftruncate64 4212
-    stat64 4213 lstat64 4214 fstat64 4215 getdents64 4219 set_tid_address 4252 set_thread_area 4283 openat 4288
-    mkdirat 4289 fstatat64 4293 unlinkat 4294 renameat 4295 linkat 4296 symlinkat 4297 readlinkat 4298 fchmodat 4299
-    faccessat 4300 utimensat 4316
+    $zero 0 $v0 2 $v1 3 $a0 4 $a1 5 $a2 6 $a3 7 $t0 8 $t1 9 $s0 16 $sp 29 $ra 31 $29 29 $fcc0 0
+
+    exit 4001 read 4003 write 4004 open 4005 close 4006 creat 4008 link 4009 unlink 4010 chdir 4012 time 4013
+    chmod 4015 lseek 4019 alarm 4027 pause 4029 access 4033 kill 4037 rename 4038 mkdir 4039 rmdir 4040 pipe 4042
+    brk 4045 ioctl 4054 umask 4060 dup2 4063 getrlimit 4076 gettimeofday 4078 symlink 4083 readlink 4085 mmap 4090
+    munmap 4091 truncate 4092 ftruncate 4093 fchmod 4094 setitimer 4104 stat 4106 lstat 4107 fstat 4108 fsync 4118
+    mprotect 4125 fchdir 4133 llseek 4140 getdents 4141 _newselect 4142 readv 4145 writev 4146 fdatasync 4152
+    nanosleep 4166 poll 4188 rt_sigreturn 4193 rt_sigaction 4194 rt_sigprocmask 4195 rt_sigtimedwait 4197
+    rt_sigsuspend 4199 pread64 4200 pwrite64 4201 getcwd 4203 sigaltstack 4206 mmap2 4210 truncate64 4211
+    ftruncate64 4212 stat64 4213 lstat64 4214 fstat64 4215 getdents64 4219 exit_group 4246 set_tid_address 4252
+    clock_gettime 4263 clock_getres 4264 clock_nanosleep 4265 set_thread_area 4283 openat 4288 mkdirat 4289
+    fstatat64 4293 unlinkat 4294 renameat 4295 linkat 4296 symlinkat 4297 readlinkat 4298 fchmodat 4299 faccessat 4300
+    pselect6 4301 ppoll 4302 set_robust_list 4309 utimensat 4316 getrandom 4353
 
     eperm 1 enoent 2 ebadf 9 eacces 13 efault 14 ebusy 16 eexist 17 enodev 19 enotdir 20 eisdir 21 einval 22 emfile 24
     enotty 25 efbig 27 enospc 28 espipe 29 erange 34 enametoolong 78 eoverflow 79 eloop 90 enotempty 93
@@ -52,13 +58,13 @@ fn of_digits(digits: &str, radix: u64) -> Option<u64> {
         if next >= radix {
             return None;
         }
-        number = number.wrapping_mul(radix).wrapping_add(next);
+        number = number.checked_mul(radix)?.checked_add(next)?;
     }
     Some(number)
 }
 
 /// A number in decimal digits, in hexadecimal ones behind `0x`, or in octal ones behind `0o`.
-pub(crate) fn number_of(word: &str) -> Option<u64> {
+pub fn number_of(word: &str) -> Option<u64> {
     if let Some(digits) = word.strip_prefix("0x") {
         return of_digits(digits, 16);
     }
@@ -68,17 +74,12 @@ pub(crate) fn number_of(word: &str) -> Option<u64> {
     of_digits(word, 10)
 }
 
-/// The low half of a number.
-fn low(number: u64) -> u32 {
-    (number % 0x1_0000_0000) as u32
-}
-
 /// The number of a name.
-fn named(word: &str) -> Option<u32> {
+fn named(word: &str) -> Option<u64> {
     let mut is_next = false;
     for item in NAMES.split_whitespace() {
         if is_next {
-            return Some(low(number_of(item)?));
+            return number_of(item);
         }
         is_next = item == word;
     }
@@ -100,13 +101,14 @@ fn address_of(path: &str) -> Option<u32> {
     None
 }
 
-/// What a word stands for: the address of the path behind `'`, a number, or a name.
+/// What a word stands for: the address of the path behind `'`, a number of at most 32 bits, or a name.
 pub(crate) fn value(word: &str) -> Option<u32> {
     if let Some(path) = word.strip_prefix("'") {
         return address_of(path);
     }
-    match number_of(word) {
-        Some(number) => Some(low(number)),
-        None => named(word),
-    }
+    let number = match number_of(word) {
+        Some(number) => number,
+        None => named(word)?,
+    };
+    u32::try_from(number).ok()
 }

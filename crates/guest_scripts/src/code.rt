@@ -2,13 +2,11 @@
 //!
 //! Instructions stand one behind the other, with `;` between them. Each is its mnemonic and its operands, as an assembler has them,
 //! without commas and brackets: `lw $v0 0 $sp`.
+use crate::executable::{Access, executable, push_words};
 use crate::numbers::{number_of, value};
 use crate::reading::Words;
-use std::alloc::Global;
+use std::alloc::{AllocError, Global};
 use std::test::Fail;
-
-/// The address of a program's one segment.
-const BASE: u32 = 0x0040_0000;
 
 /// The instructions (MIPS32 Architecture for Programmers, Volume II): the mnemonic of each, its word with no operand, and the
 /// fields that its operands go to. A compiler writes `break 7` or `teq $zero $zero 7` for a division by zero, `rdhwr $v0 $29` reads
@@ -77,74 +75,69 @@ fn part_of(form: &str, words: &mut Words) -> Result<u32, Fail> {
         return Ok(u32::try_from(number).ok().ok_or("no word")?);
     }
     let operand = value(words.next()?).ok_or("no operand")?;
-    let operand = u32::try_from(operand).ok().ok_or("no operand")?;
     Ok(in_field(form, operand).ok_or("no such operand")?)
 }
 
-/// The word of an instruction.
-fn word_of(alloc: Global, instruction: &str) -> Result<u32, Fail> {
-    let items: Vec<&str> = instruction.split_whitespace().collect(alloc)?;
-    let mut words = Words::new(items.as_slice());
+/// The word of an instruction in words.
+fn next_word(words: &mut Words) -> Result<u32, Fail> {
     let form = form_of(words.next()?).ok_or("no instruction")?;
     let mut word = 0;
     for part in form.split_whitespace() {
-        word |= part_of(part, &mut words)?;
+        word |= part_of(part, words)?;
     }
     words.end()?;
     Ok(word)
 }
 
+/// The word of an instruction.
+fn word_of(alloc: Global, instruction: &str) -> Result<u32, Fail> {
+    let items: Vec<&str> = instruction.split_whitespace().collect(alloc)?;
+    next_word(&mut Words::new(items.as_slice()))
+}
+
 /// Puts instructions behind those of a program.
-pub(crate) fn push_code(alloc: Global, code: &mut Vec<u32>, text: &str) -> Result<(), Fail> {
+pub fn push_code(alloc: Global, code: &mut Vec<u32>, text: &str) -> Result<(), Fail> {
     for instruction in text.split(';') {
         code.push(word_of(alloc, instruction)?)?;
     }
     Ok(())
 }
 
-/// An executable of one segment with these bytes, which can be loaded from and executed, and which begins at 0x00400000.
-fn executable(alloc: Global, segment: &[u8]) -> Result<Vec<u8>, Fail> {
-    let size = u32::try_from(segment.len()).ok().ok_or("too long")?;
-    let mut file = Vec::from_slice(alloc, b"\x7fELF\x01\x02\x01")?;
-    file.resize(16, 0)?;
-    file.extend_from_slice(&[0, 2, 0, 8])?;
-    for word in [1, BASE, 52, 0, 0x1000] {
-        file.extend_from_slice(&u32::to_be_bytes(word))?;
-    }
-    file.extend_from_slice(&[0, 52, 0, 32, 0, 1, 0, 0, 0, 0, 0, 0])?;
-    for word in [1, 0x1000, BASE, BASE, size, size, 5, 0x1000] {
-        file.extend_from_slice(&u32::to_be_bytes(word))?;
-    }
-    file.resize(PAGE, 0)?;
-    file.extend_from_slice(segment)?;
-    Ok(file)
-}
-
 /// The bytes of these words, with `Hi` and a newline at 0x100, where they end before.
-fn segment(alloc: Global, code: &[u32]) -> Result<Vec<u8>, Fail> {
-    let mut segment = Vec::new(alloc);
-    for word in code {
-        segment.extend_from_slice(&word.to_be_bytes())?;
-    }
+fn push_segment(segment: &mut Vec<u8>, code: &[u32]) -> Result<(), AllocError> {
+    push_words(segment, code)?;
     if segment.len() <= TEXT {
         segment.resize(TEXT, 0)?;
         segment.extend_from_slice(b"Hi\n")?;
     }
-    Ok(segment)
+    Ok(())
+}
+
+/// The same in one page, with `abc` at its end.
+fn push_page(page: &mut Vec<u8>, code: &[u32]) -> Result<(), AllocError> {
+    push_segment(page, code)?;
+    page.resize(PAGE - 3, 0)?;
+    page.extend_from_slice(b"abc")
 }
 
 /// An executable of one page: these words, `Hi` and a newline at 0x00400100 where the words end before, and `abc` at the end of the page, behind
 /// which there is none.
-pub(crate) fn one_page(alloc: Global, code: &[u32]) -> Result<Vec<u8>, Fail> {
-    let mut page = segment(alloc, code)?;
-    page.resize(PAGE - 3, 0)?;
-    page.extend_from_slice(b"abc")?;
-    executable(alloc, &page)
+pub fn one_page(alloc: Global, code: &[u32]) -> Result<Vec<u8>, AllocError> {
+    let mut page = Vec::new(alloc);
+    push_page(&mut page, code)?;
+    executable(alloc, &page, Access::Execute)
+}
+
+/// An executable that is no longer than these words, or `Hi` and a newline at 0x00400100 where they end before.
+fn no_longer(alloc: Global, code: &[u32]) -> Result<Vec<u8>, AllocError> {
+    let mut segment = Vec::new(alloc);
+    push_segment(&mut segment, code)?;
+    executable(alloc, &segment, Access::Execute)
 }
 
 /// The program that writes `Hi` and a newline and exits with 7, in nine turns.
-pub(crate) fn hello(alloc: Global) -> Result<Vec<u8>, Fail> {
+pub fn hello(alloc: Global) -> Result<Vec<u8>, Fail> {
     let mut code = Vec::new(alloc);
     push_code(alloc, &mut code, HELLO)?;
-    executable(alloc, &segment(alloc, &code)?)
+    Ok(no_longer(alloc, &code)?)
 }

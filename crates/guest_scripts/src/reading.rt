@@ -1,0 +1,121 @@
+//! The lines of a script, their words and their texts.
+use crate::numbers::{digit, number_of};
+use std::alloc::Global;
+use std::test::Fail;
+
+/// The first word of a line, and what stands behind it.
+pub fn parts(line: &str) -> (&str, &str) {
+    match line.split_once(' ') {
+        Some((word, rest)) => (word, rest.trim()),
+        None => (line, ""),
+    }
+}
+
+/// The words of a line that are left.
+#[derive(Drop)]
+pub struct Words<'a> {
+    words: &'a [&'a str],
+    place: usize,
+}
+
+impl<'a> Words<'a> {
+    /// All of these words.
+    pub fn new(words: &'a [&'a str]) -> Words<'a> {
+        Words { words, place: 0 }
+    }
+
+    /// The next word.
+    pub fn next(&mut self) -> Result<&'a str, Fail> {
+        let word = *self.words.get(self.place).ok_or("a word is missing")?;
+        self.place = self.place.saturating_add(1);
+        Ok(word)
+    }
+
+    /// The number that it stands for.
+    pub fn number(&mut self) -> Result<u64, Fail> {
+        let word = self.next()?;
+        Ok(number_of(word).ok_or("no number")?)
+    }
+
+    /// The place that it stands for.
+    pub fn place(&mut self) -> Result<usize, Fail> {
+        let number = self.number()?;
+        Ok(usize::try_from(number).ok().ok_or("no place")?)
+    }
+
+    /// The byte that it stands for.
+    pub fn byte(&mut self) -> Result<u8, Fail> {
+        let number = self.number()?;
+        Ok(u8::try_from(number).ok().ok_or("no byte")?)
+    }
+
+    /// That no word is left.
+    pub fn end(&self) -> Result<(), Fail> {
+        if self.place < self.words.len() {
+            return Err(Fail::from("a word too many"));
+        }
+        Ok(())
+    }
+}
+
+/// What the next byte of a text is.
+#[derive(Clone, Copy)]
+enum Next {
+    Plain,
+    /// What stands behind `\`.
+    Escaped,
+    /// The first digit behind `\x`.
+    High,
+    /// The second one, and what the first one stands for.
+    Low(u8),
+}
+
+/// Puts a byte behind others.
+fn push(bytes: &mut Vec<u8>, byte: u8) -> Result<Next, Fail> {
+    bytes.push(byte)?;
+    Ok(Next::Plain)
+}
+
+/// Takes the byte behind `\`.
+fn push_escaped(bytes: &mut Vec<u8>, byte: u8) -> Result<Next, Fail> {
+    match byte {
+        b'n' => push(bytes, b'\n'),
+        b't' => push(bytes, b'\t'),
+        b'0' => push(bytes, 0),
+        b'x' => Ok(Next::High),
+        _ => Err(Fail::from("no escape")),
+    }
+}
+
+/// Takes the next byte of a text, and tells what the one behind it is.
+fn push_next(bytes: &mut Vec<u8>, next: Next, byte: u8) -> Result<Next, Fail> {
+    match next {
+        Next::Plain if byte == b'\\' => Ok(Next::Escaped),
+        Next::Plain => push(bytes, byte),
+        Next::Escaped => push_escaped(bytes, byte),
+        Next::High => Ok(Next::Low(digit(byte).ok_or("no digit")?)),
+        Next::Low(high) => {
+            let low = digit(byte).ok_or("no digit")?;
+            push(bytes, high.wrapping_mul(16).wrapping_add(low))
+        }
+    }
+}
+
+/// Puts the bytes of a text behind others. In a text `\n`, `\t`, `\0` and `\x` with two digits are one byte each.
+pub fn push_text(bytes: &mut Vec<u8>, text: &str) -> Result<(), Fail> {
+    let mut next = Next::Plain;
+    for byte in text.as_bytes() {
+        next = push_next(bytes, next, *byte)?;
+    }
+    match next {
+        Next::Plain => Ok(()),
+        _ => Err(Fail::from("a text is cut off")),
+    }
+}
+
+/// The bytes of a text.
+pub fn bytes_of(alloc: Global, text: &str) -> Result<Vec<u8>, Fail> {
+    let mut bytes = Vec::new(alloc);
+    push_text(&mut bytes, text)?;
+    Ok(bytes)
+}
