@@ -305,8 +305,8 @@ def try_effects(tries):
         ("a write beyond user space", [write(0xFFFFFFF0, b"x")], (6, 0xFFFFFFF0, 0xFFFFFFF0)),
         ("a protect that meets an absent page", [pages(PROTECT, CODE >> 12, 2, 7)], (6, CODE, CODE + 4096)),
         ("a protect of an absent page", [pages(PROTECT, free, 1, 7)], (6, free << 12, free << 12)),
-        # A page of code, 2,048 of the stack and that of the returns are mapped.
-        ("a map past the limit of pages", [pages(MAP, 0x10000, 131072 - 2049, 3)], (6, 131072, 2050)),
+        # A page of code, 2,048 of the stack and that of the returns are mapped before.
+        ("a map past the limit of pages", [pages(MAP, 0x10000, 131072 - 2049, 3)], (6, 131072, 131073)),
         ("a write where a page was taken away", [pages(MAP, free, 1, 7), pages(UNMAP, free, 1), write(free << 12, b"x")], (6, free << 12, free << 12)),
         ("a write where a protection was taken", [pages(MAP, free, 2, 7), pages(PROTECT, free + 1, 1, 1), write((free + 1 << 12) - 1, b"xy")],
          (6, (free + 1 << 12) - 1, free + 1 << 12)),

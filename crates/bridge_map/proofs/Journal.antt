@@ -10,7 +10,7 @@ use Rattle.o32_model.specs.Effects.{Target, Difference, ArePages, IsFormed, Effe
 use Rattle.o32_model.specs.Effects as effects
 use Rattle.mips_exec.specs.Processor.{Processor}
 use Rattle.o32_model.specs.Logs.{with_more}
-use Rattle.o32_model.specs.Ranges.{with_new_pages}
+use Rattle.o32_model.specs.Ranges.{count_with, with_new_pages}
 use Rattle.bridge_map.specs.Rows.{Leads, on_pages}
 
 pub with_more-none : {A : Type 0} (kept : Option (List A)) → kept ≡ with_more kept []
@@ -68,7 +68,7 @@ pub map_leads : (old new : Option (List Effect)) (pages after : Pages) (first co
     → protection ≤ 7 → with_new_pages pages first count protection ≡ Some after → Leads old new pages after
 map_leads old new pages after first count protection kept inside bits mapped =
     leads_list old new (Map first count protection ∷ []) pages after kept (All-cons IsFormed (Map first count protection) [] (inside, bits) (All-nil IsFormed))
-    (λ processor. ap (λ (o : Option Pages). effects.on_pages (on_pages processor pages) (effects.mapped_or pages o)) mapped)
+    (λ processor. ap (λ (o : Option Pages). effects.on_pages (on_pages processor pages) (effects.mapped_or (count_with pages first count) o)) mapped)
 
 pub protect_leads : (old new : Option (List Effect)) (pages : Pages) (first count protection : ℕ) → new ≡ with_more old (Protect first count protection ∷ []) → ArePages first count
     → protection ≤ 7 → after_protect pages first count protection ≡ Ok (with_protection pages first count protection) → Leads old new pages (with_protection pages first count protection)

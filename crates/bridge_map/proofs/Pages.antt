@@ -19,7 +19,7 @@ use Rattle.kernel_core.specs.declared.record.Effect.TheVariants.{Map, Protect, W
 use Rattle.mips_exec.specs.Processor.{Processor}
 use Rattle.o32_model.specs.Effects as effects
 use Rattle.o32_model.specs.Effects.{Difference, IsFormed, after_protect, after_write, carried_all, carried_on, differs, mapped_or, written_unless}
-use Rattle.o32_model.specs.Ranges.{with_new_pages}
+use Rattle.o32_model.specs.Ranges.{count_with, with_new_pages}
 use Rattle.raw_pages.proofs.Puts.{get-insert_same, insert-insert, length-put_at, put_mid-put_at}
 use Rattle.raw_pages.proofs.Zeros.{zeros_whole}
 use Rattle.raw_pages.specs.Pages.{put_at, with_piece, zero_bytes}
@@ -121,7 +121,7 @@ module _ (pages : Pages) (number : ℕ) (bytes : List ℕ) (inside : number < 52
     one_put processor room =
         let rest : List Effect = Write (number * 4096) bytes ∷ Protect number 1 protection ∷ [] in
         let last : List Effect = Protect number 1 protection ∷ [] in
-        ap (λ o. carried_on rest (effects.on_pages (on_pages processor pages) (mapped_or pages o))) (one_mapped pages number room 3)
+        ap (λ o. carried_on rest (effects.on_pages (on_pages processor pages) (mapped_or (count_with pages number 1) o))) (one_mapped pages number room 3)
         ∙ ap (λ o. carried_on last (effects.on_pages (on_pages processor blank) o)) one_written
         ∙ ap (effects.on_pages (on_pages processor filled)) one_protected
 
@@ -140,7 +140,7 @@ module _ (pages : Pages) (number : ℕ) (page : MappedPage) (valid : IsPage numb
       one_put pages number page.bytes valid.inside valid.whole page.protection processor room
       ∙ (λ i. Ok (on_pages processor (insert pages number (record { protection = page.protection; ready = sym written i; bytes = page.bytes }))))
   put_if processor room zeros false unwritten =
-      ap (λ o. effects.on_pages (on_pages processor pages) (mapped_or pages o)) (one_mapped pages number room page.protection)
+      ap (λ o. effects.on_pages (on_pages processor pages) (mapped_or (count_with pages number 1) o)) (one_mapped pages number room page.protection)
       ∙ (λ i. Ok (on_pages processor (insert pages number (record { protection = page.protection; ready = sym unwritten i; bytes = sym (zeros unwritten) i }))))
 
   pub page_put : (processor : Processor) → len pages < 131072 → IsWrittenOrZeros (Some page) → Puts processor (page_effects number (Some page))

@@ -18,7 +18,7 @@ use Rattle.mips_exec.specs.Processor.{Processor}
 use Rattle.o32_model.specs.Effects as effects
 use Rattle.o32_model.specs.Effects.{IsFormed, carried_all, carried_on, mapped_or}
 use Rattle.o32_model.specs.Logs.{with_more}
-use Rattle.o32_model.specs.Ranges.{with_new_pages, with_pages_of}
+use Rattle.o32_model.specs.Ranges.{count_with, with_new_pages, with_pages_of}
 use Rattle.bridge_map.proofs.Journal.{carried_on-append, leads_list, map_leads, nothing_leads, unmap_leads}
 use Rattle.bridge_map.proofs.Moving.{cut_effects, growth_effects, moves_away, same_effects, stays_put}
 use Rattle.bridge_map.proofs.Ranges.{map_fits}
@@ -144,7 +144,7 @@ module _ (old_log new_log : Option (List Effect)) (before after : Pages) (first 
         carried_on-append (pages_effects after at old) (Map (at + old) (new - old) protection ∷ []) (Ok (on_pages processor (without before first old)))
         ∙ ap (carried_on (Map (at + old) (new - old) protection ∷ []))
         (arrives before first at old whole valid free (let e = inside in omega arith) (let e = fits in omega arith) after stand (zeros away) processor)
-        ∙ ap (λ o. effects.on_pages (on_pages processor (with_pages_of (without before first old) before first at old)) (mapped_or (with_pages_of (without before first old) before first at old) o)) grows
+        ∙ ap (λ o. effects.on_pages (on_pages processor (with_pages_of (without before first old) before first at old)) (mapped_or (count_with (with_pages_of (without before first old) before first at old) (at + old) (new - old)) o)) grows
 
     all_formed : All IsFormed (Unmap first old ∷ pages_effects after at old ++ growth)
     unfolding growth

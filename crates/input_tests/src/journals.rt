@@ -126,10 +126,17 @@ const END: &str = r"
 type Row<'a> = (&'a str, &'a str, &'a str, &'a str, &'a str);
 
 /// The number of the effects of that call, those behind the output, and the difference. They
-/// are writes to a page that is not there; past the stack's end; to the code, whose page has no write, twice; past a page that has, into it;
+/// are a mapping of 129,023 pages beside the 2,050 that are mapped; writes to a page that is not there; past the stack's end; to the code, whose page has no write, twice; past a page that has, into it;
 /// at the end of user space and past it; a change of the code's page and of one behind it, which is not there; of one that is not there; a write to a
 /// page that was taken away; one into a page that lost its write; and the code's page taken away, which is a fault in the turn behind.
-const EFFECTS_THAT_DIFFER: [Row<'static>; 12] = [
+const EFFECTS_THAT_DIFFER: [Row<'static>; 13] = [
+    (
+        r"\0\0\0\x02",
+        r"\x03\0\x01\0\0\0\x01\xF7\xFF\x03",
+        "6",
+        "131072",
+        "131073",
+    ),
     (
         r"\0\0\0\x02",
         r"\x02\x20\0\0\0\0\0\0\x03abc",

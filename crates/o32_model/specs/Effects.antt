@@ -1,7 +1,6 @@
 -- What calls do to the machine as a list of effects, and what it is to carry them out. (The journal is this project's own.)
 pub use Rattle.o32_model.specs.Ranges.{user_pages}
 use Rattle.std.specs.Prelude.{◌≡◌, ◌⊎◌, ℕ, ◌+◌, ◌*◌, ◌^◌, ◌==◌, ◌<◌, ◌≤◌, All, List, [], ◌∷◌, ◌++◌, length, Option, Some, None, Result, Ok, Err, nat_lt, if◌then◌else◌}
-use Rattle.std.specs.FinMap.{len}
 use Rattle.guest_space.specs.Access.{first_denied}
 use Rattle.guest_space.specs.Bytes.{with_bytes}
 use Rattle.guest_space.specs.Mapping.{mapped_run, page_limit, with_protection}
@@ -14,7 +13,7 @@ use Rattle.kernel_core.specs.declared.record.Effect.TheVariants.{Register, Write
 use Rattle.kernel_model.specs.Pipes.{Sent}
 use Rattle.mips_exec.specs.Processor.{Processor, with_register}
 use Rattle.o32_model.specs.Logs.{with_more}
-use Rattle.o32_model.specs.Ranges.{page_size, with_new_pages}
+use Rattle.o32_model.specs.Ranges.{count_with, page_size, with_new_pages}
 
 -- What effects act on: the registers, the pages, and what was sent to the outputs
 pub record Target : Type 0 where
@@ -51,15 +50,15 @@ written_unless pages address bytes (Some denied) = differs address denied.addr
 abbrev pub after_write : Pages → ℕ → List ℕ → Result Pages Difference
 after_write pages address bytes = written_unless pages address bytes (first_denied Store pages address (length bytes))
 
--- Pages of zeros, whatever stood there. No more pages than the limit may be mapped then: else the limit is wanted, and the number of pages that
--- are mapped is found.
+-- Pages of zeros, whatever stood there. No more pages than the limit may be mapped then: else the limit is wanted, and the number of pages that would
+-- be mapped is found.
 
-abbrev pub mapped_or : Pages → Option Pages → Result Pages Difference
-mapped_or pages (Some after) = Ok after
-mapped_or pages None = differs page_limit (len pages)
+abbrev pub mapped_or : ℕ → Option Pages → Result Pages Difference
+mapped_or number (Some after) = Ok after
+mapped_or number None = differs page_limit number
 
 abbrev pub after_map : Pages → ℕ → ℕ → ℕ → Result Pages Difference
-after_map pages first count protection = mapped_or pages (with_new_pages pages first count protection)
+after_map pages first count protection = mapped_or (count_with pages first count) (with_new_pages pages first count protection)
 
 -- Each page has to be there: else the address of the first page is wanted, and that of the first page that isn't there is found.
 abbrev pub after_protect : Pages → ℕ → ℕ → ℕ → Result Pages Difference

@@ -40,10 +40,14 @@ is_free pages first count = absent_count pages first count == count
 abbrev pub is_mapped : Pages → ℕ → ℕ → Bool
 is_mapped pages first count = mapped_run pages first count == count
 
+-- how many pages are mapped once those of a range are
+abbrev pub count_with : Pages → ℕ → ℕ → ℕ
+count_with pages first count = len pages + absent_count pages first count
+
 -- pages of zeros at a range, whatever stood there; none where more pages than the limit would be mapped then
 abbrev pub with_new_pages : Pages → ℕ → ℕ → ℕ → Option Pages
 with_new_pages pages first count protection =
-    if nat_le (len pages + absent_count pages first count) page_limit then Some (with_zeros pages first count protection) else None
+    if nat_le (count_with pages first count) page_limit then Some (with_zeros pages first count protection) else None
 
 -- Places
 

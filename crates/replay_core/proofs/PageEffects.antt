@@ -12,6 +12,7 @@ use Rattle.guest_space.specs.Memory.{Memory, Pages}
 use Rattle.guest_space.specs.declared.access.Access.TheVariants.{Store}
 use Rattle.guest_space.specs.declared.access.Denied.{Denied}
 use Rattle.o32_model.specs.Effects.{Difference, after_map, after_write, mapped_or, written_unless}
+use Rattle.o32_model.specs.Ranges.{count_with}
 
 pub same_others : (before after : Memory) (pages : Pages) → after ≡ record before { pages = pages } → after ≡ record before { pages = after.pages }
 same_others before after pages is =
@@ -30,7 +31,7 @@ at_most n few = elim (cases_lt page_limit n) [ inl more ↦ absurd (few more) | 
 
 module _ (pages : Pages) (first count protection : ℕ) where
   abbrev by_test : Bool → Result Pages Difference
-  by_test fits = mapped_or pages (if fits then Some (with_zeros pages first count protection) else None)
+  by_test fits = mapped_or (count_with pages first count) (if fits then Some (with_zeros pages first count protection) else None)
 
   pub mapped_so : (page_limit < len (with_zeros pages first count protection) → ⊥) → after_map pages first count protection ≡ Ok (with_zeros pages first count protection)
   mapped_so few =
@@ -38,7 +39,7 @@ module _ (pages : Pages) (first count protection : ℕ) where
       let fits : nat_le (len pages + absent_count pages first count) page_limit ≡ true = let e = len-with_zeros pages first count protection in grind (arith, nat_tests) in
       ap by_test fits
 
-  pub full_so : page_limit < len (with_zeros pages first count protection) → after_map pages first count protection ≡ Err (record { wanted = page_limit; found = len pages })
+  pub full_so : page_limit < len (with_zeros pages first count protection) → after_map pages first count protection ≡ Err (record { wanted = page_limit; found = count_with pages first count })
   full_so many =
       let passes : nat_le (len pages + absent_count pages first count) page_limit ≡ false = let e = len-with_zeros pages first count protection in grind (arith, nat_tests) in
       ap by_test passes

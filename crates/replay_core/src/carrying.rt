@@ -3,7 +3,9 @@ ghost use Rattle.std.specs.Prelude.{◌≡◌, ◌≤◌, ◌+◌, [], All, Ok, 
 ghost use Rattle.journal.specs.Form.{IsEffect};
 ghost use Rattle.journal.specs.Seen.{effect_seen};
 ghost use Rattle.kernel_model.specs.Pipes.{Sent};
+ghost use Rattle.guest_space.specs.Mapping.{page_limit};
 ghost use Rattle.o32_model.specs.Effects.{after_map, after_protect, after_register, after_write, carried};
+ghost use Rattle.o32_model.specs.Ranges.{count_with};
 ghost use Rattle.replay_core.specs.Answered.{Gains, Written, written};
 ghost use Rattle.replay_core.specs.Replay.{carried_all, carried_on};
 ghost use Rattle.replay_core.specs.inside.Parts.{Carries, ChangesPages, HaltsOnlyIfRose, Sends, halt_of, target_at};
@@ -51,6 +53,29 @@ fn write(space: &mut Space, address: u32, bytes: &[u8]) -> Result<(), Halt>
     }
 }
 
+/// How many pages would be mapped once those of a range are.
+fn count_with(space: &Space, first: u32, count: u32) -> u64
+    requires end { first + count ≤ 524280 }
+    ensures { result ≡ count_with space.now.pages first count }
+{
+    let mut absent = 0_u32;
+    for done in 0..count {
+        absent += 1 - space.mapped(first + done, 1);
+    }
+    u64::from(space.page_count()) + u64::from(absent)
+}
+
+/// That more pages than the limit would be mapped, and how many.
+fn passes_limit(space: &Space, first: u32, count: u32) -> Halt
+    requires end { first + count ≤ 524280 }
+    ensures { result ≡ Halt.Differs (record { wanted = page_limit; found = count_with space.now.pages first count }) }
+{
+    Halt::Differs(Difference {
+        wanted: u64::from(PAGE_LIMIT),
+        found: count_with(space, first, count),
+    })
+}
+
 /// Maps pages of zeros, unless more than the limit would be mapped.
 fn map(space: &mut Space, first: u32, count: u32, prot: u8) -> Result<(), Halt>
     requires end { first + count ≤ 524280 }
@@ -59,7 +84,7 @@ fn map(space: &mut Space, first: u32, count: u32, prot: u8) -> Result<(), Halt>
 {
     match space.map(first, count, prot) {
         Ok(()) => Ok(()),
-        Err(MapError::Full) => Err(differs(PAGE_LIMIT, space.page_count())),
+        Err(MapError::Full) => Err(passes_limit(space, first, count)),
         Err(MapError::NoPlace | MapError::NoMemory) => Err(Halt::NoMemory),
     }
 }

@@ -38,7 +38,7 @@ module _ (processor : Processor) (pages : Pages) where
   unfolding absent_count
   mapped absent count = simp (absent, count) refl
 
-  mapped_past_the_limit : get pages 16 ≡ None → len pages ≡ 131_072 → carried target (Map 16 1 3) ≡ differs 131_072 131_072
+  mapped_past_the_limit : get pages 16 ≡ None → len pages ≡ 131_072 → carried target (Map 16 1 3) ≡ differs 131_072 131_073
   unfolding absent_count
   mapped_past_the_limit absent count = simp (absent, count) refl
 

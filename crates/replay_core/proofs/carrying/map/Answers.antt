@@ -1,8 +1,8 @@
-use Rattle.std.proofs.Common.{◌≡◌, ◌∙◌, ℕ, Ok, Err, Result, refl, ap, sym}
+use Rattle.std.proofs.Common.{◌≡◌, ◌∙◌, Ok, Err, Result, refl, ap, sym}
 use Rattle.guest_space.specs.Memory.{Memory, Pages}
 use Rattle.guest_space.specs.Mapping.{page_limit}
-use Rattle.std.specs.FinMap.{len}
 use Rattle.o32_model.specs.Effects.{Difference}
+use Rattle.o32_model.specs.Ranges.{count_with}
 use Rattle.replay_core.proofs.PageEffects.{full_so, mapped_so, same_others}
 use Rattle.replay_core.proofs.carrying.map.Goals as goal
 
@@ -16,6 +16,5 @@ returns-in-Err-Full c =
     let full = rw c.in-Err-Full.field-0-is at c.in-Err-Full.ensures in
     let more = full.full.0 refl in
     let same : c.map.new.self ≡ c.args.space.now = full.err in
-    let count : len c.args.space.now.pages ≡ c.page_count.result = sym (c.page_count.ensures ∙ ap (λ (m : Memory). len m.pages) same) in
-    rw c.differs.ensures (full_so c.args.space.now.pages c.args.first c.args.count c.args.prot more
-    ∙ ap (λ (n : ℕ). let r : Result Pages Difference = Err (record { wanted = page_limit; found = n }) in r) count)
+    rw c.passes_limit.ensures (full_so c.args.space.now.pages c.args.first c.args.count c.args.prot more
+    ∙ ap (λ (m : Memory). let r : Result Pages Difference = Err (record { wanted = page_limit; found = count_with m.pages c.args.first c.args.count }) in r) (sym same))
