@@ -1,5 +1,6 @@
 pub mod RunLemmas
 pub mod QuietTurns
+pub mod KeptTexts
 pub mod TurnEnds
 pub mod Files
 pub mod Traces

@@ -1,10 +1,11 @@
 -- What a run of an emulator for a budget comes to, by what the machine's run is defined to be. (That a run may stop early, and what holds then, is
 -- this project's own.)
-use Rattle.std.specs.Prelude.{ℕ, ◌≡◌, ◌+◌, ◌<◌, ◌≤◌, ◌⊎◌, ◌==◌, if◌then◌else◌, false, List, Some, None, Result, Ok, Err}
+use Rattle.std.specs.Prelude.{ℕ, ◌≡◌, ◌+◌, ◌<◌, ◌≤◌, ◌⊎◌, ◌==◌, if◌then◌else◌, Bool, true, false, List, Some, None, is_some, Result, Ok, Err}
 use Rattle.outside.specs.Output.{GainsText, GainsBetween}
 use Rattle.outside.specs.Streams.{Contents}
 use Rattle.kernel_core.specs.declared.core_error.Stop.{Stop}
 use Rattle.kernel_core.specs.declared.finish.Finish.{Finish}
+use Rattle.kernel_core.specs.declared.finish.Finish.TheVariants.{Exited, Killed, Budget, Blocked}
 use Rattle.o32_machine.specs.Emulator.{Emulated}
 use Rattle.o32_turns.specs.Machine.{Machine}
 use Rattle.o32_turns.specs.Runs.{IsOverAt, IsRunningAt, last_machine, reached}
@@ -13,6 +14,18 @@ use Rattle.o32_turns.specs.Runs.{IsOverAt, IsRunningAt, last_machine, reached}
 pub record IsFresh (emulated : Emulated) : Type 0 where
   pub none : emulated.turns ≡ 0
   pub on : emulated.over ≡ false
+
+-- whether no turn follows one that a run is over with: only behind the budget's turns one may
+abbrev pub no_turn_follows : Finish → Bool
+no_turn_follows (Exited status) = true
+no_turn_follows (Killed signal) = true
+no_turn_follows Budget = false
+no_turn_follows Blocked = true
+
+-- A native log is kept exactly where one was kept before, and so are records of a journal.
+pub record KeepsTexts (before after : Emulated) : Type 0 where
+  pub native : is_some after.native.entries ≡ is_some before.native.entries
+  pub records : is_some after.records ≡ is_some before.records
 
 -- after these turns the run goes on so, or waits: what was taken and written since the start, and the machine
 pub record IsSoFar (quantum : ℕ) (machine : Machine) (left : List ℕ) (turns : ℕ) (before after : Contents) (now : Machine) : Type 0 where

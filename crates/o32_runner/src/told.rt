@@ -1,12 +1,12 @@
 //! A run that writes its texts, the trace, the native log and the journal.
-ghost use Rattle.std.specs.Prelude.{◌≡◌, ◌+◌, ◌<◌, ◌≤◌, ◌++◌, ◌⊎◌, [], IfOk, IsOk, OnOk, OnErr, None, Some, false};
+ghost use Rattle.std.specs.Prelude.{ℕ, List, ◌≡◌, ◌+◌, ◌<◌, ◌≤◌, ◌++◌, ◌⊎◌, [], IfOk, IsOk, OnOk, OnErr, None, Some, false};
 ghost use Rattle.std.specs.Option.{option_copied};
 ghost use Rattle.kernel_core.specs.declared.event.Event.TheVariants as event;
 ghost use Rattle.o32_machine.specs.Answered.{is_end, turns_of};
 ghost use Rattle.o32_runner.specs.JournalText.{front_to_come, records_text};
 ghost use Rattle.o32_runner.specs.Making.{Makes, MakesAll, MakesBoth, MakesNone, MakesNotAll, MakesNotBoth, StopsBehind};
 ghost use Rattle.o32_runner.specs.NativeText.{entry_lines};
-ghost use Rattle.o32_runner.specs.Runs.{IsFresh, RunsAs, WithinBudget};
+ghost use Rattle.o32_runner.specs.Runs.{IsFresh, KeepsTexts, RunsAs, WithinBudget, no_turn_follows};
 ghost use Rattle.o32_runner.specs.Stored.{Stored, stored_of};
 ghost use Rattle.o32_runner.specs.Texts.{AllDiffer, BeginsJournal, BeginsLog, WritesTexts};
 ghost use Rattle.o32_runner.specs.Traced.{StopsOnlyIfAnyRose};
@@ -451,6 +451,9 @@ pub fn run_told<F: Store, I: Source, O: Sink, E: Sink>(
     ensures early { (option_copied names.entry.trace ≡ None) → (option_copied names.entry.journal ≡ None) → 0 < budget → WithinBudget result.end result.turns budget }
     ensures behind { StopsBehind result.end result.turns budget (F.write_faults files.old) (F.write_faults files.new) }
     ensures turns { IfOk result.end (λ finish. emulator.new.turns ≡ result.turns) }
+    ensures quantum { emulator.new.quantum ≡ emulator.old.quantum }
+    ensures keeps { (left : List ℕ) → I.left dev.old.input ≡ Some left → IfOk result.end (λ finish. KeepsTexts emulator.old emulator.new) }
+    ensures over { (left : List ℕ) → I.left dev.old.input ≡ Some left → IfOk result.end (λ finish. emulator.new.over ≡ no_turn_follows finish) }
     ensures cause { StopsOnlyIfAnyRose I.faults O.faults E.faults result.end (F.write_faults files.old) (F.write_faults files.new) dev.old dev.new }
     ensures counts { NoCountFell I.faults O.faults E.faults dev.old dev.new }
     ensures later { F.write_faults files.old ≤ F.write_faults files.new }
@@ -493,6 +496,9 @@ fn run_made<F: Store, I: Source, O: Sink, E: Sink>(
     ensures early { (option_copied names.entry.trace ≡ None) → (option_copied names.entry.journal ≡ None) → WithinBudget result.end result.turns budget }
     ensures behind { StopsBehind result.end result.turns budget (F.write_faults files.old) (F.write_faults files.new) }
     ensures turns { IfOk result.end (λ finish. emulator.new.turns ≡ result.turns) }
+    ensures quantum { emulator.new.quantum ≡ emulator.old.quantum }
+    ensures keeps { (left : List ℕ) → I.left dev.old.input ≡ Some left → IfOk result.end (λ finish. KeepsTexts emulator.old emulator.new) }
+    ensures over { (left : List ℕ) → I.left dev.old.input ≡ Some left → IfOk result.end (λ finish. emulator.new.over ≡ no_turn_follows finish) }
     ensures cause { StopsOnlyIfAnyRose I.faults O.faults E.faults result.end (F.write_faults files.old) (F.write_faults files.new) dev.old dev.new }
     ensures counts { NoCountFell I.faults O.faults E.faults dev.old dev.new }
     ensures later { F.write_faults files.old ≤ F.write_faults files.new }

@@ -1,7 +1,7 @@
 //! A whole run.
-ghost use Rattle.std.specs.Prelude.{◌≡◌, ◌≤◌};
+ghost use Rattle.std.specs.Prelude.{ℕ, List, ◌≡◌, ◌≤◌, IfOk, Some};
 ghost use Rattle.kernel_model.specs.Stops.{StopsOnlyIfRose};
-ghost use Rattle.o32_runner.specs.Runs.{IsFresh, RunsAs, WithinBudget};
+ghost use Rattle.o32_runner.specs.Runs.{IsFresh, KeepsTexts, RunsAs, WithinBudget, no_turn_follows};
 ghost use Rattle.outside.specs.Streams.{NoCountFell, contents};
 
 use kernel_core::{Finish, Stop};
@@ -29,6 +29,9 @@ pub fn run<I: Source, O: Sink, E: Sink>(
         (contents I.left O.written E.written dev.old) (contents I.left O.written E.written dev.new) emulator.new.machine }
     ensures within { WithinBudget result.end result.turns budget }
     ensures turns { emulator.new.turns ≡ result.turns }
+    ensures quantum { emulator.new.quantum ≡ emulator.old.quantum }
+    ensures keeps { (left : List ℕ) → I.left dev.old.input ≡ Some left → IfOk result.end (λ finish. KeepsTexts emulator.old emulator.new) }
+    ensures over { (left : List ℕ) → I.left dev.old.input ≡ Some left → IfOk result.end (λ finish. emulator.new.over ≡ no_turn_follows finish) }
     ensures cause { StopsOnlyIfRose I.faults O.faults E.faults result.end dev.old dev.new }
     ensures counts { NoCountFell I.faults O.faults E.faults dev.old dev.new }
 {

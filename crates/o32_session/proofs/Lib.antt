@@ -3,6 +3,7 @@ pub mod Preparing
 pub mod Loading
 pub mod Faults
 pub mod Trees
+pub mod Keeping
 pub mod Sessions
 pub mod SavedFiles
 pub mod Plain

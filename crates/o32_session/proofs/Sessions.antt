@@ -26,12 +26,12 @@ use Rattle.o32_session.specs.Answers.{IsRefusal}
 use Rattle.o32_session.specs.Asked.{Asked, Refuse, Run, Names, names_of, Found, Bytes, found_at, IsOpened, IsOpenedBy, AsksOf, AsksOfPlan, AsksUnless, AsksFor, IsScheduled, arguments_of, asked_of_schedule, asked_of_tree, first_machine, empty_tree, image_limit, schedule_of_found, journal_front}
 use Rattle.o32_session.specs.Saved.{SavesTree, SavesTreeInPart}
 use Rattle.o32_runner.specs.Stored.{Stored}
-use Rattle.o32_session.specs.Session.{Seen, contents_of, DoesNothing, Answers, final_tree, StopsAtStage, StopsEarly, once_loaded, Finishes, IsRun, IsPartOfRun, StopsAtSave, no_names, AnswersReading, AsksForRun, EndsAsRun, HasImage, HasSchedule, IsRunEnd}
+use Rattle.o32_session.specs.Session.{KeepsNamed, Seen, contents_of, DoesNothing, Answers, final_tree, StopsAtStage, StopsEarly, once_loaded, Finishes, IsRun, IsPartOfRun, StopsAtSave, no_names, AnswersReading, AsksForRun, EndsAsRun, HasImage, HasSchedule, IsRunEnd}
 use Rattle.o32_session.specs.Words.{Line, Reading, Asks, WrongAt, read_words, word_at}
 use Rattle.o32_session.specs.inside.Ends.{end_of, end_of_stop}
 use Rattle.o32_session.specs.inside.Prepared.{EndsRefused, EndsWithoutRun, IsPrepared, LineFailsOnlyIfRose, LoadsReading, ReasonOnlyIfRose}
 use Rattle.o32_runner.specs.Making.{IsByStore}
-use Rattle.o32_runner.specs.Runs.{RunsAs}
+use Rattle.o32_runner.specs.Runs.{RunsAs, no_turn_follows}
 use Rattle.o32_runner.specs.Texts.{WritesTexts}
 use Rattle.o32_session.specs.inside.Runs.{AnswersRun}
 use Rattle.o32_session.specs.declared.answer.Answer.{Answer}
@@ -158,9 +158,11 @@ finish_answers quantum machine budget turns front names finishes.Blocked old new
 -- the run is over, and what follows it says the answer
 pub run_answer : (quantum : ℕ) (machine : Machine) (budget turns : ℕ) (front : List ℕ) (names : Names) (name : Option (List ℕ)) (finish : Finish) (emulated : Emulated) (answer : Answer) (old new : Seen) (middle : Stored) → names.save ≡ name → middle.write_faults ≡ old.store.write_faults → turns ≤ budget → IsFinish finish
     → WritesTexts names.trace names.native names.journal front quantum machine budget turns (Ok finish) (contents_of old) (contents_of new) old.store middle → emulated.turns ≡ turns
-    → RunsAs quantum machine budget turns (Ok finish) (contents_of old) (contents_of new) emulated.machine → AnswersRun name emulated finish answer middle new.store
+    → RunsAs quantum machine budget turns (Ok finish) (contents_of old) (contents_of new) emulated.machine → emulated.quantum ≡ quantum → ((left : List ℕ) → old.left ≡ Some left → KeepsNamed names emulated)
+    → ((left : List ℕ) → old.left ≡ Some left → emulated.over ≡ no_turn_follows finish)
+    → AnswersRun name emulated finish answer middle new.store
     → Answers (Run quantum machine budget front) names old new answer.turns answer.end answer.host
-run_answer quantum machine budget turns front names name finish emulated answer old new middle named unfaulty within small texts counted runs (inl done) =
+run_answer quantum machine budget turns front names name finish emulated answer old new middle named unfaulty within small texts counted runs stays keeps last (inl done) =
     let same : answer.turns ≡ turns = done.turns ∙ counted in
     let so : Finishes quantum machine budget front names old new turns finish answer.host = record {
       within = within;
@@ -168,6 +170,9 @@ run_answer quantum machine budget turns front names name finish emulated answer 
       emulated = emulated;
       hosted = done.host;
       turned = counted;
+      quantum_stays = stays;
+      keeps = keeps;
+      last = last;
       middle = middle;
       texts = texts;
       saves = subst (λ (n : Option (List ℕ)). SavesTree n (final_tree emulated.machine) middle new.store) (sym named) done.saves;
@@ -175,7 +180,7 @@ run_answer quantum machine budget turns front names name finish emulated answer 
     } in
     subst (λ (n : ℕ). Answers (Run quantum machine budget front) names old new n answer.end answer.host) (sym same)
     (subst (λ (e : End). Answers (Run quantum machine budget front) names old new turns e answer.host) (sym done.end) (finish_answers quantum machine budget turns front names finish old new answer.host so))
-run_answer quantum machine budget turns front names name finish emulated answer old new middle named unfaulty within small texts counted runs (inr failed) =
+run_answer quantum machine budget turns front names name finish emulated answer old new middle named unfaulty within small texts counted runs stays keeps last (inr failed) =
     let same : answer.turns ≡ turns = failed.turns ∙ counted in
     let so : StopsAtSave quantum machine budget front names old new turns = record {
       within = within;

@@ -133,6 +133,9 @@ told count soaked (Soaked finish) host old out faults is so cause =
       emulated = soaked.emulator;
       hosted = so.1.0;
       turned = is.turned;
+      quantum = is.quantum;
+      keeps = is.keeps;
+      last = is.last;
       over = is.over;
       wrote = record { to_out = subst (λ (text : List ℕ). GainsText old.out out text) (text_is count soaked is) so.1.1; to_err = GainsText-nothing old.err };
       rest = record { untaken = refl; stands = refl };

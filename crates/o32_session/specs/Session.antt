@@ -1,4 +1,6 @@
 -- What an answer says where a refusal or a run is asked for. This project's own.
+pub use Rattle.o32_runner.specs.Emulators.{Emulated}
+pub use Rattle.o32_runner.specs.Stored.{Stored, stored_of}
 use Rattle.std.specs.Prelude.{ℕ, ◌≡◌, ◌<◌, ◌≤◌, ⊤, ◌⊎◌, true, List, [], ◌++◌, Option, Some, None, is_some, Ok, Err}
 use Rattle.outside.specs.Files.{Files}
 use Rattle.outside.specs.Count.{Rose}
@@ -8,7 +10,6 @@ use Rattle.outside.specs.declared.devices.Devices.{Devices}
 use Rattle.journal.specs.Form.{IsFinish}
 use Rattle.kernel_core.specs.LoadedTree.{saved}
 use Rattle.kernel_core.specs.declared.tree.Tree.{Tree}
-use Rattle.o32_runner.specs.Emulators.{Emulated}
 use Rattle.fs_image.specs.Meaning as images
 use Rattle.elf_image.specs.Rules as elf
 use Rattle.elf_image.specs.Loading.{plan_of}
@@ -18,8 +19,7 @@ use Rattle.o32_session.specs.Words.{Line, Reading, Asks, WrongAt, read_words}
 use Rattle.o32_session.specs.Asked.{Asked, Refuse, Run, Names, names_of, Bytes, found_at, program_limit, image_limit, AsksFor, IsOpened, arguments_of, first_machine, schedule_limit, schedule_of_text, empty_schedule, HasProgram, HasTree, HasSettings}
 use Rattle.o32_session.specs.Saved.{Stage, AtProgram, AtImage, AtSchedule, AtMachine, after_loads, loaded_before, loaded_by, loaded_names, name_at, named, turned_by, SavesTree, SavesTreeInPart}
 use Rattle.o32_runner.specs.Making.{IsByStore}
-use Rattle.o32_runner.specs.Runs.{turns_begun}
-use Rattle.o32_runner.specs.Stored.{Stored}
+use Rattle.o32_runner.specs.Runs.{no_turn_follows, turns_begun}
 use Rattle.o32_turns.specs.Runs.{IsOverAt, IsRunningAt, last_machine, reached}
 use Rattle.o32_turns.specs.Machine.{Machine}
 use Rattle.o32_runner.specs.Texts.{WritesTexts}
@@ -112,8 +112,14 @@ pub record IsPartOfRun (quantum : ℕ) (machine : Machine) (left : List ℕ) (bu
   pub to_err : GainsBetween old.err new.err (reached quantum machine left turns).sent.err (reached quantum machine left (turns_begun budget turns)).sent.err
   pub rest : (new.left ≡ Some (reached quantum machine left turns).left) ⊎ (new.left ≡ Some (reached quantum machine left (turns_begun budget turns)).left)
 
+-- An emulator keeps a native log exactly where a file is named for it, and records of a journal where one is named for that.
+pub record KeepsNamed (names : Names) (emulated : Emulated) : Type 0 where
+  pub native : is_some emulated.native.entries ≡ is_some names.native
+  pub records : is_some emulated.records ≡ is_some names.journal
+
 -- A run ended so, within the budget; a status and a signal are bytes. Its trace, its native log and its journal were written to the files that are named for them, the emulator is
--- handed out, and its final tree was saved. Where the input tells what is left of it, the run is the machine's.
+-- handed out with the run's quantum, and its final tree was saved. Where the input tells what is left of it, the run is the machine's, and the emulator keeps
+-- a log and records as they are named, and has a further turn only behind the budget's.
 pub record Finishes (quantum : ℕ) (machine : Machine) (budget : ℕ) (front : List ℕ) (names : Names) (old new : Seen) (turns : ℕ) (finish : Finish) (host : Option Emulated) :
     Type 0 where
   pub within : turns ≤ budget
@@ -121,6 +127,9 @@ pub record Finishes (quantum : ℕ) (machine : Machine) (budget : ℕ) (front : 
   pub emulated : Emulated
   pub hosted : host ≡ Some emulated
   pub turned : emulated.turns ≡ turns
+  pub quantum_stays : emulated.quantum ≡ quantum
+  pub keeps : (left : List ℕ) → old.left ≡ Some left → KeepsNamed names emulated
+  pub last : (left : List ℕ) → old.left ≡ Some left → emulated.over ≡ no_turn_follows finish
   pub middle : Stored
   pub texts : WritesTexts names.trace names.native names.journal front quantum machine budget turns (Ok finish) (contents_of old) (contents_of new) old.store middle
   pub saves : SavesTree names.save (final_tree emulated.machine) middle new.store

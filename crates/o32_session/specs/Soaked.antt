@@ -6,13 +6,14 @@ use Rattle.kernel_core.specs.declared.finish.Finish.{Finish}
 use Rattle.kernel_core.specs.declared.finish.Finish.TheVariants as finishes
 use Rattle.kernel_core.specs.declared.tree.Tree.{Tree}
 use Rattle.o32_runner.specs.Emulators.{Emulated}
+use Rattle.o32_runner.specs.Runs.{no_turn_follows}
 use Rattle.o32_turns.specs.Machine.{Machine}
 use Rattle.o32_turns.specs.Runs.{IsOverAt, IsRunningAt, last_machine, reached}
 use Rattle.soak_ends.specs.Line as lines
 use Rattle.soak_ends.specs.Line.{soak_plan}
 use Rattle.o32_session.specs.Words.{Command, RunCommand, ReplayCommand, SoakCommand, SoakReading, AsksSoak, WrongSoakAt, command_of, default_budget, read_soak}
 use Rattle.o32_session.specs.Asked.{Refuse, empty_schedule, empty_tree, first_machine}
-use Rattle.o32_session.specs.Session.{Seen, Answers, AnswersWords, Writes, final_tree, no_names}
+use Rattle.o32_session.specs.Session.{Seen, Answers, AnswersWords, KeepsNamed, Writes, final_tree, no_names}
 use Rattle.o32_session.specs.Replayed.{AnswersReplayWords, RestStands}
 use Rattle.o32_session.specs.declared.answer.Refusal.TheVariants.{Usage}
 use Rattle.o32_session.specs.declared.answer.End.{End}
@@ -64,12 +65,15 @@ text_on count turns finish final = unwrap_or (line_on count turns finish (final_
 
 -- The answer
 
--- The run was over so after these turns, its line was written, and the emulator is handed out in the run's last state. Nothing of the input
--- was taken, and no file was looked at.
+-- The run was over so after these turns, its line was written, and the emulator is handed out in the run's last state with its
+-- quantum, and keeps no native log and no records. Nothing of the input was taken, and no file was looked at.
 pub record IsSoaked (count : ℕ) (old new : Seen) (turns : ℕ) (finish : Finish) (host : Option Emulated) : Type 0 where
   pub emulated : Emulated
   pub hosted : host ≡ Some emulated
   pub turned : emulated.turns ≡ turns
+  pub quantum : emulated.quantum ≡ empty_schedule.quantum
+  pub keeps : KeepsNamed no_names emulated
+  pub last : emulated.over ≡ no_turn_follows finish
   pub over : IsSoak count turns finish emulated.machine
   pub wrote : Writes old new (text_on count turns finish emulated.machine) []
   pub rest : RestStands old new

@@ -3,12 +3,12 @@ ghost use Rattle.std.specs.Prelude.{ℕ, ◌≡◌, ◌<◌, ◌≤◌, [], IfEr
 ghost use Rattle.outside.specs.Causes.{FailsOnlyIfRose};
 ghost use Rattle.outside.specs.Output.{GainsBetween, GainsText};
 ghost use Rattle.outside.specs.Streams.{NoCountFell};
-ghost use Rattle.o32_runner.specs.Runs.{IsFresh};
+ghost use Rattle.o32_runner.specs.Runs.{IsFresh, KeepsTexts, no_turn_follows};
 ghost use Rattle.o32_runner.specs.Stored.{Stored};
 ghost use Rattle.o32_session.specs.Answers.{finish_of};
 ghost use Rattle.o32_session.specs.Asked.{empty_schedule};
 ghost use Rattle.o32_session.specs.Faults.{TellsFaults};
-ghost use Rattle.o32_session.specs.Session.{final_tree, seen_of};
+ghost use Rattle.o32_session.specs.Session.{KeepsNamed, final_tree, no_names, seen_of};
 ghost use Rattle.o32_session.specs.Soaked.{AnswersSoak, AnswersSoakReading, EndsSo, GoesSoFar, IsSoak, StopsSoak, line_on, soak_arguments, soak_machine};
 ghost use Rattle.o32_session.specs.Words.{default_budget, read_soak, texts};
 ghost use Rattle.o32_session.specs.inside.Prepared.{LineFailsOnlyIfRose};
@@ -91,6 +91,8 @@ fn empty_input(alloc: Global) -> SureSource
 fn line_without_options(alloc: Global) -> RunLine
     ensures environment { texts result.environment.items ≡ [] }
     ensures budget { result.budget ≡ default_budget }
+    ensures native { result.native ≡ None }
+    ensures journal { result.journal ≡ None }
 {
     RunLine {
         budget: DEFAULT_BUDGET,
@@ -111,6 +113,7 @@ fn begin(alloc: Global, count: u32) -> Result<Emulator, NotRun>
     ensures machine { IfOk result (λ emulator. emulator.machine ≡ soak_machine count) }
     ensures quantum { IfOk result (λ emulator. emulator.quantum ≡ empty_schedule.quantum) }
     ensures fresh { IfOk result IsFresh }
+    ensures keeps { IfOk result (KeepsNamed no_names) }
 {
     let plan = soak_plan(alloc, count)?;
     let words = arguments(alloc)?;
@@ -131,6 +134,9 @@ fn run_over<I: Source, O: Sink, E: Sink>(
     requires input { I.left dev.old.input ≡ Some [] }
     ensures run { IfOk result (λ ended. EndsSo emulator.old.machine ended.turns ended.finish emulator.new.machine) }
     ensures turns { IfOk result (λ ended. emulator.new.turns ≡ ended.turns) }
+    ensures quantum { emulator.new.quantum ≡ emulator.old.quantum }
+    ensures keeps { IfOk result (λ ended. KeepsTexts emulator.old emulator.new) }
+    ensures over { IfOk result (λ ended. emulator.new.over ≡ no_turn_follows ended.finish) }
     ensures stopped { IfErr result (λ stopped. GoesSoFar emulator.old.machine stopped.turns) }
 {
     let ran = run(emulator, DEFAULT_BUDGET, dev);
@@ -149,6 +155,9 @@ fn run_to_end(alloc: Global, emulator: &mut Emulator) -> Result<Ended, Stopped>
     requires fresh { IsFresh emulator.old }
     ensures run { IfOk result (λ ended. EndsSo emulator.old.machine ended.turns ended.finish emulator.new.machine) }
     ensures turns { IfOk result (λ ended. emulator.new.turns ≡ ended.turns) }
+    ensures quantum { emulator.new.quantum ≡ emulator.old.quantum }
+    ensures keeps { IfOk result (λ ended. KeepsTexts emulator.old emulator.new) }
+    ensures over { IfOk result (λ ended. emulator.new.over ≡ no_turn_follows ended.finish) }
     ensures stopped { IfErr result (λ stopped. GoesSoFar emulator.old.machine stopped.turns) }
 {
     let mut dev = Devices {
@@ -182,6 +191,7 @@ fn soak_begun(alloc: Global, count: u32, mut emulator: Emulator) -> Result<SoakR
     requires machine { emulator.machine ≡ soak_machine count }
     requires quantum { emulator.quantum ≡ empty_schedule.quantum }
     requires fresh { IsFresh emulator }
+    requires keeps { KeepsNamed no_names emulator }
     ensures soaked { IfOk result (IsSoakOf count) }
     ensures stopped { IfErr result (λ stopped. StopsSoak count stopped.turns) }
 {
@@ -200,6 +210,9 @@ fn line_of_run(
 ) -> Result<SoakRun, Stopped>
     requires over { IsSoak count ended.turns ended.finish emulator.machine }
     requires turned { emulator.turns ≡ ended.turns }
+    requires last { emulator.over ≡ no_turn_follows ended.finish }
+    requires quantum { emulator.quantum ≡ empty_schedule.quantum }
+    requires keeps { KeepsNamed no_names emulator }
     ensures soaked { IfOk result (IsSoakOf count) }
     ensures stopped { IfErr result (λ stopped. StopsSoak count stopped.turns) }
 {

@@ -2,7 +2,9 @@
 use Rattle.std.specs.Prelude.{ℕ, ◌≡◌, List, [], unwrap_or, Option, Some, None}
 use Rattle.outside.specs.Output.{GainsText, GainsBetween}
 use Rattle.o32_runner.specs.Emulators.{Emulated}
-use Rattle.o32_session.specs.Session.{final_tree}
+use Rattle.o32_runner.specs.Runs.{no_turn_follows}
+use Rattle.o32_session.specs.Asked.{empty_schedule}
+use Rattle.o32_session.specs.Session.{KeepsNamed, final_tree, no_names}
 use Rattle.o32_session.specs.Soaked.{IsSoak, line_on}
 use Rattle.o32_session.specs.declared.soak.SoakRun.{SoakRun}
 use Rattle.o32_session.specs.declared.answer.End.{End}
@@ -12,6 +14,9 @@ use Rattle.o32_session.specs.declared.answer.End.TheVariants as ends
 pub record IsSoakOf (count : ℕ) (soaked : SoakRun) : Type 0 where
   pub over : IsSoak count soaked.turns soaked.finish soaked.emulator.machine
   pub turned : soaked.emulator.turns ≡ soaked.turns
+  pub quantum : soaked.emulator.quantum ≡ empty_schedule.quantum
+  pub keeps : KeepsNamed no_names soaked.emulator
+  pub last : soaked.emulator.over ≡ no_turn_follows soaked.finish
   pub line : soaked.line ≡ line_on count soaked.turns soaked.finish (final_tree soaked.emulator.machine)
 
 -- the line on a run was written, where there is one, and its emulator is handed out; or at most a part of the line was written where the device

@@ -1,14 +1,18 @@
-use Rattle.std.proofs.Common.{◌≡◌, ◌+◌, ◌-◌, ◌<◌, ◌≤◌, ℕ, List, Ok, Err, ap, arith, refl, subst, sym, ◌∙◌}
+use Rattle.std.proofs.Common.{◌≡◌, ◌+◌, ◌-◌, ◌<◌, ◌≤◌, ℕ, List, Ok, Err, Result, ap, arith, refl, subst, sym, ◌∙◌}
 use Rattle.std.specs.Option.{option_copied}
 use Rattle.outside.specs.Streams.{contents}
 use Rattle.outside.proofs.StreamLemmas.{NoCountRose-refl, NoCountRose-trans}
 use Rattle.o32_machine.specs.Answered.{is_end, turns_of}
 use Rattle.o32_machine.specs.declared.turn.Turn as code
 use Rattle.o32_runner.specs.JournalText.{front_to_come}
-use Rattle.o32_runner.specs.Runs.{IsOver, IsSoFar}
+use Rattle.kernel_core.specs.declared.core_error.Stop.{Stop}
+use Rattle.kernel_core.specs.declared.finish.Finish.{Finish}
+use Rattle.kernel_core.specs.declared.finish.Finish.TheVariants.{Budget}
+use Rattle.o32_runner.specs.Runs.{IsOver, IsSoFar, no_turn_follows}
 use Rattle.o32_runner.specs.Stored.{stored_of}
-use Rattle.o32_runner.specs.inside.Told.{IsMade}
+use Rattle.o32_runner.specs.inside.Told.{EndsBudget, IsMade}
 use Rattle.o32_runner.proofs.Journals.{AllAs, all_below, all_cut, all_done, all_end, all_ended, all_first, all_go_on, all_on, all_partly, all_whole, all_written, behind_end}
+use Rattle.o32_runner.proofs.KeptTexts.{keeps_behind, keeps_first, keeps_however, over_behind, over_however}
 use Rattle.o32_runner.proofs.RunLemmas.{at_start}
 use Rattle.o32_runner.proofs.Writing.{early_end}
 use Rattle.o32_runner.proofs.told.run_made.Goals as goal
@@ -25,6 +29,7 @@ loop-emulator-init g c = record {
       let at = (contents g.I.Source.left g.O.Sink.written g.E.Sink.written c.args.dev.now) in
       let e = c.args.emulator.now in
       subst (λ (n : ℕ). IsSoFar e.quantum e.machine left n at at e.machine) (sym c.requires.fresh.none) (at_start e.quantum e.machine left at told);
+  keeps = λ left told. keeps_first c.args.emulator.now;
   texts = λ start made.
       all_first (option_copied c.args.names.trace) (option_copied c.args.names.native) (option_copied c.args.names.journal) c.args.front.now c.args.emulator.now.quantum (g.I.Source.left c.args.dev.now.input) c.args.emulator.now c.requires.fresh.none c.requires.log c.requires.records start
       (stored_of g.F.Store.files g.F.Store.created g.F.Store.loads g.F.Store.turned_away g.F.Store.write_faults c.args.files.now) made;
@@ -55,6 +60,8 @@ loop-emulator-preserved g c =
       texts = λ start made.
           all_on (option_copied c.args.names.trace) (option_copied c.args.names.native) (option_copied c.args.names.journal) c.requires.differ c.args.front.now c.args.emulator.now.quantum c.args.emulator.now.machine c.args.budget c.limit_of-limit.result (contents g.I.Source.left g.O.Sink.written g.E.Sink.written c.args.dev.now) (contents g.I.Source.left g.O.Sink.written g.E.Sink.written c.loop-emulator.dev) (contents g.I.Source.left g.O.Sink.written g.E.Sink.written c.take_turns.new.dev) c.loop-emulator.emulator c.take_turns.new.emulator i.long i.so c.front_to_come-coming.result.now is_coming c.limit_of-limit.ensures.first
           (stored_of g.F.Store.files g.F.Store.created g.F.Store.loads g.F.Store.turned_away g.F.Store.write_faults c.loop-emulator.files) (stored_of g.F.Store.files g.F.Store.created g.F.Store.loads g.F.Store.turned_away g.F.Store.write_faults c.take_turns.new.files) c.in-Ok-Went.field-0 takes start (i.texts start made) c.in-Ok-Went.field-0-is;
+      keeps = λ left told.
+          keeps_behind c.args.emulator.now c.loop-emulator.emulator c.take_turns.new.emulator c.in-Ok-Went.field-0 _ (contents g.I.Source.left g.O.Sink.written g.E.Sink.written c.loop-emulator.dev) (i.so left told).rest (i.keeps left told) takes.0.logged takes.0.recorded;
       trace = subst (λ (names : List (List ℕ)). IsMade names (option_copied c.args.names.trace)) (sym c.take_turns.ensures.created) i.trace;
       native = subst (λ (names : List (List ℕ)). IsMade names (option_copied c.args.names.native)) (sym c.take_turns.ensures.created) i.native;
       journal = subst (λ (names : List (List ℕ)). IsMade names (option_copied c.args.names.journal)) (sym c.take_turns.ensures.created) i.journal;
@@ -168,3 +175,25 @@ pub returns-clause-behind : goal.returns-clause-behind
 returns-clause-behind g c =
     behind_end c.end_of_budget.result.end c.end_of_budget.result.turns c.args.budget (g.F.Store.write_faults c.args.files.now) (g.F.Store.write_faults c.loop-emulator.files) (g.F.Store.write_faults c.end_of_budget.new.files)
     c.loop-emulator.invariant.writes c.end_of_budget.ensures.cause
+
+pub returns-in-Ok-Ended-clause-keeps : goal.returns-in-Ok-Ended-clause-keeps
+returns-in-Ok-Ended-clause-keeps g c = λ left told.
+    let i = c.loop-emulator.invariant in
+    keeps_behind c.args.emulator.now c.loop-emulator.emulator c.take_turns.new.emulator c.in-Ok-Ended.field-0 _ (contents g.I.Source.left g.O.Sink.written g.E.Sink.written c.loop-emulator.dev) (i.so left told).rest (i.keeps left told) c.in-Ok-Ended.ensures.turns.0.logged c.in-Ok-Ended.ensures.turns.0.recorded
+
+pub returns-clause-keeps : goal.returns-clause-keeps
+returns-clause-keeps g c = λ left told.
+    keeps_however c.args.emulator.now c.loop-emulator.emulator (c.loop-emulator.invariant.keeps left told) c.end_of_budget.result.end
+
+pub returns-in-Ok-Ended-clause-over : goal.returns-in-Ok-Ended-clause-over
+returns-in-Ok-Ended-clause-over g c = λ left told.
+    over_behind c.loop-emulator.emulator.quantum c.limit_of-limit.result c.loop-emulator.emulator.turns c.take_turns.new.emulator.turns c.loop-emulator.emulator.machine c.take_turns.new.emulator.machine c.take_turns.new.emulator.events (contents g.I.Source.left g.O.Sink.written g.E.Sink.written c.loop-emulator.dev) (contents g.I.Source.left g.O.Sink.written g.E.Sink.written c.take_turns.new.dev) c.in-Ok-Ended.field-0 c.in-Ok-Ended.finish _ c.take_turns.new.emulator.over
+    (c.loop-emulator.invariant.so left told).rest c.in-Ok-Ended.field-0-is c.in-Ok-Ended.ensures.over c.in-Ok-Ended.ensures.turns.0.turned
+
+pub returns-clause-over : goal.returns-clause-over
+returns-clause-over g c = λ left told.
+    over_however c.loop-emulator.emulator.over c.end_of_budget.result.end
+    (λ finish is.
+    let budget : finish ≡ Budget = (subst (λ (e : Result Finish Stop). EndsBudget (option_copied c.args.names.trace) (option_copied c.args.names.journal) c.front_to_come.result.now c.turns-turns-2.result e
+    (stored_of g.F.Store.files g.F.Store.created g.F.Store.loads g.F.Store.turned_away g.F.Store.write_faults c.loop-emulator.files) (stored_of g.F.Store.files g.F.Store.created g.F.Store.loads g.F.Store.turned_away g.F.Store.write_faults c.end_of_budget.new.files)) is c.end_of_budget.ensures.end).0 in
+    c.loop-emulator.invariant.on ∙ sym (ap no_turn_follows budget))

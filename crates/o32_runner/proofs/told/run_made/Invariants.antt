@@ -1,7 +1,7 @@
-use Rattle.std.proofs.Common.{◌≡◌, ◌≤◌, ◌-◌, false}
+use Rattle.std.proofs.Common.{◌≡◌, ◌≤◌, ◌-◌, ℕ, List, Some, false}
 use Rattle.std.specs.Option.{option_copied}
 use Rattle.outside.specs.Streams.{NoCountFell, NoCountRose, contents}
-use Rattle.o32_runner.specs.Runs.{GoesSo}
+use Rattle.o32_runner.specs.Runs.{GoesSo, KeepsTexts}
 use Rattle.o32_runner.specs.Stored.{Stored, stored_of}
 use Rattle.o32_runner.specs.Making.{MakesAll}
 use Rattle.o32_runner.specs.inside.Told.{IsMade}
@@ -17,6 +17,7 @@ invariant-loop-emulator g l = record {
   texts : (start : Stored) → MakesAll (option_copied l.names.trace) (option_copied l.names.native) (option_copied l.names.journal) start (stored_of g.F.Store.files g.F.Store.created g.F.Store.loads g.F.Store.turned_away g.F.Store.write_faults l.fn.files)
       → AllSo (option_copied l.names.trace) (option_copied l.names.native) (option_copied l.names.journal) l.front l.fn.emulator.quantum l.fn.emulator.machine l.emulator.turns (g.I.Source.left l.fn.dev.input) l.emulator start
       (stored_of g.F.Store.files g.F.Store.created g.F.Store.loads g.F.Store.turned_away g.F.Store.write_faults l.files);
+  keeps : (left : List ℕ) → g.I.Source.left l.fn.dev.input ≡ Some left → KeepsTexts l.fn.emulator l.emulator;
   trace : IsMade (g.F.Store.created l.files) (option_copied l.names.trace);
   native : IsMade (g.F.Store.created l.files) (option_copied l.names.native);
   journal : IsMade (g.F.Store.created l.files) (option_copied l.names.journal);

@@ -3,6 +3,7 @@ use Rattle.kernel_core.specs.ValidTree.{IsValidTree}
 use Rattle.session_words.specs.Read.{line_seen}
 use Rattle.o32_session.specs.Soaked.{soak_arguments}
 use Rattle.o32_session.specs.Words.{IsPlain, texts}
+use Rattle.o32_session.proofs.Keeping.{keeps_nothing}
 use Rattle.o32_session.proofs.Soaking.{machine_ready, no_settings, plain_arguments, quantum_ready}
 use Rattle.o32_session.proofs.Trees.{empty_tree_valid}
 use Rattle.o32_session.proofs.soak.begin.Goals as goal
@@ -33,3 +34,9 @@ returns-clause-quantum c =
     quantum_ready c.args.count (texts c.deref.result.now) (line_seen c.line_without_options-line.result) c.in_ok-plan.plan c.in_ok-tree.tree c.in_ok-schedule.schedule
     ready.emulator.quantum ready.emulator.machine ready.budget ready.front.items words_are c.line_without_options-line.ensures.environment c.in_ok-plan.ensures.plan
     c.in_ok-tree.ensures c.in_ok-schedule.ensures.empty c.in_ok-ready.ensures.ready
+
+pub returns-clause-keeps : goal.returns-clause-keeps
+returns-clause-keeps c =
+    let ready = c.in_ok-ready.ready in
+    keeps_nothing ready.emulator ready.native ready.journal c.in_ok-ready.ensures.log c.in_ok-ready.ensures.records
+    (c.in_ok-ready.ensures.native ∙ c.line_without_options-line.ensures.native) (c.in_ok-ready.ensures.journal ∙ c.line_without_options-line.ensures.journal)

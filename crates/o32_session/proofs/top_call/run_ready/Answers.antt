@@ -4,7 +4,7 @@ use Rattle.kernel_core.specs.declared.core_error.Stop.{Stop}
 use Rattle.kernel_core.specs.declared.finish.Finish.{Finish}
 use Rattle.outside.specs.Streams.{contents}
 use Rattle.o32_runner.specs.Making.{StopsBehind}
-use Rattle.o32_runner.specs.Runs.{RunsAs, WithinBudget}
+use Rattle.o32_runner.specs.Runs.{KeepsTexts, RunsAs, WithinBudget, no_turn_follows}
 use Rattle.o32_runner.specs.Stored.{stored_of}
 use Rattle.o32_runner.specs.Texts.{WritesTexts}
 use Rattle.o32_runner.specs.Traced.{StopsOnlyIfAnyRose}
@@ -14,6 +14,7 @@ use Rattle.o32_session.specs.Session.{Answers, seen_of}
 use Rattle.o32_session.specs.Words.{texts, word_at}
 use Rattle.o32_session.specs.declared.answer.End.{End}
 use Rattle.o32_session.proofs.Faults.{cut_faults, run_faults, tells_since}
+use Rattle.o32_session.proofs.Keeping.{keeps_named}
 use Rattle.o32_session.proofs.Sessions.{cut_answer, read_cause, run_answer, texts_named, write_cause}
 use Rattle.o32_session.proofs.top_call.run_ready.Goals as goal
 
@@ -37,6 +38,11 @@ returns-in-Ok-clause-run g c = λ names named traced logged kept.
     (subst (λ (e : Result Finish Stop). WritesTexts (option_copied c.word_of.result) (option_copied c.word_of-2.result) (option_copied c.word_of-3.result) c.as_slice.result.now quantum machine budget turns e (contents g.I.Source.left g.O.Sink.written g.E.Sink.written c.args.dev.now) (contents g.I.Source.left g.O.Sink.written g.E.Sink.written c.run_named-ran.new.dev) (stored_of g.F.Store.files g.F.Store.created g.F.Store.loads g.F.Store.turned_away g.F.Store.write_faults c.args.files.now) (stored_of g.F.Store.files g.F.Store.created g.F.Store.loads g.F.Store.turned_away g.F.Store.write_faults c.run_named-ran.new.files)) c.in-Ok.is c.run_named-ran.ensures.texts)))
     (subst (λ (e : Result Finish Stop). IfOk e (λ finish. c.run_named-ran.new.emulator.turns ≡ turns)) c.in-Ok.is c.run_named-ran.ensures.turns)
     (subst (λ (e : Result Finish Stop). RunsAs quantum machine budget turns e (contents g.I.Source.left g.O.Sink.written g.E.Sink.written c.args.dev.now) (contents g.I.Source.left g.O.Sink.written g.E.Sink.written c.run_named-ran.new.dev) c.run_named-ran.new.emulator.machine) c.in-Ok.is c.run_named-ran.ensures.run)
+    c.run_named-ran.ensures.quantum
+    (λ left told.
+    keeps_named (texts c.args.words.now) names c.args.ready.emulator c.run_named-ran.new.emulator c.args.ready.native c.args.ready.journal c.requires.log c.requires.records logged kept
+    (subst (λ (e : Result Finish Stop). IfOk e (λ finish. KeepsTexts c.args.ready.emulator c.run_named-ran.new.emulator)) c.in-Ok.is (c.run_named-ran.ensures.keeps left told)))
+    (λ left told. subst (λ (e : Result Finish Stop). IfOk e (λ finish. c.run_named-ran.new.emulator.over ≡ no_turn_follows finish)) c.in-Ok.is (c.run_named-ran.ensures.over left told))
     c.answer_run.ensures.answer
 
 pub returns-in-Err-clause-run : goal.returns-in-Err-clause-run
