@@ -1,10 +1,9 @@
 -- How the program ends. This project's own.
 use Rattle.std.specs.Prelude.{ℕ, ◌≡◌, List, Option}
-use Rattle.o32_machine.specs.Emulator.{Emulated}
 use Rattle.o32_session.specs.Answers.{status_of}
 use Rattle.o32_session.specs.Faults.{TellsFaults}
 use Rattle.o32_session.specs.Soaked.{AnswersSession}
-use Rattle.o32_session.specs.Session.{Seen}
+use Rattle.o32_session.specs.Session.{Emulated, Seen}
 use Rattle.o32_session.specs.declared.answer.End.{End}
 
 -- A session of these words was carried out, with what its answer says of the input, outputs and files and of the counts of faults, and the

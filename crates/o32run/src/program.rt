@@ -1,8 +1,7 @@
 //! What the program does between its arguments and its end, over any files and streams.
 ghost use Rattle.std.specs.Prelude.{◌≡◌};
 ghost use Rattle.std.specs.Process.{exit_status};
-ghost use Rattle.o32_runner.specs.Stored.{stored_of};
-ghost use Rattle.o32_session.specs.Session.{seen_of};
+ghost use Rattle.o32_session.specs.Session.{seen_of, stored_of};
 ghost use Rattle.o32_session.specs.Words.{texts};
 ghost use Rattle.o32run.specs.Program.{EndsAs};
 

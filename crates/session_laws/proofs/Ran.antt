@@ -5,12 +5,11 @@ use Rattle.elf_image.specs.Loading.{plan_of}
 use Rattle.fs_image.proofs.MeaningLaws.{one_tree}
 use Rattle.kernel_core.specs.declared.finish.Finish.{Finish}
 use Rattle.kernel_core.specs.declared.tree.Tree.{Tree}
-use Rattle.o32_runner.specs.Emulators.{Emulated}
 use Rattle.o32_session.proofs.Repeating.{no_run, no_run_of_soak}
 use Rattle.o32_session.proofs.Sessions.{asks_run}
 use Rattle.o32_session.specs.Answers.{finish_of}
 use Rattle.o32_session.specs.Asked.{Asked, AsksFor, Found, Absent, Long, Bytes, IsOpened, IsOpenedBy, Names, Run, arguments_of, first_machine, journal_front, names_of}
-use Rattle.o32_session.specs.Session.{Answers, AnswersReading, Seen, Writes, once_loaded}
+use Rattle.o32_session.specs.Session.{Answers, AnswersReading, Emulated, Seen, Writes, once_loaded}
 use Rattle.o32_session.specs.Soaked.{AnswersCommand, AnswersSession}
 use Rattle.o32_session.specs.Words.{Asks, Command, ReplayCommand, RunCommand, SoakCommand, command_of}
 use Rattle.o32_session.specs.declared.answer.End.{End}

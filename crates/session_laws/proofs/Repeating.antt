@@ -17,10 +17,9 @@ use Rattle.start_stack.specs.Start.{start_memory, start_processor}
 use Rattle.journal_laws.specs.Replaying.{IsStartOf, replay_from}
 use Rattle.journal_laws.proofs.Records.{standing}
 use Rattle.journal_laws.proofs.Runs.{journal_ends, journal_sent}
-use Rattle.o32_runner.specs.Emulators.{Emulated}
 use Rattle.o32_session.specs.Asked.{arguments_of, journal_limit, stack_chance}
 use Rattle.o32_session.specs.Replayed.{AnswersReplay, AnswersReplayReading, AsksForReplay, EndsAsReplay, IsReplayEnd, Repeat, ReplayAsked, StopsInReplay, StopsUnbegun, once_replay_loaded}
-use Rattle.o32_session.specs.Session.{Seen, Writes}
+use Rattle.o32_session.specs.Session.{Emulated, Seen, Writes}
 use Rattle.o32_session.specs.Soaked.{AnswersCommand, AnswersSession}
 use Rattle.o32_session.specs.Words.{AsksReplay, Command, ReplayLine, ReplayReading}
 use Rattle.o32_session.specs.declared.answer.End.{End}

@@ -1,11 +1,10 @@
 //! A run is repeated from the journal that it left.
 ghost use Rattle.std.specs.Prelude.{◌≡◌, ◌≤◌, ◌<◌, ◌⊎◌, ℕ, List, Option, Some, length};
 ghost use Rattle.elf_image.specs.Loading.{plan_of};
-ghost use Rattle.o32_runner.specs.Emulators.{Emulated};
 ghost use Rattle.o32_session.specs.Answers.{finish_of};
 ghost use Rattle.o32_session.specs.Asked.{journal_file, journal_limit};
 ghost use Rattle.o32_session.specs.Replayed.{AsksForReplay, EndsAsReplay, Repeat, RefuseReplay, ReplayAsked, ReplayAsksFor, StopsUnbegun, once_replay_loaded};
-ghost use Rattle.o32_session.specs.Session.{Seen, Writes};
+ghost use Rattle.o32_session.specs.Session.{Emulated, Seen, Writes};
 ghost use Rattle.o32_session.specs.Soaked.{AnswersSession};
 ghost use Rattle.o32_session.specs.Words.{ReplayLine};
 ghost use Rattle.o32_session.specs.declared.answer.End.{End};
