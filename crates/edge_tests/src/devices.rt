@@ -4,8 +4,8 @@
 //! turns. Each text that it writes grows turn by turn. How long each is behind every turn is found by a run whose budget is so many turns: its
 //! trace ends with a line and its journal with a record more, by which that run is over.
 use crate::runs::{BUDGET, Device, Failing, Left, Loaded, NONE_FAILS, TURNS, made_files, run};
-use call_scripts::End;
-use call_scripts::listing::TRACE;
+use session_scripts::End;
+use session_scripts::listing::TRACE;
 use std::alloc::{AllocError, Global};
 use std::test::Fail;
 

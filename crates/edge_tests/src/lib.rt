@@ -11,4 +11,6 @@ mod replays;
 #[cfg(test)]
 mod runs;
 #[cfg(test)]
+mod scripts;
+#[cfg(test)]
 mod transfers;

@@ -2,10 +2,10 @@
 //! last byte is on an absent page, all of it is, it is on a page without write, or it passes the end of user space at 0x7FFF8000.
 //!
 //! A table has a row for each call: where the structure's last byte stands behind its first, the call, with `?` for the address, and what it
-//! gives where the structure can be had whole. Each row is a program of its own, in the scripts of `call_scripts`. Memory is, one
+//! gives where the structure can be had whole. Each row is a program of its own, in the scripts of `session_scripts`. Memory is, one
 //! page behind the other: zeros from 0x410D00 on, `room` of zeros, `no_nul` of the letter 0x79, and from `end` on nothing.
-use call_scripts::image::TREE;
-use call_scripts::sessions::first_wrong_under;
+use session_scripts::calls::first_wrong_under;
+use session_scripts::image::TREE;
 use std::alloc::{AllocError, Global};
 use std::test::Fail;
 

@@ -1,9 +1,7 @@
 //! Replays of the journals that runs leave.
-use crate::runs::{
-    BUDGET, Done, Left, Loaded, NONE_FAILS, TURNS, carry_out, file_of, made_files, run,
-};
-use call_scripts::guest::executable;
-use call_scripts::{End, Given};
+use crate::runs::{BUDGET, Left, Loaded, NONE_FAILS, TURNS, file_of, made_files, run};
+use session_scripts::guest::executable;
+use session_scripts::{Done, End, Given, carry_out};
 use std::alloc::Global;
 use std::test::Fail;
 
@@ -74,7 +72,7 @@ fn is_replayed(
     out: &[u8],
 ) -> Result<bool, Fail> {
     let done = session_with(alloc, "replay p j", program, journal)?;
-    let is_whole = matches!(done.answer.end, End::Replayed(_)) && !done.answer.is_hosted;
+    let is_whole = matches!(done.answer.end, End::Replayed(_)) && done.answer.host_turns.is_none();
     Ok(is_whole && status < 123 && is_told_so(&done, status, turns, out, b""))
 }
 

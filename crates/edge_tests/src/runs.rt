@@ -1,7 +1,7 @@
 //! Runs of a program that lists a directory, with every option, over devices of which one call may fail; and what each leaves.
-use call_scripts::image::image_of;
-use call_scripts::listing::{TREE, program};
-use call_scripts::{Answer, Devices, End, Given, MemSink, MemSource, MemStore, session};
+use session_scripts::image::image_of;
+use session_scripts::listing::{TREE, program};
+use session_scripts::{Done, End, Given, MemStore, carry_out};
 use std::alloc::{AllocError, Global};
 use std::test::Fail;
 
@@ -40,24 +40,6 @@ pub(crate) const NONE_FAILS: Failing = Failing {
 pub(crate) struct Loaded {
     pub(crate) program: Vec<u8>,
     pub(crate) image: Vec<u8>,
-}
-
-/// What a session answered.
-#[derive(Clone, Copy)]
-pub(crate) struct Told {
-    pub(crate) end: End,
-    pub(crate) status: u8,
-    pub(crate) turns: u64,
-    /// Whether an emulator is handed out.
-    pub(crate) is_hosted: bool,
-}
-
-/// What a session did. The emulator that it handed out is given up.
-#[derive(Drop)]
-pub(crate) struct Done {
-    pub(crate) answer: Told,
-    pub(crate) dev: Devices<MemSource, MemSink, MemSink>,
-    pub(crate) store: MemStore,
 }
 
 /// What a session left: its answer, its texts, which are empty where there is no file of theirs, and the saved image.
@@ -125,29 +107,6 @@ fn given_to(alloc: Global, loaded: &Loaded, budget: u64, failing: Failing) -> Re
     Ok(given)
 }
 
-/// What an answer says.
-fn answered(answer: &Answer) -> Told {
-    Told {
-        end: answer.end,
-        status: answer.status,
-        turns: answer.turns,
-        is_hosted: answer.host.is_some(),
-    }
-}
-
-/// Carries out a session.
-pub(crate) fn carry_out(alloc: Global, given: Given) -> Done {
-    let failing = given.failing;
-    let mut store = MemStore::new(alloc, given.files, failing.calls);
-    let mut dev = Devices {
-        input: MemSource::new(given.input, failing.takes),
-        out: MemSink::new(alloc, failing.puts),
-        err: MemSink::new(alloc, failing.lines),
-    };
-    let answer = answered(&session(alloc, &given.words, &mut store, &mut dev));
-    Done { answer, dev, store }
-}
-
 /// Puts the bytes of a file behind others, where there is one.
 fn push_file(bytes: &mut Vec<u8>, store: &MemStore, name: &str) -> Result<(), AllocError> {
     match store.file(name) {
@@ -193,7 +152,7 @@ fn told_of(alloc: Global, loaded: &Loaded, done: &Done) -> Left {
         end: done.answer.end,
         status: done.answer.status,
         turns: done.answer.turns,
-        is_hosted: done.answer.is_hosted,
+        is_hosted: done.answer.host_turns.is_some(),
         created: created(&done.store),
         out: Vec::new(alloc),
         trace: Vec::new(alloc),

@@ -1,5 +1,5 @@
 //! Transfers of which a part can be made, and what stands behind a call that could not tell what it made.
-use call_scripts::sessions::{first_wrong, first_wrong_saving};
+use session_scripts::calls::{first_wrong, first_wrong_saving};
 use std::test::Fail;
 
 /// A file of eight bytes in the root.

@@ -1,8 +1,8 @@
 //! Clocks and sleep: time(2), gettimeofday(2), clock_gettime(2), clock_getres(2), nanosleep(2), clock_nanosleep(2).
-use call_scripts::End;
-use call_scripts::guest::{data, executable, straight_code};
-use call_scripts::image::TREE;
-use call_scripts::sessions::{first_wrong, first_wrong_under, run};
+use session_scripts::End;
+use session_scripts::calls::{first_wrong, first_wrong_under, run};
+use session_scripts::guest::{data, executable, straight_code};
+use session_scripts::image::TREE;
 use std::alloc::Global;
 use std::test::Fail;
 

@@ -1,6 +1,6 @@
 //! getdents(2) and getdents64(2).
-use call_scripts::image::TREE;
-use call_scripts::sessions::first_wrong;
+use session_scripts::calls::first_wrong;
+use session_scripts::image::TREE;
 use std::test::Fail;
 
 /// Entries are given while they fit, and the next call goes on behind the last one. A record of getdents(2) has 12 bytes and its name,

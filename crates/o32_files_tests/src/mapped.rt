@@ -1,6 +1,6 @@
 //! mmap2(2) of files: the mapping is a copy that is made at once (this project's own), with zeros past the file's end.
-use call_scripts::image::TREE;
-use call_scripts::sessions::{first_wrong, first_wrong_saving};
+use session_scripts::calls::{first_wrong, first_wrong_saving};
+use session_scripts::image::TREE;
 use std::test::Fail;
 
 /// The descriptor's position stays, and what is written to the file later, or to the mapping, is not seen in the other.

@@ -1,6 +1,6 @@
 //! Calls that make, move and take away names: link(2), unlink(2), mkdir(2), rmdir(2), symlink(2), readlink(2), rename(2).
-use call_scripts::image::TREE;
-use call_scripts::sessions::{first_wrong, first_wrong_saving};
+use session_scripts::calls::{first_wrong, first_wrong_saving};
+use session_scripts::image::TREE;
 use std::test::Fail;
 
 /// A last link of the old path is not followed, but by linkat(2) with its flag. A directory is EPERM first.

@@ -1,6 +1,6 @@
 //! Calls on the node that a path or a descriptor names: access(2), chmod(2), truncate(2), utimensat(2), fsync(2), chdir(2), getcwd(2).
-use call_scripts::image::TREE;
-use call_scripts::sessions::first_wrong;
+use session_scripts::calls::first_wrong;
+use session_scripts::image::TREE;
 use std::test::Fail;
 
 /// A file that no bit allows to execute is EACCES for the superuser too (access(2)).

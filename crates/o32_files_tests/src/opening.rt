@@ -1,7 +1,7 @@
 //! open(2), openat(2), creat(2), and places in files: lseek(2), _llseek(2).
-use call_scripts::guest::TAKE_ALL_DESCRIPTORS;
-use call_scripts::image::TREE;
-use call_scripts::sessions::{first_wrong, first_wrong_saving};
+use session_scripts::calls::{first_wrong, first_wrong_saving};
+use session_scripts::guest::TAKE_ALL_DESCRIPTORS;
+use session_scripts::image::TREE;
 use std::test::Fail;
 
 /// A new descriptor is the least that is free. EINVAL comes for the access mode 3, a flag that is none, and O_CREAT with O_DIRECTORY,

@@ -1,9 +1,9 @@
 //! What every call with a path refuses, and what calls refuse that tell something, or that have arguments on the stack. Nothing is left
 //! of a call that is refused.
-use call_scripts::End;
-use call_scripts::guest::{data, executable, straight_code};
-use call_scripts::image::TREE;
-use call_scripts::sessions::{first_wrong_saving, run};
+use session_scripts::End;
+use session_scripts::calls::{first_wrong_saving, run};
+use session_scripts::guest::{data, executable, straight_code};
+use session_scripts::image::TREE;
 use std::alloc::{AllocError, Global};
 use std::test::Fail;
 

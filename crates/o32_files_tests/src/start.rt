@@ -1,10 +1,10 @@
 //! The calls that a C library makes before and around a small `main`, one after the other.
-use call_scripts::End;
-use call_scripts::guest::{code_of, executable};
-use call_scripts::image::image_of;
-use call_scripts::listing::{TRACE, TREE, data, program};
-use call_scripts::script::read;
-use call_scripts::sessions::{Came, place_of, run};
+use session_scripts::End;
+use session_scripts::call_lines::read;
+use session_scripts::calls::{Came, place_of, run};
+use session_scripts::guest::{code_of, executable};
+use session_scripts::image::image_of;
+use session_scripts::listing::{TRACE, TREE, data, program};
 use std::test::Fail;
 
 /// The calls of the program but the last, and what each gives: the process's id is this project's own, standard output is no terminal, and the

@@ -1,6 +1,6 @@
 //! stat(2), lstat(2), fstat(2) and fstatat(2), in the old structure and in that of 64 bits.
-use call_scripts::image::TREE;
-use call_scripts::sessions::first_wrong;
+use session_scripts::calls::first_wrong;
+use session_scripts::image::TREE;
 use std::test::Fail;
 
 /// The old structure: number at 16, mode, names at 24, size at 48, the seconds of the modification at 64, block size at 80 and blocks.

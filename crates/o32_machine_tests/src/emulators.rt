@@ -51,34 +51,55 @@ fn empty_schedule(alloc: Global) -> Result<Schedule, Fail>
     }
 }
 
-/// A program's memory: four pages that begin with these words, and one of data that begins with a line, with the break
-/// behind it.
-fn new_space(alloc: Global, code: &[u32]) -> Result<Space, Fail> {
-    let mut space = Space::new(alloc).ok().ok_or("no memory")?;
-    space.map(CODE / 4096, 4, 7).ok().ok_or("not mapped")?;
-    space.map(DATA / 4096, 1, 3).ok().ok_or("not mapped")?;
+/// Maps four pages that begin with these words, and one of data that begins with a line, with the break behind it.
+fn fill(alloc: Global, space: &mut Space, code: &[u32]) -> Result<(), Fail> {
     let mut bytes = Vec::new(alloc);
     for word in code {
         bytes.extend_from_slice(&word.to_be_bytes())?;
     }
+    space.map(CODE / 4096, 4, 7).ok().ok_or("not mapped")?;
+    space.map(DATA / 4096, 1, 3).ok().ok_or("not mapped")?;
     space.copy_out(CODE, &bytes).ok().ok_or("not stored")?;
     space.copy_out(DATA, b"Hi\n").ok().ok_or("not stored")?;
     space.set_break(DATA + 4096);
+    Ok(())
+}
+
+/// A program's memory.
+fn new_space(alloc: Global, code: &[u32]) -> Result<Space, Fail> {
+    let mut space = Space::new(alloc).ok().ok_or("no memory")?;
+    fill(alloc, &mut space, code)?;
     Ok(space)
 }
 
 /// An emulator of a program of these words, of an empty tree and an empty schedule.
-pub(crate) fn new_emulator(alloc: Global, code: &[u32]) -> Result<Emulator, Fail> {
+fn new_emulator(alloc: Global, code: &[u32]) -> Result<Emulator, Fail> {
+    let tree = empty_tree(alloc)?;
+    let schedule = empty_schedule(alloc)?;
     let start = Start {
         space: new_space(alloc, code)?,
         cpu: Cpu::new(CODE),
     };
-    let tree = empty_tree(alloc)?;
-    let schedule = empty_schedule(alloc)?;
     match Emulator::new(alloc, start, tree, schedule, false, false) {
         Ok(emulator) => Ok(emulator),
         Err(_) => Err(Fail::from("no memory")),
     }
+}
+
+/// What is looked at in an emulator that is new.
+pub(crate) trait Look {
+    /// What is seen.
+    type Seen;
+
+    /// Looks at it.
+    fn see(&self, alloc: Global, emulator: &mut Emulator) -> Result<Self::Seen, Fail>;
+}
+
+/// What is seen of an emulator of a program of these words. It alone gives one up: that costs the proof of all
+/// that is given up.
+pub(crate) fn look_at<L: Look>(alloc: Global, code: &[u32], look: &L) -> Result<L::Seen, Fail> {
+    let mut emulator = new_emulator(alloc, code)?;
+    look.see(alloc, &mut emulator)
 }
 
 /// Streams with this input; the calls of the output whose numbers are in `fail` fail.

@@ -1,5 +1,5 @@
 //! Programs that make calls, one after the other, and look at what each gives.
-use crate::emulators::{Streams, new_emulator, new_streams, run};
+use crate::emulators::{Look, Streams, look_at, new_streams, run};
 use crate::requests::{Call, Gives, read};
 use kernel_core::Finish;
 use o32_machine::Emulator;
@@ -146,14 +146,19 @@ fn status_of(emulator: &mut Emulator, streams: &mut Streams, out: &[u8]) -> Opti
     }
 }
 
-/// The same over new streams.
-fn status_over_input(
-    alloc: Global,
-    emulator: &mut Emulator,
-    out: &[u8],
-) -> Result<Option<u8>, Fail> {
-    let mut streams = new_streams(alloc, INPUT, &[])?;
-    Ok(status_of(emulator, &mut streams, out))
+/// The same over new streams, where this has to be written.
+#[derive(Clone, Copy)]
+struct StatusOver<'a> {
+    out: &'a [u8],
+}
+
+impl Look for StatusOver<'_> {
+    type Seen = Option<u8>;
+
+    fn see(&self, alloc: Global, emulator: &mut Emulator) -> Result<Option<u8>, Fail> {
+        let mut streams = new_streams(alloc, INPUT, &[])?;
+        Ok(status_of(emulator, &mut streams, self.out))
+    }
 }
 
 /// The place of the first call of a script that gives anything else, counted from 1, or 0; None where the program ends
@@ -163,7 +168,5 @@ pub(crate) fn first_wrong(alloc: Global, text: &str, out: &[u8]) -> Result<Optio
     if calls.is_empty() || calls.len() > MOST_CALLS {
         return Err(Fail::from("no calls, or too many"));
     }
-    let code = code_of(alloc, &calls)?;
-    let mut emulator = new_emulator(alloc, &code)?;
-    status_over_input(alloc, &mut emulator, out)
+    look_at(alloc, &code_of(alloc, &calls)?, &StatusOver { out })
 }

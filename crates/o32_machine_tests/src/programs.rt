@@ -6,7 +6,7 @@
 //!     exited 7 turns 12               how it ends, and how many turns it takes
 //!
 //! An end is `exited` with a status, `killed` with a signal's number, or `blocked`. Input and outputs that are left out are empty.
-use crate::emulators::{Streams, new_emulator, new_streams, run};
+use crate::emulators::{Look, Streams, look_at, new_streams, run};
 use crate::instructions::instruction;
 use crate::numbers::push_bytes;
 use crate::script::Words;
@@ -51,18 +51,27 @@ impl Program {
 
     /// Whether its run ends so.
     fn ends(&self, alloc: Global, end: End) -> Result<bool, Fail> {
-        let mut emulator = new_emulator(alloc, &self.code)?;
-        self.ends_in(alloc, &mut emulator, end)
-    }
-
-    /// Whether its run in this emulator ends so.
-    fn ends_in(&self, alloc: Global, emulator: &mut Emulator, end: End) -> Result<bool, Fail> {
-        let mut streams = new_streams(alloc, &self.input, &[])?;
-        Ok(is_end(emulator, &mut streams, end) && self.is_written(&streams))
+        look_at(alloc, &self.code, &EndsSo { program: self, end })
     }
 
     fn is_written(&self, streams: &Streams) -> bool {
         streams.out.bytes() == self.out.as_slice() && streams.err.bytes() == self.err.as_slice()
+    }
+}
+
+/// Whether the run of a program ends so.
+#[derive(Clone, Copy)]
+struct EndsSo<'a> {
+    program: &'a Program,
+    end: End,
+}
+
+impl Look for EndsSo<'_> {
+    type Seen = bool;
+
+    fn see(&self, alloc: Global, emulator: &mut Emulator) -> Result<bool, Fail> {
+        let mut streams = new_streams(alloc, &self.program.input, &[])?;
+        Ok(is_end(emulator, &mut streams, self.end) && self.program.is_written(&streams))
     }
 }
 

@@ -1,6 +1,6 @@
 //! Turns that stop early, and what an emulator tells.
 
-use crate::emulators::{Streams, new_emulator, new_streams};
+use crate::emulators::{Look, Streams, look_at, new_streams};
 use crate::instructions::code_of;
 use kernel_core::Stop;
 use o32_machine::{Emulator, Turn};
@@ -45,39 +45,46 @@ fn stops_at_the_seventh(emulator: &mut Emulator, streams: &mut Streams) -> bool 
 }
 
 /// Whether it does where the second put fails, and the line of the first one was written.
-fn stops_where_a_put_fails(alloc: Global, emulator: &mut Emulator) -> Result<bool, Fail> {
-    let mut streams = new_streams(alloc, b"", &[2])?;
-    Ok(stops_at_the_seventh(emulator, &mut streams) && streams.out.bytes() == b"Hi\n".as_slice())
-}
+#[derive(Clone, Copy)]
+struct StopsWhereAPutFails;
 
-fn writes_stop(alloc: Global) -> Result<bool, Fail> {
-    let mut emulator = new_emulator(alloc, &code_of(alloc, LINES)?)?;
-    stops_where_a_put_fails(alloc, &mut emulator)
+impl Look for StopsWhereAPutFails {
+    type Seen = bool;
+
+    fn see(&self, alloc: Global, emulator: &mut Emulator) -> Result<bool, Fail> {
+        let mut streams = new_streams(alloc, b"", &[2])?;
+        let stops = stops_at_the_seventh(emulator, &mut streams);
+        Ok(stops && streams.out.bytes() == b"Hi\n".as_slice())
+    }
 }
 
 /// The second put fails: the turn of the second write stops, and is none.
 #[test]
 fn a_write_that_fails(rt: HostRuntime) -> Result<(), Fail> {
-    assert!(rt; writes_stop(rt.alloc())?);
+    let code = code_of(rt.alloc(), LINES)?;
+    assert!(rt; look_at(rt.alloc(), &code, &StopsWhereAPutFails)?);
     Ok(())
 }
 
 /// How many nodes an emulator's tree has.
-fn nodes_of(emulator: &Emulator) -> Result<usize, Fail> {
-    match emulator.tree() {
-        Ok(tree) => Ok(tree.nodes.as_slice().len()),
-        Err(_) => Err(Fail::from("no memory")),
-    }
-}
+#[derive(Clone, Copy)]
+struct CountOfNodes;
 
-fn nodes_of_new(alloc: Global) -> Result<usize, Fail> {
-    let emulator = new_emulator(alloc, &code_of(alloc, LINES)?)?;
-    nodes_of(&emulator)
+impl Look for CountOfNodes {
+    type Seen = usize;
+
+    fn see(&self, _alloc: Global, emulator: &mut Emulator) -> Result<usize, Fail> {
+        match emulator.tree() {
+            Ok(tree) => Ok(tree.nodes.as_slice().len()),
+            Err(_) => Err(Fail::from("no memory")),
+        }
+    }
 }
 
 /// The tree of a program that changed nothing is the one that it was given.
 #[test]
 fn the_tree(rt: HostRuntime) -> Result<(), Fail> {
-    assert_eq!(rt; nodes_of_new(rt.alloc())?, 1);
+    let code = code_of(rt.alloc(), LINES)?;
+    assert_eq!(rt; look_at(rt.alloc(), &code, &CountOfNodes)?, 1);
     Ok(())
 }

@@ -33,6 +33,32 @@ const WORDS: &str = r#"
     o32run soaks 1 ! usage 0 : o32run: usage at word 0
 "#;
 
+/// Sessions that come out otherwise than is said here, in one thing each: the turns, the status, the end, the output, the refused word, its line.
+const WRONG: [&str; 6] = [
+    r"
+    out soak 1: exited 0, turns 19, bytes 4, sum 00000001\n
+    o32run soak 1 = soaked exited 0 0 20
+    ",
+    r"
+    out soak 1: exited 0, turns 19, bytes 4, sum 00000001\n
+    o32run soak 1 = soaked exited 0 1 19
+    ",
+    r"
+    out soak 1: exited 0, turns 19, bytes 4, sum 00000001\n
+    o32run soak 1 = soaked exited 1 0 19
+    ",
+    r"
+    out soak 1: exited 0, turns 19, bytes 4, sum 00000002\n
+    o32run soak 1 = soaked exited 0 0 19
+    ",
+    r"
+    o32run soak 0 ! usage 2 : o32run: usage at word 1
+    ",
+    r"
+    o32run soak 0 ! usage 1 : o32run: usage at word 2
+    ",
+];
+
 /// The run is over where its line fails. Nothing else is put.
 const DEVICES_THAT_FAIL: &str = r"
     fails put 1
@@ -64,5 +90,13 @@ fn words(rt: HostRuntime) -> Result<(), Fail> {
 #[test]
 fn devices_that_fail(rt: HostRuntime) -> Result<(), Fail> {
     assert_eq!(rt; first_wrong(rt.alloc(), FILES, DEVICES_THAT_FAIL)?, None);
+    Ok(())
+}
+
+#[test]
+fn wrong_sessions_are_found(rt: HostRuntime) -> Result<(), Fail> {
+    for script in WRONG {
+        assert_eq!(rt; first_wrong(rt.alloc(), FILES, script)?, Some(0));
+    }
     Ok(())
 }

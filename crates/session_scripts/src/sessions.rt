@@ -1,7 +1,8 @@
 //! A session, and what it comes to.
-use o32_session::{Answer, End, session};
-use outside::{Devices, MemSink, MemSource, MemStore};
-use session_settings::{Given, Left, Setting};
+use crate::carrying::{Done, carry_out, is_hosted};
+use o32_session::End;
+use outside::MemStore;
+use session_settings::{Left, Setting};
 use std::alloc::Global;
 
 /// What a session answers.
@@ -13,45 +14,6 @@ pub(crate) struct Outcome {
     pub(crate) status: u8,
     /// The turns of its answer.
     pub(crate) turns: u64,
-}
-
-/// What a session did.
-#[derive(Drop)]
-struct Done {
-    answer: Answer,
-    out: MemSink,
-    err: MemSink,
-    store: MemStore,
-}
-
-/// Carries out a session.
-fn carry_out(alloc: Global, given: Given) -> Done {
-    let failing = given.failing;
-    let mut store = MemStore::new(alloc, given.files, failing.calls);
-    let mut dev = Devices {
-        input: MemSource::new(given.input, failing.takes),
-        out: MemSink::new(alloc, failing.puts),
-        err: MemSink::new(alloc, failing.lines),
-    };
-    let answer = session(alloc, &given.words, &mut store, &mut dev);
-    Done {
-        answer,
-        out: dev.out,
-        err: dev.err,
-        store,
-    }
-}
-
-/// Whether an answer hands out an emulator that took its turns, exactly where the run ended by itself.
-fn is_hosted(answer: &Answer) -> bool {
-    let finished = matches!(
-        answer.end,
-        End::Exited(_) | End::Killed(_) | End::Budget | End::Blocked | End::Soaked(_)
-    );
-    match &answer.host {
-        Some(host) => finished && host.turns() == answer.turns,
-        None => !finished,
-    }
 }
 
 /// Whether this is left in a file of a store.
@@ -69,8 +31,8 @@ fn is_right(done: &Done, outcome: &Outcome, left: &Left) -> bool {
         && done.answer.status == outcome.status
         && done.answer.turns == outcome.turns
         && is_hosted(&done.answer)
-        && done.out.bytes() == left.out.as_slice()
-        && done.err.bytes() == left.err.as_slice()
+        && done.dev.out.bytes() == left.out.as_slice()
+        && done.dev.err.bytes() == left.err.as_slice()
         && is_left(&done.store, "s", &left.saved)
         && is_left(&done.store, "trace", &left.traced)
         && is_left(&done.store, "native", &left.logged)

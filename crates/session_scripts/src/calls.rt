@@ -1,9 +1,10 @@
-//! Sessions of programs over an image.
+//! Sessions of a program that makes the calls of a script over an image: the place of the first call that gives anything else.
+use crate::carrying::{Done, carry_out};
 use guest_scripts::calls::{Script, read};
 use guest_scripts::guest::{code_of, data, executable};
 use guest_scripts::image::image_of;
-use o32_session::{End, session};
-use outside::{Devices, MemSink, MemSource, MemStore};
+use o32_session::End;
+use outside::MemStore;
 use session_settings::Given;
 use std::alloc::Global;
 use std::test::Fail;
@@ -21,15 +22,6 @@ pub struct Came {
     pub trace: Vec<u8>,
     /// What it saved.
     pub saved: Vec<u8>,
-}
-
-/// What a session did.
-#[derive(Drop)]
-struct Done {
-    end: End,
-    turns: u64,
-    out: MemSink,
-    store: MemStore,
 }
 
 /// The words that run the program over the image under the schedule, write the trace to `t`, and save the tree in `s`.
@@ -51,24 +43,6 @@ fn give(
     Ok(())
 }
 
-/// Carries out a session.
-fn carry_out(alloc: Global, given: Given) -> Done {
-    let failing = given.failing;
-    let mut store = MemStore::new(alloc, given.files, failing.calls);
-    let mut dev = Devices {
-        input: MemSource::new(given.input, failing.takes),
-        out: MemSink::new(alloc, failing.puts),
-        err: MemSink::new(alloc, failing.lines),
-    };
-    let answer = session(alloc, &given.words, &mut store, &mut dev);
-    Done {
-        end: answer.end,
-        turns: answer.turns,
-        out: dev.out,
-        store,
-    }
-}
-
 /// What stands in a file, or nothing.
 fn bytes_of(alloc: Global, store: &MemStore, name: &str) -> Result<Vec<u8>, Fail> {
     match store.file(name) {
@@ -80,9 +54,9 @@ fn bytes_of(alloc: Global, store: &MemStore, name: &str) -> Result<Vec<u8>, Fail
 /// What came of a session that is carried out.
 fn came_of(alloc: Global, done: &Done) -> Result<Came, Fail> {
     Ok(Came {
-        end: done.end,
-        turns: done.turns,
-        out: done.out.bytes().to_vec(alloc)?,
+        end: done.answer.end,
+        turns: done.answer.turns,
+        out: done.dev.out.bytes().to_vec(alloc)?,
         trace: bytes_of(alloc, &done.store, "t")?,
         saved: bytes_of(alloc, &done.store, "s")?,
     })
