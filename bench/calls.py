@@ -1,10 +1,11 @@
 #!/usr/bin/env python3
 """Measures how many system calls the emulator carries out in a second.
 
-Eight guest programs, each one loop, are built and run: getpid(2); write(2) of 1 and of 4096 bytes to standard output, which is
+Eleven guest programs, each one loop, are built and run: getpid(2); write(2) of 1 and of 4096 bytes to standard output, which is
 the null device; write(2) of as many bytes to a file, and lseek(2) back to its beginning; write(2) of them into a pipe, and read(2)
-of them; and mmap2(2) of one page, a store to it and munmap(2). Each program exits with 0 where no call failed, in just the turns
-that are counted, and not in one less; what a short form of it writes has to have the right length.
+of them; fstat64(2) of a file, and stat64(2) of its path; open(2) of it, and close(2); and mmap2(2) of one page, a store to it and
+munmap(2). Each program exits with 0 where no call failed, in just the turns that are counted, and not in one less; what a short
+form of it writes has to have the right length.
 
 A rate is that of the best run, by the processor's seconds that the run took, user and system, the instructions of the
 loop among them.
@@ -46,14 +47,16 @@ from processes import processor_name, run  # noqa: E402
 from words import a_count, an_executable, default_emulator  # noqa: E402
 
 # asm/unistd.h of MIPS Linux, o32.
-READ_CALL, WRITE_CALL, OPEN_CALL, LSEEK_CALL, GETPID_CALL, PIPE_CALL, MUNMAP_CALL = 4003, 4004, 4005, 4019, 4020, 4042, 4091
+READ_CALL, WRITE_CALL, OPEN_CALL, CLOSE_CALL, LSEEK_CALL, GETPID_CALL, PIPE_CALL = 4003, 4004, 4005, 4006, 4019, 4020, 4042
+MUNMAP_CALL, STAT64_CALL, FSTAT64_CALL = 4091, 4213, 4215
 
 # asm/fcntl.h of MIPS Linux: O_CREAT and O_RDWR.
 MADE_TO_READ_AND_WRITE = 0x102
 OWN_MODE = 0o600
 
-# The path of the file that is written, at DATA.
+# The path of the file that is written, at DATA, and where its status goes.
 FILE_PATH = b"/file\0"
+STATUS_PLACE = DATA + 64
 
 STANDARD_OUTPUT = 1
 BUDGET_STATUS = 124
@@ -87,17 +90,34 @@ def write_loop(count):
     return Loop(f"write of {count}", setup, call(WRITE_CALL), written=count)
 
 
+OPENED = [
+    *load_constant(A0, DATA),
+    addiu(A1, ZERO, MADE_TO_READ_AND_WRITE),
+    addiu(A2, ZERO, OWN_MODE),
+    *call(OPEN_CALL),
+]
+
+
 def file_loop(count):
-    setup = [
-        *load_constant(A0, DATA),
-        addiu(A1, ZERO, MADE_TO_READ_AND_WRITE),
-        addiu(A2, ZERO, OWN_MODE),
-        *call(OPEN_CALL),
-        addu(A0, V0, ZERO),
-    ]
+    setup = [*OPENED, addu(A0, V0, ZERO)]
     written = [*load_constant(A1, DATA), addiu(A2, ZERO, count), *call(WRITE_CALL)]
     back = [addu(A1, ZERO, ZERO), addu(A2, ZERO, ZERO), *call(LSEEK_CALL)]
     return Loop(f"write of {count} and lseek, file", setup, written + back, calls=2, data=FILE_PATH)
+
+
+def status_loop():
+    setup = [*OPENED, addu(A0, V0, ZERO), *load_constant(A1, STATUS_PLACE)]
+    return Loop("fstat64", setup, call(FSTAT64_CALL), data=FILE_PATH)
+
+
+def path_status_loop():
+    setup = [*OPENED, *load_constant(A0, DATA), *load_constant(A1, STATUS_PLACE)]
+    return Loop("stat64", setup, call(STAT64_CALL), data=FILE_PATH)
+
+
+def open_loop():
+    closed = [addu(A0, V0, ZERO), *call(CLOSE_CALL)]
+    return Loop("open and close", [], [*OPENED, *closed], calls=2, data=FILE_PATH)
 
 
 def pipe_loop(count):
@@ -127,6 +147,9 @@ LOOPS = [
     file_loop(4096),
     pipe_loop(1),
     pipe_loop(4096),
+    status_loop(),
+    path_status_loop(),
+    open_loop(),
     mapping_loop(),
 ]
 

@@ -3,8 +3,8 @@
 
 Four guest programs, each one loop of at most 10^8 instructions, are built and run, by the emulator and by the
 yardstick in turns. Both must end alike: with the same status in just the turns that are counted, and not in one less.
-Then the time of a short run is measured, and the memory of pages that are never touched. Where qemu-mips is installed
-it runs the loops too.
+Then the time of a short run is measured, beside that of an empty program in C, and the memory of pages that are never
+touched. Where qemu-mips is installed it runs the loops too.
 
 A rate is given twice: by the seconds that passed, and by the processor's seconds that the run took, which other work on
 the machine disturbs less. Ratios are those of the best processor's seconds.
@@ -116,22 +116,42 @@ def measure_loops(emulator, compiler, turns, times):
     return all(rates[0] >= LEAST_RATIO * rates[1] for _, rates in rows)
 
 
-def measure_hello(emulator, before, times):
-    """Prints the processor's time of a short run; whether it is at most half of an earlier build's, where one is given."""
-    programs = [("o32run", emulator)] + ([("before", before)] if before else [])
-    print(f"run of {HELLO.name}, {HELLO_RUNS} runs at a time: milliseconds of the processor for each, user and system")
+def build_empty(compiler, folder):
+    """A program in C that does nothing, linked dynamically."""
+    path = folder / "empty"
+    command = [compiler, "-O2", "-x", "c", "-", "-o", str(path)]
+    if subprocess.run(command, input=b"int main(void) { return 0; }\n").returncode != 0:
+        sys.exit("the empty program was not built")
+    return path
+
+
+def least_times(programs, times):
+    """The least processor's seconds of so many runs of each program, all programs in turns."""
     least = {}
     for _ in range(times):
-        for name, program in programs:
+        for name, command, status in programs:
             used = 0.0
             for _ in range(HELLO_RUNS):
-                done = run([program, "run", HELLO])
-                if done.status != HELLO_STATUS:
+                done = run(command)
+                if done.status != status:
                     sys.exit(f"{HELLO.name}: {name} ends with {done.status}")
                 used += done.used
             least[name] = min(least.get(name, used), used)
+    return least
+
+
+def measure_hello(emulator, before, compiler, times):
+    """Prints the processor's time of a short run, beside an empty program's; whether it is at most half of an earlier
+    build's, where one is given."""
+    builds = [("o32run", emulator)] + ([("before", before)] if before else [])
+    programs = [(name, [program, "run", HELLO], HELLO_STATUS) for name, program in builds]
+    print(f"run of {HELLO.name}, {HELLO_RUNS} runs at a time: milliseconds of the processor for each, user and system")
+    with tempfile.TemporaryDirectory() as name:
+        programs.append(("empty", [build_empty(compiler, pathlib.Path(name))], 0))
+        least = least_times(programs, times)
     for name, used in least.items():
         print(f"  {name:10} {1000 * used / HELLO_RUNS:6.2f}")
+    print(f"  {least['o32run'] / least['empty']:.2f} times an empty program in C, linked dynamically")
     if not before:
         return True
     ratio = least["o32run"] / least["before"]
@@ -160,7 +180,7 @@ def main():
     print(f"{processor_name()}, {os.cpu_count()} processors, load {os.getloadavg()[0]:.1f}")
     reached = [
         measure_loops(words.emulator, words.compiler, words.turns, words.times),
-        measure_hello(words.emulator, words.before, words.times),
+        measure_hello(words.emulator, words.before, words.compiler, words.times),
         memory.measure(words.emulator),
     ]
     print(f"load at the end {os.getloadavg()[0]:.1f}")
