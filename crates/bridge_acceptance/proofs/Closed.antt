@@ -17,7 +17,7 @@ use Rattle.outside.specs.Streams.{Contents}
 use Rattle.bridge_acceptance.specs.Ends as ends
 use Rattle.bridge_acceptance.specs.declared.telling.Told.{Told}
 use Rattle.bridge_acceptance.specs.inside.Telling.{ended, outcome_of, telling}
-use Rattle.bridge_log.specs.Keeping.{Keeps, Logged, reached}
+use Rattle.bridge_signal_state.specs.Passed.{Keeps, Logged, reached}
 use Rattle.bridge_signal_state.specs.Acts.{Moves}
 
 pub ends_called : {kernel became : Kernel} {before after : Contents} {left : List ℕ} {old kept : Kept} (guest : Guest) (outcome : Outcome) (memory : Memory) (told : Told) (step : O32Step)

@@ -1,4 +1,5 @@
 pub mod Closed
 pub mod HostRooms
 pub mod Naming
+pub mod Passed
 pub mod Rows

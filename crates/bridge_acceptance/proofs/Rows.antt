@@ -37,7 +37,7 @@ use Rattle.o32_model.specs.declared.wait.Close.{Close}
 use Rattle.o32_model.specs.Words.{argument}
 use Rattle.o32_model.specs.declared.wait.Seen.{Seen}
 use Rattle.o32_model.specs.declared.wait.Wait.{Wait}
-use Rattle.bridge_log.specs.Looks.{IsLook}
+use Rattle.bridge_signal_state.specs.Passed.{IsLook}
 use Rattle.bridge_acceptance.proofs.Naming.{none_natively}
 use Rattle.bridge_acceptance.specs.declared.accepting.Accepted.{Accepted}
 use Rattle.bridge_acceptance.specs.declared.accepting.Accepted.TheVariants as accepteds

@@ -1,6 +1,6 @@
 -- What an end of a wait comes to, and what is kept of it. (The forms are this project's own.)
 use Rattle.std.specs.Prelude.{◌≡◌, ℕ, List, Option, Some, Result, IfOk, OnOk}
-use Rattle.bridge_log.specs.Keeping.{Logged, reached}
+use Rattle.bridge_signal_state.specs.Passed.{Logged, reached}
 use Rattle.guest_space.specs.Memory.{Memory, Pages}
 use Rattle.kernel_core.specs.declared.core_error.Stop.{Stop}
 use Rattle.kernel_model.specs.Pipes.{Sent}

@@ -17,8 +17,7 @@ ghost use Rattle.outside.specs.Streams.{NoCountFell, contents};
 
 use crate::asked::{Wanted, asked, is_timed};
 use crate::waiting::wait;
-use bridge_log::NativeKernel;
-use bridge_signal_state::{pending, take};
+use bridge_signal_state::{NativeKernel, pending, take};
 use guest_space::Space;
 use host_mem::HostMem;
 use kernel_core::{Errno, Info, Sig, Stop};

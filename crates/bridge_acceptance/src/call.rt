@@ -1,7 +1,7 @@
 //! The call by its words.
 ghost use Rattle.std.specs.Prelude.{◌≡◌};
 ghost use Rattle.bridge_acceptance.specs.Found.{found};
-ghost use Rattle.bridge_log.specs.Keeping.{KeepsCall};
+ghost use Rattle.bridge_signal_state.specs.Passed.{KeepsCall};
 ghost use Rattle.kernel_model.specs.Stops.{StopsOnlyIfRose};
 ghost use Rattle.o32_model.specs.Answered.{IsCall};
 ghost use Rattle.o32_model.specs.Table.{machine_call};
@@ -9,7 +9,7 @@ ghost use Rattle.outside.specs.Streams.{NoCountFell, contents};
 
 use crate::accepting::accept;
 use crate::telling::{outcome_of, tell};
-use bridge_log::NativeKernel;
+use bridge_signal_state::NativeKernel;
 use guest_space::Space;
 use host_mem::HostMem;
 use kernel_core::Stop;

@@ -9,7 +9,7 @@ ghost use Rattle.outside.specs.Streams.{NoCountFell, contents};
 
 use crate::accepting::accept;
 use crate::telling::{close_of, tell};
-use bridge_log::NativeKernel;
+use bridge_signal_state::NativeKernel;
 use guest_space::Space;
 use host_mem::HostMem;
 use kernel_core::{Errno, Stop};

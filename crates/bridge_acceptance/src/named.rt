@@ -2,7 +2,7 @@
 ghost use Rattle.std.specs.Prelude.{◌≡◌, ◌==◌};
 ghost use Rattle.std.specs.List.{list_any};
 ghost use Rattle.bridge_acceptance.specs.inside.Named.{named_set};
-ghost use Rattle.bridge_log.specs.Looks.{LooksFor};
+ghost use Rattle.bridge_signal_state.specs.Passed.{LooksFor};
 ghost use Rattle.kernel_core.specs.declared.signal.Sig.{Sig};
 ghost use Rattle.kernel_model.specs.SignalRows.{pends};
 ghost use Rattle.kernel_model.specs.SignalSets.{place};
@@ -11,8 +11,7 @@ ghost use Rattle.o32_model.specs.SignalWaitEnds.{named_signals};
 ghost use Rattle.outside.specs.Streams.{NoCountFell, contents};
 
 use crate::structures::set_in_program;
-use bridge_log::NativeKernel;
-use bridge_signal_state::pending;
+use bridge_signal_state::{NativeKernel, pending};
 use guest_space::Space;
 use host_mem::HostMem;
 use kernel_core::{Sig, Stop};

@@ -4,7 +4,7 @@ ghost use Rattle.layouts.specs.Number.{unsigned, value_of};
 ghost use Rattle.o32_model.specs.Masks as masks;
 ghost use Rattle.o32_model.specs.Times as times;
 
-use bridge_log::load_structure;
+use bridge_signal_state::load_structure;
 use byteorder::{BigEndian, ByteOrder};
 use guest_space::Space;
 use kernel_core::Errno;

@@ -2,7 +2,7 @@
 ghost use Rattle.std.specs.Prelude.{◌≡◌, IfOk, OnOk};
 ghost use Rattle.bridge_acceptance.specs.inside.Telling as spec;
 ghost use Rattle.bridge_acceptance.specs.inside.Telling.{stores, stores_unless_null, telling, tells};
-ghost use Rattle.bridge_log.specs.Keeping.{reached};
+ghost use Rattle.bridge_signal_state.specs.Passed.{reached};
 ghost use Rattle.kernel_model.specs.Pipes.{Sent};
 ghost use Rattle.mips_exec.specs.Processor.{Processor};
 ghost use Rattle.o32_model.specs.Effects.{Effected};
@@ -10,7 +10,7 @@ ghost use Rattle.o32_model.specs.Step as o32_step;
 
 use crate::accepting::Accepted;
 use crate::infos::info_bytes;
-use bridge_log::{put, six_words};
+use bridge_signal_state::{put, six_words};
 use guest_space::Space;
 use kernel_core::{Errno, Info, NoMemory};
 use number_tables::O32Number;

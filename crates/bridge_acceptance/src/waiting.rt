@@ -1,8 +1,8 @@
 //! The call where none of the signals pends that it waits for: it waits, or its time is over.
 ghost use Rattle.std.specs.Prelude.{◌≡◌, None};
 ghost use Rattle.bridge_acceptance.specs.inside.Accepting.{acceptance, came_of, did};
-ghost use Rattle.bridge_log.specs.Looks.{LooksFor};
-ghost use Rattle.bridge_log.specs.Outcomes as outcomes;
+ghost use Rattle.bridge_signal_state.specs.Passed.{LooksFor};
+ghost use Rattle.bridge_signal_state.specs.Passed.{error_of};
 ghost use Rattle.kernel_model.specs.SignalRows.{first_pending};
 ghost use Rattle.kernel_model.specs.SignalSets.{blockable};
 ghost use Rattle.kernel_model.specs.Stops.{StopsOnlyIfRose};
@@ -13,7 +13,7 @@ use crate::accepting::Accepted;
 use crate::asked::Wanted;
 use crate::numbers::{RT_SIGTIMEDWAIT, SIGSETSIZE};
 use crate::rooms::put_asked;
-use bridge_log::{NativeKernel, look};
+use bridge_signal_state::{NativeKernel, look};
 use host_mem::{FIRST_ADDRESS, HostMem};
 use kernel_core::{Errno, Reply, Stop};
 use number_tables::NativeNumber;
@@ -54,7 +54,7 @@ fn came_of(reply: Reply) -> Accepted
 
 /// The error of a native number; no call replies with a number that is none.
 fn error_of(number: u64) -> Errno
-    ensures { result ≡ outcomes.error_of number }
+    ensures { result ≡ error_of number }
 {
     Errno::of_native(number).unwrap_or(Errno::ENOSYS)
 }

@@ -5,7 +5,7 @@ use Rattle.bridge_delivery.specs.inside.Frames.{framed, has_room, plain, with_in
 use Rattle.bridge_delivery.specs.inside.Standings as standings
 use Rattle.bridge_delivery.specs.inside.Standings.{keeping, kept_of}
 use Rattle.bridge_ends.specs.Ended.{ended_wait}
-use Rattle.bridge_signal_state.specs.Acts.{Acted}
+use Rattle.bridge_ends.specs.Passed.{Acted}
 use Rattle.guest_space.specs.Bytes.{copied_out}
 use Rattle.guest_space.specs.Memory.{Memory}
 use Rattle.kernel_core.specs.declared.core_error.Stop.{Stop}

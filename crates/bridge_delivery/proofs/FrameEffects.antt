@@ -1,9 +1,9 @@
 -- A frame that was written is read back, and kept as one effect.
 use Rattle.std.proofs.Common.{◌≡◌, ℕ, ◌≤◌, ◌<◌, ◌^◌, Bool, true, false, List, length, Option, None, Some, refl, sym, ap, subst, ◌∙◌, arith}
 use Rattle.std.specs.Prelude.{if◌then◌else◌, is_none}
-use Rattle.bridge_log.proofs.Stores.{effected_stored}
-use Rattle.bridge_log.specs.Keeping.{reached}
-use Rattle.bridge_log.specs.Moved.{written}
+use Rattle.bridge_ends.proofs.Passed.{effected_stored}
+use Rattle.bridge_ends.specs.Passed.{reached}
+use Rattle.bridge_ends.specs.Passed.{written}
 use Rattle.guest_space.proofs.Uses.{first_denied-with_bytes}
 use Rattle.guest_space.specs.Access.{first_denied}
 use Rattle.guest_space.specs.Bytes.{bytes_at, copied_out, with_bytes}

@@ -1,12 +1,12 @@
 -- What is kept over the parts of a delivery.
 use Rattle.std.proofs.Common.{◌≡◌, ℕ, List, Option, Some, ap, subst, sym, ◌∙◌, Result, Ok, Err, OnOk}
 use Rattle.bridge_ends.specs.Ends.{Keeps}
-use Rattle.bridge_log.proofs.Histories.{logged_none, logged_then}
-use Rattle.bridge_log.proofs.Journals.{effected_none, effected_then}
-use Rattle.bridge_log.specs.Keeping.{Logged, reached}
-use Rattle.bridge_log.specs.Looks.{Unmoved}
-use Rattle.bridge_signal_state.proofs.Moving.{moves_look}
-use Rattle.bridge_signal_state.specs.Acts.{Acted, Moves}
+use Rattle.bridge_ends.proofs.Passed.{logged_none, logged_then}
+use Rattle.bridge_ends.proofs.Passed.{effected_none, effected_then}
+use Rattle.bridge_ends.specs.Passed.{Logged, reached}
+use Rattle.bridge_ends.specs.Passed.{Unmoved}
+use Rattle.bridge_ends.proofs.Passed.{moves_look}
+use Rattle.bridge_ends.specs.Passed.{Acted, Moves}
 use Rattle.guest_space.specs.Memory.{Pages}
 use Rattle.kernel_core.specs.declared.core_error.Stop.{Stop}
 use Rattle.kernel_core.specs.declared.log_entry.LogEntry.{LogEntry}

@@ -2,8 +2,8 @@
 ghost use Rattle.std.specs.Prelude.{◌≡◌, ◌≤◌, ◌+◌, ◌%◌, ◌^◌, length, None, OnOk, Some};
 ghost use Rattle.bridge_delivery.specs.inside.Frames as spec;
 ghost use Rattle.bridge_delivery.specs.inside.Frames.{Enters};
-ghost use Rattle.bridge_log.specs.Keeping.{reached};
-ghost use Rattle.bridge_log.specs.Moved as moved;
+ghost use Rattle.bridge_ends.specs.Passed.{reached};
+ghost use Rattle.bridge_ends.specs.Passed.{written};
 ghost use Rattle.guest_space.specs.Access.{first_denied};
 ghost use Rattle.guest_space.specs.Bytes.{bytes_at};
 ghost use Rattle.guest_space.specs.Memory.{Memory};
@@ -16,7 +16,7 @@ ghost use Rattle.o32_model.specs.Logs.{with_more};
 ghost use Rattle.o32_turns.specs.Handling.{handler_address};
 ghost use Rattle.signal_frames.specs.Entering.{frame_address};
 
-use bridge_log::wrote;
+use bridge_ends::wrote;
 use guest_space::{Space, StoreError};
 use kernel_core::{Info, NoMemory};
 use kernel_model::{Action, SigStack};
@@ -113,7 +113,7 @@ fn keep_frame(top: u32, size: u32, space: &Space, log: &mut Log) -> Result<(), N
     requires small { size ≤ 784 }
     requires readable { first_denied Load space.now.pages (frame_address top size) size ≡ None }
     ensures effects { OnOk result (log.new.effects ≡ with_more log.old.effects
-        (moved.written (frame_address top size) (bytes_at space.now.pages (frame_address top size) size))) }
+        (written (frame_address top size) (bytes_at space.now.pages (frame_address top size) size))) }
     ensures native { log.new.native ≡ log.old.native }
 {
     if log.effects.is_none() {

@@ -2,7 +2,7 @@
 ghost use Rattle.std.specs.Prelude.{◌≡◌, is_none};
 ghost use Rattle.o32_turns.specs.Delivering.{next_signal};
 
-use bridge_log::NativeKernel;
+use bridge_ends::NativeKernel;
 
 /// Whether no unblocked signal pends. It takes no memory and makes no native call.
 #[tactic(auto, using(crate::proofs::Nothing::quiet))]

@@ -1,9 +1,9 @@
 -- What the end of a sleep has kept: what it stored.
 use Rattle.std.proofs.Common.{◌≡◌, ◌∙◌, ◌⊎◌, inl, inr, ℕ, Bool, true, false, List, refl, sym, subst}
 use Rattle.std.specs.Prelude.{◌==◌, ◌||◌, ◌&&◌, not, length, Option, if◌then◌else◌}
-use Rattle.bridge_acceptance.specs.Ends.{Keeps}
-use Rattle.bridge_log.proofs.Histories.{logged_none}
-use Rattle.bridge_log.specs.Keeping.{Logged, reached}
+use Rattle.bridge_poll.specs.Passed.{Keeps}
+use Rattle.bridge_poll.proofs.Passed.{logged_none}
+use Rattle.bridge_poll.specs.Passed.{Logged, reached}
 use Rattle.bridge_wait.specs.Numbers.{is_sleep}
 use Rattle.guest_space.specs.Memory.{Memory, Pages}
 use Rattle.kernel_core.specs.declared.log_entry.LogEntry.{LogEntry}

@@ -1,3 +1,4 @@
 pub mod KeptEnds
+pub mod Passed
 pub mod Posts
 pub mod SameEnds

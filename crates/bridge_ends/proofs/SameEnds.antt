@@ -1,7 +1,7 @@
 -- An end that is the same as another, and the machine behind it.
 use Rattle.std.proofs.Common.{◌≡◌, ◌∙◌, ℕ, Bool, true, false, subst, sym, ap, refl}
 use Rattle.std.specs.Prelude.{◌==◌, ◌||◌, Result, if◌then◌else◌}
-use Rattle.bridge_acceptance.specs.Ends.{Closes}
+use Rattle.bridge_poll.specs.Passed.{Closes}
 use Rattle.bridge_ends.specs.inside.Endings.{old_mask, suspension_end}
 use Rattle.bridge_select.specs.Ends.{select_ended}
 use Rattle.bridge_wait.specs.Numbers.{is_sleep}

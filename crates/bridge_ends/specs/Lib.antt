@@ -1,3 +1,4 @@
 pub mod Ended
 pub mod Ends
+pub mod Passed
 pub mod inside

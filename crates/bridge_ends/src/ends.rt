@@ -1,6 +1,6 @@
 //! How a wait ends.
 ghost use Rattle.std.specs.Prelude.{◌≡◌};
-ghost use Rattle.bridge_acceptance.specs.Ends.{Closes, KeepsEnd};
+ghost use Rattle.bridge_poll.specs.Passed.{Closes, KeepsEnd};
 ghost use Rattle.bridge_ends.specs.Ended.{ended_wait};
 ghost use Rattle.bridge_ends.specs.inside.Endings.{old_mask, suspension_end};
 ghost use Rattle.bridge_wait.specs.Numbers.{is_sleep};
@@ -13,11 +13,10 @@ ghost use Rattle.o32_turns.specs.Going.{Carries, within_of};
 ghost use Rattle.outside.specs.Streams.{NoCountFell, contents};
 
 use crate::closing::close;
-use bridge_acceptance::{acceptance_end, is_acceptance_call};
-use bridge_log::NativeKernel;
-use bridge_poll::{is_poll_call, poll_end};
+use bridge_poll::{
+    NativeKernel, acceptance_end, is_acceptance_call, is_poll_call, poll_end, set_mask,
+};
 use bridge_select::select_end;
-use bridge_signal_state::set_mask;
 use bridge_wait::wait_end;
 use guest_space::Space;
 use host_mem::HostMem;

@@ -19,10 +19,10 @@ use Rattle.native_calls.specs.Table.{native_call}
 use Rattle.o32_model.specs.NodeCalls as o32
 use Rattle.o32_model.specs.PathArguments.{base}
 use Rattle.o32_model.specs.Step.{Guest, O32Step}
-use Rattle.bridge_log.proofs.Replies.{Fits}
-use Rattle.bridge_log.specs.Bounds.{Bounded}
-use Rattle.bridge_log.specs.Mirrors.{Mirrors}
-use Rattle.bridge_log.specs.Outcomes.{by_reply}
+use Rattle.bridge_paths.proofs.Passed.{Fits}
+use Rattle.bridge_paths.specs.Passed.{Bounded}
+use Rattle.bridge_paths.specs.Passed.{Mirrors}
+use Rattle.bridge_paths.specs.Passed.{by_reply}
 use Rattle.bridge_paths.proofs.Rows.{Anything, bounded_given, bounded_if, bounded_some, fits_zero, same_gives, word}
 use Rattle.bridge_file.proofs.Rows.{one_path}
 use Rattle.bridge_file.specs.inside.Paths.{MirrorsPath}

@@ -24,8 +24,8 @@ use Rattle.o32_model.specs.PathArguments.{base, one_flag}
 use Rattle.o32_model.specs.Paths as guest_paths
 use Rattle.o32_model.specs.Step as o32_step
 use Rattle.o32_model.specs.Step.{Guest}
-use Rattle.bridge_log.proofs.Replies.{Fits}
-use Rattle.bridge_log.specs.Bounds.{Bounded}
+use Rattle.bridge_paths.proofs.Passed.{Fits}
+use Rattle.bridge_paths.specs.Passed.{Bounded}
 use Rattle.bridge_paths.proofs.Rows.{Anything, bounded_by, bounded_either, bounded_given, bounded_if, bounded_some, fits_zero, one_only, same_gives, word}
 use Rattle.bridge_file.specs.inside.Paths.{MirrorsPath, MirrorsPaths}
 

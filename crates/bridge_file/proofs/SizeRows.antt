@@ -28,11 +28,11 @@ use Rattle.o32_model.specs.Step.{Guest, O32Step, failure}
 use Rattle.o32_model.specs.Transfers.{small_file_limit}
 use Rattle.o32_model.specs.declared.call_words.CallWords.{CallWords}
 use Rattle.o32_model.specs.declared.outcome.Outcome.TheVariants as outcomes
-use Rattle.bridge_log.proofs.Ends.{Still}
-use Rattle.bridge_log.proofs.Replies.{Fits, outcome_of_wake, word_stays}
-use Rattle.bridge_log.specs.Bounds.{Bounded}
-use Rattle.bridge_log.specs.Mirrors.{Mirrors}
-use Rattle.bridge_log.specs.Outcomes.{by_reply, outcome_of}
+use Rattle.bridge_paths.proofs.Passed.{Still}
+use Rattle.bridge_paths.proofs.Passed.{Fits, outcome_of_wake, word_stays}
+use Rattle.bridge_paths.specs.Passed.{Bounded}
+use Rattle.bridge_paths.specs.Passed.{Mirrors}
+use Rattle.bridge_paths.specs.Passed.{by_reply, outcome_of}
 use Rattle.bridge_paths.proofs.Rows.{Anything, bounded_by, bounded_given, bounded_if, bounded_some, fits_zero, same_gives, word}
 use Rattle.bridge_file.proofs.Rows.{one_path}
 use Rattle.bridge_file.proofs.Tellings.{told_of_failure, outcome_told_of_failure}

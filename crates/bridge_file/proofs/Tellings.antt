@@ -18,8 +18,8 @@ use Rattle.o32_model.specs.Step.{Guest, O32Step}
 use Rattle.o32_model.specs.declared.call_words.CallWords.{CallWords}
 use Rattle.o32_model.specs.declared.outcome.Outcome.{Outcome}
 use Rattle.outside.specs.Streams.{Contents}
-use Rattle.bridge_log.proofs.Ends.{Alike, called_alike, keeps}
-use Rattle.bridge_log.specs.Keeping.{Logged, Keeps, reached}
+use Rattle.bridge_paths.proofs.Passed.{Alike, called_alike, keeps}
+use Rattle.bridge_paths.specs.Passed.{Logged, Keeps, reached}
 use Rattle.bridge_file.specs.declared.telling.Told.{Told}
 use Rattle.bridge_file.specs.inside.Tells.{Tells, memory_told, outcome_told}
 

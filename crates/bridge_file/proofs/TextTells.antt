@@ -7,8 +7,8 @@ use Rattle.std.proofs.lemmas.Int.{to_z_pos}
 use Rattle.std.proofs.lemmas.List.{length-append, length-replicate, length-take-le}
 use Rattle.std.specs.Int.{cast_signed, w32}
 use Rattle.std.specs.Prelude.{Bool, true, false, ◌&&◌, is_none, nat_le, nat_lt, nat_abs, int_lt, pos, if◌then◌else◌}
-use Rattle.bridge_log.proofs.Memory.{denied-join, first_or}
-use Rattle.bridge_log.proofs.Memory.{prefix-stores}
+use Rattle.bridge_paths.proofs.Passed.{denied-join, first_or}
+use Rattle.bridge_paths.proofs.Passed.{prefix-stores}
 use Rattle.guest_space.proofs.Prefixes.{denied-stands}
 use Rattle.guest_space.specs.Access.{bytes_before, first_denied, writable_prefix}
 use Rattle.guest_space.specs.Bytes.{copied_out}
@@ -39,8 +39,8 @@ use Rattle.o32_model.specs.PathArguments.{base}
 use Rattle.o32_model.specs.Paths as guest_paths
 use Rattle.o32_model.specs.Results.{stores_text, value_if}
 use Rattle.o32_model.specs.Step.{Guest}
-use Rattle.bridge_log.proofs.Replies.{outcome_of_wake, word_stays}
-use Rattle.bridge_log.specs.Bounds.{Bounded}
+use Rattle.bridge_paths.proofs.Passed.{outcome_of_wake, word_stays}
+use Rattle.bridge_paths.specs.Passed.{Bounded}
 use Rattle.bridge_paths.proofs.Rows.{bounded_given, bounded_some, word}
 use Rattle.bridge_file.proofs.Tellings.{told_of_failure, outcome_told_of_failure}
 use Rattle.bridge_file.specs.declared.telling.Told.TheVariants.{Text}

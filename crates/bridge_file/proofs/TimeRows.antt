@@ -31,10 +31,10 @@ use Rattle.o32_model.specs.NodeCalls as o32
 use Rattle.o32_model.specs.PathArguments.{base, one_flag}
 use Rattle.o32_model.specs.Step as o32_step
 use Rattle.o32_model.specs.Step.{Guest}
-use Rattle.bridge_log.proofs.Replies.{Fits}
-use Rattle.bridge_log.specs.Bounds.{Bounded}
-use Rattle.bridge_log.specs.Mirrors.{Mirrors}
-use Rattle.bridge_log.specs.Outcomes.{by_reply}
+use Rattle.bridge_paths.proofs.Passed.{Fits}
+use Rattle.bridge_paths.specs.Passed.{Bounded}
+use Rattle.bridge_paths.specs.Passed.{Mirrors}
+use Rattle.bridge_paths.specs.Passed.{by_reply}
 use Rattle.bridge_file.proofs.NodeRows.{bounded_on_node}
 use Rattle.bridge_paths.proofs.Rows.{Anything, bounded_given, bounded_if, bounded_some, fits_zero, one_only, same_gives, word}
 use Rattle.bridge_file.specs.declared.times.BothTimes.{BothTimes}

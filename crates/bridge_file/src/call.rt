@@ -2,7 +2,7 @@
 ghost use Rattle.std.specs.Prelude.{◌≡◌, IsTrue};
 ghost use Rattle.bridge_paths.specs.Found.{found};
 ghost use Rattle.bridge_file.specs.Numbers.{is_call_there, is_name_call, is_node_call, is_place_call, is_size_call, is_text_call};
-ghost use Rattle.bridge_log.specs.Keeping.{KeepsCall};
+ghost use Rattle.bridge_paths.specs.Passed.{KeepsCall};
 ghost use Rattle.kernel_model.specs.Stops.{StopsOnlyIfRose};
 ghost use Rattle.o32_model.specs.Answered.{IsCall};
 ghost use Rattle.o32_model.specs.Table.{o32_call};
@@ -16,7 +16,7 @@ use crate::seeking::{llseek, lseek};
 use crate::sizes::{ftruncate, truncate};
 use crate::texts::{getcwd, readlink};
 use crate::times::utimensat;
-use bridge_log::NativeKernel;
+use bridge_paths::NativeKernel;
 use guest_space::Space;
 use host_mem::HostMem;
 use kernel_core::Stop;

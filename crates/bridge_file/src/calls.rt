@@ -1,18 +1,17 @@
 //! o32 calls with paths that are one native call.
 ghost use Rattle.std.specs.Prelude.{◌≡◌, ℕ, ◌<◌, List, None, Ok, length, position, slice_set, true};
-ghost use Rattle.bridge_log.specs.Arguments.{AreUnusedZero, takes_address};
-ghost use Rattle.bridge_log.specs.Keeping.{KeepsCall};
+ghost use Rattle.bridge_paths.specs.Passed.{AreUnusedZero, takes_address};
+ghost use Rattle.bridge_paths.specs.Passed.{KeepsCall};
 ghost use Rattle.kernel_model.specs.Stops.{StopsOnlyIfRose};
 ghost use Rattle.native_calls.specs.Table.{native_call};
-ghost use Rattle.bridge_log.specs.Built.{built_call};
+ghost use Rattle.bridge_paths.specs.Passed.{built_call};
 ghost use Rattle.o32_model.specs.Answered.{IsCall};
 ghost use Rattle.o32_model.specs.Paths.{is_nul, path_at, path_limit};
 ghost use Rattle.o32_model.specs.Step.{Guest, O32Step};
 ghost use Rattle.outside.specs.Streams.{NoCountFell, contents};
 ghost use Rattle.bridge_file.specs.inside.Paths.{MirrorsPath, MirrorsPaths};
 
-use bridge_log::{NativeKernel, number_call};
-use bridge_paths::{put_one, put_two, read_path};
+use bridge_paths::{NativeKernel, number_call, put_one, put_two, read_path};
 use guest_space::Space;
 use host_mem::HostMem;
 use kernel_core::{Bytes, Stop};

@@ -1,7 +1,7 @@
 //! The calls on names: mkdir(2), rmdir(2), unlink(2), symlink(2), link(2), rename(2), and their forms with
 //! descriptors of directories. What is wrong with a path is EFAULT or ENAMETOOLONG, and what the walk finds.
 ghost use Rattle.std.specs.Prelude.{◌≡◌, ℕ, List};
-ghost use Rattle.bridge_log.specs.Keeping.{KeepsCall};
+ghost use Rattle.bridge_paths.specs.Passed.{KeepsCall};
 ghost use Rattle.kernel_model.specs.Stops.{StopsOnlyIfRose};
 ghost use Rattle.o32_model.specs.Answered.{IsCall};
 ghost use Rattle.o32_model.specs.Names.{follow_flag, linked, linkat_row, mkdir_row, remove_directory_flag, remove_row, rename_row, symlink_row};
@@ -13,7 +13,7 @@ ghost use Rattle.outside.specs.Streams.{NoCountFell, contents};
 use crate::arguments::fifth;
 use crate::calls::{path_call, paths_call};
 use crate::numbers::{LINKAT, MKDIRAT, RENAMEAT, SYMLINKAT, UNLINKAT};
-use bridge_log::NativeKernel;
+use bridge_paths::NativeKernel;
 use guest_space::Space;
 use host_mem::{FIRST_ADDRESS, HostMem};
 use kernel_core::{Errno, Stop};

@@ -2,7 +2,7 @@
 //! fchmod(2), fsync(2), chdir(2), fchdir(2), umask(2). What is wrong with a path is EFAULT or ENAMETOOLONG, and what the
 //! walk finds.
 ghost use Rattle.std.specs.Prelude.{◌≡◌};
-ghost use Rattle.bridge_log.specs.Keeping.{KeepsCall};
+ghost use Rattle.bridge_paths.specs.Passed.{KeepsCall};
 ghost use Rattle.kernel_model.specs.Stops.{StopsOnlyIfRose};
 ghost use Rattle.o32_model.specs.Answered.{IsCall};
 ghost use Rattle.o32_model.specs.NodeCalls.{access_row, chdir_row, chmod_row, fchdir_row, fchmod_row, sync_row, umask_row};
@@ -12,7 +12,7 @@ ghost use Rattle.outside.specs.Streams.{NoCountFell, contents};
 
 use crate::calls::path_call;
 use crate::numbers::{CHDIR, FACCESSAT, FCHDIR, FCHMOD, FCHMODAT, FDATASYNC, FSYNC, UMASK};
-use bridge_log::{NativeKernel, number_call};
+use bridge_paths::{NativeKernel, number_call};
 use guest_space::Space;
 use host_mem::{FIRST_ADDRESS, HostMem};
 use kernel_core::Stop;

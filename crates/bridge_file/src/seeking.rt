@@ -1,12 +1,12 @@
 //! The calls that move a position: lseek(2), _llseek(2).
 ghost use Rattle.std.specs.Prelude.{◌≡◌, ℕ, List};
 ghost use Rattle.std.specs.Int.{cast_signed, w32};
-ghost use Rattle.bridge_log.specs.Arguments.{AreUnusedZero, IsPlaced};
-ghost use Rattle.bridge_log.specs.Keeping.{KeepsCall};
-ghost use Rattle.bridge_log.specs.Mirrors.{Mirrors};
+ghost use Rattle.bridge_paths.specs.Passed.{AreUnusedZero, IsPlaced};
+ghost use Rattle.bridge_paths.specs.Passed.{KeepsCall};
+ghost use Rattle.bridge_paths.specs.Passed.{Mirrors};
 ghost use Rattle.kernel_model.specs.Stops.{StopsOnlyIfRose};
 ghost use Rattle.native_calls.specs.Table.{native_call};
-ghost use Rattle.bridge_log.specs.Built.{built_call};
+ghost use Rattle.bridge_paths.specs.Passed.{built_call};
 ghost use Rattle.o32_model.specs.Answered.{IsCall};
 ghost use Rattle.o32_model.specs.Opening.{llseek_row, lseek_row};
 ghost use Rattle.o32_model.specs.Step.{Guest, O32Step};
@@ -17,7 +17,7 @@ ghost use Rattle.bridge_file.specs.inside.Places.{outcome_of_place, told_place};
 use crate::arguments::{fifth, pair, widened};
 use crate::numbers::LSEEK;
 use crate::telling::{Told, tell_call};
-use bridge_log::{NativeKernel, native, outcome_of};
+use bridge_paths::{NativeKernel, native, outcome_of};
 use guest_space::Space;
 use host_mem::HostMem;
 use kernel_core::{Errno, Reply, Stop};

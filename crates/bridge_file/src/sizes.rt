@@ -2,7 +2,7 @@
 //! a signed number (off_t, loff_t).
 ghost use Rattle.std.specs.Prelude.{◌≡◌};
 ghost use Rattle.std.specs.Int.{cast_signed, w64};
-ghost use Rattle.bridge_log.specs.Keeping.{KeepsCall};
+ghost use Rattle.bridge_paths.specs.Passed.{KeepsCall};
 ghost use Rattle.kernel_model.specs.Stops.{StopsOnlyIfRose};
 ghost use Rattle.o32_model.specs.Answered.{IsCall};
 ghost use Rattle.o32_model.specs.NodeCalls.{ftruncate_row, truncate_row};
@@ -11,7 +11,7 @@ ghost use Rattle.outside.specs.Streams.{NoCountFell, contents};
 
 use crate::calls::path_call;
 use crate::numbers::{FTRUNCATE, TRUNCATE};
-use bridge_log::{NativeKernel, number_call};
+use bridge_paths::{NativeKernel, number_call};
 use guest_space::Space;
 use host_mem::{FIRST_ADDRESS, HostMem};
 use kernel_core::Stop;

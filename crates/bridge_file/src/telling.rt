@@ -1,14 +1,14 @@
 //! Calls that are one native call which tells a text or a place.
 ghost use Rattle.std.specs.Prelude.{◌≡◌, ◌-◌, ℕ, List, IfOk, OnOk, drop, take};
 ghost use Rattle.bridge_file.specs.inside.Tells.{Tells, bytes_told, memory_told, outcome_stored, outcome_told, value_told};
-ghost use Rattle.bridge_log.specs.Arguments.{AreUnusedZero, IsPlaced};
-ghost use Rattle.bridge_log.specs.Keeping.{KeepsCall, reached};
+ghost use Rattle.bridge_paths.specs.Passed.{AreUnusedZero, IsPlaced};
+ghost use Rattle.bridge_paths.specs.Passed.{KeepsCall, reached};
 ghost use Rattle.host_mem.specs.Memory.{first_address};
 ghost use Rattle.kernel_model.specs.Pipes.{Sent};
 ghost use Rattle.kernel_model.specs.Stops.{StopsOnlyIfRose};
 ghost use Rattle.mips_exec.specs.Processor.{Processor};
 ghost use Rattle.native_calls.specs.Table.{native_call};
-ghost use Rattle.bridge_log.specs.Built.{built_call};
+ghost use Rattle.bridge_paths.specs.Passed.{built_call};
 ghost use Rattle.o32_model.specs.Answered.{IsCall};
 ghost use Rattle.o32_model.specs.Effects.{Effected};
 ghost use Rattle.o32_model.specs.GuestBytes.{with_stored};
@@ -16,7 +16,7 @@ ghost use Rattle.o32_model.specs.Opening.{place_bytes};
 ghost use Rattle.o32_model.specs.Step.{Guest, O32Step};
 ghost use Rattle.outside.specs.Streams.{NoCountFell, contents};
 
-use bridge_log::{NativeKernel, native, outcome_of, put};
+use bridge_paths::{NativeKernel, native, outcome_of, put};
 use guest_space::Space;
 use host_mem::{FIRST_ADDRESS, HostMem};
 use kernel_core::{Errno, NoMemory, Reply, Stop};

@@ -1,7 +1,7 @@
 //! The calls that tell a text: readlink(2), readlinkat(2), getcwd(2).
 ghost use Rattle.std.specs.Prelude.{◌≡◌, ◌<◌, None, Ok, length, position};
 ghost use Rattle.std.specs.Int.{cast_signed, w32};
-ghost use Rattle.bridge_log.specs.Keeping.{KeepsCall};
+ghost use Rattle.bridge_paths.specs.Passed.{KeepsCall};
 ghost use Rattle.kernel_model.specs.Stops.{StopsOnlyIfRose};
 ghost use Rattle.o32_model.specs.Answered.{IsCall};
 ghost use Rattle.o32_model.specs.Names.{readlink_row};
@@ -14,8 +14,7 @@ ghost use Rattle.bridge_file.specs.inside.Tells.{size_room};
 
 use crate::numbers::{GETCWD, READLINKAT};
 use crate::telling::{Told, tell_call};
-use bridge_log::{NativeKernel, fresh_room};
-use bridge_paths::{put_room, read_path};
+use bridge_paths::{NativeKernel, fresh_room, put_room, read_path};
 use guest_space::Space;
 use host_mem::{FIRST_ADDRESS, HostMem};
 use kernel_core::{Bytes, Stop};

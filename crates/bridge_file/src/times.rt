@@ -1,7 +1,7 @@
 //! The call that sets the times of a node: utimensat(2).
 ghost use Rattle.std.specs.Prelude.{◌≡◌, ◌<◌, ◌≤◌, List, IfOk, IfSome, None, Ok, OnOk, Option, ℕ, length, option_map, position, true};
 ghost use Rattle.byteorder.specs.Endian.{big_number};
-ghost use Rattle.bridge_log.specs.Keeping.{KeepsCall};
+ghost use Rattle.bridge_paths.specs.Passed.{KeepsCall};
 ghost use Rattle.kernel_model.specs.Came.{given_or_none};
 ghost use Rattle.kernel_model.specs.Stops.{StopsOnlyIfRose};
 ghost use Rattle.layouts.specs.Number.{value_of};
@@ -25,8 +25,7 @@ ghost use Rattle.bridge_file.specs.inside.BothTimes.{
 };
 
 use crate::numbers::UTIMENSAT;
-use bridge_log::{NativeKernel, load_structure, number_call};
-use bridge_paths::{put_path, read_path};
+use bridge_paths::{NativeKernel, load_structure, number_call, put_path, read_path};
 use byteorder::{BigEndian, ByteOrder};
 use guest_space::Space;
 use host_mem::HostMem;

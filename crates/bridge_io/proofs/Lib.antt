@@ -4,6 +4,7 @@ pub mod DescriptorMirrors
 pub mod Fitting
 pub mod Limits
 pub mod LookMirrors
+pub mod Passed
 pub mod PipeMirrors
 pub mod PlaceLimits
 pub mod Plans
@@ -15,5 +16,5 @@ pub mod StatusSize
 pub mod Storing
 pub mod TerminalMirrors
 pub mod WriteMirrors
-pub mod WritevMirrors
 pub mod Writes
+pub mod WritevMirrors

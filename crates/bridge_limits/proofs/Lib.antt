@@ -6,3 +6,4 @@ pub mod Moving
 pub mod ShownTimes
 mod Storable
 pub mod Storing
+pub mod Passed

@@ -10,6 +10,11 @@ mod sleeping;
 mod times;
 mod words;
 
+pub use bridge_acceptance::{
+    NativeKernel, acceptance_call, acceptance_end, accepts, action, awaits, is_acceptance_call,
+    load_structure, look, mask, outcome_of, pending, put, set_default, set_mask, stack, take,
+    wrote,
+};
 pub use ends::{again_or_interrupted, end_limited};
 pub use lefts::store_left;
 pub use masks::{OwnMask, mask_at};

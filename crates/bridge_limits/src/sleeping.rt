@@ -2,15 +2,14 @@
 ghost use Rattle.std.specs.Prelude.{◌≡◌, None, Some, Option};
 ghost use Rattle.bridge_limits.specs.Limits.{asleep, given_mask, masked_kernel};
 ghost use Rattle.bridge_limits.specs.inside.Waiting as spec;
-ghost use Rattle.bridge_signal_state.specs.Acts.{Acts};
+ghost use Rattle.bridge_acceptance.specs.Passed.{Acts};
 ghost use Rattle.kernel_model.specs.SignalRows.{with_mask};
 ghost use Rattle.kernel_model.specs.Stops.{StopsOnlyIfRose};
 ghost use Rattle.o32_model.specs.Step as o32_step;
 ghost use Rattle.outside.specs.Streams.{NoCountFell, contents};
 
 use crate::masks::OwnMask;
-use bridge_log::{NativeKernel, six_words};
-use bridge_signal_state::{mask, set_mask};
+use bridge_acceptance::{NativeKernel, mask, set_mask, six_words};
 use host_mem::HostMem;
 use kernel_core::Stop;
 use o32_model::{CallWords, Log, Outcome, Wait};

@@ -43,10 +43,10 @@ use Rattle.o32_model.specs.Step.{Guest}
 use Rattle.o32_model.specs.Transfers.{small_file_limit}
 use Rattle.o32_model.specs.declared.outcome.Outcome.{Outcome}
 use Rattle.outside.specs.Streams.{Contents}
-use Rattle.bridge_log.specs.Arguments.{AreUnusedZero}
-use Rattle.bridge_log.specs.Bounds.{Bounded}
-use Rattle.bridge_log.specs.Mirrors.{Mirrors}
-use Rattle.bridge_log.specs.Outcomes.{by_reply}
+use Rattle.bridge_paths.specs.Passed.{AreUnusedZero}
+use Rattle.bridge_paths.specs.Passed.{Bounded}
+use Rattle.bridge_paths.specs.Passed.{Mirrors}
+use Rattle.bridge_paths.specs.Passed.{by_reply}
 use Rattle.bridge_paths.proofs.Rows.{bounded_by, bounded_given, bounded_if, same_gives, word}
 use Rattle.bridge_open.specs.inside.Openings.{IsTooLarge, Unlimited, is_unlimited, size_in, size_led, size_of, told_large}
 use Rattle.bridge_paths.specs.Refusals.{Refuses}

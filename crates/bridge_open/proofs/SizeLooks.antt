@@ -27,7 +27,7 @@ use Rattle.native_calls.specs.Step as native_step
 use Rattle.native_calls.specs.Table.{native_call}
 use Rattle.o32_model.specs.PathArguments.{base}
 use Rattle.bridge_paths.proofs.Rows.{word}
-use Rattle.bridge_log.specs.Looks.{IsLook}
+use Rattle.bridge_paths.specs.Passed.{IsLook}
 use Rattle.bridge_open.specs.inside.Openings.{size_there, size_in, size_led, size_of, size_told}
 use Rattle.bridge_paths.specs.HostPaths.{BeginsWith}
 

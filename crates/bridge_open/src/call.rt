@@ -1,6 +1,6 @@
 //! A call by its number.
 ghost use Rattle.std.specs.Prelude.{◌≡◌, IsTrue};
-ghost use Rattle.bridge_log.specs.Keeping.{KeepsCall};
+ghost use Rattle.bridge_paths.specs.Passed.{KeepsCall};
 ghost use Rattle.bridge_open.specs.Numbers.{is_open_call};
 ghost use Rattle.bridge_paths.specs.Found.{found};
 ghost use Rattle.kernel_model.specs.Stops.{StopsOnlyIfRose};
@@ -9,7 +9,7 @@ ghost use Rattle.o32_model.specs.Table.{o32_call};
 ghost use Rattle.outside.specs.Streams.{NoCountFell, contents};
 
 use crate::opening::open;
-use bridge_log::NativeKernel;
+use bridge_paths::NativeKernel;
 use guest_space::Space;
 use host_mem::HostMem;
 use kernel_core::Stop;

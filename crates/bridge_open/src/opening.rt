@@ -2,7 +2,7 @@
 //! is opened with O_LARGEFILE alone, which the native kernel does not ask for. So its size is looked at
 //! first.
 ghost use Rattle.std.specs.Prelude.{◌≡◌, ◌<◌, ◌&&◌, IsTrue, None, Ok, Some, false, length, position, if◌then◌else◌};
-ghost use Rattle.bridge_log.specs.Keeping.{KeepsCall};
+ghost use Rattle.bridge_paths.specs.Passed.{KeepsCall};
 ghost use Rattle.bridge_open.specs.inside.Openings.{Unlimited, is_unlimited, size_led};
 ghost use Rattle.kernel_model.specs.Opening.{follows};
 ghost use Rattle.kernel_model.specs.Stops.{StopsOnlyIfRose};
@@ -17,8 +17,7 @@ ghost use Rattle.outside.specs.Streams.{NoCountFell, contents};
 use crate::large::too_large;
 use crate::numbers::OPENAT;
 use crate::sizes::size_led;
-use bridge_log::{NativeKernel, number_call};
-use bridge_paths::{put_one, read_path};
+use bridge_paths::{NativeKernel, number_call, put_one, read_path};
 use guest_space::Space;
 use host_mem::{FIRST_ADDRESS, HostMem};
 use kernel_core::{Bytes, Errno, OpenFlags, Stop};

@@ -1,6 +1,6 @@
 //! The size of what a path leads to, by a native call that changes nothing.
 ghost use Rattle.std.specs.Prelude.{◌≡◌, ◌+◌, ◌<◌, None, length, position, if◌then◌else◌};
-ghost use Rattle.bridge_log.specs.Looks.{LooksFor};
+ghost use Rattle.bridge_paths.specs.Passed.{LooksFor};
 ghost use Rattle.bridge_open.specs.inside.Openings.{size_led, size_there, size_told};
 ghost use Rattle.host_mem.specs.Memory.{bytes_at, first_address};
 ghost use Rattle.kernel_model.specs.Stops.{StopsOnlyIfRose};
@@ -9,8 +9,7 @@ ghost use Rattle.o32_model.specs.Paths.{is_nul, path_limit};
 ghost use Rattle.outside.specs.Streams.{NoCountFell, contents};
 
 use crate::numbers::NEWFSTATAT;
-use bridge_log::{NativeKernel, look};
-use bridge_paths::put_behind;
+use bridge_paths::{NativeKernel, look, put_behind};
 use byteorder::{ByteOrder, LittleEndian};
 use host_mem::{FIRST_ADDRESS, HostMem};
 use kernel_core::{Bytes, Reply, Stop};

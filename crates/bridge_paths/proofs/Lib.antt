@@ -1,4 +1,5 @@
 pub mod ByNumber
 pub mod HostPaths
+pub mod Passed
 pub mod Refusing
 pub mod Rows

@@ -1,3 +1,4 @@
 pub mod Found
 pub mod HostPaths
+pub mod Passed
 pub mod Refusals

@@ -3,4 +3,7 @@
 
 mod paths;
 
+pub use bridge_log::{
+    NativeKernel, fresh_room, load_structure, look, native, number_call, outcome_of, put,
+};
 pub use paths::{put_behind, put_one, put_path, put_room, put_two, read_path};

@@ -25,7 +25,7 @@ use Rattle.native_calls.specs.Times.{time_bytes, time_in}
 use Rattle.o32_model.specs.Polling as o32
 use Rattle.bridge_limits.proofs.ShownTimes.{shows_left}
 use Rattle.bridge_limits.specs.Limits.{ShowsLeft, given_mask}
-use Rattle.bridge_log.specs.Looks.{IsLook}
+use Rattle.bridge_limits.specs.Passed.{IsLook}
 use Rattle.bridge_poll.proofs.HostEntries.{length_entries}
 use Rattle.bridge_poll.proofs.Polling.{Fine, IsFine, bytes_of_all, entries_alike, entries_put, front_written, laid, poll_fine, poll_same}
 use Rattle.bridge_poll.proofs.Told.{all_written, bytes_behind, length_told, told_there, with_told}

@@ -24,8 +24,8 @@ use Rattle.o32_model.specs.declared.wait.Wait.{Wait}
 use Rattle.bridge_limits.specs.Ends.{Keeps}
 use Rattle.bridge_limits.proofs.Storing.{alike_is, alike_pieces, alike_same, alike_then}
 use Rattle.bridge_limits.specs.Limits.{StoresAlike, unmasked_kernel}
-use Rattle.bridge_log.proofs.Journals.{effected_then}
-use Rattle.bridge_log.specs.Keeping.{Logged, reached}
+use Rattle.bridge_limits.proofs.Passed.{effected_then}
+use Rattle.bridge_limits.specs.Passed.{Logged, reached}
 use Rattle.bridge_poll.proofs.Told.{nothing_told}
 use Rattle.bridge_poll.specs.declared.entries.Entries.{Entries}
 use Rattle.bridge_poll.specs.inside.Ending.{ended_so, told_if}

@@ -9,3 +9,4 @@ mod Polling
 mod Pushing
 mod Stores
 mod Told
+pub mod Passed

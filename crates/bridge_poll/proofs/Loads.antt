@@ -8,7 +8,7 @@ use Rattle.guest_space.specs.Access.{bytes_before, first_denied, readable_prefix
 use Rattle.guest_space.specs.Memory.{Pages}
 use Rattle.guest_space.specs.declared.access.Access.TheVariants.{Load}
 use Rattle.guest_space.specs.declared.access.Denied.{Denied}
-use Rattle.bridge_log.proofs.Memory.{none_denied-rest}
+use Rattle.bridge_limits.proofs.Passed.{none_denied-rest}
 
 same : (one other : ℕ) → (one == other) ≡ true → one ≡ other
 same one other is = grind (arith, nat_tests)

@@ -1,7 +1,7 @@
 //! The native call, ppoll(2).
 ghost use Rattle.std.specs.Prelude.{◌≡◌};
-ghost use Rattle.bridge_log.specs.Looks.{LooksFor};
-ghost use Rattle.bridge_log.specs.Outcomes as outcomes;
+ghost use Rattle.bridge_limits.specs.Passed.{LooksFor};
+ghost use Rattle.bridge_limits.specs.Passed.{error_of};
 ghost use Rattle.bridge_poll.specs.inside.Asking as spec;
 ghost use Rattle.bridge_poll.specs.inside.Asking.{IsAnswer, polling};
 ghost use Rattle.kernel_model.specs.Stops.{StopsOnlyIfRose};
@@ -10,8 +10,7 @@ ghost use Rattle.outside.specs.Streams.{NoCountFell, contents};
 use crate::entries::{Entries, put_entries};
 use crate::limited::Limits;
 use crate::numbers::PPOLL;
-use bridge_limits::put_limits;
-use bridge_log::{NativeKernel, look};
+use bridge_limits::{NativeKernel, look, put_limits};
 use guest_space::Space;
 use host_mem::HostMem;
 use kernel_core::{Errno, Reply, Stop};
@@ -90,7 +89,7 @@ fn count_of(number: i64) -> Result<u32, Errno>
 
 /// The error of a native number; no call replies with a number that is none.
 fn error_of(number: u64) -> Errno
-    ensures { result ≡ outcomes.error_of number }
+    ensures { result ≡ error_of number }
 {
     Errno::of_native(number).unwrap_or(Errno::ENOSYS)
 }

@@ -1,6 +1,6 @@
 //! The calls by their words.
 ghost use Rattle.std.specs.Prelude.{◌≡◌, ◌==◌, ◌||◌, ◌⊎◌, Ok, Option, Some, None};
-ghost use Rattle.bridge_log.specs.Keeping.{KeepsCall};
+ghost use Rattle.bridge_limits.specs.Passed.{KeepsCall};
 ghost use Rattle.bridge_poll.specs.Found.{found};
 ghost use Rattle.std.specs.Int.{cast_signed, w32};
 ghost use Rattle.kernel_model.specs.Readiness as readiness;
@@ -14,8 +14,7 @@ ghost use Rattle.outside.specs.Streams.{NoCountFell, contents};
 
 use crate::entries::Entries;
 use crate::limited::{Limits, limited};
-use bridge_limits::{OwnMask, TimeForm, TimePlace, mask_at, wait_at};
-use bridge_log::NativeKernel;
+use bridge_limits::{NativeKernel, OwnMask, TimeForm, TimePlace, mask_at, wait_at};
 use guest_space::Space;
 use host_mem::HostMem;
 use kernel_core::{Errno, Stop};

@@ -1,7 +1,7 @@
 //! How the waits of these calls end.
 ghost use Rattle.std.specs.Prelude.{◌≡◌, ◌⊎◌, IfOk, OnOk};
 ghost use Rattle.bridge_limits.specs.Ends.{Closes, KeepsEnd};
-ghost use Rattle.bridge_log.specs.Keeping.{reached};
+ghost use Rattle.bridge_limits.specs.Passed.{reached};
 ghost use Rattle.bridge_poll.specs.inside.Ending.{ended_so, told_if};
 ghost use Rattle.kernel_model.specs.Pipes.{Sent};
 ghost use Rattle.kernel_model.specs.State.{Kernel};
@@ -14,8 +14,7 @@ ghost use Rattle.outside.specs.Streams.{NoCountFell, contents};
 
 use crate::entries::Entries;
 use crate::telling::store_told;
-use bridge_limits::{TimeForm, TimePlace, again_or_interrupted, end_limited};
-use bridge_log::NativeKernel;
+use bridge_limits::{NativeKernel, TimeForm, TimePlace, again_or_interrupted, end_limited};
 use guest_space::Space;
 use host_mem::HostMem;
 use kernel_core::{Errno, NoMemory, Stop};

@@ -11,7 +11,7 @@ ghost use Rattle.layouts.specs.Number.{unsigned};
 ghost use Rattle.std.specs.Prelude.{drop, true};
 
 use crate::numbers::ENTRY_SIZE;
-use bridge_log::load_structure;
+use bridge_limits::load_structure;
 use byteorder::{BigEndian, ByteOrder, LittleEndian};
 use guest_space::Space;
 use host_mem::{FIRST_ADDRESS, HostMem};

@@ -1,7 +1,7 @@
 //! Calls that wait for their entries, with a limit of time and a mask.
 ghost use Rattle.std.specs.Prelude.{◌≡◌, ℕ, Option, Result, IfOk, OnOk};
 ghost use Rattle.bridge_limits.specs.Limits.{ShowsLeft};
-ghost use Rattle.bridge_log.specs.Keeping.{KeepsCall, reached};
+ghost use Rattle.bridge_limits.specs.Passed.{KeepsCall, reached};
 ghost use Rattle.bridge_poll.specs.inside.Limited.{limited_row, outcome_by, told_memory, with_left_if};
 ghost use Rattle.bridge_poll.specs.inside.Telling.{pieces_told, told_bytes};
 ghost use Rattle.kernel_model.specs.Pipes.{Sent};
@@ -15,8 +15,7 @@ ghost use Rattle.outside.specs.Streams.{NoCountFell, contents};
 use crate::asking::{Answer, Came, ask};
 use crate::entries::Entries;
 use crate::telling::{native_entries, number_if, store_told};
-use bridge_limits::{OwnMask, TimePlace, sleep, store_left};
-use bridge_log::NativeKernel;
+use bridge_limits::{NativeKernel, OwnMask, TimePlace, sleep, store_left};
 use guest_space::Space;
 use host_mem::HostMem;
 use kernel_core::{Errno, NoMemory, Stop};

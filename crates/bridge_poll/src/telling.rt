@@ -1,6 +1,6 @@
 //! What a program is told of its entries, and what the call then comes to.
 ghost use Rattle.std.specs.Prelude.{◌≡◌, ◌*◌, ◌≤◌, ◌+◌, IfOk, OnOk, IsTrue, drop, length, true};
-ghost use Rattle.bridge_log.specs.Keeping.{reached};
+ghost use Rattle.bridge_limits.specs.Passed.{reached};
 ghost use Rattle.bridge_poll.specs.inside.Telling as spec;
 ghost use Rattle.bridge_poll.specs.inside.Telling.{piece_of, pieces_told, told_all, told_bytes};
 ghost use Rattle.guest_space.specs.Access.{user_end};
@@ -15,7 +15,7 @@ ghost use Rattle.o32_model.specs.Results.{all_fit, value_if, with_pieces};
 
 use crate::entries::{Entries, EntryBytes, entry_at};
 use crate::numbers::ENTRY_SIZE;
-use bridge_log::put;
+use bridge_limits::put;
 use byteorder::{BigEndian, ByteOrder, LittleEndian};
 use guest_space::Space;
 use host_mem::HostMem;

@@ -18,7 +18,7 @@ use Rattle.native_calls.specs.Table.{native_call}
 use Rattle.o32_model.specs.Selecting.{Asked, fds_at, if_all, sets_at, word_count}
 use Rattle.bridge_limits.proofs.ShownTimes.{shows_left}
 use Rattle.bridge_limits.specs.Limits.{ShowsLeft}
-use Rattle.bridge_log.specs.Looks.{IsLook}
+use Rattle.bridge_limits.specs.Passed.{IsLook}
 use Rattle.bridge_select.specs.declared.rooms.Places.{Places}
 use Rattle.bridge_select.specs.declared.telling.Answer.{Answer}
 use Rattle.bridge_select.specs.inside.Handing.{Hands, Laid}

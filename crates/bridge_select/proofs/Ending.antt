@@ -20,8 +20,8 @@ use Rattle.o32_model.specs.declared.wait.Close.{Close}
 use Rattle.o32_model.specs.declared.wait.Wait.{Wait}
 use Rattle.bridge_limits.specs.Ends.{Keeps}
 use Rattle.bridge_limits.specs.Limits.{unmasked_kernel}
-use Rattle.bridge_log.proofs.Journals.{effected_then}
-use Rattle.bridge_log.specs.Keeping.{Logged, reached}
+use Rattle.bridge_limits.proofs.Passed.{effected_then}
+use Rattle.bridge_limits.specs.Passed.{Logged, reached}
 use Rattle.bridge_select.specs.Ends.{select_ended}
 use Rattle.bridge_select.specs.inside.Ending.{closing, time_form}
 

@@ -16,8 +16,8 @@ use Rattle.o32_model.specs.Effects.{Effected}
 use Rattle.o32_model.specs.GuestBytes.{is_storable, with_stored}
 use Rattle.o32_model.specs.Results.{Piece, all_fit, fits, piece_unless_null, with_pieces}
 use Rattle.o32_model.specs.Selecting.{fds_bytes}
-use Rattle.bridge_log.proofs.Journals.{effected_then}
-use Rattle.bridge_log.specs.Keeping.{reached}
+use Rattle.bridge_limits.proofs.Passed.{effected_then}
+use Rattle.bridge_limits.specs.Passed.{reached}
 use Rattle.bridge_limits.proofs.Storing.{piece_refused, piece_stored, pieces_fit, pieces_refused, pieces_stored, pieces_unfit}
 use Rattle.bridge_select.specs.inside.FdSets.{words_bytes}
 use Rattle.bridge_select.specs.inside.Telling.{ShowsSet}

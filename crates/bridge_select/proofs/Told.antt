@@ -15,8 +15,8 @@ use Rattle.o32_model.specs.declared.outcome.Outcome.{Outcome}
 use Rattle.o32_model.specs.declared.outcome.Outcome.TheVariants as outcomes
 use Rattle.bridge_limits.proofs.Storing.{alike_pieces, alike_same, left_of_alike}
 use Rattle.bridge_limits.specs.Limits.{StoresAlike}
-use Rattle.bridge_log.proofs.Replies.{outcome_of_failure, outcome_of_value}
-use Rattle.bridge_log.specs.Outcomes.{outcome_of}
+use Rattle.bridge_limits.proofs.Passed.{outcome_of_failure, outcome_of_value}
+use Rattle.bridge_limits.specs.Passed.{outcome_of}
 use Rattle.bridge_select.specs.declared.rooms.Places.{Places}
 use Rattle.bridge_select.specs.inside.Telling.{IsCounted, Shows, ShowsSets, told_memory, told_outcome}
 

@@ -1,6 +1,6 @@
 //! The calls by their words: select(2) and pselect(2).
 ghost use Rattle.std.specs.Prelude.{◌≡◌, ◌==◌, ◌||◌, ◌⊎◌};
-ghost use Rattle.bridge_log.specs.Keeping.{KeepsCall};
+ghost use Rattle.bridge_limits.specs.Passed.{KeepsCall};
 ghost use Rattle.bridge_select.specs.Found.{found};
 ghost use Rattle.kernel_model.specs.Stops.{StopsOnlyIfRose};
 ghost use Rattle.o32_model.specs.Answered.{IsCall};
@@ -10,7 +10,7 @@ ghost use Rattle.outside.specs.Streams.{NoCountFell, contents};
 use crate::numbers::{NEWSELECT, PSELECT6};
 use crate::requests::read_request;
 use crate::selecting::select;
-use bridge_log::NativeKernel;
+use bridge_limits::NativeKernel;
 use guest_space::Space;
 use host_mem::HostMem;
 use kernel_core::Stop;

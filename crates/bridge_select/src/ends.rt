@@ -2,7 +2,7 @@
 ghost use Rattle.std.specs.Prelude.{◌≡◌, IfOk, OnOk, if◌then◌else◌};
 ghost use Rattle.bridge_limits.specs.Ends.{Closes, KeepsEnd};
 ghost use Rattle.bridge_limits.specs.Limits.{StoresAlike, left_form, unmasked_kernel};
-ghost use Rattle.bridge_log.specs.Keeping.{reached};
+ghost use Rattle.bridge_limits.specs.Passed.{reached};
 ghost use Rattle.bridge_select.specs.Ends.{select_ended};
 ghost use Rattle.bridge_select.specs.inside.Ending.{closing, time_form};
 ghost use Rattle.bridge_select.specs.inside.Telling.{pieces_of};
@@ -22,8 +22,7 @@ use crate::asked::Asked;
 use crate::fd_sets::WORDS;
 use crate::numbers::NEWSELECT;
 use crate::telling::{FdSets, store_sets};
-use bridge_limits::{TimeForm, TimePlace, again_or_interrupted, end_limited};
-use bridge_log::NativeKernel;
+use bridge_limits::{NativeKernel, TimeForm, TimePlace, again_or_interrupted, end_limited};
 use guest_space::Space;
 use host_mem::HostMem;
 use kernel_core::{Errno, NoMemory, Stop};

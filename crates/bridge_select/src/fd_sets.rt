@@ -10,7 +10,7 @@ ghost use Rattle.kernel_model.specs.Readiness.{first_fds};
 ghost use Rattle.o32_model.specs.GuestBytes.{read_as, structure};
 ghost use Rattle.o32_model.specs.Selecting as o32;
 
-use bridge_log::load_structure;
+use bridge_limits::load_structure;
 use byteorder::{BigEndian, ByteOrder, LittleEndian};
 use guest_space::Space;
 use host_mem::HostMem;

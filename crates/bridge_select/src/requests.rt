@@ -9,8 +9,7 @@ ghost use Rattle.o32_model.specs.Words.{stack_word};
 
 use crate::asked::Asked;
 use crate::numbers::NEWSELECT;
-use bridge_limits::{OwnMask, TimeForm, TimePlace, mask_at, wait_at};
-use bridge_log::load_structure;
+use bridge_limits::{OwnMask, TimeForm, TimePlace, load_structure, mask_at, wait_at};
 use byteorder::{BigEndian, ByteOrder};
 use guest_space::Space;
 use kernel_core::Errno;

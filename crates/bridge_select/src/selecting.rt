@@ -1,8 +1,8 @@
 //! The calls by what they ask for: one native call, whose answer is told, or a wait.
 ghost use Rattle.std.specs.Prelude.{◌≡◌, ◌%◌, ◌^◌};
 ghost use Rattle.std.specs.Int.{cast_signed, w32};
-ghost use Rattle.bridge_log.specs.Keeping.{KeepsCall};
-ghost use Rattle.bridge_log.specs.Looks.{LooksFor};
+ghost use Rattle.bridge_limits.specs.Passed.{KeepsCall};
+ghost use Rattle.bridge_limits.specs.Passed.{LooksFor};
 ghost use Rattle.bridge_select.specs.Found.{found};
 ghost use Rattle.bridge_select.specs.inside.Requests.{requested, selects};
 ghost use Rattle.bridge_select.specs.inside.Telling.{Answered};
@@ -15,8 +15,7 @@ use crate::numbers::NATIVE_PSELECT6;
 use crate::requests::Request;
 use crate::rooms::put_request;
 use crate::telling::{Answer, tell};
-use bridge_limits::sleep;
-use bridge_log::{NativeKernel, look};
+use bridge_limits::{NativeKernel, look, sleep};
 use guest_space::Space;
 use host_mem::HostMem;
 use kernel_core::{Reply, Stop};

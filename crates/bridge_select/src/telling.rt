@@ -1,7 +1,7 @@
 //! What a program is told of the sets, and of the time that is left.
 ghost use Rattle.std.specs.Prelude.{◌≡◌, ◌≤◌, ℕ, Option, IfOk, OnOk};
 ghost use Rattle.bridge_limits.specs.Limits.{left_form};
-ghost use Rattle.bridge_log.specs.Keeping.{reached};
+ghost use Rattle.bridge_limits.specs.Passed.{reached};
 ghost use Rattle.bridge_select.specs.inside.FdSets.{words_bytes};
 ghost use Rattle.bridge_select.specs.inside.Requests.{asked_of};
 ghost use Rattle.bridge_select.specs.inside.Telling.{Shows, ShowsSets, Tells, pieces_of, told_memory, told_outcome};
@@ -22,8 +22,7 @@ use crate::asked::{Asked, word_count};
 use crate::fd_sets::{FdSet, WORD_SIZE, program_bytes, set_in};
 use crate::requests::Request;
 use crate::rooms::Places;
-use bridge_limits::store_left;
-use bridge_log::{outcome_of, put};
+use bridge_limits::{outcome_of, put, store_left};
 use guest_space::Space;
 use host_mem::HostMem;
 use kernel_core::{Errno, NoMemory, Reply};

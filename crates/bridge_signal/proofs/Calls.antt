@@ -13,8 +13,8 @@ use Rattle.o32_model.specs.declared.outcome.Outcome.{Outcome}
 use Rattle.o32_model.specs.declared.wait.Seen.{Seen}
 use Rattle.o32_model.specs.declared.wait.Wait.{Wait}
 use Rattle.outside.specs.Streams.{Contents}
-use Rattle.bridge_log.proofs.Ends.{Still}
-use Rattle.bridge_log.specs.Keeping.{Keeps}
+use Rattle.bridge_signal_state.proofs.Passed.{Still}
+use Rattle.bridge_signal_state.specs.Passed.{Keeps}
 use Rattle.bridge_signal.specs.inside.Waiting.{restart_outcome}
 
 -- what a machine's call of a number does

@@ -15,9 +15,9 @@ use Rattle.o32_model.specs.Step.{Guest, O32Step}
 use Rattle.o32_model.specs.declared.outcome.Outcome.{Outcome}
 use Rattle.outside.proofs.OutputLemmas.{GainsText-nothing}
 use Rattle.outside.specs.Streams.{Contents}
-use Rattle.bridge_log.proofs.Ends.{stopped_before}
-use Rattle.bridge_log.proofs.Journals.{effected_none}
-use Rattle.bridge_log.specs.Keeping.{Keeps, Logged, reached}
+use Rattle.bridge_signal_state.proofs.Passed.{stopped_before}
+use Rattle.bridge_signal_state.proofs.Passed.{effected_none}
+use Rattle.bridge_signal_state.specs.Passed.{Keeps, Logged, reached}
 use Rattle.bridge_signal_state.specs.Acts.{Acted, Moves}
 use Rattle.bridge_signal.specs.inside.Endings.{Ending, ended, ending}
 

@@ -11,7 +11,7 @@ use Rattle.layouts.specs.Native.{siginfo}
 use Rattle.layouts.specs.Shape.{Shape, IsSound, after_put_record, are_in_range, record_bytes, record_values}
 use Rattle.native_calls.specs.HostBytes.{given, read_as}
 use Rattle.native_calls.specs.SignalBytes.{sent_at, sent_in, sent_of}
-use Rattle.bridge_log.proofs.Kernel.{info_fits}
+use Rattle.bridge_signal_state.proofs.Passed.{info_fits}
 use Rattle.number_tables.specs.Codes.{native_code, o32_code}
 
 abbrev ReadsBack : Type 0

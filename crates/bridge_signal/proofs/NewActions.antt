@@ -15,7 +15,7 @@ use Rattle.native_calls.specs.SignalBytes.{action_bytes}
 use Rattle.native_calls.specs.Signals.{rt_sigaction_row}
 use Rattle.native_calls.specs.Step as native_step
 use Rattle.native_calls.specs.Table.{native_call}
-use Rattle.bridge_log.proofs.Kernel.{action_fits}
+use Rattle.bridge_signal_state.proofs.Passed.{action_fits}
 use Rattle.number_tables.specs.SaNumbers.{native_sa}
 use Rattle.number_tables.specs.Signals.{native_signal, signal_of_native}
 use Rattle.signal_sets.proofs.Turned.{IsNativeSet-native_of}

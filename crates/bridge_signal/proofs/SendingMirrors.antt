@@ -19,9 +19,9 @@ use Rattle.o32_model.specs.GuestBytes.{read_as, structure}
 use Rattle.o32_model.specs.Sending as o32
 use Rattle.o32_model.specs.Sending.{named, sent_in}
 use Rattle.o32_model.specs.Step.{Guest}
-use Rattle.bridge_log.proofs.Replies.{Fits}
-use Rattle.bridge_log.specs.Mirrors.{Mirrors}
-use Rattle.bridge_log.specs.Outcomes.{by_reply}
+use Rattle.bridge_signal_state.proofs.Passed.{Fits}
+use Rattle.bridge_signal_state.specs.Passed.{Mirrors}
+use Rattle.bridge_signal_state.specs.Passed.{by_reply}
 use Rattle.bridge_signal.proofs.Zeros.{same_gives, zero_given, zero_if}
 
 sent_fits : (kernel : Kernel) (post : Post) → Fits (told_zero (sent_as kernel post)).came

@@ -20,7 +20,7 @@ use Rattle.o32_model.specs.Step as o32_step
 use Rattle.o32_model.specs.Step.{Guest, O32Step}
 use Rattle.o32_model.specs.Suspending as o32
 use Rattle.signal_sets.specs.NativeSets.{native_of}
-use Rattle.bridge_log.specs.Looks.{IsLook}
+use Rattle.bridge_signal_state.specs.Passed.{IsLook}
 use Rattle.bridge_signal.specs.inside.Asked.{if_sized}
 use Rattle.bridge_signal.specs.inside.Endings.{ended, ending, fails}
 use Rattle.bridge_signal.specs.inside.Waiting.{asleep, endless, masked}

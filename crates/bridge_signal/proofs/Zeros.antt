@@ -6,10 +6,10 @@ use Rattle.kernel_model.specs.State.{Kernel}
 use Rattle.native_calls.specs.Step as native_step
 use Rattle.o32_model.specs.Step as o32_step
 use Rattle.o32_model.specs.Step.{Guest}
-use Rattle.bridge_log.proofs.Mirroring.{mirrors_gives}
-use Rattle.bridge_log.proofs.Replies.{Fits}
-use Rattle.bridge_log.specs.Mirrors.{Mirrors}
-use Rattle.bridge_log.specs.Outcomes.{by_reply}
+use Rattle.bridge_signal_state.proofs.Passed.{mirrors_gives}
+use Rattle.bridge_signal_state.proofs.Passed.{Fits}
+use Rattle.bridge_signal_state.specs.Passed.{Mirrors}
+use Rattle.bridge_signal_state.specs.Passed.{by_reply}
 
 pub zero_if : (wrong : Bool) (error : Errno) (kernel : Kernel) (rest : Did Kernel (Unit {0})) → Fits (told_zero rest).came → Fits (told_zero (refused_if wrong error kernel rest)).came
 zero_if true error kernel rest fits = tt

@@ -9,8 +9,7 @@ ghost use Rattle.outside.specs.Streams.{NoCountFell, contents};
 
 use crate::asked::ActionSetting;
 use crate::setting::set_action;
-use bridge_log::NativeKernel;
-use bridge_signal_state::action;
+use bridge_signal_state::{NativeKernel, action};
 use host_mem::HostMem;
 use kernel_core::{Errno, Sig, Stop};
 use kernel_model::Action;

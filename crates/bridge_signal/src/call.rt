@@ -1,6 +1,6 @@
 //! A call on signals by its number.
 ghost use Rattle.std.specs.Prelude.{◌≡◌, IsTrue};
-ghost use Rattle.bridge_log.specs.Keeping.{KeepsCall};
+ghost use Rattle.bridge_signal_state.specs.Passed.{KeepsCall};
 ghost use Rattle.bridge_signal.specs.Found.{found};
 ghost use Rattle.bridge_signal.specs.Numbers.{is_call_there};
 ghost use Rattle.kernel_model.specs.Stops.{StopsOnlyIfRose};
@@ -12,7 +12,7 @@ use crate::returning::{rt_sigreturn, sigreturn};
 use crate::sending::{kill, rt_sigqueueinfo, tgkill, tkill};
 use crate::suspending::{pause, restart_syscall, rt_sigsuspend};
 use crate::telling::{rt_sigaction, rt_sigpending, rt_sigprocmask, sigaltstack};
-use bridge_log::NativeKernel;
+use bridge_signal_state::NativeKernel;
 use guest_space::Space;
 use host_mem::HostMem;
 use kernel_core::Stop;

@@ -9,7 +9,7 @@ ghost use Rattle.o32_model.specs.GuestBytes.{read_as, structure};
 ghost use Rattle.o32_model.specs.Sending.{sent_in};
 
 use crate::words::word_at;
-use bridge_log::load_structure;
+use bridge_signal_state::load_structure;
 use guest_space::Space;
 use host_mem::HostMem;
 use kernel_core::NoMemory;

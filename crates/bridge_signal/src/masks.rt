@@ -9,8 +9,7 @@ ghost use Rattle.kernel_model.specs.Stops.{StopsOnlyIfRose};
 ghost use Rattle.outside.specs.Streams.{NoCountFell, contents};
 
 use crate::asked::MaskSetting;
-use bridge_log::NativeKernel;
-use bridge_signal_state::{mask, set_mask};
+use bridge_signal_state::{NativeKernel, mask, set_mask};
 use host_mem::HostMem;
 use kernel_core::{Errno, MaskChange, Stop};
 use o32_model::Log;
@@ -94,7 +93,7 @@ fn changed_mask(how: MaskChange, mask: [u32; 4], set: [u32; 4]) -> [u32; 4]
 }
 
 /// The signals of two sets.
-#[tactic(auto, using(bridge_log::proofs::Kernel::union_words))]
+#[tactic(auto, using(bridge_signal_state::proofs::Passed::union_words))]
 fn union(set: [u32; 4], other: [u32; 4]) -> [u32; 4]
     ensures { result ≡ sets.union set other }
 {
@@ -107,7 +106,7 @@ fn union(set: [u32; 4], other: [u32; 4]) -> [u32; 4]
 }
 
 /// The signals of a set that are not in another.
-#[tactic(auto, using(bridge_log::proofs::Kernel::without_words))]
+#[tactic(auto, using(bridge_signal_state::proofs::Passed::without_words))]
 fn without(set: [u32; 4], other: [u32; 4]) -> [u32; 4]
     ensures { result ≡ sets.without set other }
 {

@@ -1,6 +1,6 @@
 //! Returning from a handler: sigreturn(2), and rt_sigreturn.
 ghost use Rattle.std.specs.Prelude.{◌≡◌};
-ghost use Rattle.bridge_log.specs.Keeping.{KeepsCall};
+ghost use Rattle.bridge_signal_state.specs.Passed.{KeepsCall};
 ghost use Rattle.bridge_signal.specs.inside.Returns.{restored, sig_stack};
 ghost use Rattle.bridge_signal_state.specs.Acts.{Acts};
 ghost use Rattle.kernel_model.specs.Stops.{StopsOnlyIfRose};
@@ -10,8 +10,7 @@ ghost use Rattle.o32_model.specs.Step.{Guest};
 ghost use Rattle.outside.specs.Streams.{NoCountFell, contents};
 
 use crate::stacks::replace_stack;
-use bridge_log::NativeKernel;
-use bridge_signal_state::set_mask;
+use bridge_signal_state::{NativeKernel, set_mask};
 use guest_space::Space;
 use host_mem::HostMem;
 use kernel_core::Stop;

@@ -1,7 +1,7 @@
 //! Sending signals: kill(2), tkill(2), tgkill(2), rt_sigqueueinfo(2).
 ghost use Rattle.std.specs.Prelude.{◌≡◌};
 ghost use Rattle.std.specs.Int.{w32, cast_signed};
-ghost use Rattle.bridge_log.specs.Keeping.{KeepsCall};
+ghost use Rattle.bridge_signal_state.specs.Passed.{KeepsCall};
 ghost use Rattle.kernel_model.specs.Stops.{StopsOnlyIfRose};
 ghost use Rattle.o32_model.specs.Answered.{IsCall};
 ghost use Rattle.o32_model.specs.Sending.{kill_row, rt_sigqueueinfo_row, tgkill_row, tkill_row};
@@ -11,7 +11,7 @@ ghost use Rattle.outside.specs.Streams.{NoCountFell, contents};
 use crate::infos::take_info;
 use crate::named::native_number;
 use crate::numbers::{KILL, RT_SIGQUEUEINFO, TGKILL, TKILL};
-use bridge_log::{NativeKernel, number_call};
+use bridge_signal_state::{NativeKernel, number_call};
 use guest_space::Space;
 use host_mem::HostMem;
 use kernel_core::Stop;

@@ -1,6 +1,6 @@
 //! New actions in host memory, and the native call that sets them.
 ghost use Rattle.std.specs.Prelude.{◌≡◌, ◌∷◌, ◌<◌, ◌^◌, [], ℕ, List, All, OnOk, false, map, pos};
-ghost use Rattle.bridge_log.specs.Arguments.{AreUnusedZero, IsPlaced};
+ghost use Rattle.bridge_signal_state.specs.Passed.{AreUnusedZero, IsPlaced};
 ghost use Rattle.bridge_signal.specs.inside.Asked.{action_set_to};
 ghost use Rattle.bridge_signal_state.specs.Acts.{Acts};
 ghost use Rattle.bridge_signal_state.specs.inside.Acting.{Answers, IsAct};
@@ -11,13 +11,13 @@ ghost use Rattle.kernel_model.specs.State.{Kernel};
 ghost use Rattle.kernel_model.specs.Stops.{StopsOnlyIfRose};
 ghost use Rattle.native_calls.specs.SignalBytes as spec;
 ghost use Rattle.native_calls.specs.Table.{native_call};
-ghost use Rattle.bridge_log.specs.Built.{built_call};
+ghost use Rattle.bridge_signal_state.specs.Passed.{built_call};
 ghost use Rattle.number_tables.specs.SaNumbers.{native_sa};
 ghost use Rattle.outside.specs.Streams.{NoCountFell, contents};
 ghost use Rattle.signal_sets.specs.NativeSets.{native_of};
 
 use crate::numbers::{RT_SIGACTION, SIGSETSIZE};
-use bridge_log::{NativeKernel, native};
+use bridge_signal_state::{NativeKernel, native};
 use host_mem::{FIRST_ADDRESS, HostMem};
 use kernel_core::{NoMemory, Reply, Sig, Stop};
 use kernel_model::Action;

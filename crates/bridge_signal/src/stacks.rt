@@ -10,8 +10,7 @@ ghost use Rattle.o32_model.specs.Actions.{stack_at};
 ghost use Rattle.outside.specs.Streams.{NoCountFell, contents};
 
 use crate::structures::stack_in_program;
-use bridge_log::NativeKernel;
-use bridge_signal_state::{set_stack, stack};
+use bridge_signal_state::{NativeKernel, set_stack, stack};
 use guest_space::Space;
 use host_mem::HostMem;
 use kernel_core::{Errno, Stop};

@@ -1,6 +1,6 @@
 //! What a call stores of what it was told, and what it comes to.
 ghost use Rattle.std.specs.Prelude.{◌≡◌, IfOk, OnOk};
-ghost use Rattle.bridge_log.specs.Keeping.{reached};
+ghost use Rattle.bridge_signal_state.specs.Passed.{reached};
 ghost use Rattle.bridge_signal.specs.inside.Endings.{ending, stores, stores_told, stores_told_unless_null, stores_unless_null};
 ghost use Rattle.kernel_model.specs.Pipes.{Sent};
 ghost use Rattle.mips_exec.specs.Processor.{Processor};
@@ -10,7 +10,7 @@ ghost use Rattle.o32_model.specs.Masks as masks;
 ghost use Rattle.o32_model.specs.Results.{value_if};
 
 use crate::structures::{action_bytes, set_bytes, stack_bytes};
-use bridge_log::put;
+use bridge_signal_state::put;
 use guest_space::Space;
 use kernel_core::{Errno, NoMemory};
 use kernel_model::{Action, SigStack};

@@ -8,7 +8,7 @@ ghost use Rattle.o32_model.specs.GuestBytes.{read_as, structure};
 ghost use Rattle.o32_model.specs.Masks as masks;
 
 use crate::words::word_at;
-use bridge_log::load_structure;
+use bridge_signal_state::load_structure;
 use byteorder::{BigEndian, ByteOrder};
 use guest_space::Space;
 use kernel_core::Errno;

@@ -1,7 +1,7 @@
 //! Waiting for signals: pause(2), rt_sigsuspend(2); and restart_syscall(2), by which a wait goes on.
 ghost use Rattle.std.specs.Prelude.{◌≡◌};
-ghost use Rattle.bridge_log.specs.Keeping.{KeepsCall};
-ghost use Rattle.bridge_log.specs.Looks.{LooksFor};
+ghost use Rattle.bridge_signal_state.specs.Passed.{KeepsCall};
+ghost use Rattle.bridge_signal_state.specs.Passed.{LooksFor};
 ghost use Rattle.bridge_signal.specs.inside.Waiting.{asleep, masked, restart_outcome};
 ghost use Rattle.bridge_signal_state.specs.Acts.{Acts};
 ghost use Rattle.kernel_model.specs.SignalRows as rows;
@@ -14,8 +14,7 @@ ghost use Rattle.outside.specs.Streams.{NoCountFell, contents};
 use crate::asked::asked_mask;
 use crate::numbers::{RT_SIGSUSPEND, SIGSETSIZE};
 use crate::sets::put_set;
-use bridge_log::{NativeKernel, look, outcome_of};
-use bridge_signal_state::{mask, set_mask};
+use bridge_signal_state::{NativeKernel, look, mask, outcome_of, set_mask};
 use guest_space::Space;
 use host_mem::{FIRST_ADDRESS, HostMem};
 use kernel_core::{Errno, Stop};

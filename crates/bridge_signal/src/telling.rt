@@ -1,6 +1,6 @@
 //! What is kept of signals, told and set: rt_sigaction(2), rt_sigprocmask(2), rt_sigpending(2), sigaltstack(2).
 ghost use Rattle.std.specs.Prelude.{◌≡◌};
-ghost use Rattle.bridge_log.specs.Keeping.{KeepsCall};
+ghost use Rattle.bridge_signal_state.specs.Passed.{KeepsCall};
 ghost use Rattle.bridge_signal.specs.inside.Told.{did};
 ghost use Rattle.bridge_signal_state.specs.Acts.{Acts};
 ghost use Rattle.kernel_model.specs.SignalRows as rows;
@@ -17,8 +17,7 @@ use crate::stacks::{asked_stack, change_stack};
 use crate::storing::{
     store_action_unless_null, store_set, store_set_unless_null, store_stack_unless_null,
 };
-use bridge_log::NativeKernel;
-use bridge_signal_state::pending;
+use bridge_signal_state::{NativeKernel, pending};
 use guest_space::Space;
 use host_mem::HostMem;
 use kernel_core::{Errno, Stop};

@@ -1,3 +1,4 @@
 pub mod Acts
+pub mod Passed
 pub mod Setting
 pub mod inside

@@ -38,8 +38,8 @@ use Rattle.o32_model.specs.Status.{greatest_node, status_flags}
 use Rattle.o32_model.specs.Step as o32_step
 use Rattle.o32_model.specs.Step.{Guest}
 use Rattle.o32_model.specs.Transfers.{small_file_limit}
-use Rattle.bridge_log.proofs.Replies.{outcome_of_wake}
-use Rattle.bridge_log.specs.Bounds.{Bounded}
+use Rattle.bridge_paths.proofs.Passed.{outcome_of_wake}
+use Rattle.bridge_paths.specs.Passed.{Bounded}
 use Rattle.bridge_paths.proofs.Rows.{bounded_either, bounded_given, bounded_some, word}
 use Rattle.bridge_paths.specs.HostPaths.{BeginsWith}
 use Rattle.bridge_paths.specs.Refusals.{Refuses}

@@ -1,6 +1,6 @@
 //! The calls on status: stat(2), lstat(2), fstat(2), fstatat(2), in the old structure and in that of 64 bits.
 ghost use Rattle.std.specs.Prelude.{◌≡◌, ◌<◌, None, Ok, length, position};
-ghost use Rattle.bridge_log.specs.Keeping.{KeepsCall};
+ghost use Rattle.bridge_paths.specs.Passed.{KeepsCall};
 ghost use Rattle.bridge_status.specs.inside.StatusCalls.{is_listed, open_status, path_status};
 ghost use Rattle.kernel_model.specs.Stops.{StopsOnlyIfRose};
 ghost use Rattle.o32_model.specs.Answered.{IsCall};
@@ -12,8 +12,7 @@ ghost use Rattle.outside.specs.Streams.{NoCountFell, contents};
 use crate::numbers::{FSTAT, NEWFSTATAT};
 use crate::structures::Form;
 use crate::telling::{STATUS_SIZE, tell_call};
-use bridge_log::{NativeKernel, fresh_room};
-use bridge_paths::{put_behind, read_path};
+use bridge_paths::{NativeKernel, fresh_room, put_behind, read_path};
 use guest_space::Space;
 use host_mem::{FIRST_ADDRESS, HostMem};
 use kernel_core::{Bytes, Errno, Stop};

@@ -17,8 +17,8 @@ use Rattle.native_calls.specs.Table.{native_call}
 use Rattle.o32_model.specs.Small as o32
 use Rattle.o32_model.specs.Step as o32_step
 use Rattle.o32_model.specs.Step.{Guest}
-use Rattle.bridge_log.specs.Bounds.{Bounded}
-use Rattle.bridge_log.specs.Fills.{Fills}
+use Rattle.bridge_io.specs.Passed.{Bounded}
+use Rattle.bridge_io.specs.Passed.{Fills}
 use Rattle.bridge_io.proofs.Fitting.{bounded_if, bounded_transferring}
 use Rattle.bridge_io.proofs.ReadFills.{room_is}
 

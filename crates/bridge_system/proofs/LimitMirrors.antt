@@ -31,10 +31,10 @@ use Rattle.o32_model.specs.Small as o32
 use Rattle.o32_model.specs.Step as o32_step
 use Rattle.o32_model.specs.Step.{Guest, O32Step}
 use Rattle.bridge_io.proofs.Fitting.{bounded_given, bounded_if, bounded_some}
-use Rattle.bridge_log.proofs.Replies.{bounded_map, outcome_of_failure, outcome_of_wake}
-use Rattle.bridge_log.specs.Bounds.{Bounded}
-use Rattle.bridge_log.specs.Mirrors.{Mirrors}
-use Rattle.bridge_log.specs.Outcomes.{by_reply}
+use Rattle.bridge_io.proofs.Passed.{bounded_map, outcome_of_failure, outcome_of_wake}
+use Rattle.bridge_io.specs.Passed.{Bounded}
+use Rattle.bridge_io.specs.Passed.{Mirrors}
+use Rattle.bridge_io.specs.Passed.{by_reply}
 use Rattle.bridge_system.proofs.TellMirrors.{Same, row_tells, whole_written}
 use Rattle.bridge_system.specs.declared.telling.Told.TheVariants.{Names, Limits, WideLimits}
 use Rattle.bridge_system.specs.inside.Limits.{native_number}

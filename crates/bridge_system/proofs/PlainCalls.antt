@@ -6,9 +6,9 @@ use Rattle.kernel_model.specs.Pipes.{nothing}
 use Rattle.kernel_model.specs.State.{Kernel}
 use Rattle.mips_exec.specs.Processor.{Processor}
 use Rattle.native_calls.specs.History.{opening}
-use Rattle.bridge_log.proofs.Histories.{logged_none}
-use Rattle.bridge_log.proofs.Journals.{effected_none}
-use Rattle.bridge_log.specs.Keeping.{Keeps, reached}
+use Rattle.bridge_io.proofs.Passed.{logged_none}
+use Rattle.bridge_io.proofs.Passed.{effected_none}
+use Rattle.bridge_io.specs.Passed.{Keeps, reached}
 use Rattle.bridge_system.specs.System.{small_call}
 use Rattle.bridge_system.specs.inside.Plain.{leaves}
 use Rattle.o32_model.specs.Answered as o32

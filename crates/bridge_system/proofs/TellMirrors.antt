@@ -24,10 +24,10 @@ use Rattle.o32_model.specs.Step.{Guest, O32Step}
 use Rattle.o32_model.specs.declared.call_words.CallWords.{CallWords}
 use Rattle.o32_model.specs.declared.outcome.Outcome.{Outcome}
 use Rattle.outside.specs.Streams.{Contents}
-use Rattle.bridge_log.proofs.Ends.{Alike, called_alike, keeps}
-use Rattle.bridge_log.proofs.Replies.{outcome_of_wake}
-use Rattle.bridge_log.specs.Bounds.{Bounded}
-use Rattle.bridge_log.specs.Keeping.{Logged, Keeps, reached}
+use Rattle.bridge_io.proofs.Passed.{Alike, called_alike, keeps}
+use Rattle.bridge_io.proofs.Passed.{outcome_of_wake}
+use Rattle.bridge_io.specs.Passed.{Bounded}
+use Rattle.bridge_io.specs.Passed.{Logged, Keeps, reached}
 use Rattle.bridge_system.specs.declared.telling.Told.{Told}
 use Rattle.bridge_system.specs.inside.Tells.{Tells, bytes_told, memory_told, outcome_told}
 

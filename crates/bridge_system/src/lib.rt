@@ -10,4 +10,5 @@ mod rlimit;
 mod small;
 mod telling;
 
+pub use bridge_io::io_call;
 pub use small::system_call;

@@ -1,6 +1,6 @@
 //! Limits: getrlimit(2), prlimit(2).
 ghost use Rattle.std.specs.Prelude.{◌≡◌, IfOk, OnOk, length};
-ghost use Rattle.bridge_log.specs.Keeping.{KeepsCall};
+ghost use Rattle.bridge_io.specs.Passed.{KeepsCall};
 ghost use Rattle.kernel_model.specs.Stops.{StopsOnlyIfRose};
 ghost use Rattle.bridge_system.specs.inside.Tells.{IsTaken};
 ghost use Rattle.o32_model.specs.Answered.{IsCall};
@@ -12,7 +12,7 @@ ghost use Rattle.outside.specs.Streams.{NoCountFell, contents};
 use crate::numbers::PRLIMIT64;
 use crate::rlimit::{limit_in, native_limit_bytes, native_number};
 use crate::telling::{Told, tell_call};
-use bridge_log::{NativeKernel, fresh_room, load_structure, number_call};
+use bridge_io::{NativeKernel, fresh_room, load_structure, number_call};
 use guest_space::Space;
 use host_mem::{FIRST_ADDRESS, HostMem};
 use kernel_core::{NoMemory, Stop};

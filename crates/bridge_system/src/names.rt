@@ -1,6 +1,6 @@
 //! The names of the system: uname(2).
 ghost use Rattle.std.specs.Prelude.{◌≡◌};
-ghost use Rattle.bridge_log.specs.Keeping.{KeepsCall};
+ghost use Rattle.bridge_io.specs.Passed.{KeepsCall};
 ghost use Rattle.kernel_model.specs.Stops.{StopsOnlyIfRose};
 ghost use Rattle.o32_model.specs.Answered.{IsCall};
 ghost use Rattle.o32_model.specs.Small.{uname_row};
@@ -9,7 +9,7 @@ ghost use Rattle.outside.specs.Streams.{NoCountFell, contents};
 
 use crate::numbers::UNAME;
 use crate::telling::{Told, tell_call};
-use bridge_log::{NativeKernel, fresh_room};
+use bridge_io::{NativeKernel, fresh_room};
 use guest_space::Space;
 use host_mem::{FIRST_ADDRESS, HostMem};
 use kernel_core::Stop;

@@ -1,6 +1,6 @@
 //! A small call by its number.
 ghost use Rattle.std.specs.Prelude.{◌≡◌};
-ghost use Rattle.bridge_log.specs.Keeping.{KeepsCall};
+ghost use Rattle.bridge_io.specs.Passed.{KeepsCall};
 ghost use Rattle.bridge_system.specs.Found.{found};
 ghost use Rattle.bridge_system.specs.System.{small_call};
 ghost use Rattle.kernel_model.specs.Stops.{StopsOnlyIfRose};
@@ -11,7 +11,7 @@ use crate::chance::getrandom;
 use crate::limits::{getrlimit, prlimit};
 use crate::names::uname;
 use crate::plain::plain_call;
-use bridge_log::NativeKernel;
+use bridge_io::NativeKernel;
 use guest_space::Space;
 use host_mem::HostMem;
 use kernel_core::Stop;

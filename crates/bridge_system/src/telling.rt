@@ -1,12 +1,12 @@
 //! Calls that are one native call which gives names or a limit.
 ghost use Rattle.std.specs.Prelude.{◌≡◌, ℕ, List, IfOk, OnOk};
-ghost use Rattle.bridge_log.specs.Arguments.{AreUnusedZero, IsPlaced};
-ghost use Rattle.bridge_log.specs.Keeping.{KeepsCall, reached};
+ghost use Rattle.bridge_io.specs.Passed.{AreUnusedZero, IsPlaced};
+ghost use Rattle.bridge_io.specs.Passed.{KeepsCall, reached};
 ghost use Rattle.kernel_model.specs.Pipes.{Sent};
 ghost use Rattle.kernel_model.specs.Stops.{StopsOnlyIfRose};
 ghost use Rattle.mips_exec.specs.Processor.{Processor};
 ghost use Rattle.native_calls.specs.Table.{native_call};
-ghost use Rattle.bridge_log.specs.Built.{built_call};
+ghost use Rattle.bridge_io.specs.Passed.{built_call};
 ghost use Rattle.bridge_system.specs.inside.Tells.{Tells, bytes_told, memory_told, outcome_told};
 ghost use Rattle.o32_model.specs.Answered.{IsCall};
 ghost use Rattle.o32_model.specs.Effects.{Effected};
@@ -15,7 +15,7 @@ ghost use Rattle.o32_model.specs.Step.{Guest, O32Step, stored};
 ghost use Rattle.outside.specs.Streams.{NoCountFell, contents};
 
 use crate::rlimit::{limit_bytes, limit_there, shown_bytes};
-use bridge_log::{NativeKernel, native, outcome_of, put};
+use bridge_io::{NativeKernel, native, outcome_of, put};
 use guest_space::Space;
 use host_mem::HostMem;
 use kernel_core::{Errno, NoMemory, Reply, Stop};

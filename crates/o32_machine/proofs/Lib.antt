@@ -1,7 +1,8 @@
 pub mod Coming
 pub mod EventPosts
-pub mod Numbering
 pub mod Logging
+pub mod Numbering
+pub mod Passed
 pub mod Quieting
 pub mod Recording
 pub mod Steps

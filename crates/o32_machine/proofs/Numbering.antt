@@ -7,7 +7,7 @@ use Rattle.bridge_open.specs.Numbers.{is_open_call}
 use Rattle.bridge_signal.specs.Numbers as signal
 use Rattle.bridge_status.specs.Numbers.{is_status_call}
 use Rattle.bridge_timer.specs.Numbers as timer
-use Rattle.bridge_wait.specs.Numbers as wait
+use Rattle.bridge_delivery.specs.Passed.{is_call_there as is_wait_there}
 use Rattle.kernel_model.specs.State.{Kernel}
 use Rattle.o32_model.specs.Actions.{action_calls}
 use Rattle.o32_model.specs.Clocks.{clock_calls}
@@ -174,7 +174,7 @@ is_poll_call number = (number == 4188) || (number == 4302)
 abbrev is_select_call : ℕ → Bool
 is_select_call number = (number == 4142) || (number == 4301)
 
-no_time : (number : ℕ) (otherwise : Option O32Call) → wait.is_call_there number ≡ false → timer.is_call_there number ≡ false → is_poll_call number ≡ false → is_select_call number ≡ false
+no_time : (number : ℕ) (otherwise : Option O32Call) → is_wait_there number ≡ false → timer.is_call_there number ≡ false → is_poll_call number ≡ false → is_select_call number ≡ false
     → (wait_call_or otherwise number ≡ otherwise) × ((number == 4263) ≡ false)
 no_time number otherwise no_wait no_timer no_poll no_select =
     let time_4265 = neither (number == 4013 || number == 4078 || number == 4166 || number == 4263 || number == 4264) (number == 4265) no_wait in
@@ -232,7 +232,7 @@ pub record IsOther (number : ℕ) : Type 0 where
   pub io : is_io_call number ≡ false
   pub file : is_file_call number ≡ false
   pub map : is_map_call number ≡ false
-  pub time : wait.is_call_there number ≡ false
+  pub time : is_wait_there number ≡ false
   pub timer : timer.is_call_there number ≡ false
   pub poll : is_poll_call number ≡ false
   pub select : is_select_call number ≡ false

@@ -13,13 +13,12 @@ use crate::numbers::{
 };
 use bridge_delivery::{
     acceptance_call, is_acceptance_call, is_poll_call, is_select_call, poll_call, select_call,
+    wait_call,
 };
-use bridge_io::io_call;
 use bridge_map::map_call;
 use bridge_signal::signal_call;
-use bridge_system::system_call;
+use bridge_system::{io_call, system_call};
 use bridge_timer::timer_call;
-use bridge_wait::wait_call;
 use guest_space::Space;
 use host_mem::HostMem;
 use kernel_core::Stop;

@@ -5,7 +5,7 @@ ghost use Rattle.bridge_open.specs.Numbers as opening;
 ghost use Rattle.bridge_signal.specs.Numbers as signal;
 ghost use Rattle.bridge_status.specs.Numbers as status;
 ghost use Rattle.bridge_timer.specs.Numbers as timer;
-ghost use Rattle.bridge_wait.specs.Numbers as wait;
+ghost use Rattle.bridge_delivery.specs.Passed.{is_call_there as is_wait_there};
 ghost use Rattle.o32_model.specs.Table as table;
 
 /// Whether a number is that of a call on descriptors and what they have open.
@@ -123,7 +123,7 @@ pub(crate) fn is_entries_call(nr: u32) -> bool
 
 /// Whether a number is that of a call on clocks or a sleep.
 pub(crate) fn is_time_call(nr: u32) -> bool
-    ensures { result ≡ wait.is_call_there nr }
+    ensures { result ≡ is_wait_there nr }
 {
     match nr {
         4013 => true,

@@ -3,7 +3,7 @@ use Rattle.std.proofs.Common.{◌≡◌, ℕ, zero, suc, ◌+◌, ◌-◌, ◌<�
 use Rattle.std.specs.Prelude.{◌==◌, if◌then◌else◌, nat_lt, unwrap_or}
 use Rattle.std.proofs.lemmas.Bool.{cases_eq, cases_lt}
 use Rattle.std.proofs.lemmas.Bool.Decides.{nat_tests}
-use Rattle.bridge_log.proofs.Histories.{Leads-append}
+use Rattle.o32_machine.proofs.Passed.{Leads-append}
 use Rattle.kernel_core.specs.declared.core_error.Stop.{Stop}
 use Rattle.kernel_core.specs.declared.event.Event.{Event}
 use Rattle.kernel_core.specs.declared.finish.Finish.{Finish}
@@ -14,7 +14,7 @@ use Rattle.kernel_model.specs.Pipes.{Sent, nothing}
 use Rattle.kernel_model.specs.State.{Kernel}
 use Rattle.native_calls.specs.History.{Follows, Leads, Moment, moment, more_sent, opening}
 use Rattle.native_calls.specs.Table.{native_call}
-use Rattle.native_log.specs.NativeLog.{NativeLog, as_told, at_time, emptied, first_log}
+use Rattle.o32_machine.specs.Passed.{NativeLog, as_told, at_time, emptied, first_log}
 use Rattle.o32_machine.specs.Answered.{turns_of}
 use Rattle.o32_machine.specs.Native.{LogsTurns, TurnLogged}
 use Rattle.o32_machine.specs.Quiet.{IsQuiet, IsStill, IsTurnAfter}

@@ -2,7 +2,7 @@
 -- follows.
 use Rattle.std.proofs.Common.{◌≡◌, ◌∙◌, ◌+◌, ℕ, Bool, true, List, [], Option, Some, None, IfOk, Ok, Err, Result, ap, refl, sym}
 use Rattle.std.specs.Prelude.{is_some}
-use Rattle.bridge_log.specs.Keeping.{Logged}
+use Rattle.o32_machine.specs.Passed.{Logged}
 use Rattle.kernel_core.specs.declared.core_error.Stop.{Stop}
 use Rattle.kernel_core.specs.declared.event.Event.{Event}
 use Rattle.kernel_core.specs.declared.finish.Finish.{Finish}
@@ -10,7 +10,7 @@ use Rattle.kernel_core.specs.declared.finish.Finish.TheVariants.{Exited, Killed,
 use Rattle.kernel_core.specs.declared.log_entry.LogEntry.{LogEntry}
 use Rattle.kernel_core.specs.declared.record.Record.{Record}
 use Rattle.native_calls.specs.History.{Moment}
-use Rattle.native_log.specs.NativeLog as logs
+use Rattle.o32_machine.specs.Passed.{emptied as emptied_log}
 use Rattle.o32_machine.specs.Answered.{is_end, over_of}
 use Rattle.o32_machine.specs.Emulator.{Emulated}
 use Rattle.o32_machine.specs.Native.{LogsTurns}
@@ -25,7 +25,7 @@ use Rattle.o32_turns.specs.Turn.{turn_of}
 use Rattle.outside.specs.Streams.{Contents}
 use Rattle.turn_records.specs.Keeping.{Gains, Records, emptied}
 
-kept_log : (old new : Option (List LogEntry)) (from to : Moment) → Logged (logs.emptied old) new from to → is_some new ≡ is_some old
+kept_log : (old new : Option (List LogEntry)) (from to : Moment) → Logged (emptied_log old) new from to → is_some new ≡ is_some old
 kept_log None new from to logged = ap is_some logged.kept
 kept_log (Some entries) new from to logged = ap is_some logged.kept
 

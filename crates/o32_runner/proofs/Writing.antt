@@ -6,7 +6,7 @@ use Rattle.kernel_core.specs.declared.event.Event.TheVariants as event
 use Rattle.kernel_core.specs.declared.finish.Finish.{Finish}
 use Rattle.kernel_core.specs.declared.finish.Finish.TheVariants.{Budget}
 use Rattle.kernel_model.specs.State.{Kernel}
-use Rattle.native_log.specs.NativeLog.{NativeLog, first_log}
+use Rattle.o32_machine.specs.Passed.{NativeLog, first_log}
 use Rattle.o32_machine.specs.Answered.{turns_of}
 use Rattle.o32_machine.specs.Emulator.{Emulated}
 use Rattle.o32_machine.specs.declared.turn.Turn as code

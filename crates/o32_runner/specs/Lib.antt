@@ -1,10 +1,11 @@
 pub mod Emulators
-pub mod Runs
-pub mod Trace
-pub mod NativeText
 pub mod JournalText
-pub mod Stored
 pub mod Making
-pub mod Traced
+pub mod NativeText
+pub mod Passed
+pub mod Runs
+pub mod Stored
 pub mod Texts
+pub mod Trace
+pub mod Traced
 pub mod inside

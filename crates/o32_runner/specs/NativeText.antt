@@ -8,7 +8,7 @@ use Rattle.kernel_core.specs.declared.log_entry.LogEntry.{LogEntry}
 use Rattle.kernel_model.specs.Pipes.{Sent}
 use Rattle.kernel_model.specs.State.{Kernel}
 use Rattle.native_calls.specs.History.{Leads, moment, opening}
-use Rattle.native_log.specs.NativeLog.{at_time}
+use Rattle.o32_machine.specs.Passed.{at_time}
 use Rattle.o32_turns.specs.Machine.{Machine}
 use Rattle.o32_turns.specs.Runs.{attempt, more_sent, reached}
 use Rattle.o32_runner.specs.Stored.{IsPartly, Stored, WritesText}

@@ -3,7 +3,7 @@ use Rattle.std.specs.Prelude.{ℕ, ◌≡◌, ◌≢◌, ◌⊎◌, ⊤, true, L
 use Rattle.outside.specs.Streams.{Contents}
 use Rattle.kernel_core.specs.declared.core_error.Stop.{Stop}
 use Rattle.kernel_core.specs.declared.finish.Finish.{Finish}
-use Rattle.native_log.specs.NativeLog.{NativeLog, first_log}
+use Rattle.o32_machine.specs.Passed.{NativeLog, first_log}
 use Rattle.o32_turns.specs.Machine.{Machine}
 use Rattle.o32_runner.specs.JournalText.{KeepsAs}
 use Rattle.o32_runner.specs.Making.{IsUnbegun}

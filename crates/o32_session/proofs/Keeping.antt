@@ -1,7 +1,7 @@
 -- What an emulator keeps of its turns, by the names that a run was given.
 use Rattle.std.proofs.Common.{◌≡◌, ◌∙◌, ℕ, Bool, true, false, List, Option, Some, None, ap, option_map, refl, sym}
 use Rattle.std.specs.Prelude.{is_some}
-use Rattle.native_log.specs.NativeLog.{NativeLog, first_log}
+use Rattle.o32_runner.specs.Passed.{NativeLog, first_log}
 use Rattle.o32_runner.specs.Emulators.{Emulated}
 use Rattle.o32_runner.specs.Runs.{KeepsTexts}
 use Rattle.o32_session.specs.Asked.{Names}

@@ -5,7 +5,7 @@ use Rattle.std.specs.Str.{bytes_eq}
 use Rattle.outside.specs.Files.{Files}
 use Rattle.outside.specs.Streams.{Contents}
 use Rattle.outside.proofs.FileLemmas.{bytes_eq-same}
-use Rattle.native_log.specs.NativeLog.{NativeLog, first_log}
+use Rattle.o32_runner.specs.Passed.{NativeLog, first_log}
 use Rattle.kernel_core.specs.declared.core_error.Stop.{Stop}
 use Rattle.kernel_core.specs.declared.finish.Finish.{Finish}
 use Rattle.o32_turns.specs.Machine.{Machine}

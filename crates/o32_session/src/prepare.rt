@@ -6,7 +6,7 @@ ghost use Rattle.elf_image.specs.Loading as plans;
 ghost use Rattle.kernel_core.specs.ValidTree as trees;
 ghost use Rattle.journal.specs.Form.{AreTexts};
 ghost use Rattle.journal.specs.Text.{head_text};
-ghost use Rattle.native_log.specs.NativeLog.{first_log};
+ghost use Rattle.o32_runner.specs.Passed.{first_log};
 ghost use Rattle.o32_session.specs.Words.{IsPlain, texts, read_words};
 ghost use Rattle.session_words.specs.Read.{line_seen};
 ghost use Rattle.schedule.specs.Ranges.{IsGivenSchedule};

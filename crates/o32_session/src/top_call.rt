@@ -3,7 +3,7 @@ ghost use Rattle.std.specs.Prelude.{ℕ, List, ◌≡◌, ◌<◌, ◌≤◌, �
 ghost use Rattle.outside.specs.Count.{Rose};
 ghost use Rattle.outside.specs.Streams.{NoCountFell};
 ghost use Rattle.journal.specs.Form.{IsFinish};
-ghost use Rattle.native_log.specs.NativeLog.{first_log};
+ghost use Rattle.o32_runner.specs.Passed.{first_log};
 ghost use Rattle.o32_session.specs.Answers.{IsRefusal, finish_of, status_of};
 ghost use Rattle.o32_session.specs.Asked.{Names, Run, names_of};
 ghost use Rattle.o32_session.specs.inside.Ends.{end_of_error, end_of_stop};

@@ -12,7 +12,7 @@ use Rattle.kernel_model.specs.SignalSets.{SignalSet, blockable}
 use Rattle.kernel_model.specs.State.{Kernel}
 use Rattle.kernel_model.specs.declared.time.TimeSpec.{TimeSpec}
 use Rattle.o32_model.specs.Suspending.{all_signals}
-use Rattle.bridge_log.specs.Outcomes.{error_of}
+use Rattle.bridge_signal_state.specs.Passed.{error_of}
 use Rattle.bridge_acceptance.specs.declared.accepting.Accepted.{Accepted}
 use Rattle.bridge_acceptance.specs.declared.accepting.Accepted.TheVariants as accepteds
 use Rattle.bridge_acceptance.specs.declared.asked.Wanted.{Wanted}

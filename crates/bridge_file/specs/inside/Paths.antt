@@ -8,8 +8,8 @@ use Rattle.native_calls.specs.Paths as native
 use Rattle.native_calls.specs.Step.{NativeStep}
 use Rattle.o32_model.specs.Paths as o32
 use Rattle.o32_model.specs.Step.{Guest, O32Step}
-use Rattle.bridge_log.specs.Mirrors.{Mirrors}
-use Rattle.bridge_log.specs.Outcomes.{by_reply}
+use Rattle.bridge_paths.specs.Passed.{Mirrors}
+use Rattle.bridge_paths.specs.Passed.{by_reply}
 use Rattle.bridge_paths.specs.Refusals.{Refuses}
 
 -- a call with one path, which then stands in host memory from its first address on

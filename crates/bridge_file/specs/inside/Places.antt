@@ -7,7 +7,7 @@ use Rattle.o32_model.specs.Transfers.{small_file_limit}
 use Rattle.o32_model.specs.declared.call_words.CallWords.{CallWords}
 use Rattle.o32_model.specs.declared.outcome.Outcome.{Outcome}
 use Rattle.o32_model.specs.declared.outcome.Outcome.TheVariants as outcomes
-use Rattle.bridge_log.specs.Outcomes.{outcome_of}
+use Rattle.bridge_paths.specs.Passed.{outcome_of}
 
 -- a place past the greatest one is EOVERFLOW
 abbrev pub outcome_of_place : CallWords → Reply → Outcome

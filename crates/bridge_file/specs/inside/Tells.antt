@@ -13,7 +13,7 @@ use Rattle.o32_model.specs.Results.{value_if}
 use Rattle.o32_model.specs.Step.{Guest, O32Step}
 use Rattle.o32_model.specs.declared.call_words.CallWords.{CallWords}
 use Rattle.o32_model.specs.declared.outcome.Outcome.{Outcome}
-use Rattle.bridge_log.specs.Outcomes.{outcome_of}
+use Rattle.bridge_paths.specs.Passed.{outcome_of}
 use Rattle.bridge_file.specs.declared.telling.Told.{Told}
 use Rattle.bridge_file.specs.declared.telling.Told.TheVariants.{Text, Place}
 

@@ -19,7 +19,7 @@ use Rattle.o32_model.specs.Transfers.{small_file_limit}
 use Rattle.o32_model.specs.declared.call_words.CallWords.{CallWords}
 use Rattle.o32_model.specs.declared.outcome.Outcome.{Outcome}
 use Rattle.o32_model.specs.declared.outcome.Outcome.TheVariants as outcomes
-use Rattle.bridge_log.specs.Outcomes.{outcome_of}
+use Rattle.bridge_paths.specs.Passed.{outcome_of}
 
 -- Opening comes to the same as where there is no limit.
 abbrev pub Unlimited : Files → Base → List ℕ → OpenSet → Type 0

@@ -11,7 +11,7 @@ use Rattle.kernel_model.specs.Shared.{PollSet}
 use Rattle.kernel_model.specs.State.{Kernel}
 use Rattle.o32_model.specs.Polling.{entries_at}
 use Rattle.bridge_limits.specs.Limits.{ShowsLeft, given_mask}
-use Rattle.bridge_log.specs.Outcomes.{error_of}
+use Rattle.bridge_limits.specs.Passed.{error_of}
 use Rattle.bridge_poll.specs.declared.asking.Answer.{Answer}
 use Rattle.bridge_poll.specs.declared.asking.Came.{Came}
 use Rattle.bridge_poll.specs.declared.asking.Came.TheVariants.{Ended, Waits}

@@ -12,7 +12,7 @@ use Rattle.o32_model.specs.GuestBytes.{with_stored}
 use Rattle.o32_model.specs.Step.{Guest, O32Step, failure, stored}
 use Rattle.o32_model.specs.declared.call_words.CallWords.{CallWords}
 use Rattle.o32_model.specs.declared.outcome.Outcome.{Outcome}
-use Rattle.bridge_log.specs.Outcomes.{outcome_of}
+use Rattle.bridge_paths.specs.Passed.{outcome_of}
 use Rattle.bridge_status.specs.declared.structures.Form.{Form}
 use Rattle.bridge_status.specs.inside.Statuses.{is_too_wide, shape_of, shown}
 

@@ -16,7 +16,7 @@ use Rattle.o32_model.specs.Small as o32
 use Rattle.o32_model.specs.Step.{Guest, O32Step, stored}
 use Rattle.o32_model.specs.declared.call_words.CallWords.{CallWords}
 use Rattle.o32_model.specs.declared.outcome.Outcome.{Outcome}
-use Rattle.bridge_log.specs.Outcomes.{outcome_of}
+use Rattle.bridge_io.specs.Passed.{outcome_of}
 
 -- the bytes that go to the program's memory, by those of host memory
 abbrev pub bytes_told : Told → List ℕ → List ℕ

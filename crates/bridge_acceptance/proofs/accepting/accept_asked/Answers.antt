@@ -9,7 +9,7 @@ use Rattle.outside.specs.Streams.{contents}
 use Rattle.bridge_acceptance.proofs.Naming.{first_is, first_pends}
 use Rattle.bridge_acceptance.specs.declared.accepting.Accepted.{Accepted}
 use Rattle.bridge_acceptance.specs.inside.Accepting.{acceptance, did, met}
-use Rattle.bridge_log.proofs.Looking.{still_told}
+use Rattle.bridge_signal_state.proofs.Passed.{still_told}
 use Rattle.bridge_signal_state.proofs.Moving.{acted_after, acted_as, acted_look}
 use Rattle.bridge_acceptance.proofs.accepting.accept_asked.Goals as goal
 

@@ -4,7 +4,7 @@ use Rattle.outside.specs.Streams.{contents}
 use Rattle.bridge_acceptance.proofs.Closed.{ends_called, ends_keeps}
 use Rattle.bridge_acceptance.proofs.Rows.{called_row}
 use Rattle.bridge_acceptance.specs.Found.{found}
-use Rattle.bridge_log.proofs.Looking.{stopped_row}
+use Rattle.bridge_signal_state.proofs.Passed.{stopped_row}
 use Rattle.bridge_acceptance.proofs.call.acceptance_call.Goals as goal
 
 pub returns-clause-row : goal.returns-clause-row

@@ -5,7 +5,7 @@ use Rattle.outside.specs.Streams.{contents}
 use Rattle.bridge_acceptance.proofs.Rows.{wait_looks, wait_reply, waited}
 use Rattle.bridge_acceptance.specs.declared.accepting.Accepted.{Accepted}
 use Rattle.bridge_acceptance.specs.inside.Accepting.{acceptance, came_of, did}
-use Rattle.bridge_log.proofs.Looking.{looked_stop}
+use Rattle.bridge_signal_state.proofs.Passed.{looked_stop}
 use Rattle.bridge_acceptance.proofs.waiting.wait.Goals as goal
 
 pub returns-clause-looks : goal.returns-clause-looks

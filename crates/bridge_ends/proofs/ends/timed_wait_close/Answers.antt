@@ -1,10 +1,10 @@
 -- The end of a sleep, or of a wait for descriptors.
 use Rattle.std.proofs.Common.{◌≡◌, ◌∙◌, ap, sym}
 use Rattle.std.specs.Prelude.{Result, Ok, Err, IfOk, OnOk}
-use Rattle.bridge_acceptance.specs.Ends.{Keeps}
+use Rattle.bridge_poll.specs.Passed.{Keeps}
 use Rattle.bridge_ends.proofs.KeptEnds.{sleep_keeps}
 use Rattle.bridge_ends.proofs.SameEnds.{by_select, closes_as}
-use Rattle.bridge_log.specs.Keeping.{reached}
+use Rattle.bridge_poll.specs.Passed.{reached}
 use Rattle.bridge_select.specs.Ends.{select_ended}
 use Rattle.kernel_core.specs.declared.core_error.Stop.{Stop}
 use Rattle.kernel_model.specs.Pipes.{Sent}

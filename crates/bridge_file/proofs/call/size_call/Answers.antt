@@ -3,7 +3,7 @@ use Rattle.std.proofs.Common.{◌≡◌, ℕ, refl, rules, subst}
 use Rattle.std.specs.Int.{cast_signed, w64}
 use Rattle.std.specs.Prelude.{ℤ, OnOk}
 use Rattle.bridge_paths.specs.Found.{found}
-use Rattle.bridge_log.specs.Keeping.{Keeps}
+use Rattle.bridge_paths.specs.Passed.{Keeps}
 use Rattle.o32_model.specs.Answered.{Answers}
 use Rattle.o32_model.specs.NodeCalls.{ftruncate_row, truncate_row}
 use Rattle.o32_model.specs.Words.{argument}

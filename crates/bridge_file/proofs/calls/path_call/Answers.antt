@@ -5,7 +5,7 @@ use Rattle.kernel_core.specs.declared.error.Errno.{Errno}
 use Rattle.o32_model.specs.Paths.{is_nul, path_at, path_limit}
 use Rattle.o32_model.specs.declared.outcome.Outcome.TheVariants.{Error}
 use Rattle.outside.specs.Streams.{contents}
-use Rattle.bridge_log.proofs.Ends.{fails_before, still_called, still_keeps}
+use Rattle.bridge_paths.proofs.Passed.{fails_before, still_called, still_keeps}
 use Rattle.bridge_paths.proofs.Refusing.{still_of}
 use Rattle.bridge_file.proofs.calls.path_call.Goals as goal
 

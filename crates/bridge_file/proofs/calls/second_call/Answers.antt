@@ -6,9 +6,9 @@ use Rattle.native_calls.specs.Table.{native_call}
 use Rattle.o32_model.specs.Paths.{is_nul, path_at, path_limit}
 use Rattle.o32_model.specs.declared.outcome.Outcome.TheVariants.{Error}
 use Rattle.outside.specs.Streams.{contents}
-use Rattle.bridge_log.proofs.Ends.{fails_before, still_called, still_keeps}
-use Rattle.bridge_log.specs.Mirrors.{Mirrors}
-use Rattle.bridge_log.specs.Outcomes.{by_reply}
+use Rattle.bridge_paths.proofs.Passed.{fails_before, still_called, still_keeps}
+use Rattle.bridge_paths.specs.Passed.{Mirrors}
+use Rattle.bridge_paths.specs.Passed.{by_reply}
 use Rattle.bridge_paths.proofs.Refusing.{still_of}
 use Rattle.bridge_file.proofs.calls.second_call.Goals as goal
 

@@ -6,8 +6,8 @@ use Rattle.o32_model.specs.Names.{linkat_row}
 use Rattle.o32_model.specs.PathArguments.{base}
 use Rattle.o32_model.specs.declared.outcome.Outcome.TheVariants.{Error}
 use Rattle.outside.specs.Streams.{contents}
-use Rattle.bridge_log.proofs.Ends.{still_called, still_keeps}
-use Rattle.bridge_log.specs.Keeping.{Keeps, KeepsCall}
+use Rattle.bridge_paths.proofs.Passed.{still_called, still_keeps}
+use Rattle.bridge_paths.specs.Passed.{Keeps, KeepsCall}
 use Rattle.bridge_paths.proofs.Refusing.{still_of}
 use Rattle.bridge_file.proofs.names.linkat.Goals as goal
 

@@ -8,7 +8,7 @@ use Rattle.o32_model.specs.Opening.{llseek_row}
 use Rattle.o32_model.specs.Words.{pair, stack_word}
 use Rattle.o32_model.specs.declared.outcome.Outcome.TheVariants.{Error}
 use Rattle.outside.specs.Streams.{contents}
-use Rattle.bridge_log.proofs.Ends.{Still, still_called, still_keeps}
+use Rattle.bridge_paths.proofs.Passed.{Still, still_called, still_keeps}
 use Rattle.bridge_file.proofs.SizeRows.{llseek_tells, llseek_unplaced}
 use Rattle.bridge_file.specs.declared.telling.Told.TheVariants.{Place}
 use Rattle.bridge_file.specs.inside.Tells.{Tells}

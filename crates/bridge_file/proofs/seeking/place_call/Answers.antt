@@ -2,7 +2,7 @@
 use Rattle.std.proofs.Common.{◌∙◌, sym, ap}
 use Rattle.kernel_model.specs.Pipes.{nothing}
 use Rattle.o32_model.specs.declared.call_words.CallWords.{CallWords}
-use Rattle.bridge_log.proofs.Mirroring.{mirrors_called, mirrors_keeps}
+use Rattle.bridge_paths.proofs.Passed.{mirrors_called, mirrors_keeps}
 use Rattle.bridge_file.specs.inside.Places.{outcome_of_place}
 use Rattle.bridge_file.proofs.seeking.place_call.Goals as goal
 

@@ -3,7 +3,7 @@ use Rattle.std.proofs.Common.{ℕ, ◌∙◌, ap, replicate, sym}
 use Rattle.guest_space.specs.Access.{writable_prefix}
 use Rattle.guest_space.specs.Memory.{Memory}
 use Rattle.o32_model.specs.NodeCalls.{getcwd_row}
-use Rattle.bridge_log.proofs.Ends.{fails_before}
+use Rattle.bridge_paths.proofs.Passed.{fails_before}
 use Rattle.bridge_file.proofs.TextTells.{getcwd_tells}
 use Rattle.bridge_file.proofs.texts.getcwd.Goals as goal
 

@@ -6,7 +6,7 @@ use Rattle.guest_space.specs.Memory.{Memory}
 use Rattle.o32_model.specs.Names.{readlink_row}
 use Rattle.o32_model.specs.PathArguments.{base}
 use Rattle.o32_model.specs.Paths.{path_at}
-use Rattle.bridge_log.proofs.Ends.{fails_before}
+use Rattle.bridge_paths.proofs.Passed.{fails_before}
 use Rattle.bridge_file.proofs.TextTells.{readlink_tells}
 use Rattle.bridge_paths.specs.HostPaths.{HasRoom}
 use Rattle.bridge_file.specs.inside.Tells.{size_room}

@@ -6,7 +6,7 @@ use Rattle.o32_model.specs.NodeCalls.{times_at, utimensat_row}
 use Rattle.o32_model.specs.PathArguments.{base}
 use Rattle.o32_model.specs.declared.outcome.Outcome.TheVariants.{Error}
 use Rattle.outside.specs.Streams.{contents}
-use Rattle.bridge_log.proofs.Ends.{fails_before, still_called, still_keeps}
+use Rattle.bridge_paths.proofs.Passed.{fails_before, still_called, still_keeps}
 use Rattle.bridge_file.proofs.OptionalPaths.{optional_path}
 use Rattle.bridge_paths.proofs.Refusing.{still_of}
 use Rattle.bridge_file.proofs.TimeRows.{times_lost, utimensat_mirrors}

@@ -7,8 +7,8 @@ use Rattle.o32_model.specs.declared.outcome.Outcome.{Outcome}
 use Rattle.o32_model.specs.declared.outcome.Outcome.TheVariants.{Sleep}
 use Rattle.o32_model.specs.declared.wait.Wait.{Wait}
 use Rattle.outside.specs.Streams.{contents}
-use Rattle.bridge_log.proofs.Looking.{still_told}
-use Rattle.bridge_signal_state.proofs.Moving.{acted_stop, moves_look, moves_then}
+use Rattle.bridge_acceptance.proofs.Passed.{still_told}
+use Rattle.bridge_acceptance.proofs.Passed.{acted_stop, moves_look, moves_then}
 use Rattle.bridge_limits.specs.inside.Waiting.{sleeping}
 use Rattle.bridge_limits.proofs.sleeping.sleep_masked.Goals as goal
 

@@ -7,8 +7,8 @@ use Rattle.o32_model.specs.PathArguments.{base}
 use Rattle.o32_model.specs.Paths.{path_at}
 use Rattle.o32_model.specs.declared.call_words.CallWords.{CallWords}
 use Rattle.outside.specs.Streams.{contents}
-use Rattle.bridge_log.proofs.Ends.{fails_before, stopped_alike}
-use Rattle.bridge_log.proofs.Mirroring.{mirrors_alike, mirrors_called, mirrors_keeps}
+use Rattle.bridge_paths.proofs.Passed.{fails_before, stopped_alike}
+use Rattle.bridge_paths.proofs.Passed.{mirrors_alike, mirrors_called, mirrors_keeps}
 use Rattle.bridge_paths.proofs.HostPaths.{one_zero}
 use Rattle.bridge_open.proofs.OpenRows.{fails_stopped, large_mirrors}
 use Rattle.bridge_open.specs.inside.Openings.{outcome_of_large}

@@ -10,8 +10,8 @@ use Rattle.o32_model.specs.PathArguments.{base}
 use Rattle.o32_model.specs.declared.outcome.Outcome.TheVariants.{Error}
 use Rattle.outside.specs.Streams.{contents}
 use Rattle.std.specs.Prelude.{OnOk}
-use Rattle.bridge_log.proofs.Ends.{Still, still_called, still_keeps}
-use Rattle.bridge_log.specs.Keeping.{Keeps}
+use Rattle.bridge_paths.proofs.Passed.{Still, still_called, still_keeps}
+use Rattle.bridge_paths.specs.Passed.{Keeps}
 use Rattle.bridge_open.proofs.OpenRows.{open_unlisted}
 use Rattle.bridge_paths.proofs.Refusing.{still_of}
 use Rattle.bridge_open.proofs.opening.open.Goals as goal

@@ -8,7 +8,7 @@ use Rattle.o32_model.specs.PathArguments.{base}
 use Rattle.o32_model.specs.Paths.{is_nul, path_at, path_limit}
 use Rattle.o32_model.specs.declared.outcome.Outcome.TheVariants.{Error}
 use Rattle.outside.specs.Streams.{contents}
-use Rattle.bridge_log.proofs.Ends.{fails_before, still_called, still_keeps}
+use Rattle.bridge_paths.proofs.Passed.{fails_before, still_called, still_keeps}
 use Rattle.bridge_open.proofs.OpenRows.{open_lost, open_makes}
 use Rattle.bridge_paths.proofs.Refusing.{still_of}
 use Rattle.bridge_open.proofs.opening.open_listed.Goals as goal

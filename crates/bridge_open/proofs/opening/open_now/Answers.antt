@@ -5,7 +5,7 @@ use Rattle.o32_model.specs.Opening.{open_row}
 use Rattle.o32_model.specs.PathArguments.{base}
 use Rattle.o32_model.specs.Paths.{path_at}
 use Rattle.std.proofs.Common.{Some}
-use Rattle.bridge_log.proofs.Ends.{fails_before}
+use Rattle.bridge_paths.proofs.Passed.{fails_before}
 use Rattle.bridge_open.proofs.OpenRows.{open_mirrors, open_unused}
 use Rattle.bridge_open.proofs.opening.open_now.Goals as goal
 

@@ -6,7 +6,7 @@ use Rattle.o32_model.specs.Opening.{open_row}
 use Rattle.o32_model.specs.PathArguments.{base}
 use Rattle.outside.specs.Streams.{contents}
 use Rattle.bridge_open.proofs.OpenRows.{unlimited_by_flags}
-use Rattle.bridge_log.proofs.Looking.{kept_then, row_then, still_told, stopped_row}
+use Rattle.bridge_paths.proofs.Passed.{kept_then, row_then, still_told, stopped_row}
 use Rattle.bridge_open.specs.inside.Openings.{size_led}
 use Rattle.bridge_open.proofs.opening.open_path.Goals as goal
 

@@ -3,7 +3,7 @@ use Rattle.std.proofs.Common.{◌∙◌, ap, refl, ℕ, List}
 use Rattle.kernel_model.specs.Paths.{walk_to_node}
 use Rattle.o32_model.specs.PathArguments.{base}
 use Rattle.bridge_open.proofs.SizeLooks.{came_led, memory_of, reply_of, size_found, size_look}
-use Rattle.bridge_log.proofs.Looking.{looked_stop}
+use Rattle.bridge_paths.proofs.Passed.{looked_stop}
 use Rattle.bridge_open.specs.inside.Openings.{size_told}
 use Rattle.bridge_open.proofs.sizes.size_led.Goals as goal
 

@@ -1,7 +1,7 @@
 -- The native call leaves the kernel, and its answer is what the row comes to.
 use Rattle.std.proofs.Common.{ℕ, ◌^◌, ◌<◌, List, arith}
 use Rattle.outside.specs.Streams.{contents}
-use Rattle.bridge_log.proofs.Looking.{looked_stop}
+use Rattle.bridge_limits.proofs.Passed.{looked_stop}
 use Rattle.bridge_poll.proofs.Answering.{answered_there, looks_there, memory_of, reply_of}
 use Rattle.bridge_poll.specs.declared.asking.Answer.{Answer}
 use Rattle.bridge_poll.specs.inside.Asking.{IsAnswer, polling}

@@ -5,7 +5,7 @@ use Rattle.o32_model.specs.Step.{O32Step}
 use Rattle.o32_model.specs.Words.{argument, signed_argument}
 use Rattle.std.specs.Prelude.{OnOk}
 use Rattle.outside.specs.Streams.{contents}
-use Rattle.bridge_log.specs.Keeping.{Keeps}
+use Rattle.bridge_limits.specs.Passed.{Keeps}
 use Rattle.bridge_poll.proofs.Calls.{poll_limited}
 use Rattle.bridge_poll.proofs.call.poll.Goals as goal
 

@@ -4,7 +4,7 @@ use Rattle.std.specs.Prelude.{OnOk}
 use Rattle.o32_model.specs.Answered.{Answers}
 use Rattle.o32_model.specs.Step.{O32Step}
 use Rattle.outside.specs.Streams.{contents}
-use Rattle.bridge_log.specs.Keeping.{Keeps}
+use Rattle.bridge_limits.specs.Passed.{Keeps}
 use Rattle.bridge_poll.proofs.Calls.{called_poll, called_ppoll}
 use Rattle.bridge_poll.specs.Found.{found}
 use Rattle.bridge_poll.proofs.call.poll_call.Goals as goal

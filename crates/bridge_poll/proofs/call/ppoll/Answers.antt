@@ -10,7 +10,7 @@ use Rattle.o32_model.specs.Words.{argument, stack_word}
 use Rattle.outside.specs.Streams.{contents}
 use Rattle.bridge_limits.proofs.Endings.{ends_called, ends_quietly}
 use Rattle.bridge_limits.proofs.LimitedRows.{step_of}
-use Rattle.bridge_log.specs.Keeping.{Keeps}
+use Rattle.bridge_limits.specs.Passed.{Keeps}
 use Rattle.bridge_limits.proofs.Moving.{moves_none}
 use Rattle.bridge_poll.proofs.Calls.{ppoll_unsized}
 use Rattle.bridge_poll.proofs.call.ppoll.Goals as goal

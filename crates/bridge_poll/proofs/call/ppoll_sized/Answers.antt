@@ -9,7 +9,7 @@ use Rattle.o32_model.specs.Words.{argument}
 use Rattle.outside.specs.Streams.{contents}
 use Rattle.bridge_limits.proofs.Endings.{ends_called, ends_quietly}
 use Rattle.bridge_limits.proofs.LimitedRows.{step_of}
-use Rattle.bridge_log.specs.Keeping.{Keeps}
+use Rattle.bridge_limits.specs.Passed.{Keeps}
 use Rattle.bridge_limits.proofs.Moving.{moves_none}
 use Rattle.bridge_poll.proofs.Calls.{ppoll_limited, ppoll_refused}
 use Rattle.bridge_poll.proofs.call.ppoll_sized.Goals as goal

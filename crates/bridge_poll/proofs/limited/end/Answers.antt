@@ -1,5 +1,5 @@
 -- What is told, and then the time that is left
-use Rattle.bridge_log.proofs.Journals.{effected_then}
+use Rattle.bridge_limits.proofs.Passed.{effected_then}
 use Rattle.bridge_poll.proofs.Limiting.{left_stored}
 use Rattle.bridge_poll.specs.inside.Telling.{told_bytes}
 use Rattle.bridge_poll.proofs.limited.end.Goals as goal

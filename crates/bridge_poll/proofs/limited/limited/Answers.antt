@@ -9,8 +9,8 @@ use Rattle.o32_model.specs.declared.outcome.Outcome.{Outcome}
 use Rattle.outside.specs.Streams.{contents}
 use Rattle.bridge_limits.proofs.Endings.{acts_keeps, acts_row, ends_called, ends_keeps}
 use Rattle.bridge_limits.specs.Limits.{asleep, given_mask, masked_kernel}
-use Rattle.bridge_log.proofs.Looking.{still_told, stopped_row}
-use Rattle.bridge_log.specs.Keeping.{reached}
+use Rattle.bridge_limits.proofs.Passed.{still_told, stopped_row}
+use Rattle.bridge_limits.specs.Passed.{reached}
 use Rattle.bridge_limits.proofs.Moving.{acted_after, moves_look}
 use Rattle.bridge_poll.proofs.Limiting.{ended_row, ends_so, waiting_row, waits_so}
 use Rattle.bridge_poll.specs.inside.Asking.{polling}

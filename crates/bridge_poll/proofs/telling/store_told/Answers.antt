@@ -3,7 +3,7 @@ use Rattle.std.proofs.Common.{◌≡◌, ℕ, ◌+◌, ◌-◌, true, false, Lis
 use Rattle.kernel_model.specs.Shared.{PollSet}
 use Rattle.o32_model.specs.GuestBytes.{is_storable, with_stored}
 use Rattle.o32_model.specs.Results.{all_fit, with_pieces}
-use Rattle.bridge_log.proofs.Journals.{effected_then}
+use Rattle.bridge_limits.proofs.Passed.{effected_then}
 use Rattle.bridge_poll.proofs.Stores.{all_done, one_fits, one_refused, one_stored, one_unfit, pieces_from}
 use Rattle.bridge_poll.specs.inside.Telling.{piece_of}
 use Rattle.bridge_poll.proofs.telling.store_told.Goals as goal

@@ -3,7 +3,7 @@ use Rattle.kernel_model.specs.Pipes.{Sent}
 use Rattle.mips_exec.specs.Processor.{Processor}
 use Rattle.o32_model.specs.Effects.{Effected}
 use Rattle.o32_model.specs.Results.{all_fit, with_pieces}
-use Rattle.bridge_log.specs.Keeping.{reached}
+use Rattle.bridge_limits.specs.Passed.{reached}
 use Rattle.bridge_poll.proofs.Stores.{pieces_from}
 use Rattle.bridge_poll.specs.inside.Telling.{pieces_told}
 use Rattle.bridge_poll.proofs.telling.store_told.Given as goal

@@ -5,7 +5,7 @@ use Rattle.o32_model.specs.Step.{O32Step, failure}
 use Rattle.o32_model.specs.Table.{machine_call}
 use Rattle.outside.specs.Streams.{contents}
 use Rattle.bridge_limits.proofs.Endings.{ends_called, ends_quietly}
-use Rattle.bridge_log.specs.Keeping.{Keeps}
+use Rattle.bridge_limits.specs.Passed.{Keeps}
 use Rattle.bridge_limits.proofs.Moving.{moves_none}
 use Rattle.bridge_select.specs.Found.{found}
 use Rattle.bridge_select.specs.inside.Requests.{requested}

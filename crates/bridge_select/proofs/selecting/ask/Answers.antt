@@ -3,7 +3,7 @@ use Rattle.std.proofs.Common.{◌≡◌, ◌∙◌, List, ℕ, refl, arith, to_z
 use Rattle.std.proofs.lemmas.Int.{ints}
 use mir.Syntax.{w32}
 use Rattle.outside.specs.Streams.{contents}
-use Rattle.bridge_log.proofs.Looking.{looked_stop}
+use Rattle.bridge_limits.proofs.Passed.{looked_stop}
 use Rattle.bridge_select.specs.declared.telling.Answer.{Answer}
 use Rattle.bridge_select.specs.inside.Requests.{requested}
 use Rattle.bridge_select.specs.inside.Telling.{Answered}

@@ -3,7 +3,7 @@ use Rattle.kernel_model.specs.Clock.{left_of_wait}
 use Rattle.o32_model.specs.declared.outcome.Outcome.{Outcome}
 use Rattle.outside.specs.Streams.{contents}
 use Rattle.bridge_limits.proofs.Endings.{acts_keeps, acts_row, ends_called, ends_keeps}
-use Rattle.bridge_log.proofs.Looking.{still_told, stopped_row}
+use Rattle.bridge_limits.proofs.Passed.{still_told, stopped_row}
 use Rattle.bridge_limits.proofs.Moving.{acted_after, moves_look}
 use Rattle.bridge_select.specs.Found.{found}
 use Rattle.bridge_select.specs.inside.Requests.{requested, selects}

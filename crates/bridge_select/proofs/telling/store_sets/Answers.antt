@@ -4,7 +4,7 @@ use Rattle.std.proofs.lemmas.Int.{ints}
 use mir.Syntax.{w32}
 use Rattle.o32_model.specs.Results.{Piece, all_fit, piece_unless_null, with_pieces}
 use Rattle.o32_model.specs.Selecting.{word_count}
-use Rattle.bridge_log.proofs.Journals.{effected_then}
+use Rattle.bridge_limits.proofs.Passed.{effected_then}
 use Rattle.bridge_select.specs.inside.FdSets.{words_bytes}
 use Rattle.bridge_select.proofs.Pieces.{if_answered, on_stored, second_refused, second_unfit, stored_after, three_fit, three_stored}
 use Rattle.bridge_select.proofs.telling.store_sets.Goals as goal

@@ -1,7 +1,7 @@
 use Rattle.std.proofs.Common.{◌∙◌, ap}
 use Rattle.bridge_limits.specs.Limits.{left_form}
-use Rattle.bridge_log.proofs.Journals.{effected_then}
-use Rattle.bridge_log.specs.Outcomes.{outcome_of}
+use Rattle.bridge_limits.proofs.Passed.{effected_then}
+use Rattle.bridge_limits.specs.Passed.{outcome_of}
 use Rattle.bridge_select.proofs.Told.{reply_outcome, time_told}
 use Rattle.bridge_select.specs.inside.Requests.{asked_of}
 use Rattle.bridge_select.proofs.telling.tell.Goals as goal

@@ -1,7 +1,7 @@
 -- A look, and then the new action.
 use Rattle.std.proofs.Common.{◌∙◌, ap}
 use Rattle.kernel_model.specs.State.{Kernel}
-use Rattle.bridge_log.proofs.Looking.{still_told}
+use Rattle.bridge_signal_state.proofs.Passed.{still_told}
 use Rattle.bridge_signal_state.proofs.Moving.{acted_stop, moves_look, moves_then}
 use Rattle.bridge_signal.specs.inside.Asked.{action_set}
 use Rattle.bridge_signal.proofs.actions.replace_action.Goals as goal

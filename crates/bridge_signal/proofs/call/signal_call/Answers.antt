@@ -1,7 +1,7 @@
 -- Each arm makes the row of its number.
 use Rattle.std.proofs.Common.{◌≡◌, refl, rules}
 use Rattle.outside.specs.Streams.{contents}
-use Rattle.bridge_log.proofs.Ends.{still_called, still_keeps}
+use Rattle.bridge_signal_state.proofs.Passed.{still_called, still_keeps}
 use Rattle.bridge_signal.proofs.Calls.{by_number, kept_by_number, restart_still}
 use Rattle.bridge_signal.specs.Found.{found}
 use Rattle.bridge_signal.proofs.call.signal_call.Goals as goal

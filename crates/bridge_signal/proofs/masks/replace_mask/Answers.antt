@@ -2,7 +2,7 @@
 use Rattle.std.proofs.Common.{◌∙◌, ap}
 use Rattle.kernel_model.specs.SignalSets.{SignalSet}
 use Rattle.kernel_model.specs.State.{Kernel}
-use Rattle.bridge_log.proofs.Looking.{still_told}
+use Rattle.bridge_signal_state.proofs.Passed.{still_told}
 use Rattle.bridge_signal_state.proofs.Moving.{acted_stop, moves_look, moves_then}
 use Rattle.bridge_signal.specs.inside.Asked.{mask_from}
 use Rattle.bridge_signal.proofs.masks.replace_mask.Goals as goal

@@ -2,7 +2,7 @@
 use Rattle.std.proofs.Common.{◌∙◌, sym, ap}
 use Rattle.kernel_model.specs.State.{Kernel}
 use Rattle.kernel_model.specs.declared.signal.SigStack.{SigStack}
-use Rattle.bridge_log.proofs.Looking.{still_told}
+use Rattle.bridge_signal_state.proofs.Passed.{still_told}
 use Rattle.bridge_signal_state.proofs.Moving.{acted_stop, moves_look, moves_then}
 use Rattle.bridge_signal.proofs.Asking.{stack_from}
 use Rattle.bridge_signal.specs.inside.Stacks.{set_from}

@@ -2,7 +2,7 @@
 use Rattle.std.proofs.Common.{◌∙◌, ap, sym}
 use Rattle.o32_model.specs.Suspending.{pause_row}
 use Rattle.o32_model.specs.declared.outcome.Outcome.{Outcome}
-use Rattle.bridge_log.proofs.Looking.{still_told}
+use Rattle.bridge_signal_state.proofs.Passed.{still_told}
 use Rattle.bridge_signal_state.proofs.Moving.{moves_look, moves_then}
 use Rattle.bridge_signal.proofs.Ends.{ends_called, ends_quietly}
 use Rattle.bridge_signal.proofs.Waits.{pause_ended}

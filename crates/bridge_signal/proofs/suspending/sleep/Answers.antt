@@ -2,8 +2,8 @@
 use Rattle.std.proofs.Common.{◌∙◌, ap, refl}
 use Rattle.std.proofs.Common.{ℕ, List}
 use Rattle.kernel_core.specs.declared.reply.Reply.TheVariants as replies
-use Rattle.bridge_log.proofs.Looking.{looked_stop}
-use Rattle.bridge_log.specs.Outcomes.{outcome_of}
+use Rattle.bridge_signal_state.proofs.Passed.{looked_stop}
+use Rattle.bridge_signal_state.specs.Passed.{outcome_of}
 use Rattle.bridge_signal.proofs.Waits.{sleep_looks}
 use Rattle.bridge_signal.specs.inside.Waiting.{endless}
 use Rattle.bridge_signal.proofs.suspending.sleep.Goals as goal

@@ -4,7 +4,7 @@ use Rattle.kernel_model.specs.SignalRows.{with_mask}
 use Rattle.kernel_model.specs.SignalSets.{SignalSet}
 use Rattle.kernel_model.specs.State.{Kernel}
 use Rattle.o32_model.specs.declared.outcome.Outcome.{Outcome}
-use Rattle.bridge_log.proofs.Looking.{still_told}
+use Rattle.bridge_signal_state.proofs.Passed.{still_told}
 use Rattle.bridge_signal_state.proofs.Moving.{acted_stop, moves_look, moves_then}
 use Rattle.bridge_signal.specs.inside.Waiting.{asleep, masked}
 use Rattle.bridge_signal.proofs.suspending.suspend.Goals as goal

@@ -1,5 +1,5 @@
 -- The native call tells the status.
-use Rattle.bridge_log.proofs.Ends.{fails_before}
+use Rattle.bridge_paths.proofs.Passed.{fails_before}
 use Rattle.bridge_status.proofs.StatusRows.{fstat_tells}
 use Rattle.bridge_status.specs.inside.StatusCalls.{open_status}
 use Rattle.bridge_status.proofs.status.fstat.Goals as goal

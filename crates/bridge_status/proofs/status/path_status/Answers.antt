@@ -3,7 +3,7 @@ use Rattle.std.proofs.Common.{ap, ◌∙◌}
 use Rattle.guest_space.specs.Memory.{Memory}
 use Rattle.o32_model.specs.PathArguments.{base}
 use Rattle.o32_model.specs.Paths.{path_at}
-use Rattle.bridge_log.proofs.Ends.{fails_before}
+use Rattle.bridge_paths.proofs.Passed.{fails_before}
 use Rattle.bridge_status.proofs.StatusRows.{fstatat_tells}
 use Rattle.bridge_status.specs.inside.StatusCalls.{path_status}
 use Rattle.bridge_status.proofs.status.path_status.Goals as goal

@@ -4,7 +4,7 @@ use Rattle.guest_space.specs.Access.{writable_prefix}
 use Rattle.guest_space.specs.Memory.{Memory}
 use Rattle.native_calls.specs.Table.{native_call}
 use Rattle.o32_model.specs.Small.{getrandom_row}
-use Rattle.bridge_log.specs.Fills.{Fills}
+use Rattle.bridge_io.specs.Passed.{Fills}
 use Rattle.bridge_system.proofs.ChanceFills.{random_fills}
 use Rattle.bridge_system.proofs.chance.getrandom.Goals as goal
 

@@ -6,8 +6,8 @@ use Rattle.native_calls.specs.Table.{native_call}
 use Rattle.o32_model.specs.Answered.{Answers}
 use Rattle.o32_model.specs.Small.{prlimit_row}
 use Rattle.outside.specs.Streams.{contents}
-use Rattle.bridge_log.specs.Mirrors.{Mirrors}
-use Rattle.bridge_log.specs.Outcomes.{by_reply}
+use Rattle.bridge_io.specs.Passed.{Mirrors}
+use Rattle.bridge_io.specs.Passed.{by_reply}
 use Rattle.bridge_system.proofs.LimitMirrors.{each_fits, prlimit_mirrors, prlimit_tells}
 use Rattle.bridge_system.specs.inside.Tells.{IsTaken}
 use Rattle.bridge_system.proofs.limits.prlimit.Goals as goal

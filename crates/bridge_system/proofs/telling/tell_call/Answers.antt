@@ -6,7 +6,7 @@ use Rattle.kernel_model.specs.Pipes.{nothing}
 use Rattle.native_calls.specs.History.{moment, opening}
 use Rattle.native_calls.specs.Table.{native_call}
 use Rattle.o32_model.specs.Effects.{Effected}
-use Rattle.bridge_log.specs.Keeping.{Logged, reached}
+use Rattle.bridge_io.specs.Passed.{Logged, reached}
 use Rattle.bridge_system.proofs.TellMirrors.{tells_keeps}
 use Rattle.bridge_system.proofs.telling.tell_call.Goals as goal
 

@@ -8,7 +8,7 @@ use Rattle.o32_session.specs.Words.{texts}
 use Rattle.session_words.specs.Read.{line_seen}
 use Rattle.o32_session.proofs.Preparing.{machine_ready}
 use Rattle.journal.specs.Text.{head_text}
-use Rattle.native_log.specs.NativeLog.{first_log}
+use Rattle.o32_runner.specs.Passed.{first_log}
 use Rattle.turn_records.specs.Keeping.{first_records}
 use Rattle.o32_session.specs.Words.{IsPlain}
 use Rattle.o32_session.proofs.Plain.{are_texts}

@@ -1,0 +1,2 @@
+-- Lemmas of the crates below that are passed on, so that a crate above names one crate and not each.
+pub use Rattle.bridge_log.proofs.Histories.{Leads-append}
