@@ -4,13 +4,13 @@ use Rattle.std.proofs.lemmas.List.{length-replicate}
 use Rattle.std.proofs.Math.ListN.{length-set}
 use Rattle.raw_pages.specs.inside.Tables.{entry_count, IsLeaf}
 
-none_of_replicated : (X : Type 0) (n : ℕ) → entry_count {X = X} (replicate n None) ≡ 0
+pub none_of_replicated : (X : Type 0) (n : ℕ) → entry_count {X = X} (replicate n None) ≡ 0
 unfolding entry_count
 none_of_replicated X zero = refl
 none_of_replicated X (suc n) = let less = none_of_replicated X n in omega (arith, less)
 
 module _ {X : Type 0} where
-  count-set : (es : List (Option X)) (i : ℕ) (v : Option X) → i < length es
+  pub count-set : (es : List (Option X)) (i : ℕ) (v : Option X) → i < length es
       → entry_count (set es i v) + cond (is_some (get_or es i None)) 1 0 ≡ entry_count es + cond (is_some v) 1 0
   unfolding entry_count
   count-set [] i v room = absurd (omega arith)

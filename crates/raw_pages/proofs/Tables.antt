@@ -112,11 +112,11 @@ module _ {X : Type 0} where
       ]
 
   module _ (leaves : List (Option (List (Option X)))) where
-    other_leaf : (i : ℕ) (leaf : Option (List (Option X))) (q : ℕ) → q / 1024 ≢ i → entry_of (set leaves i leaf) q ≡ entry_of leaves q
+    pub other_leaf : (i : ℕ) (leaf : Option (List (Option X))) (q : ℕ) → q / 1024 ≢ i → entry_of (set leaves i leaf) q ≡ entry_of leaves q
     unfolding entry_of
     other_leaf i leaf q apart = ap (λ o. entry_in o (q % 1024)) (get_or-set_other leaves i (q / 1024) leaf None apart)
 
-    same_leaf : (i : ℕ) (leaf : Option (List (Option X))) (q : ℕ) → q / 1024 ≡ i → i < length leaves → entry_of (set leaves i leaf) q ≡ entry_in leaf (q % 1024)
+    pub same_leaf : (i : ℕ) (leaf : Option (List (Option X))) (q : ℕ) → q / 1024 ≡ i → i < length leaves → entry_of (set leaves i leaf) q ≡ entry_in leaf (q % 1024)
     unfolding entry_of
     same_leaf i leaf q same room =
         ap (λ k. entry_in (get_or (set leaves i leaf) k None) (q % 1024)) same
@@ -198,7 +198,7 @@ module _ {X : Type 0} where
         ∙ entry-left n missing q
         ∙ ap (λ o. cond (eqb q n) (option_map f o) (entry_of leaves q)) (sym missing)
 
-    no_entry : (size place : ℕ) → get_or {A = Option X} (replicate size None) place None ≡ None
+    pub no_entry : (size place : ℕ) → get_or {A = Option X} (replicate size None) place None ≡ None
     no_entry zero place = refl
     no_entry (suc size) zero = refl
     no_entry (suc size) (suc place) = no_entry size place
@@ -296,27 +296,27 @@ module _ {X : Type 0} where
   -- The tables of a store, written as a slice: `before` stood in the vector, `old` is what the slice was, `after` what it is.
   module _ (long : ℕ) (before old after : List (Option (List (Option X)))) (mapped : ℕ) (view : FinMap nat_cmp X)
       (store : IsStore before mapped) (is : map_of before ≡ view) (full : length before ≡ long) (same : old ≡ before) (kept : length after ≡ length old) where
-    now_after : take long (after ++ drop (length after) before) ≡ after
+    pub now_after : take long (after ++ drop (length after) before) ≡ after
     now_after =
         let size : long ≡ length after = omega (arith, ap length same) in
         ap (λ n. take n (after ++ drop (length after) before)) size ∙ take-append_seam after (drop (length after) before)
 
-    long_old : length old ≡ 1024
+    pub long_old : length old ≡ 1024
     long_old = ap length same ∙ store.whole
 
-    long_after : length after ≡ 1024
+    pub long_after : length after ≡ 1024
     long_after = kept ∙ long_old
 
-    old_view : map_of old ≡ view
+    pub old_view : map_of old ≡ view
     old_view = ap map_of same ∙ is
 
-    found : (n : ℕ) → get view n ≡ entry_of old n
+    pub found : (n : ℕ) → get view n ≡ entry_of old n
     found n = ap (λ m. get m n) (sym old_view) ∙ get-map_of old long_old n
 
-    counted_view : mapped ≡ len view
+    pub counted_view : mapped ≡ len view
     counted_view = store.counted ∙ ap len is
 
-    make_store : (count : ℕ) (pages : FinMap nat_cmp X) → map_of after ≡ pages → count ≡ len pages → IsStore (take long (after ++ drop (length after) before)) count
+    pub make_store : (count : ℕ) (pages : FinMap nat_cmp X) → map_of after ≡ pages → count ≡ len pages → IsStore (take long (after ++ drop (length after) before)) count
     make_store count pages made counted =
         subst (λ s. IsStore s count) (sym now_after) (record { whole = long_after; counted = counted ∙ sym (ap len made) })
 

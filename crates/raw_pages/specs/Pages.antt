@@ -1,6 +1,6 @@
 -- The pages of a store as contracts see them: a finite map from page numbers to pages.
 -- A page has 4096 bytes. (Linux manual page mmap(2); the sizes are this project's own.)
-use Rattle.std.specs.Prelude.{◌≡◌, ◌<◌, ◌≤◌, ℕ, suc, ◌/◌, ◌%◌, ◌==◌, Bool, true, false, Result, Ok, Err, List, [], ◌∷◌, slice_set, replicate, Option, Some, None, IsSome, refl}
+use Rattle.std.specs.Prelude.{◌≡◌, ◌<◌, ◌≤◌, ℕ, zero, suc, ◌+◌, ◌/◌, ◌%◌, ◌==◌, Bool, true, false, Result, Ok, Err, List, [], ◌∷◌, slice_set, replicate, Option, Some, None, IsSome, refl}
 use Rattle.std.specs.Coded.{Coded, code_by, coded×, coded_ℕ, coded_bool, coded_list}
 use Rattle.std.specs.Ordering.{nat_cmp}
 use Rattle.std.specs.FinMap.{FinMap, code, get, insert, remove}
@@ -33,6 +33,12 @@ zero_bytes = replicate 4096 0
 -- a page of zeros that was not written
 abbrev pub zero_page : ℕ → MappedPage
 zero_page protection = record { protection = protection; ready = false; bytes = zero_bytes }
+
+-- the pages with a page of zeros at each of `count` numbers from `first` on, whatever stood there
+unfoldable pub pages_with_zeros : Pages → ℕ → ℕ → ℕ → Pages
+pages_with_zeros pages first zero protection = pages
+pages_with_zeros pages first (suc count) protection =
+    insert (pages_with_zeros pages first count protection) (first + count) (zero_page protection)
 
 -- the list with the piece from a place on
 abbrev pub put_at : List ℕ → ℕ → List ℕ → List ℕ

@@ -1,7 +1,7 @@
 //! A table of 1024 neighbouring pages.
-ghost use Rattle.std.specs.Prelude.{◌≡◌, ◌+◌, ◌<◌, ◌≤◌, ℕ, length, replicate, Some, None, not, is_some, IfOk, OnOk, OnErr, IsOk, option_copied, option_map, slice_index_or, slice_set, true, false};
-ghost use Rattle.raw_pages.specs.inside.Tables.{IsLastEntry};
-ghost use Rattle.raw_pages.specs.Pages.{with_piece, with_protection, cleared_page, is_ready, IsWriteAnswer};
+ghost use Rattle.std.specs.Prelude.{◌≡◌, ◌+◌, ◌-◌, ◌<◌, ◌≤◌, ◌++◌, ℕ, length, replicate, Some, None, not, is_some, IfOk, OnOk, OnErr, IsOk, option_copied, option_map, slice_index_or, slice_set, true, false};
+ghost use Rattle.raw_pages.specs.inside.Tables.{IsLastEntry, entry_count, absent_among, Fills};
+ghost use Rattle.raw_pages.specs.Pages.{zero_page, with_piece, with_protection, cleared_page, is_ready, IsWriteAnswer};
 
 use crate::page::Page;
 use crate::write_error::WriteError;
@@ -42,6 +42,28 @@ impl Leaf {
     {
         let entries = empty_entries(alloc, ENTRIES)?;
         Ok(Leaf { entries, mapped: 0 })
+    }
+
+    /// A table with pages of zeros from the place `first` up to the end, and no other page.
+    pub(crate) fn with_run(
+        alloc: Global,
+        first: usize,
+        end: usize,
+        protection: u8,
+    ) -> Result<Leaf, AllocError>
+        requires order { first ≤ end }
+        requires inside { end ≤ 1024 }
+        ensures { IfOk result (λ l. l ≡ replicate first None
+            ++ (replicate (end - first) (Some (zero_page protection)) ++ replicate (1024 - end) None)) }
+    {
+        let mut entries = Vec::with_capacity(alloc, ENTRIES)?;
+        entries.resize_with(first, || None)?;
+        entries.resize_with(end, || Some(Page::zeros(alloc, protection)))?;
+        entries.resize_with(ENTRIES, || None)?;
+        Ok(Leaf {
+            entries,
+            mapped: end - first,
+        })
     }
 
     #[inline(always)]
@@ -87,6 +109,20 @@ impl Leaf {
             self.mapped += 1;
         }
         before
+    }
+
+    /// Puts a page of zeros at each place from `first` up to the end, and tells at how many of them there was none.
+    pub(crate) fn fill(&mut self, alloc: Global, first: usize, end: usize, protection: u8) -> usize
+        requires order { first ≤ end }
+        requires inside { end ≤ 1024 }
+        ensures now { Fills (λ place. slice_index_or self.old place None) (λ place. slice_index_or self.new place None)
+            first end (zero_page protection) }
+        ensures fresh { result ≡ absent_among (λ place. slice_index_or self.old place None) first (end - first) }
+        ensures whole { length self.old ≡ 1024 }
+    {
+        let fresh = fill_entries(self.entries.as_mut_slice(), alloc, first, end, protection);
+        self.mapped += fresh;
+        fresh
     }
 
     /// Takes the place's page out.
@@ -174,13 +210,35 @@ impl Leaf {
     }
 }
 
+/// Puts a page of zeros at each place from `first` up to the end, and tells at how many of them there was none.
+fn fill_entries(
+    entries: &mut [Option<Page>],
+    alloc: Global,
+    first: usize,
+    end: usize,
+    protection: u8,
+) -> usize
+    requires order { first ≤ end }
+    requires inside { end ≤ length entries.old }
+    ensures now { Fills (λ place. slice_index_or entries.old place None) (λ place. slice_index_or entries.new place None)
+        first end (zero_page protection) }
+    ensures fresh { result ≡ absent_among (λ place. slice_index_or entries.old place None) first (end - first) }
+    ensures counted { entry_count entries.new ≡ entry_count entries.old + result }
+{
+    let mut fresh = 0;
+    for place in first..end {
+        if replace(&mut entries[place], Some(Page::zeros(alloc, protection))).is_none() {
+            fresh += 1;
+        }
+    }
+    fresh
+}
+
 fn empty_entries(alloc: Global, count: usize) -> Result<Vec<Option<Page>>, AllocError>
     ensures { IfOk result (λ v. v.items ≡ replicate count None) }
 {
     let mut entries = Vec::with_capacity(alloc, count)?;
-    for _ in 0..count {
-        entries.push(None)?;
-    }
+    entries.resize_with(count, || None)?;
     Ok(entries)
 }
 

@@ -1,7 +1,7 @@
 //! The mapped pages by their numbers.
-ghost use Rattle.std.specs.Prelude.{◌≡◌, ◌+◌, ◌<◌, ◌≤◌, ◌^◌, length, IfOk, OnOk, OnErr, IsOk, option_copied, option_map, is_some, slice_range, replicate, None, true, false};
+ghost use Rattle.std.specs.Prelude.{◌≡◌, ◌+◌, ◌-◌, ◌/◌, ◌<◌, ◌≤◌, ◌^◌, ℕ, length, IfOk, OnOk, OnErr, IsOk, option_copied, option_map, is_some, slice_range, replicate, None, true, false};
 ghost use Rattle.std.specs.FinMap as map;
-ghost use Rattle.raw_pages.specs.Pages.{zero_page, zero_bytes, pages_cleared, pages_moved, IsLastBelow, IsLastMapped, IsLastFree, pages_with_piece, pages_with_protection, is_ready, shown_bytes, IsWriteAnswer};
+ghost use Rattle.raw_pages.specs.Pages.{zero_page, zero_bytes, pages_with_zeros, pages_cleared, pages_moved, IsLastBelow, IsLastMapped, IsLastFree, pages_with_piece, pages_with_protection, is_ready, shown_bytes, IsWriteAnswer};
 
 use crate::leaf::Leaf;
 use crate::page::Page;
@@ -82,6 +82,38 @@ impl PageStore {
         if table::map(self.leaves.as_mut_slice(), self.alloc, page, protection)? {
             self.mapped += 1;
         }
+        Ok(())
+    }
+
+    /// Maps `count` pages of zeros from `first` on with this protection, in place of those that are there, by one
+    /// look-up for the numbers of a table. After a refusal a first part of them was mapped.
+    pub fn map_run(&mut self, first: u32, count: u32, protection: u8) -> Result<(), NoMemory>
+        requires inside { first + count ≤ 524280 }
+        requires three_bits { protection ≤ 7 }
+        ensures ok { OnOk result (self.new ≡ pages_with_zeros self.old first count protection) }
+        ensures err { OnErr result ((k : ℕ) × (k < count) × (self.new ≡ pages_with_zeros self.old first k protection)) }
+    {
+        let end = first + count;
+        let mut at = first;
+        while at < end {
+            let past = table::end_in_table(at, end);
+            self.map_in_table(at, past, protection)?;
+            at = past;
+        }
+        Ok(())
+    }
+
+    /// The same of the numbers of one table, from `first` up to the end. A refusal changes nothing.
+    fn map_in_table(&mut self, first: u32, end: u32, protection: u8) -> Result<(), AllocError>
+        requires some { first < end }
+        requires one { first / 1024 ≡ (end - 1) / 1024 }
+        requires inside { end ≤ 524280 }
+        ensures ok { OnOk result (self.new ≡ pages_with_zeros self.old first (end - first) protection) }
+        ensures err { OnErr result (self.new ≡ self.old) }
+    {
+        let leaves = self.leaves.as_mut_slice();
+        let fresh = table::map_run(leaves, self.alloc, first, end, protection)?;
+        self.mapped += fresh;
         Ok(())
     }
 

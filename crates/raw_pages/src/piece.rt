@@ -2,8 +2,8 @@
 ghost use Rattle.std.specs.Prelude.{◌≡◌, ◌+◌, ◌≤◌, length};
 ghost use Rattle.raw_pages.specs.Pages.{put_at};
 
-/// Writes the bytes from the place on. One, two and four bytes, the widths of a store, are moved
-/// without a call.
+/// Writes the bytes from the place on. One, two and four bytes, the widths of a store, are read before one is written,
+/// and moved without a call.
 #[inline(always)]
 pub(crate) fn put(all: &mut [u8], at: usize, bytes: &[u8])
     requires { at + length bytes.now ≤ length all.old }
@@ -11,8 +11,8 @@ pub(crate) fn put(all: &mut [u8], at: usize, bytes: &[u8])
 {
     match bytes {
         [a] => all[at] = *a,
-        [_, _] => put_part(all, at, 2, bytes),
-        [_, _, _, _] => put_part(all, at, 4, bytes),
+        [a, b] => put_part(all, at, 2, &[*a, *b]),
+        [a, b, c, d] => put_part(all, at, 4, &[*a, *b, *c, *d]),
         _ => put_part(all, at, bytes.len(), bytes),
     }
 }

@@ -1,7 +1,7 @@
 //! The entries of page numbers in a table of tables.
 ghost use Rattle.std.specs.Prelude.{◌≡◌, ◌+◌, ◌-◌, ◌*◌, ◌/◌, ◌%◌, ◌<◌, ◌≤◌, ℕ, length, IsSome, Some, None, not, is_some, IfOk, OnOk, OnErr, IsOk, option_copied, option_map, slice_index_or, true};
 ghost use Rattle.raw_pages.specs.Pages.{zero_page, with_piece, with_protection, cleared_page, is_ready, IsWriteAnswer};
-ghost use Rattle.raw_pages.specs.inside.Tables.{entry_of, SetsEntry, MovesEntry, IsLastNumber};
+ghost use Rattle.raw_pages.specs.inside.Tables.{entry_of, absent_among, Fills, SetsEntry, MovesEntry, IsLastNumber};
 
 use crate::leaf::{ENTRIES, Leaf};
 use crate::page::Page;
@@ -65,6 +65,63 @@ pub(crate) fn map(
 {
     make_leaf(leaves, alloc, number)?;
     Ok(put(leaves, number, Page::zeros(alloc, protection)).is_none())
+}
+
+/// Puts a page of zeros at each of the numbers, which are those of one table, and tells at how many of them none was
+/// mapped.
+pub(crate) fn map_run(
+    leaves: &mut [Option<Leaf>],
+    alloc: Global,
+    first: u32,
+    end: u32,
+    protection: u8,
+) -> Result<u32, AllocError>
+    requires some { first < end }
+    requires one { first / 1024 ≡ (end - 1) / 1024 }
+    requires room { first / 1024 < length leaves.old }
+    ensures fresh { IfOk result (λ fresh. fresh ≡ absent_among (entry_of leaves.old) first (end - first)) }
+    ensures ok { OnOk result (Fills (entry_of leaves.old) (entry_of leaves.new) first end (zero_page protection)) }
+    ensures err { OnErr result (leaves.new ≡ leaves.old) }
+{
+    let at = leaf_of(first);
+    if leaves[at].is_none() {
+        let leaf = Leaf::with_run(alloc, place_of(first), place_of(end - 1) + 1, protection)?;
+        leaves[at] = Some(leaf);
+        return Ok(end - first);
+    }
+    Ok(fill(leaves, alloc, first, end, protection))
+}
+
+/// The same, where the table is there.
+fn fill(leaves: &mut [Option<Leaf>], alloc: Global, first: u32, end: u32, protection: u8) -> u32
+    requires some { first < end }
+    requires one { first / 1024 ≡ (end - 1) / 1024 }
+    requires room { first / 1024 < length leaves.old }
+    requires there { IsSome (slice_index_or leaves.old (first / 1024) None) }
+    ensures fresh { result ≡ absent_among (entry_of leaves.old) first (end - first) }
+    ensures now { Fills (entry_of leaves.old) (entry_of leaves.new) first end (zero_page protection) }
+{
+    match &mut leaves[leaf_of(first)] {
+        Some(leaf) => {
+            leaf.fill(alloc, place_of(first), place_of(end - 1) + 1, protection) as u32
+        }
+        None => 0,
+    }
+}
+
+/// The end of the numbers from `first` on that stand in its table, at most `end`.
+pub(crate) fn end_in_table(first: u32, end: u32) -> u32
+    requires { first < end }
+    ensures from { first < result }
+    ensures end { result ≤ end }
+    ensures table { first / 1024 ≡ (result - 1) / 1024 }
+{
+    let room = ENTRIES as u32 - first % ENTRIES as u32;
+    if room < end - first {
+        first + room
+    } else {
+        end
+    }
 }
 
 /// Puts the page at the number, whose table is there, and gives the one that stood there.

@@ -41,6 +41,17 @@ map_of leaves = map_of_first leaves 1048576
 abbrev pub SetsEntry : {X : Type 0} → List (Option (List (Option X))) → List (Option (List (Option X))) → ℕ → Option X → Type 0
 SetsEntry before after number entry = (other : ℕ) → entry_of after other ≡ (if other == number then entry else entry_of before other)
 
+-- of entries by their numbers: those from `first` up to the end are the same one, and the others as they were
+pub record Fills {X : Type 0} (before after : ℕ → Option X) (first end : ℕ) (entry : X) : Type 0 where
+  pub inside : (number : ℕ) → first ≤ number → number < end → after number ≡ Some entry
+  pub below : (number : ℕ) → number < first → after number ≡ before number
+  pub past : (number : ℕ) → end ≤ number → after number ≡ before number
+
+-- how many of `count` numbers from `first` on have no entry
+unfoldable pub absent_among : {X : Type 0} → (ℕ → Option X) → ℕ → ℕ → ℕ
+absent_among entry first zero = 0
+absent_among entry first (suc count) = absent_among entry first count + (if is_some (entry (first + count)) then 0 else 1)
+
 -- the tables of a store: there are 1024 places for tables, and the number of mapped pages is known
 pub record IsStore {X : Type 0} (leaves : List (Option (List (Option X)))) (mapped : ℕ) : Type 0 where
   pub whole : length leaves ≡ 1024
