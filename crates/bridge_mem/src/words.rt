@@ -1,9 +1,10 @@
 //! The words of a call (System V ABI, MIPS RISC Processor Supplement, the calling convention).
-ghost use Rattle.std.specs.Prelude.{◌≡◌, ◌<◌};
+ghost use Rattle.std.specs.Prelude.{◌≡◌, ◌<◌, [], ◌∷◌};
 ghost use Rattle.o32_model.specs.Words as spec;
 ghost use Rattle.o32_model.specs.Words.{call_words, stack_argument};
 
 use guest_space::Space;
+use kernel_core::address_space::PAGE_SIZE;
 use mips_exec::Cpu;
 use o32_model::CallWords;
 
@@ -23,6 +24,9 @@ const STACK_POINTER: u8 = 29;
 /// Where the fifth argument lies from the stack pointer on, in bytes.
 const STACK_ARGUMENTS: u32 = 16;
 
+/// How many bytes the four arguments on the stack have.
+const STACK_BYTES: u32 = 16;
+
 /// What the call at which the processor stands is handed: its number, its arguments in registers and
 /// those on the stack, each None where one of its bytes may not be loaded. It takes no memory.
 #[tactic(auto, unfolding(o32_model::specs::Words::call_words))]
@@ -37,7 +41,26 @@ pub fn args(space: &Space, cpu: &Cpu) -> CallWords
             cpu.register(A2),
             cpu.register(A3),
         ],
-        stack: [
+        stack: stack_arguments(space, cpu),
+    }
+}
+
+/// The arguments on the stack. Where they lie in one page that was written, as they mostly do, that page is looked up
+/// once.
+#[inline(always)]
+fn stack_arguments(space: &Space, cpu: &Cpu) -> [Option<u32>; 4]
+    ensures { result ≡ stack_argument cpu.now space.now 0 ∷ stack_argument cpu.now space.now 1
+        ∷ stack_argument cpu.now space.now 2 ∷ stack_argument cpu.now space.now 3 ∷ [] }
+{
+    let first = cpu.register(STACK_POINTER).wrapping_add(STACK_ARGUMENTS);
+    match space.code_page(first) {
+        Some(page) if first % PAGE_SIZE <= PAGE_SIZE - STACK_BYTES => [
+            Some(space.word_in_page(page, first)),
+            Some(space.word_in_page(page, first + 4)),
+            Some(space.word_in_page(page, first + 8)),
+            Some(space.word_in_page(page, first + 12)),
+        ],
+        _ => [
             stack_argument(space, cpu, 0),
             stack_argument(space, cpu, 1),
             stack_argument(space, cpu, 2),
@@ -46,7 +69,9 @@ pub fn args(space: &Space, cpu: &Cpu) -> CallWords
     }
 }
 
-/// The argument on the stack at this place, from 0 for the fifth.
+/// The argument on the stack at this place, from 0 for the fifth, by a look-up of its own.
+#[cold]
+#[inline(never)]
 fn stack_argument(space: &Space, cpu: &Cpu, place: u32) -> Option<u32>
     requires { place < 4 }
     ensures { result ≡ stack_argument cpu.now space.now place }
