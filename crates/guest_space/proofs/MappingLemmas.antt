@@ -5,6 +5,7 @@ use Rattle.std.specs.Option.{option_copied}
 use Rattle.std.specs.Ordering.{nat_cmp, eq_by_cmp}
 use Rattle.std.specs.Cmp.{nat_cmp_total}
 use Rattle.std.specs.FinMap.{get, insert, len, get-insert, len-insert}
+use Rattle.raw_pages.specs.Pages.{IsLastMapped, pages_with_zeros}
 use Rattle.guest_space.specs.Memory.{Pages}
 use Rattle.guest_space.specs.Mapping.{zero_page, with_zeros, with_protection, pages_with_protection, absent_count, mapped_run}
 
@@ -95,3 +96,22 @@ absent_count-le pages first (suc n) = one_more (is_some (get pages (first + n)))
 pub is_some-copied : {X : Type 0} (o : Option (Bor X)) → is_some (option_copied o) ≡ is_some o
 is_some-copied None = refl
 is_some-copied (Some x) = refl
+
+-- where none is mapped, each is absent
+absent_count-all : (pages : Pages) (first n : ℕ) → ((q : ℕ) → first ≤ q → q < first + n → get pages q ≡ None) → absent_count pages first n ≡ n
+unfolding absent_count
+absent_count-all pages first zero none = refl
+absent_count-all pages first (suc n) none =
+    let less = absent_count-all pages first n (λ q low high. none q low (omega arith)) in
+    let last = ap {B = ℕ} (λ o. cond (is_some o) 0 1) (none (first + n) (omega arith) (omega arith)) in
+    omega (arith, less, last)
+
+pub absent-told : (pages : Pages) (first n : ℕ) (o : Option ℕ) → is_some o ≡ false → IsLastMapped pages first (first + n) o → absent_count pages first n ≡ n
+absent-told pages first n None missing none = absent_count-all pages first n none
+absent-told pages first n (Some last) missing some = absurd (cc)
+
+-- the same zeros as the store's own
+pub same-zeros : (pages : Pages) (first n protection : ℕ) → pages_with_zeros pages first n protection ≡ with_zeros pages first n protection
+unfolding pages_with_zeros with_zeros
+same-zeros pages first zero protection = refl
+same-zeros pages first (suc n) protection = ap (λ m. insert m (first + n) (zero_page protection)) (same-zeros pages first n protection)

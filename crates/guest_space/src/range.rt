@@ -14,8 +14,20 @@ const PLACES_BEGIN: u32 = 0x1_0000;
 
 const PLACES_END: u32 = 0x7_0000;
 
-/// How many pages of the range are absent.
+/// How many pages of the range are absent. Where all are, they are not looked at one by one.
 pub(crate) fn absent_pages(pages: &PageStore, first: u32, count: u32) -> u32
+    requires { first + count ≤ 524280 }
+    ensures value { result ≡ absent_count pages.now first count }
+    ensures bound { result ≤ count }
+{
+    if pages.last_mapped(first, first + count).is_none() {
+        return count;
+    }
+    count_absent(pages, first, count)
+}
+
+/// The same, page by page.
+fn count_absent(pages: &PageStore, first: u32, count: u32) -> u32
     requires { first + count ≤ 524280 }
     ensures value { result ≡ absent_count pages.now first count }
     ensures bound { result ≤ count }
@@ -43,9 +55,7 @@ pub(crate) fn map_zeros(
         ((k : ℕ) × (k < count) × (pages.new ≡ with_zeros pages.old first k protection)) }
     ensures valid { IsValid pages.old → IsValid pages.new }
 {
-    for done in 0..count {
-        pages.map(first + done, protection)?;
-    }
+    pages.map_run(first, count, protection)?;
     Ok(())
 }
 

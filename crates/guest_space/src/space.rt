@@ -1,5 +1,5 @@
 //! The guest's memory as the calls of the machine see it.
-ghost use Rattle.std.specs.Prelude.{◌≡◌, ◌+◌, ◌*◌, ◌/◌, ◌%◌, ◌<◌, ◌≤◌, ◌^◌, ◌↔◌, IsTrue, None, ℕ, length, IfOk, OnOk, OnErr, IfErr, IsErrOf, IfSome, IfNone, Ok, false};
+ghost use Rattle.std.specs.Prelude.{◌≡◌, ◌+◌, ◌*◌, ◌/◌, ◌%◌, ◌<◌, ◌≤◌, ◌^◌, ◌↔◌, IsTrue, None, ℕ, length, IfOk, OnOk, OnErr, IfErr, IsErrOf, IfSome, IfNone, Ok, true, false};
 ghost use Rattle.std.specs.FinMap as map;
 ghost use Rattle.std.specs.Option.{option_copied};
 ghost use Rattle.raw_pages.specs.Pages.{is_ready, shown_bytes};
@@ -18,8 +18,8 @@ use crate::range::{
 };
 use crate::resize::{new_break, resize};
 use crate::walk::{
-    code_page, first_denied, load_in_page, number, read_bytes, store_bytes, word_in_page,
-    write_bytes,
+    code_page, first_denied, load_in_page, number, read_bytes, store_bytes, store_in_page,
+    word_in_page, write_bytes,
 };
 use kernel_core::NoMemory;
 use kernel_core::address_space::{PAGE_LIMIT, PAGE_SIZE};
@@ -115,6 +115,23 @@ impl Space {
         self.load_across_pages(address, n)
     }
 
+    /// The same where the bytes lie in one page, and None where they don't or where one may not be loaded. It takes no
+    /// memory.
+    #[inline(always)]
+    pub fn load_in_page(&self, address: u32, n: u32) -> Option<u32>
+        requires low { 1 ≤ n }
+        requires high { n ≤ 4 }
+        ensures value { IfSome result (λ value. read self.now address n ≡ Ok value) }
+    {
+        if address % PAGE_SIZE + n > PAGE_SIZE {
+            return None;
+        }
+        match load_in_page(&self.pages, address, n) {
+            Ok(value) => Some(value),
+            Err(_denied) => None,
+        }
+    }
+
     /// The same of bytes of two neighbouring pages, which is rare.
     #[cold]
     #[inline(never)]
@@ -180,6 +197,25 @@ impl Space {
         let word = value.to_be_bytes();
         store_bytes(&mut self.pages, address, &word[4 - n as usize..])?;
         Ok(())
+    }
+
+    /// The same where the bytes lie in one page. It is told whether they were stored; else nothing changes.
+    #[inline(always)]
+    pub fn store_in_page(&mut self, address: u32, n: u32, value: u32) -> bool
+        requires low { 1 ≤ n }
+        requires high { n ≤ 4 }
+        ensures stored { result ≡ true → self.new ≡ written self.old address n value }
+        ensures allowed { result ≡ true → first_denied Access.Store self.old.pages address n ≡ None }
+        ensures stays { result ≡ false → self.new ≡ self.old }
+    {
+        if address % PAGE_SIZE + n > PAGE_SIZE {
+            return false;
+        }
+        let word = value.to_be_bytes();
+        let Ok(()) = store_in_page(&mut self.pages, address, &word[4 - n as usize..]) else {
+            return false;
+        };
+        true
     }
 
     /// The greatest m, at most `n`, such that each of the first m bytes from `address` on may be loaded.

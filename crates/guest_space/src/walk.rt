@@ -256,7 +256,11 @@ pub(crate) fn store_bytes(
 
 /// Writes one to four bytes that lie in one page, by one look-up: all of them, or none.
 #[inline(always)]
-fn store_in_page(pages: &mut PageStore, address: u32, bytes: &[u8]) -> Result<(), StoreError>
+pub(crate) fn store_in_page(
+    pages: &mut PageStore,
+    address: u32,
+    bytes: &[u8],
+) -> Result<(), StoreError>
     requires some { 0 < length bytes.now }
     requires room { address % 4096 + length bytes.now ≤ 4096 }
     ensures ok { OnOk result (pages.new ≡ with_bytes pages.old address bytes.now) }

@@ -2,7 +2,7 @@ use Rattle.std.proofs.Common.{◌≡◌, ◌≤◌, ◌+◌, ◌-◌, ℕ, sym, 
 use Rattle.std.specs.Option.{unwrap_or}
 use Rattle.std.specs.FinMap.{get}
 use Rattle.guest_space.specs.Mapping.{with_zeros}
-use Rattle.std.specs.Prelude.{Bool, true, false, Some, Result, Ok, Err, IsErrAnd}
+use Rattle.std.specs.Prelude.{Bool, true, Some, Result, Ok, Err, IsErrAnd}
 use Rattle.guest_space.specs.declared.access.MapError.{MapError}
 use Rattle.guest_space.specs.declared.access.MapError.TheVariants.{NoMemory}
 use Rattle.guest_space.specs.Memory.{Pages}

@@ -1,6 +1,6 @@
 use Rattle.std.proofs.Common.{◌≡◌, ◌≤◌}
 use Rattle.guest_space.specs.Mapping.{absent_count}
-use Rattle.guest_space.proofs.range.absent_pages.Given as goal
+use Rattle.guest_space.proofs.range.count_absent.Given as goal
 
 abbrev pub invariant-loop-done : goal.invariant-loop-done
 invariant-loop-done l = record {
