@@ -1,5 +1,5 @@
 //! Loads and stores over guest memory, and the signals of their refusals.
-ghost use Rattle.std.specs.Prelude.{◌≡◌, ◌%◌, ◌<◌, ◌||◌, not, if◌then◌else◌, IfOk, OnOk, OnErr, IsTrue, true, false};
+ghost use Rattle.std.specs.Prelude.{◌≡◌, ◌%◌, ◌<◌, ◌||◌, not, if◌then◌else◌, Ok, None, IfOk, IfSome, OnOk, OnErr, IsTrue, true, false};
 ghost use Rattle.guest_space.specs.Access.{first_denied};
 ghost use Rattle.guest_space.specs.Answers.{IsStoreAnswer};
 ghost use Rattle.guest_space.specs.Bytes.{read, written, are_ready};
@@ -62,6 +62,19 @@ fn read(space: &Space, span: Span, address: u32) -> Result<u32, Denied>
         Span::Half => space.load(address, 2),
         Span::Word => space.load(address, 4),
         Span::Left | Span::Right => space.load(address - address % 4, 4),
+    }
+}
+
+/// The number that a load reads, where its bytes lie in one page and may be loaded.
+#[inline(always)]
+fn read_quietly(space: &Space, span: Span, address: u32) -> Option<u32>
+    ensures { IfSome result (λ number. read space.now (load_address span address) (load_width span) ≡ Ok number) }
+{
+    match span {
+        Span::Byte => space.load_in_page(address, 1),
+        Span::Half => space.load_in_page(address, 2),
+        Span::Word => space.load_in_page(address, 4),
+        Span::Left | Span::Right => space.load_in_page(address - address % 4, 4),
     }
 }
 
@@ -130,7 +143,7 @@ pub fn load(
     }
 }
 
-/// A load whose bytes may be loaded. Where one may not, nothing changes. It takes no memory.
+/// A load whose bytes lie in one page and may be loaded. Else nothing changes. It takes no memory.
 #[inline(always)]
 pub fn load_quietly(
     cpu: &mut Cpu,
@@ -168,12 +181,12 @@ fn load_span(
         ≡ record { processor = cpu.new; memory = space.now; came = Stepped.Next } }
     ensures stays { result ≡ false → cpu.new ≡ cpu.old }
 {
-    let Ok(number) = read(space, span, address) else {
+    let Some(number) = read_quietly(space, span, address) else {
         return false;
     };
-    let old = cpu.operand(register);
-    cpu.set_operand(register, loaded_value(span, signed, address, old, number));
+    let value = loaded_value(span, signed, address, cpu.operand(register), number);
     let _ = go_on(cpu);
+    cpu.set_operand(register, value);
     true
 }
 
@@ -216,6 +229,25 @@ fn write(space: &mut Space, span: Span, address: u32, value: u32) -> Result<(), 
     }
 }
 
+/// The same where the bytes lie in one page. It is told whether they were written; else nothing changes.
+#[inline(always)]
+fn write_quietly(space: &mut Space, span: Span, address: u32, value: u32) -> bool
+    ensures stored { result ≡ true → space.new
+        ≡ written space.old (store_address span address) (store_width span address) (stored_value span address value) }
+    ensures allowed { result ≡ true
+        → first_denied Access.Store space.old.pages (store_address span address) (store_width span address) ≡ None }
+    ensures stays { result ≡ false → space.new ≡ space.old }
+{
+    let place = address % 4;
+    match span {
+        Span::Byte => space.store_in_page(address, 1, value),
+        Span::Half => space.store_in_page(address, 2, value),
+        Span::Word => space.store_in_page(address, 4, value),
+        Span::Left => space.store_in_page(address, 4 - place, value >> (8 * place)),
+        Span::Right => space.store_in_page(address - place, place + 1, value),
+    }
+}
+
 /// A store: SB, SH, SW, SWL or SWR. It writes all its bytes or none.
 #[inline(always)]
 pub fn store(
@@ -238,7 +270,7 @@ pub fn store(
     }
 }
 
-/// A store whose bytes may be stored to and that does not want for memory. Else nothing changes.
+/// A store whose bytes lie in one page and may be stored to and that does not want for memory. Else nothing changes.
 #[inline(always)]
 pub fn store_quietly(cpu: &mut Cpu, space: &mut Space, span: Span, address: u32, value: u32) -> bool
     ensures went { result ≡ true → carried_out cpu.old space.old (Effect.Store span address value)
@@ -246,13 +278,11 @@ pub fn store_quietly(cpu: &mut Cpu, space: &mut Space, span: Span, address: u32,
     ensures stays_cpu { result ≡ false → cpu.new ≡ cpu.old }
     ensures stays_space { result ≡ false → space.new ≡ space.old }
 {
-    match write(space, span, address, value) {
-        Ok(()) => {
-            let _ = go_on(cpu);
-            true
-        }
-        Err(_error) => false,
+    if write_quietly(space, span, address, value) {
+        let _ = go_on(cpu);
+        return true;
     }
+    false
 }
 
 /// The byte of an aligned word that may not be stored to.
