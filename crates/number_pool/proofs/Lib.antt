@@ -1,4 +1,5 @@
 pub mod Below
+pub mod Bits
 pub mod Descent
 pub mod Mending
 pub mod Pigeonhole

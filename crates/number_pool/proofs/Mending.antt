@@ -1,5 +1,6 @@
 -- What a write to one node of a tree leaves, on the way up from a leaf to the root.
-use Rattle.std.proofs.Common.{◌≡◌, ◌≢◌, ℕ, ◌+◌, ◌-◌, ◌*◌, ◌/◌, ◌<◌, ◌≤◌, Bool, false, List, length, set, replicate, ◌&&◌, sym, ap, ◌∙◌, subst, inl, inr, arith}
+use Rattle.std.proofs.Common.{◌≡◌, ◌≢◌, ℕ, ◌+◌, ◌-◌, ◌*◌, ◌/◌, ◌<◌, ◌≤◌, Bool, true, false, List, length, set, replicate, ◌&&◌, refl, sym, ap, ◌∙◌, subst, inl, inr, arith}
+use Rattle.std.proofs.Math.Bool.{beq}
 use Rattle.std.proofs.lemmas.List.{length-set, length-drop, get_or-drop, get_or-set_same, get_or_past, get_or-set_other, drop-set-add, drop-set-lt, drop-replicate}
 use Rattle.std.proofs.lemmas.Bool.{cases_eq}
 use Rattle.number_pool.specs.Places.{is_taken_at}
@@ -35,6 +36,13 @@ unfolding leaves
 leaves-replicate size =
     let half : (size + size) - size ≡ size = omega arith in
     drop-replicate size (size + size) false ∙ ap (λ n. replicate n false) half
+
+-- what the test of two flags tells
+pub same_flag : (a b : Bool) → beq a b ≡ true → a ≡ b
+same_flag true true same = refl
+same_flag true false same = absurd (cc)
+same_flag false true same = absurd (cc)
+same_flag false false same = refl
 
 -- a node whose own flag and whose children's flags are not written stays mended
 mended_apart : (flags : List Bool) (at : ℕ) (full : Bool) (node : ℕ) → node ≢ at → 2 * node ≢ at → 2 * node + 1 ≢ at → IsMended flags node → IsMended (set flags at full) node

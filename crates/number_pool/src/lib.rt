@@ -2,7 +2,9 @@
 #![tactic(auto)]
 
 mod pool;
+mod search;
 mod tree;
+mod words;
 
 pub use kernel_core::NoMemory;
 pub use pool::NumberPool;

@@ -4,8 +4,7 @@
 //! leaf p is node `size` + p. A leaf's flag says whether it is taken, an inner node's whether every leaf
 //! below it is. Entry 0 is not used.
 ghost use Rattle.std.specs.Prelude.{◌≡◌, ◌+◌, ◌*◌, ◌/◌, ◌^◌, ◌<◌, ◌≤◌, ◌&&◌, false, length, IfOk, MatchOption, replicate, slice_set};
-ghost use Rattle.number_pool.specs.Places.{AreAllTaken, IsLeastFree};
-ghost use Rattle.number_pool.specs.inside.Tree.{AreFullFrom, IsLeastNode, IsTree, child_on_way, is_full_at, leaves};
+ghost use Rattle.number_pool.specs.inside.Tree.{AreFullFrom, IsLeastNode, IsTree, is_full_at, leaves};
 
 use std::alloc::{AllocError, Global};
 
@@ -19,7 +18,7 @@ pub(crate) fn new_tree(alloc: Global, size: usize) -> Result<Vec<bool>, AllocErr
     Ok(flags)
 }
 
-/// Marks a leaf, and mends the nodes on the way up to the root.
+/// Marks a leaf, and mends the nodes on the way up to the root where the leaf was not marked so before.
 pub(crate) fn set_leaf(flags: &mut [bool], size: usize, leaf: usize, taken: bool)
     requires tree { IsTree size flags.old }
     requires inside { leaf < size }
@@ -27,6 +26,9 @@ pub(crate) fn set_leaf(flags: &mut [bool], size: usize, leaf: usize, taken: bool
     ensures marked { leaves size flags.new ≡ slice_set (leaves size flags.old) leaf taken }
 {
     let mut node = size + leaf;
+    if flags[node] == taken {
+        return;
+    }
     flags[node] = taken;
     while node > 1 {
         node /= 2;
@@ -40,33 +42,6 @@ fn has_full_children(flags: &[bool], node: usize) -> bool
     ensures { result ≡ (is_full_at flags.now (2 * node) && is_full_at flags.now (2 * node + 1)) }
 {
     flags[2 * node] && flags[2 * node + 1]
-}
-
-/// The least free leaf of a tree with 2^`levels` leaves, found on the way down from the root.
-pub(crate) fn least_free_leaf(flags: &[bool], levels: u32) -> Option<u32>
-    requires tree { IsTree (2 ^ levels) flags.now }
-    requires small { levels < 31 }
-    ensures { MatchOption result
-        (AreAllTaken (leaves (2 ^ levels) flags.now)) (IsLeastFree (leaves (2 ^ levels) flags.now)) }
-{
-    if flags[1] {
-        return None;
-    }
-    let mut node = 1;
-    for _level in 0..levels {
-        node = first_free_child(flags, node);
-    }
-    Some(node - (1 << levels))
-}
-
-/// The left child of an inner node, or the right one where the left is full.
-fn first_free_child(flags: &[bool], node: u32) -> u32
-    requires inner { 2 * node + 1 < length flags.now }
-    requires small { node < 2 ^ 30 }
-    ensures { result ≡ child_on_way flags.now node }
-{
-    let left = 2 * node;
-    if flags[left as usize] { left + 1 } else { left }
 }
 
 /// The least free leaf below a node that is not below `from`. Leaves go by the numbers of their nodes, and

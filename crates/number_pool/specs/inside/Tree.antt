@@ -1,7 +1,7 @@
 -- A complete binary tree of flags in a list, for the crate's own functions (this project's own rule, in
 -- the layout of a binary heap: node 1 is the root, and the children of node n are 2n and 2n + 1). Leaf p
 -- is node size + p.
-use Rattle.std.specs.Prelude.{◌≡◌, ℕ, ◌+◌, ◌*◌, ◌^◌, ◌<◌, ◌≤◌, Bool, true, false, List, length, drop, slice_index_or, ◌&&◌, if◌then◌else◌}
+use Rattle.std.specs.Prelude.{◌≡◌, ℕ, ◌+◌, ◌*◌, ◌<◌, ◌≤◌, Bool, true, false, List, length, drop, slice_index_or, ◌&&◌}
 
 -- whether the node is full: a leaf that is taken, or an inner node with only taken leaves below it
 abbrev pub is_full_at : List Bool → ℕ → Bool
@@ -16,18 +16,9 @@ pub record IsTree (size : ℕ) (flags : List Bool) : Type 0 where
   pub sized : length flags ≡ size + size
   pub mended : (node : ℕ) → 0 < node → node < size → IsMended flags node
 
--- the tree of a pool with so many levels below the root
-pub record IsPool (levels : ℕ) (flags : List Bool) : Type 0 where
-  pub small : levels < 31
-  pub tree : IsTree (2 ^ levels) flags
-
 -- whether each leaf is taken
 unfoldable pub leaves : ℕ → List Bool → List Bool
 leaves size flags = drop size flags
-
--- the first child of a node that is not full, if one is not: the left, or the right where the left is full
-abbrev pub child_on_way : List Bool → ℕ → ℕ
-child_on_way flags node = if is_full_at flags (2 * node) then 2 * node + 1 else 2 * node
 
 -- the nodes from `first` up to `end` that are not below `from` are full
 abbrev pub AreFullFrom : List Bool → ℕ → ℕ → ℕ → Type 0

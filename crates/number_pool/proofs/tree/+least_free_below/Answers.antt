@@ -1,4 +1,4 @@
-use Rattle.std.proofs.Common.{◌≡◌, ℕ, ◌+◌, ◌-◌, ◌*◌, ◌^◌, ◌/◌, ◌%◌, ◌<◌, ◌≤◌, length, ap, subst, arith}
+use Rattle.std.proofs.Common.{◌≡◌, ◌+◌, ◌-◌, ◌*◌, ◌^◌, ◌/◌, ◌%◌, ◌<◌, length, ap, subst, arith}
 use Rattle.std.proofs.lemmas.Nat.{pow_pos, one_shl}
 use Rattle.number_pool.specs.inside.Tree.{AreFullFrom, IsLeastNode}
 use Rattle.number_pool.proofs.Below.{first_left, first_right, end_right, end_whole, full_below_node, least_left, joined, halved}
