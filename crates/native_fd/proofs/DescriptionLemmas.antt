@@ -1,21 +1,53 @@
 -- The descriptions by their numbers, after each change.
-use Rattle.std.proofs.Common.{◌≡◌, ◌≢◌, ℕ, zero, suc, ◌<◌, true, false, List, [], ◌∷◌, map, length, set, get_or, replicate, Option, Some, None, refl, sym, ap, ◌∙◌, inl, inr, arith}
+use Rattle.std.proofs.Common.{◌≡◌, ◌≢◌, ℕ, zero, suc, ◌+◌, ◌-◌, ◌<◌, ◌≤◌, ◌++◌, true, false, List, [], ◌∷◌, map, length, set, get_or, replicate, Option, Some, None, refl, sym, ap, ◌∙◌, append_assoc, subst, inl, inr, arith}
 use Rattle.std.specs.Prelude.{is_some, ◌⊎◌}
 use Rattle.std.proofs.lemmas.Bool.{cases_eq, cases_lt}
-use Rattle.std.proofs.lemmas.List.{get_or_past, get_or-set_same, get_or-set_other, set-get_or, length-map}
+use Rattle.std.proofs.lemmas.List.{get_or_past, get_or-set_same, get_or-set_other, length-append, length-map, length-replicate, length-set, replicate-append-replicate, set-append_left, set-get_or}
 use Rattle.std.proofs.lemmas.Option.{same_Some}
 use Rattle.kernel_model.specs.Begin.{free_places}
 use Rattle.kernel_model.specs.Table.{slot, with_slot}
 use Rattle.slab.specs.Slab.{Slab, get, Updates, with_value}
-use Rattle.native_fd.specs.inside.Descriptions.{AreKeyed, item_at}
+use Rattle.native_fd.specs.inside.Descriptions.{AreKept, AreKeyed, all_keys, item_at}
 use Rattle.native_fd.proofs.LinkLemmas.{slot-free}
 
-slot_within : (keys : List (Option ℕ)) (number key : ℕ) → slot keys number ≡ Some key → number < length keys
+pub slot_within : (keys : List (Option ℕ)) (number key : ℕ) → slot keys number ≡ Some key → number < length keys
 slot_within keys number key at =
     elim (cases_lt number (length keys)) [
       | inl within ↦ within
       | inr past ↦ absurd (let bad : None ≡ Some key = sym (get_or_past keys number None past) ∙ at in cc)
     ]
+
+-- The keys of the first numbers, and of all.
+
+slot-padded : (keys : List (Option ℕ)) (rest number : ℕ) → slot (keys ++ free_places rest) number ≡ slot keys number
+slot-padded [] rest number = slot-free {A = ℕ} rest number
+slot-padded (key ∷ keys) rest zero = refl
+slot-padded (key ∷ keys) rest (suc number) = slot-padded keys rest number
+
+pub slot-all : (keys : List (Option ℕ)) (number : ℕ) → slot (all_keys keys) number ≡ slot keys number
+slot-all keys number = slot-padded keys (1024 - length keys) number
+
+pub all-set : (keys : List (Option ℕ)) (number : ℕ) (key : Option ℕ) → number < length keys → all_keys (set keys number key) ≡ set (all_keys keys) number key
+all-set keys number key within =
+    ap (λ n. set keys number key ++ free_places {A = ℕ} (1024 - n)) (length-set keys number key)
+    ∙ sym (set-append_left keys (free_places {A = ℕ} (1024 - length keys)) number key within)
+
+pub length-all : (keys : List (Option ℕ)) → length keys ≤ 1024 → length (all_keys keys) ≡ 1024
+unfolding free_places
+length-all keys few =
+    length-append keys (replicate (1024 - length keys) None)
+    ∙ ap (λ n. length keys + n) (length-replicate {A = Option ℕ} (1024 - length keys) None)
+    ∙ (let e : length keys + (1024 - length keys) ≡ 1024 = omega arith in e)
+
+pub all-more : (keys : List (Option ℕ)) (more : ℕ) → length keys + more ≤ 1024 → all_keys (keys ++ replicate more None) ≡ all_keys keys
+unfolding free_places
+all-more keys more few =
+    let long : length (keys ++ replicate more None) ≡ length keys + more =
+    length-append keys (replicate more None) ∙ ap (λ n. length keys + n) (length-replicate {A = Option ℕ} more None) in
+    let rest : more + (1024 - length (keys ++ replicate more None)) ≡ 1024 - length keys = omega (arith, long) in
+    append_assoc keys (replicate more None) (replicate (1024 - length (keys ++ replicate more None)) None)
+    ∙ ap (λ l. keys ++ l) (replicate-append-replicate {A = Option ℕ} more (1024 - length (keys ++ replicate more None)) None)
+    ∙ ap (λ n. keys ++ replicate n None) rest
 
 module _ {A : Type 0} where
   pub slot-items : (items : Slab A) (keys : List (Option ℕ)) (number : ℕ) → slot (map (item_at items) keys) number ≡ item_at items (slot keys number)
@@ -212,3 +244,75 @@ module _ {A : Type 0} where
     pub items-none : (number : ℕ) → slot keys number ≡ None → map (item_at old) keys ≡ with_slot (map (item_at old) keys) number None
     items-none number none =
         sym (ap (set (map (item_at old) keys) number) (sym (slot-items old keys number ∙ ap (item_at old) none)) ∙ set-get_or (map (item_at old) keys) number None)
+
+-- What is kept, after each change.
+
+module _ {A : Type 0} where
+  pub AreKept-none : (keys : List (Option ℕ)) (items : Slab A) → keys ≡ [] → items.slots ≡ [] → AreKept keys items
+  AreKept-none keys items none empty =
+      subst (λ l. AreKept l items) (sym none) (record {
+        few = omega arith;
+        keyed = AreKeyed-none items 1024 empty;
+      })
+
+  pub seen-none : (keys : List (Option ℕ)) (items : Slab A) → keys ≡ [] → map (item_at items) (all_keys keys) ≡ free_places 1024
+  seen-none keys items none = ap (λ l. map (item_at items) (all_keys l)) none ∙ items-free items 1024
+
+  pub AreKept-more : (old now : List (Option ℕ)) (items : Slab A) → all_keys now ≡ all_keys old → length now ≤ 1024 → AreKept old items → AreKept now items
+  AreKept-more old now items same few kept = record {
+    few = few;
+    keyed = subst (λ l. AreKeyed l items) (sym same) kept.keyed;
+  }
+
+  module _ (old : Slab A) (keys : List (Option ℕ)) (kept : AreKept keys old) where
+    kept_set : (now : Slab A) (number : ℕ) (key : Option ℕ) → number < length keys → AreKeyed (set (all_keys keys) number key) now → AreKept (set keys number key) now
+    kept_set now number key within are = record {
+      few = omega (arith, length-set keys number key, kept.few);
+      keyed = subst (λ l. AreKeyed l now) (sym (all-set keys number key within)) are;
+    }
+
+    -- a key that led to nothing is that of a number without one
+    module _ (seen : List (Option A)) (is : map (item_at old) (all_keys keys) ≡ seen) (number : ℕ) (within : number < length keys) (free : slot seen number ≡ None)
+        (now : Slab A) (key : ℕ) (item : A) (fresh : get old key ≡ None) (updates : Updates old now key (Some item)) where
+      inside_all : number < length (all_keys keys)
+      inside_all = omega (arith, within, kept.few, length-all keys kept.few)
+
+      pub AreKept-inserted : AreKept (set keys number (Some key)) now
+      AreKept-inserted =
+          kept_set now number (Some key) within
+          (AreKeyed-inserted old (all_keys keys) kept.keyed now number key item fresh updates inside_all
+          (key-free old (all_keys keys) kept.keyed number (ap (λ l. slot l number) is ∙ free)))
+
+      pub seen-inserted : map (item_at now) (all_keys (set keys number (Some key))) ≡ with_slot seen number (Some item)
+      seen-inserted =
+          ap (map (item_at now)) (all-set keys number (Some key) within)
+          ∙ items-inserted old (all_keys keys) kept.keyed now number key item fresh updates inside_all
+          ∙ ap (λ l. with_slot l number (Some item)) is
+
+    module _ (number key : ℕ) (at : slot keys number ≡ Some key) where
+      at_all : slot (all_keys keys) number ≡ Some key
+      at_all = slot-all keys number ∙ at
+
+      pub AreKept-changed : (item : A) → AreKept keys (with_value old key item)
+      AreKept-changed item = record {
+        few = kept.few;
+        keyed = AreKeyed-changed old (all_keys keys) kept.keyed number key at_all item;
+      }
+
+      pub seen-changed : (item : A) → map (item_at (with_value old key item)) (all_keys keys) ≡ with_slot (map (item_at old) (all_keys keys)) number (Some item)
+      seen-changed item = items-changed old (all_keys keys) kept.keyed number key at_all item
+
+      pub AreKept-removed : (now : Slab A) → Updates old now key None → AreKept (set keys number None) now
+      AreKept-removed now updates =
+          kept_set now number None (slot_within keys number key at) (AreKeyed-removed old (all_keys keys) kept.keyed number key at_all now updates)
+
+      pub seen-removed : (now : Slab A) → Updates old now key None → map (item_at now) (all_keys (set keys number None)) ≡ with_slot (map (item_at old) (all_keys keys)) number None
+      seen-removed now updates =
+          ap (map (item_at now)) (all-set keys number None (slot_within keys number key at))
+          ∙ items-removed old (all_keys keys) kept.keyed number key at_all now updates
+
+    pub seen-no_key : (number : ℕ) → slot keys number ≡ None → slot (map (item_at old) (all_keys keys)) number ≡ None
+    seen-no_key number none = slot-items old (all_keys keys) number ∙ ap (item_at old) (slot-all keys number ∙ none)
+
+    pub seen-unkeyed : (number : ℕ) → slot keys number ≡ None → map (item_at old) (all_keys keys) ≡ with_slot (map (item_at old) (all_keys keys)) number None
+    seen-unkeyed number none = items-none old (all_keys keys) kept.keyed number (slot-all keys number ∙ none)

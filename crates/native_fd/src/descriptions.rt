@@ -1,7 +1,8 @@
 //! The descriptions by their numbers.
-ghost use Rattle.std.specs.Prelude.{◌≡◌, ◌<◌, IfOk, OnOk, OnErr, IsSome, Some, None, length};
+ghost use Rattle.std.specs.Prelude.{◌≡◌, ◌<◌, ◌≤◌, OnOk, OnErr, IsSome, Some, None, length};
 ghost use Rattle.kernel_model.specs.Begin.{free_places};
-ghost use Rattle.kernel_model.specs.Table.{slot, with_slot};
+ghost use Rattle.kernel_model.specs.Table.{descriptor_limit, slot, with_slot};
+ghost use Rattle.native_fd.specs.inside.Descriptions.{all_keys};
 
 use kernel_core::NoMemory;
 use slab::Slab;
@@ -11,6 +12,7 @@ use std::marker::Model;
 /// The descriptions, and the key of the description that each number stands for.
 #[derive(Drop)]
 pub(crate) struct Descriptions<T: Copy> {
+    /// By the numbers, up to the greatest that has had a description.
     keys: Vec<Option<usize>>,
     items: Slab<T>,
 }
@@ -18,26 +20,26 @@ pub(crate) struct Descriptions<T: Copy> {
 impl<T: Copy> Model for Descriptions<T> {
     ghost use Rattle.std.specs.Prelude.{List, Option, map};
     ghost use Rattle.std.specs.Coded.{coded_list, coded_option};
-    ghost use Rattle.native_fd.specs.inside.Descriptions.{AreKeyed, item_at};
+    ghost use Rattle.native_fd.specs.inside.Descriptions.{AreKept, all_keys, item_at};
 
     ghost Value = { List (Option T) };
 
     ghost coded = { coded_list (coded_option T.code) };
 
-    ghost view = { λ d. map (item_at d.items) d.keys.items };
+    ghost view = { λ d. map (item_at d.items) (all_keys d.keys.items) };
 
-    ghost invariant = { λ d. AreKeyed d.keys.items d.items };
+    ghost invariant = { λ d. AreKept d.keys.items d.items };
 }
 
 impl<T: Copy> Descriptions<T> {
-    /// No description, with places for so many numbers.
-    pub(crate) fn new(alloc: Global, count: usize) -> Result<Descriptions<T>, NoMemory>
-        ensures { IfOk result (λ descriptions. descriptions ≡ free_places count) }
+    /// No description. It takes no memory yet, and later from `alloc`.
+    pub(crate) fn new(alloc: Global) -> Descriptions<T>
+        ensures { result ≡ free_places descriptor_limit }
     {
-        Ok(Descriptions {
-            keys: no_keys(alloc, count)?,
+        Descriptions {
+            keys: Vec::new(alloc),
             items: Slab::new(alloc),
-        })
+        }
     }
 
     pub(crate) fn get(&self, number: u32) -> Option<T>
@@ -54,6 +56,7 @@ impl<T: Copy> Descriptions<T> {
         ensures ok { OnOk result (self.new ≡ with_slot self.old number (Some item)) }
         ensures err { OnErr result (self.new ≡ self.old) }
     {
+        make_room(&mut self.keys, number as usize)?;
         let key = self.items.insert(item)?;
         self.keys[number as usize] = Some(key);
         Ok(())
@@ -89,9 +92,16 @@ fn key_at(keys: &[Option<usize>], number: u32) -> Option<usize>
     }
 }
 
-#[tactic(auto, unfolding(kernel_model::specs::Begin::free_places))]
-fn no_keys(alloc: Global, count: usize) -> Result<Vec<Option<usize>>, AllocError>
-    ensures { IfOk result (λ keys. keys.items ≡ free_places count) }
+/// Makes the keys as many as it takes to have that of a number.
+fn make_room(keys: &mut Vec<Option<usize>>, number: usize) -> Result<(), AllocError>
+    requires few { length keys.old.items ≤ descriptor_limit }
+    requires within { number < descriptor_limit }
+    ensures same { all_keys keys.new.items ≡ all_keys keys.old.items }
+    ensures few { length keys.new.items ≤ descriptor_limit }
+    ensures room { OnOk result (number < length keys.new.items) }
 {
-    vec![in alloc; None; count]
+    if number >= keys.len() {
+        keys.resize(number + 1, None)?;
+    }
+    Ok(())
 }

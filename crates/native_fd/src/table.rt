@@ -36,13 +36,14 @@ impl<T: Copy> Model for Table<T> {
 }
 
 impl<T: Copy> Table<T> {
-    /// A table without a descriptor, with the room for all. It takes its memory from `alloc`.
+    /// A table without a descriptor, with the room for all. It takes its memory from `alloc`, and later that of
+    /// the descriptions.
     pub fn new(alloc: Global) -> Result<Table<T>, NoMemory>
         ensures empty { IfOk result (λ table. table ≡ no_descriptors) }
     {
         Ok(Table {
             links: Links::new(alloc)?,
-            descriptions: Descriptions::new(alloc, DESCRIPTORS as usize)?,
+            descriptions: Descriptions::new(alloc),
         })
     }
 
