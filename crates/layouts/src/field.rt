@@ -1,5 +1,9 @@
 //! Reading and writing one field of a structure in place.
+//!
+//! The functions on the way are inlined: where a caller names a field of a table by constants, nothing of the look-up
+//! is left to run, and a field of 4 or 8 bytes is one load or store.
 ghost use Rattle.std.specs.Prelude.{◌≡◌, ◌+◌, ◌^◌, ◌<◌, ◌≤◌, ◌++◌, IsTrue, length, take, drop, pos};
+ghost use Rattle.byteorder.specs.Endian.{big_bytes, big_number, little_bytes, little_number};
 ghost use Rattle.layouts.specs.Number as spec;
 ghost use Rattle.layouts.specs.Number.{IsPlaced, field_at, field_value, fit_of, after_put, with_value, low_value, bytes_of, EachByteOutside};
 
@@ -36,6 +40,7 @@ pub enum Fit {
 }
 
 /// The value of a field, by its place in the table.
+#[inline(always)]
 pub fn get(layout: &Layout, field: usize, bytes: &[u8]) -> i128
     requires in_table { field < length layout.now.fields.now }
     requires placed { IsPlaced layout.now.size (field_at layout.now.fields.now field) }
@@ -43,17 +48,17 @@ pub fn get(layout: &Layout, field: usize, bytes: &[u8]) -> i128
     ensures { result ≡ field_value layout.now.big (field_at layout.now.fields.now field) bytes.now }
 {
     let field = layout.fields[field];
-    let width = usize::from(field.width);
     let bytes = &bytes[usize::from(field.offset)..];
     let number = if layout.big {
-        BigEndian::read_uint(bytes, width)
+        big_number(field.width, bytes)
     } else {
-        LittleEndian::read_uint(bytes, width)
+        little_number(field.width, bytes)
     };
     value_of(field, number)
 }
 
 /// Puts a value into a field, by its place in the table, where the value is in the field's range.
+#[inline(always)]
 pub fn put(layout: &Layout, field: usize, bytes: &mut [u8], value: i128) -> Fit
     requires in_table { field < length layout.now.fields.now }
     requires placed { IsPlaced layout.now.size (field_at layout.now.fields.now field) }
@@ -92,6 +97,7 @@ pub fn low_word(value: i128) -> u32
 }
 
 /// Puts a value into a field, where the value is in the field's range.
+#[inline(always)]
 pub(crate) fn put_into(big: bool, field: Field, bytes: &mut [u8], value: i128) -> Fit
     requires { IsPlaced (length bytes.old) field }
     ensures fit { result ≡ fit_of field value }
@@ -105,6 +111,7 @@ pub(crate) fn put_into(big: bool, field: Field, bytes: &mut [u8], value: i128) -
 }
 
 /// Puts a value of the field's range into the field.
+#[inline(always)]
 pub(crate) fn write_value(big: bool, field: Field, bytes: &mut [u8], value: i128)
     requires placed { IsPlaced (length bytes.old) field }
     requires in_range { IsTrue (spec.is_in_range field.signed field.width value) }
@@ -115,6 +122,7 @@ pub(crate) fn write_value(big: bool, field: Field, bytes: &mut [u8], value: i128
 }
 
 /// 256 to this power.
+#[inline(always)]
 fn limit(width: u8) -> i128
     requires { width ≤ 8 }
     ensures { result ≡ pos (256 ^ width) }
@@ -133,6 +141,7 @@ fn limit(width: u8) -> i128
 }
 
 /// What a field's number is as a value.
+#[inline(always)]
 fn value_of(field: Field, number: u64) -> i128
     requires { field.width ≤ 8 }
     ensures { result ≡ spec.value_of field.signed field.width number }
@@ -147,6 +156,7 @@ fn value_of(field: Field, number: u64) -> i128
 }
 
 /// Whether a value is in a field's range.
+#[inline(always)]
 pub(crate) fn is_in_range(field: Field, value: i128) -> bool
     requires { field.width ≤ 8 }
     ensures { result ≡ spec.is_in_range field.signed field.width value }
@@ -169,6 +179,7 @@ fn low_number(field: Field, value: i128) -> u64
 }
 
 /// The number that stands for a value of the field's range.
+#[inline(always)]
 fn number_for(field: Field, value: i128) -> u64
     requires few { field.width ≤ 8 }
     requires in_range { IsTrue (spec.is_in_range field.signed field.width value) }
@@ -183,16 +194,78 @@ fn number_for(field: Field, value: i128) -> u64
 }
 
 /// Puts a number of the field's width into its bytes.
+#[inline(always)]
 fn write(big: bool, field: Field, bytes: &mut [u8], number: u64)
     requires placed { IsPlaced (length bytes.old) field }
     requires fits { number < 256 ^ field.width }
     ensures { bytes.new ≡ take field.offset bytes.old ++ bytes_of big field.width number ++ drop (field.offset + field.width) bytes.old }
 {
-    let width = usize::from(field.width);
     let bytes = &mut bytes[usize::from(field.offset)..];
     if big {
-        BigEndian::write_uint(bytes, number, width);
+        write_big(field.width, bytes, number);
     } else {
-        LittleEndian::write_uint(bytes, number, width);
+        write_little(field.width, bytes, number);
+    }
+}
+
+/// The number of so many bytes, the first counting most.
+#[inline(always)]
+fn big_number(width: u8, bytes: &[u8]) -> u64
+    requires some { 1 ≤ width }
+    requires few { width ≤ 8 }
+    requires whole { width ≤ length bytes.now }
+    ensures { result ≡ big_number width bytes.now }
+{
+    match width {
+        4 => u64::from(BigEndian::read_u32(bytes)),
+        8 => BigEndian::read_u64(bytes),
+        _ => BigEndian::read_uint(bytes, usize::from(width)),
+    }
+}
+
+/// The number of so many bytes, the first counting least.
+#[inline(always)]
+fn little_number(width: u8, bytes: &[u8]) -> u64
+    requires some { 1 ≤ width }
+    requires few { width ≤ 8 }
+    requires whole { width ≤ length bytes.now }
+    ensures { result ≡ little_number width bytes.now }
+{
+    match width {
+        4 => u64::from(LittleEndian::read_u32(bytes)),
+        8 => LittleEndian::read_u64(bytes),
+        _ => LittleEndian::read_uint(bytes, usize::from(width)),
+    }
+}
+
+/// Puts a number into so many bytes, the first counting most.
+#[inline(always)]
+fn write_big(width: u8, bytes: &mut [u8], number: u64)
+    requires some { 1 ≤ width }
+    requires few { width ≤ 8 }
+    requires whole { width ≤ length bytes.old }
+    requires fits { number < 256 ^ width }
+    ensures { bytes.new ≡ big_bytes width number ++ drop width bytes.old }
+{
+    match width {
+        4 => BigEndian::write_u32(bytes, number as u32),
+        8 => BigEndian::write_u64(bytes, number),
+        _ => BigEndian::write_uint(bytes, number, usize::from(width)),
+    }
+}
+
+/// Puts a number into so many bytes, the first counting least.
+#[inline(always)]
+fn write_little(width: u8, bytes: &mut [u8], number: u64)
+    requires some { 1 ≤ width }
+    requires few { width ≤ 8 }
+    requires whole { width ≤ length bytes.old }
+    requires fits { number < 256 ^ width }
+    ensures { bytes.new ≡ little_bytes width number ++ drop width bytes.old }
+{
+    match width {
+        4 => LittleEndian::write_u32(bytes, number as u32),
+        8 => LittleEndian::write_u64(bytes, number),
+        _ => LittleEndian::write_uint(bytes, number, usize::from(width)),
     }
 }

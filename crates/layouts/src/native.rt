@@ -177,6 +177,7 @@ pub enum NativeStructure {
 }
 
 /// The table of a structure of the native kernel.
+#[inline(always)]
 pub fn native_layout(structure: NativeStructure) -> &'static Layout
     ensures table { shape result.now ≡ native_shape structure }
     ensures sound { IsSound (shape result.now) }

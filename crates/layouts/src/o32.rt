@@ -310,6 +310,7 @@ pub enum O32Structure {
 }
 
 /// The table of a structure of an o32 program.
+#[inline(always)]
 pub fn o32_layout(structure: O32Structure) -> &'static Layout
     ensures table { shape result.now ≡ o32_shape structure }
     ensures sound { IsSound (shape result.now) }
