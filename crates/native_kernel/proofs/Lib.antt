@@ -17,6 +17,7 @@ pub mod SignalFields
 pub mod SignalLemmas
 pub mod SignalOrder
 pub mod SignalTaking
+pub mod StatusSteps
 pub mod Storing
 pub mod SystemLemmas
 pub mod Taking

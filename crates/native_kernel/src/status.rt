@@ -1,13 +1,17 @@
 //! The calls on what is open: lseek(2), fstat(2), getdents64(2), fsync(2), fdatasync(2).
-ghost use Rattle.std.specs.Prelude.{◌≡◌, ◌≤◌, ◌++◌, All, IfOk, OnOk, length, map};
+ghost use Rattle.std.specs.Prelude.{◌≡◌, ◌<◌, ◌≤◌, ◌++◌, All, IfOk, IsTrue, OnOk, false, length, map};
 ghost use Rattle.std.specs.List.{flat_map};
 ghost use Rattle.host_mem.specs.Memory.{written};
+ghost use Rattle.kernel_core.specs.FileSystem.{IsTime};
+ghost use Rattle.kernel_core.specs.LoadedTree.{whole_seconds};
 ghost use Rattle.kernel_model.specs.Came.{told_as, told_zero};
 ghost use Rattle.kernel_model.specs.ContentRows.{entries, seek, status, sync};
 ghost use Rattle.kernel_model.specs.Whole.{on_files};
 ghost use Rattle.layouts.specs.Dirents.{dirent64_length};
+ghost use Rattle.layouts.specs.Native as native;
+ghost use Rattle.layouts.specs.Number.{field_at, is_in_range, with_value};
 ghost use Rattle.native_calls.specs.HostBytes.{accessible};
-ghost use Rattle.native_calls.specs.Status.{entry_bytes, entry_records, entry_type, status_bytes, status_values};
+ghost use Rattle.native_calls.specs.Status.{entry_bytes, entry_records, entry_type, part_of_second, status_bytes};
 ghost use Rattle.native_files.specs.Answers.{IsStatus, entry_told, status_told};
 ghost use Rattle.native_files.specs.declared.progress.Entry.{Entry as Listed};
 ghost use Rattle.native_vfs.specs.Seen.{kind_told};
@@ -15,17 +19,16 @@ ghost use Rattle.native_kernel.specs.inside.Quiet.{Fills, Gives, Stores};
 
 use crate::kernel::NativeKernel;
 use crate::replies::{failure, zero};
-use crate::structures::{accessible, put, store};
+use crate::structures::{accessible, store};
 use host_mem::HostMem;
 use kernel_core::{CoreError, NoMemory, Reply};
-use layouts::{EntryType, NativeStructure, dirent64_length, put_dirent64};
+use layouts::field_index::stat;
+use layouts::{EntryType, NativeStructure, dirent64_length, native_layout, put_dirent64};
 use native_files::{Entry, Status};
 use native_vfs::NodeKind;
 use std::alloc::Global;
 
 const STATUS_SIZE: usize = 128;
-
-const STATUS_FIELDS: usize = 16;
 
 /// The longest entry: that of a name of 255 bytes.
 const LONGEST_ENTRY: usize = 280;
@@ -88,40 +91,59 @@ impl NativeKernel {
     }
 }
 
-/// The structure of a status.
+/// The structure of a status. The fields are named one by one, so that each place, and with it each offset and
+/// width, is known before the program runs.
 pub(crate) fn status_bytes(status: Status) -> [u8; STATUS_SIZE]
     requires { IsStatus status }
     ensures { result ≡ status_bytes (status_told status) }
 {
-    let values = status_values(status);
     let mut bytes = [0; STATUS_SIZE];
-    put(NativeStructure::Stat, &values, &mut bytes);
+    put_field(stat::DEV, i128::from(status.device), &mut bytes);
+    put_field(stat::INO, i128::from(status.number), &mut bytes);
+    put_field(stat::MODE, i128::from(status.mode), &mut bytes);
+    put_field(stat::NLINK, i128::from(status.links), &mut bytes);
+    put_field(stat::UID, 0, &mut bytes);
+    put_field(stat::GID, 0, &mut bytes);
+    put_field(stat::RDEV, i128::from(status.terminal_device), &mut bytes);
+    put_field(stat::SIZE, i128::from(status.size), &mut bytes);
+    put_field(stat::ATIME, seconds(status.access), &mut bytes);
+    put_field(stat::ATIME_NS, nanoseconds(status.access), &mut bytes);
+    put_field(stat::MTIME, seconds(status.modified), &mut bytes);
+    put_field(stat::MTIME_NS, nanoseconds(status.modified), &mut bytes);
+    put_field(stat::CTIME, seconds(status.changed), &mut bytes);
+    put_field(stat::CTIME_NS, nanoseconds(status.changed), &mut bytes);
+    put_field(stat::BLKSIZE, BLOCK_SIZE, &mut bytes);
+    put_field(stat::BLOCKS, i128::from(status.sectors), &mut bytes);
     bytes
 }
 
-/// The fields of that structure, in the order of the layout.
-fn status_values(status: Status) -> [i128; STATUS_FIELDS]
-    requires { IsStatus status }
-    ensures { result ≡ status_values (status_told status) }
+/// The whole seconds of a time, rounded down.
+#[inline(always)]
+fn seconds(time: i128) -> i128
+    requires { IsTime time }
+    ensures { result ≡ whole_seconds time }
 {
-    [
-        i128::from(status.device),
-        i128::from(status.number),
-        i128::from(status.mode),
-        i128::from(status.links),
-        0,
-        0,
-        i128::from(status.terminal_device),
-        i128::from(status.size),
-        status.access.div_euclid(NANOSECONDS_PER_SECOND),
-        status.access.rem_euclid(NANOSECONDS_PER_SECOND),
-        status.modified.div_euclid(NANOSECONDS_PER_SECOND),
-        status.modified.rem_euclid(NANOSECONDS_PER_SECOND),
-        status.changed.div_euclid(NANOSECONDS_PER_SECOND),
-        status.changed.rem_euclid(NANOSECONDS_PER_SECOND),
-        BLOCK_SIZE,
-        i128::from(status.sectors),
-    ]
+    time.div_euclid(NANOSECONDS_PER_SECOND)
+}
+
+/// The nanoseconds of a time past its whole seconds.
+#[inline(always)]
+fn nanoseconds(time: i128) -> i128
+    requires { IsTime time }
+    ensures { result ≡ part_of_second time }
+{
+    time.rem_euclid(NANOSECONDS_PER_SECOND)
+}
+
+/// Puts a value into the field of a status at this place in the layout.
+#[inline(always)]
+fn put_field(place: usize, value: i128, bytes: &mut [u8])
+    requires in_table { place < 16 }
+    requires in_range { IsTrue (is_in_range (field_at native.stat.fields place).signed (field_at native.stat.fields place).width value) }
+    requires whole { length bytes.old ≡ 128 }
+    ensures { bytes.new ≡ with_value false (field_at native.stat.fields place) value bytes.old }
+{
+    layouts::put(native_layout(NativeStructure::Stat), place, bytes, value);
 }
 
 /// The entries as getdents64(2) gives them, one behind the other.
