@@ -1,5 +1,5 @@
 //! The guest's memory as the calls of the machine see it.
-ghost use Rattle.std.specs.Prelude.{◌≡◌, ◌+◌, ◌*◌, ◌/◌, ◌%◌, ◌<◌, ◌≤◌, ◌^◌, ◌↔◌, IsTrue, None, ℕ, length, IfOk, OnOk, OnErr, IfErr, IsErrOf, IfSome, IfNone, Ok, true, false};
+ghost use Rattle.std.specs.Prelude.{◌≡◌, ◌||◌, ◌+◌, ◌*◌, ◌/◌, ◌%◌, ◌<◌, ◌≤◌, ◌^◌, ◌↔◌, IsTrue, None, ℕ, length, IfOk, OnOk, OnErr, IfErr, IsErrOf, IfSome, IfNone, Ok, is_some, not, true, false};
 ghost use Rattle.std.specs.FinMap as map;
 ghost use Rattle.std.specs.Option.{option_copied};
 ghost use Rattle.raw_pages.specs.Pages.{is_ready, shown_bytes};
@@ -122,6 +122,8 @@ impl Space {
         requires low { 1 ≤ n }
         requires high { n ≤ 4 }
         ensures value { IfSome result (λ value. read self.now address n ≡ Ok value) }
+        ensures refused { IfNone result (address % 4096 + n ≤ 4096
+            → is_some (first_denied Access.Load self.now.pages address n) ≡ true) }
     {
         if address % PAGE_SIZE + n > PAGE_SIZE {
             return None;
@@ -207,6 +209,8 @@ impl Space {
         ensures stored { result ≡ true → self.new ≡ written self.old address n value }
         ensures allowed { result ≡ true → first_denied Access.Store self.old.pages address n ≡ None }
         ensures stays { result ≡ false → self.new ≡ self.old }
+        ensures refused { result ≡ false → address % 4096 + n ≤ 4096
+            → (is_some (first_denied Access.Store self.old.pages address n) || not (are_ready self.old.pages address n)) ≡ true }
     {
         if address % PAGE_SIZE + n > PAGE_SIZE {
             return false;
