@@ -1,7 +1,7 @@
 -- A number of so many bytes fits them.
 use Rattle.std.proofs.Common.{ℕ, ◌<◌, ◌^◌, sym, subst, arith}
 use Rattle.byteorder.specs.Numbers.{little_from-lt}
-use Rattle.bridge_status.proofs.structures.put_low_bytes.Goals as goal
+use Rattle.bridge_status.proofs.structures.put_turned.Goals as goal
 
 pub write_uint-requires-clause-fits : goal.write_uint-requires-clause-fits
 write_uint-requires-clause-fits c =
