@@ -90,6 +90,39 @@ fn loads_and_stores_in(rt: &impl Abort, space: &mut Space) -> Result<(), Fail> {
     Ok(())
 }
 
+#[test]
+fn loads_and_stores_of_one_page(rt: HostRuntime) -> Result<(), Fail> {
+    let mut space = sample(rt.alloc())?;
+    loads_and_stores_of_one_page_in(&rt, &mut space)
+}
+
+fn loads_and_stores_of_one_page_in(rt: &impl Abort, space: &mut Space) -> Result<(), Fail> {
+    for (address, n, value, is_stored) in [
+        (0x1_0FFC, 4, 0x1122_3344, true),
+        (0x1_0001, 1, 0xABCD_EF55, true),
+        (0x1_0FFE, 4, 7, false),
+        (0x1_2000, 4, 7, false),
+        (0x1_5000, 2, 7, false),
+        (0x7FFF_8000, 1, 7, false),
+    ] {
+        assert_eq!(rt; space.store_in_page(address, n, value), is_stored);
+    }
+    for (address, n, value) in [
+        (0x1_0FFC, 4, Some(0x1122_3344)),
+        (0x1_0FFD, 2, Some(0x2233)),
+        (0x1_0000, 4, Some(0x55_0000)),
+        (0x1_1000, 4, Some(0)),
+        (0x1_2000, 4, Some(0)),
+        (0x1_0FFE, 4, None),
+        (0x1_4000, 4, None),
+        (0x1_5000, 1, None),
+        (0x7FFF_8000, 1, None),
+    ] {
+        assert_eq!(rt; space.load_in_page(address, n), value);
+    }
+    Ok(())
+}
+
 /// The word at an address of a page whose bytes are lent, and none where they are not or the word leaves the page.
 fn lent_word(space: &Space, address: u32) -> Option<u32> {
     let bytes = space.code_page(address)?;

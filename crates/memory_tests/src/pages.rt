@@ -76,6 +76,38 @@ fn pages_are_found_by_their_numbers_in(rt: &impl Abort, store: &mut PageStore) -
 }
 
 #[test]
+fn a_run_of_pages_goes_across_tables(rt: HostRuntime) -> Result<(), Fail> {
+    let mut store = sample(rt.alloc())?;
+    a_run_of_pages_goes_across_tables_in(&rt, &mut store)
+}
+
+fn a_run_of_pages_goes_across_tables_in(
+    rt: &impl Abort,
+    store: &mut PageStore,
+) -> Result<(), Fail> {
+    store.write(1023, 0, b"gone").ok().ok_or("not written")?;
+    store.map_run(1022, 1027, 5).ok().ok_or("not mapped")?;
+    store.map_run(7, 0, 5).ok().ok_or("not mapped")?;
+    for (page, protection) in [
+        (0, Some(3)),
+        (7, None),
+        (1021, None),
+        (1022, Some(5)),
+        (1023, Some(5)),
+        (1024, Some(5)),
+        (2047, Some(5)),
+        (2048, Some(5)),
+        (2049, None),
+        (LAST, Some(7)),
+    ] {
+        assert_eq!(rt; store.prot(page), protection, "page {page}");
+    }
+    assert_eq!(rt; (store.len(), store.ready(1023)), (1029, false));
+    assert_eq!(rt; ends(store, 1023), ([0; 4], [0; 4]));
+    Ok(())
+}
+
+#[test]
 fn bytes_stay_until_the_page_is_mapped_anew(rt: HostRuntime) -> Result<(), Fail> {
     let mut store = sample(rt.alloc())?;
     bytes_stay_until_the_page_is_mapped_anew_in(&rt, &mut store)
