@@ -20,6 +20,7 @@ use outside::{Devices, Sink, Source};
 /// Makes the call rt_sigtimedwait(2) of the program, by its words: it accepts the signal of the lowest number that
 /// pends of a set, but for KILL and STOP, stores what is known of it, and gives its number; or it waits for one. It
 /// stops early for want of memory, or by a device.
+#[inline(never)]
 pub fn acceptance_call<I: Source, O: Sink, E: Sink>(
     args: &CallWords,
     cpu: &mut Cpu,

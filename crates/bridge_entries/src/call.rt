@@ -20,6 +20,7 @@ use std::alloc::Global;
 
 /// Makes a call of the program on the entries of a directory, by its words: getdents(2) or getdents64(2). It stops
 /// early for want of memory, or by a device.
+#[inline(never)]
 pub fn entries_call<I: Source, O: Sink, E: Sink>(
     alloc: Global,
     args: &CallWords,

@@ -35,6 +35,7 @@ const AT_REMOVEDIR: u32 = 0x200;
 /// symlink(2), readlink(2), chdir(2), getcwd(2), umask(2), chmod(2), access(2), fchmod(2), fsync(2), fchdir(2),
 /// fdatasync(2), utimensat(2), truncate(2), ftruncate(2), lseek(2), _llseek(2), and their forms with descriptors
 /// of directories and with sizes of 64 bits. It stops early for want of memory, or by a device.
+#[inline(never)]
 pub fn file_call<I: Source, O: Sink, E: Sink>(
     alloc: Global,
     args: &CallWords,

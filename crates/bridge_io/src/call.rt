@@ -26,6 +26,7 @@ use o32_model::{CallWords, Log, Outcome, Seen};
 use outside::{Devices, Sink, Source};
 
 /// Makes a call of the program on descriptors and what they have open, by its words.
+#[inline(never)]
 pub fn io_call<I: Source, O: Sink, E: Sink>(
     args: &CallWords,
     cpu: &mut Cpu,

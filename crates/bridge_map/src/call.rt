@@ -24,6 +24,7 @@ use outside::{Devices, Sink, Source};
 /// Makes a call on mappings, by its words: brk(2), mmap(2), mmap2(2), munmap(2), mprotect(2), msync(2),
 /// mremap(2), madvise(2). A file is asked for its bytes when it is mapped. It stops early for want of memory, or
 /// by a device; a new mapping of no file, or another size of a range, that is ENOMEM doesn't.
+#[inline(never)]
 pub fn map_call<I: Source, O: Sink, E: Sink>(
     args: &CallWords,
     cpu: &mut Cpu,

@@ -30,6 +30,7 @@ const STACK_BYTES: u32 = 16;
 /// What the call at which the processor stands is handed: its number, its arguments in registers and
 /// those on the stack, each None where one of its bytes may not be loaded. It takes no memory.
 #[tactic(auto, unfolding(o32_model::specs::Words::call_words))]
+#[inline(always)]
 pub fn args(space: &Space, cpu: &Cpu) -> CallWords
     ensures { result ≡ call_words cpu.now space.now }
 {

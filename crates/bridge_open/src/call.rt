@@ -26,6 +26,7 @@ const CREAT_FLAGS: u32 = 0x301;
 
 /// Makes a call of the program that opens a file, by its words: open(2), creat(2), openat(2). It stops early
 /// for want of memory, or by a device.
+#[inline(never)]
 pub fn open_call<I: Source, O: Sink, E: Sink>(
     alloc: Global,
     args: &CallWords,

@@ -34,6 +34,7 @@ pub fn is_poll_call(number: u32) -> bool
 /// Makes the call poll(2) or ppoll(2) of the program, by its words: it tells of each entry which events there are, and
 /// gives the number of the entries of which any is told, or waits for that. It stops early for want of memory, or by a
 /// device.
+#[inline(never)]
 pub fn poll_call<I: Source, O: Sink, E: Sink>(
     args: &CallWords,
     cpu: &mut Cpu,

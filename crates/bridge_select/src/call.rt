@@ -28,6 +28,7 @@ pub fn is_select_call(number: u32) -> bool
 /// Makes the call of the program, select(2) or pselect(2), by its words: EFAULT where a word on its stack can't be read;
 /// for pselect the pair of the mask; the time; the mask; and then what the native kernel says of the descriptors. It stops
 /// early for want of memory, or by a device.
+#[inline(never)]
 pub fn select_call<I: Source, O: Sink, E: Sink>(
     args: &CallWords,
     cpu: &mut Cpu,

@@ -24,6 +24,7 @@ use outside::{Devices, Sink, Source};
 /// rt_sigprocmask(2), rt_sigpending(2), sigaltstack(2); pause(2), rt_sigsuspend(2), restart_syscall(2); sigreturn(2) and
 /// rt_sigreturn. `seen` has the wait that restart_syscall(2) goes on with. It stops early for want of memory, or by a
 /// device.
+#[inline(never)]
 pub fn signal_call<I: Source, O: Sink, E: Sink>(
     args: &CallWords,
     cpu: &mut Cpu,

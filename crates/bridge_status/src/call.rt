@@ -27,6 +27,7 @@ const NOFOLLOW: u32 = 0x100;
 
 /// Makes a call of the program on status, by its words: stat(2), lstat(2), fstat(2) in the old structure, and
 /// stat64, lstat64, fstat64, fstatat64 in that of 64 bits. It stops early for want of memory, or by a device.
+#[inline(never)]
 pub fn status_call<I: Source, O: Sink, E: Sink>(
     alloc: Global,
     args: &CallWords,

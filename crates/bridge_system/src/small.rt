@@ -22,6 +22,7 @@ use outside::{Devices, Sink, Source};
 /// Makes a small call of the program, by its words: exit(2), exit_group(2), the ids, uname(2), getrlimit(2),
 /// prlimit(2), getrandom(2), cacheflush(2), sched_yield(2), set_tid_address(2), set_thread_area(2),
 /// set_robust_list(2). Any other number is ENOSYS. It stops early for want of memory, or by a device.
+#[inline(never)]
 pub fn system_call<I: Source, O: Sink, E: Sink>(
     args: &CallWords,
     cpu: &mut Cpu,

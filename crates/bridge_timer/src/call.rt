@@ -20,6 +20,7 @@ use outside::{Devices, Sink, Source};
 
 /// Makes a call of the program on the interval timer, by its words: alarm(2), setitimer(2), getitimer(2). It stops
 /// early for want of memory, or by a device.
+#[inline(never)]
 pub fn timer_call<I: Source, O: Sink, E: Sink>(
     args: &CallWords,
     cpu: &mut Cpu,

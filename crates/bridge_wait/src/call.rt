@@ -21,6 +21,7 @@ use outside::{Devices, Sink, Source};
 /// Makes a call of the program on time, by its words: time(2), gettimeofday(2), nanosleep(2), clock_gettime(2),
 /// clock_getres(2), clock_nanosleep(2). The clock is the native kernel's, and `seen` has the time of instructions
 /// alone. It stops early for want of memory, or by a device.
+#[inline(never)]
 pub fn wait_call<I: Source, O: Sink, E: Sink>(
     args: &CallWords,
     cpu: &mut Cpu,

@@ -8,10 +8,13 @@ use Rattle.guest_space.specs.Memory.{Memory, Pages}
 use Rattle.kernel_core.specs.declared.core_error.NoMemory.{NoMemory}
 use Rattle.mips_exec.specs.Processor.{Processor}
 use Rattle.mips_exec.specs.Going.{Goes, GoesThen, Steps}
-use Rattle.mips_exec.specs.Step.{Step, step_of, carried_out, effect_at}
+use Rattle.mips_exec.specs.Arithmetic.{sum}
+use Rattle.mips_exec.specs.Step.{Step, step_of, carried_out, effect_at, outside_slot}
+use Rattle.mips_exec.specs.inside.Quietly.{IsAtCall}
 use Rattle.mips_exec.specs.declared.effect.Effect.{Effect}
+use Rattle.mips_exec.specs.declared.effect.Effect.TheVariants.{SystemCall}
 use Rattle.mips_exec.specs.declared.execution.Stepped.{Stepped}
-use Rattle.mips_exec.specs.declared.execution.Stepped.TheVariants.{Next}
+use Rattle.mips_exec.specs.declared.execution.Stepped.TheVariants.{Next, Syscall}
 
 -- where a byte of a page may be loaded, each of the page may
 pub usable_in_page : (pages : Pages) (a b : ℕ) → a / 4096 ≡ b / 4096 → refusal Load pages a ≡ None → refusal Load pages b ≡ None
@@ -28,6 +31,13 @@ pub step_by_effect : (processor : Processor) (memory : Memory) (effect : Effect)
     → step_of processor memory ≡ step
 unfolding step_of
 step_by_effect processor memory effect step is carried = ap (carried_out processor memory) is ∙ carried
+
+-- a SYSCALL in no slot
+pub steps_to_call : (processor : Processor) (memory : Memory) → IsAtCall processor memory
+    → step_of processor memory ≡ record { processor = record processor { pc = sum processor.pc 4; link = None }; memory = memory; came = Syscall }
+steps_to_call processor memory (outside, is) =
+    step_by_effect processor memory SystemCall (record { processor = record processor { pc = sum processor.pc 4; link = None }; memory = memory; came = Syscall }) is
+    (ap (λ s. outside_slot s processor memory (record { processor = record processor { pc = sum processor.pc 4; link = None }; memory = memory; came = Syscall })) outside)
 
 pub goes_nowhere : (processor : Processor) (memory : Memory) → Goes 0 processor memory processor memory
 unfolding Goes
@@ -55,6 +65,17 @@ module _ (k : ℕ) (processor : Processor) (memory : Memory) (middle : Processor
   goes_then next stored (Ok came) step same alike = (middle, kept, goes, step)
   goes_then next stored (Err error) step same alike =
       subst (λ (p : Processor). Goes k processor memory p stored) (sym same) (subst (λ (m : Memory). Goes k processor memory middle m) (sym alike) goes)
+
+  -- and then a SYSCALL in no slot
+  pub goes_to_call : (next : Processor) (came : Stepped) → IsAtCall middle kept → next ≡ record middle { pc = sum middle.pc 4; link = None } → came ≡ Syscall
+      → GoesThen k processor memory (Ok came) next kept
+  goes_to_call next came at same is = (
+    middle,
+    kept,
+    goes,
+    subst (λ (s : Stepped). Steps middle kept s next kept) (sym is)
+        (subst (λ (q : Processor). Steps middle kept Syscall q kept) (sym same) (steps_to_call middle kept at)),
+  )
 
   -- and further
   pub goes_far : (j : ℕ) (next : Processor) (stored : Memory) → Goes j middle kept next stored → Goes (k + j) processor memory next stored

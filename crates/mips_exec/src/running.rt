@@ -9,9 +9,9 @@ ghost use Rattle.guest_space.specs.Access.{refusal};
 ghost use Rattle.guest_space.specs.declared.access.Access.TheVariants as Access;
 ghost use Rattle.mips_exec.specs.Step.{step_of, carried_out, effect_at};
 ghost use Rattle.mips_exec.specs.Going.{Goes, GoesThen};
-ghost use Rattle.mips_exec.specs.inside.Quietly.{IsQuiet};
+ghost use Rattle.mips_exec.specs.inside.Quietly.{IsEnded, IsNext, IsQuiet};
 
-use crate::control::{go_on, jump};
+use crate::control::{go_on, jump, system_call};
 use crate::cpu::Cpu;
 use crate::effect::{Effect, Span};
 use crate::execution::{Stepped, step};
@@ -46,22 +46,46 @@ enum Quiet {
     Went,
     /// It is this store, and nothing was changed.
     Stores(Store),
-    /// It makes a call, meets a fault or is rare, and nothing was changed.
+    /// It makes a call and stands in no slot, and nothing was changed.
+    Calls,
+    /// It meets a fault or is rare, and nothing was changed.
     Stays,
 }
 
-/// What is left of a number of instructions, and the store that comes next, where it is one.
+/// What comes behind instructions that store nothing.
+#[derive(Clone, Copy)]
+enum Next {
+    /// This store.
+    Store(Store),
+    /// A call.
+    Call,
+    /// Another instruction, of this page or elsewhere.
+    Other,
+}
+
+/// How a stretch of instructions ended.
+#[derive(Clone, Copy)]
+enum Ended {
+    /// With a store.
+    Stored,
+    /// Before a call.
+    AtCall,
+    /// Before another instruction.
+    AtOther,
+}
+
+/// What is left of a number of instructions, and what comes next.
 #[derive(Clone, Copy)]
 struct Rest {
     left: u64,
-    store: Option<Store>,
+    next: Next,
 }
 
-/// What is left of a number of instructions, and whether the last one stored.
+/// What is left of a number of instructions, and how they ended.
 #[derive(Clone, Copy)]
 struct Stretch {
     left: u64,
-    stored: bool,
+    ended: Ended,
 }
 
 /// Carries out an effect that stores nothing, where it makes no call and meets no fault. Else nothing changes.
@@ -136,6 +160,7 @@ fn step_in_page(cpu: &mut Cpu, space: &Space, page: &[u8; 4096]) -> Quiet
                 address,
                 value,
             }),
+            Effect::SystemCall if cpu.slot.is_none() => Quiet::Calls,
             effect => {
                 if carry_out_quietly(cpu, space, effect) {
                     Quiet::Went
@@ -168,7 +193,7 @@ fn run_in_page(cpu: &mut Cpu, space: &Space, page: &[u8; 4096], most: u64) -> Re
     requires there { shown_bytes (map.get space.now.pages (cpu.old.pc / 4096)) ≡ page.now }
     ensures went { Goes (most - result.left) cpu.old space.now cpu.new space.now }
     ensures few { result.left ≤ most }
-    ensures next { IfSome result.store (λ store. (0 < result.left) × (effect_at cpu.new space.now ≡ Effect.Store store.span store.address store.value)) }
+    ensures next { IsNext result.left cpu.new space.now result.next }
 {
     let number = cpu.pc / PAGE_SIZE;
     let mut left = most;
@@ -178,13 +203,22 @@ fn run_in_page(cpu: &mut Cpu, space: &Space, page: &[u8; 4096], most: u64) -> Re
             Quiet::Stores(store) => {
                 return Rest {
                     left,
-                    store: Some(store),
+                    next: Next::Store(store),
                 };
             }
-            Quiet::Stays => return Rest { left, store: None },
+            Quiet::Calls => {
+                return Rest {
+                    left,
+                    next: Next::Call,
+                };
+            }
+            Quiet::Stays => break,
         }
     }
-    Rest { left, store: None }
+    Rest {
+        left,
+        next: Next::Other,
+    }
 }
 
 /// The same in the page of the program counter, with no instruction where that may not be fetched or was never written.
@@ -192,13 +226,13 @@ fn run_in_page(cpu: &mut Cpu, space: &Space, page: &[u8; 4096], most: u64) -> Re
 fn run_here(cpu: &mut Cpu, space: &Space, most: u64) -> Rest
     ensures went { Goes (most - result.left) cpu.old space.now cpu.new space.now }
     ensures few { result.left ≤ most }
-    ensures next { IfSome result.store (λ store. (0 < result.left) × (effect_at cpu.new space.now ≡ Effect.Store store.span store.address store.value)) }
+    ensures next { IsNext result.left cpu.new space.now result.next }
 {
     match space.code_page(cpu.pc) {
         Some(page) => run_in_page(cpu, space, page, most),
         None => Rest {
             left: most,
-            store: None,
+            next: Next::Other,
         },
     }
 }
@@ -209,20 +243,31 @@ fn run_here(cpu: &mut Cpu, space: &Space, most: u64) -> Rest
 fn run_to_store(cpu: &mut Cpu, space: &mut Space, most: u64) -> Stretch
     ensures went { Goes (most - result.left) cpu.old space.old cpu.new space.new }
     ensures few { result.left ≤ most }
-    ensures fewer { result.stored ≡ true → result.left < most }
+    ensures ended { IsEnded most result.left cpu.new space.new result.ended }
 {
     let rest = run_here(cpu, space, most);
-    if let Some(store) = rest.store {
-        if store_quietly(cpu, space, store.span, store.address, store.value) {
-            return Stretch {
-                left: rest.left - 1,
-                stored: true,
-            };
+    match rest.next {
+        Next::Store(store) => {
+            if store_quietly(cpu, space, store.span, store.address, store.value) {
+                Stretch {
+                    left: rest.left - 1,
+                    ended: Ended::Stored,
+                }
+            } else {
+                Stretch {
+                    left: rest.left,
+                    ended: Ended::AtOther,
+                }
+            }
         }
-    }
-    Stretch {
-        left: rest.left,
-        stored: false,
+        Next::Call => Stretch {
+            left: rest.left,
+            ended: Ended::AtCall,
+        },
+        Next::Other => Stretch {
+            left: rest.left,
+            ended: Ended::AtOther,
+        },
     }
 }
 
@@ -237,8 +282,15 @@ pub fn run(cpu: &mut Cpu, space: &mut Space, most: u64) -> Ran
     loop {
         let stretch = run_to_store(cpu, space, left);
         left = stretch.left;
-        if !stretch.stored {
-            match step(cpu, space) {
+        match stretch.ended {
+            Ended::Stored => {}
+            Ended::AtCall => {
+                return Ran {
+                    quiet: most - stretch.left,
+                    came: Ok(system_call(cpu)),
+                };
+            }
+            Ended::AtOther => match step(cpu, space) {
                 Ok(Stepped::Next) if left > 0 => left -= 1,
                 came => {
                     return Ran {
@@ -246,7 +298,7 @@ pub fn run(cpu: &mut Cpu, space: &mut Space, most: u64) -> Ran
                         came,
                     };
                 }
-            }
+            },
         }
     }
 }

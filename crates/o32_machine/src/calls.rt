@@ -30,6 +30,7 @@ use std::alloc::Global;
 
 /// Makes a call of the program, by its words. A number that no call has is ENOSYS. The native clock stands at the
 /// machine's.
+#[inline(always)]
 pub(crate) fn make_call<I: Source, O: Sink, E: Sink>(
     alloc: Global,
     args: &CallWords,

@@ -195,6 +195,7 @@ impl Emulator {
 
     /// How many quiet turns can be taken at once before the last one, of at most `limit` in all; None where the next turn
     /// is one in all its steps. Nothing is due in any of them, and nothing can be delivered.
+    #[inline(always)]
     fn most_quiet(&self, limit: u64) -> Option<u64>
         requires some { 0 < limit }
         ensures few { IfSome result (λ most. most < limit) }

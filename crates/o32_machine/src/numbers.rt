@@ -9,6 +9,7 @@ ghost use Rattle.bridge_delivery.specs.Passed.{is_call_there as is_wait_there};
 ghost use Rattle.o32_model.specs.Table as table;
 
 /// Whether a number is that of a call on descriptors and what they have open.
+#[inline(always)]
 pub(crate) fn is_io_call(nr: u32) -> bool
     ensures { result ≡ table.is_io_call nr }
 {
@@ -33,6 +34,7 @@ pub(crate) fn is_io_call(nr: u32) -> bool
 }
 
 /// Whether a number is that of a call on mappings.
+#[inline(always)]
 pub(crate) fn is_map_call(nr: u32) -> bool
     ensures { result ≡ table.is_map_call nr }
 {
@@ -50,6 +52,7 @@ pub(crate) fn is_map_call(nr: u32) -> bool
 }
 
 /// Whether a number is that of a call on files.
+#[inline(always)]
 pub(crate) fn is_file_call(nr: u32) -> bool
     ensures { result ≡ table.is_file_call nr }
 {
@@ -122,6 +125,7 @@ pub(crate) fn is_entries_call(nr: u32) -> bool
 }
 
 /// Whether a number is that of a call on clocks or a sleep.
+#[inline(always)]
 pub(crate) fn is_time_call(nr: u32) -> bool
     ensures { result ≡ is_wait_there nr }
 {
@@ -137,6 +141,7 @@ pub(crate) fn is_time_call(nr: u32) -> bool
 }
 
 /// Whether a number is that of a call on the timer.
+#[inline(always)]
 pub(crate) fn is_timer_call(nr: u32) -> bool
     ensures { result ≡ timer.is_call_there nr }
 {
@@ -144,6 +149,7 @@ pub(crate) fn is_timer_call(nr: u32) -> bool
 }
 
 /// Whether a number is that of a call on signals.
+#[inline(always)]
 pub(crate) fn is_signal_call(nr: u32) -> bool
     ensures { result ≡ signal.is_call_there nr }
 {

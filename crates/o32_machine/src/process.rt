@@ -141,6 +141,7 @@ impl Process {
 
     /// Whether there is nothing to be done but instructions, unless something is due: no call waits, no fault is to be
     /// delivered, the process isn't stopped, and no signal can be delivered.
+    #[inline(always)]
     pub(crate) fn goes(&self) -> bool
         ensures { result ≡ goes (machine_of self.now) }
     {
@@ -151,6 +152,7 @@ impl Process {
     }
 
     /// The time at which an event of the schedule or the timer is due next, in nanoseconds of the clock.
+    #[inline(always)]
     pub(crate) fn next_due(&self) -> Option<u64>
         ensures { result ≡ next_due (machine_of self.now) }
     {
@@ -717,6 +719,7 @@ impl Process {
     }
 
     /// What a call sees of the machine beside registers and memory, at the kernel's time `clock`, in nanoseconds.
+    #[inline(always)]
     fn seen(&self, clock: u64) -> Seen
         requires { self.now.kernel.clock ≡ clock }
         ensures { result ≡ seen_of (machine_of self.now) }
@@ -729,6 +732,7 @@ impl Process {
 
     /// Puts the outcome of a call of these words into the registers, or keeps its wait, or makes a fault of it, or ends
     /// the process, and keeps what happened.
+    #[inline(always)]
     fn finish(&mut self, words: &CallWords, outcome: Outcome) -> Result<Turn, NoMemory>
         ensures machine { OnOk result (machine_of self.new ≡ (finished words.now (machine_of self.old) outcome).machine) }
         ensures events { OnOk result (self.new.going.events ≡ self.old.going.events ++ (finished words.now (machine_of self.old) outcome).events) }
@@ -744,6 +748,7 @@ impl Process {
 
     /// Puts the outcome of a call of these words into the registers, or keeps its wait, or makes a fault of it, and tells
     /// what happened.
+    #[inline(always)]
     fn put_outcome(&mut self, words: &CallWords, outcome: Outcome) -> Event
         ensures machine { machine_of self.new ≡ (finished words.now (machine_of self.old) outcome).machine }
         ensures event { (finished words.now (machine_of self.old) outcome).events ≡ result ∷ [] }
@@ -781,6 +786,7 @@ impl Process {
     }
 
     /// A call of this number was made: restart_syscall(2) uses up the wait that it goes on with.
+    #[inline(always)]
     fn use_restart(&mut self, number: u32)
         ensures { self.new ≡ record self.old { going = record self.old.going { restart = restart_after number self.old.going.restart } } }
     {
@@ -790,6 +796,7 @@ impl Process {
     }
 
     /// Puts what a call gives, its result or its error's number, into the registers.
+    #[inline(always)]
     fn set_result(&mut self, value: u32, failed: bool)
         ensures { self.new ≡ record self.old { processor = with_result self.old.processor value (if failed then 1 else 0) } }
     {
@@ -798,6 +805,7 @@ impl Process {
     }
 
     /// That a call of these words has ended, with what the registers hold of it.
+    #[inline(always)]
     fn call_told(&self, words: &CallWords) -> Event
         ensures { result ≡ events.Call words.now.nr words.now.reg (register self.now.processor v0) (register self.now.processor a3) }
     {
@@ -837,6 +845,7 @@ impl Process {
     }
 
     /// Keeps what happened, behind what happened before in the turn.
+    #[inline(always)]
     fn keep_event(&mut self, event: Event) -> Result<(), NoMemory>
         ensures kept { OnOk result (self.new ≡ record self.old { going = record self.old.going { events = self.old.going.events ++ event ∷ [] } }) }
         ensures kernel { self.new.kernel ≡ self.old.kernel }

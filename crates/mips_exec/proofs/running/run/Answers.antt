@@ -1,5 +1,7 @@
-use Rattle.std.proofs.Common.{◌+◌, ◌-◌, Ok, arith, ap, rules, ◌∙◌}
-use Rattle.mips_exec.proofs.Going.{goes_as, goes_far, goes_nowhere, goes_on, goes_then}
+use Rattle.std.proofs.Common.{◌+◌, ◌-◌, Ok, arith, ap, rules, subst, ◌∙◌}
+use Rattle.mips_exec.specs.declared.running.Ended.{Ended}
+use Rattle.mips_exec.specs.inside.Quietly.{IsEnded}
+use Rattle.mips_exec.proofs.Going.{goes_as, goes_far, goes_nowhere, goes_on, goes_then, goes_to_call}
 use Rattle.mips_exec.proofs.running.run.Goals as goal
 
 pub loop-cpu-init : goal.loop-cpu-init
@@ -8,8 +10,8 @@ loop-cpu-init c = record {
   few = omega arith;
 }
 
-pub loop-cpu-preserved-then-left-gt0 : goal.loop-cpu-preserved-then-left-gt0
-loop-cpu-preserved-then-left-gt0 c =
+pub loop-cpu-preserved : goal.loop-cpu-preserved
+loop-cpu-preserved c =
     let stretch = c.run_to_store-stretch in
     let before = c.args.most - c.loop-cpu.left in
     let gone = c.loop-cpu.left - stretch.result.left in
@@ -24,8 +26,8 @@ loop-cpu-preserved-then-left-gt0 c =
       few = omega arith;
     }
 
-pub loop-cpu-preserved : goal.loop-cpu-preserved
-loop-cpu-preserved c =
+pub loop-cpu-preserved-in-Stored : goal.loop-cpu-preserved-in-Stored
+loop-cpu-preserved-in-Stored c =
     let stretch = c.run_to_store-stretch in
     let before = c.args.most - c.loop-cpu.left in
     let gone = c.loop-cpu.left - stretch.result.left in
@@ -51,3 +53,17 @@ returns-in_default-clause-last c =
     let went = goes_then (c.args.most - stretch.result.left) c.args.cpu.now c.args.space.now stretch.new.cpu stretch.new.space far c.step.new.cpu c.step.new.space c.step.result
     c.step.ensures.ok c.step.ensures.unchanged_cpu c.step.ensures.unchanged_space in
     search rules
+
+pub returns-in-AtCall-clause-last : goal.returns-in-AtCall-clause-last
+returns-in-AtCall-clause-last c =
+    let stretch = c.run_to_store-stretch in
+    let before = c.args.most - c.loop-cpu.left in
+    let gone = c.loop-cpu.left - stretch.result.left in
+    let less = stretch.ensures.few in
+    let room = c.loop-cpu.invariant.few in
+    let far =
+    goes_as (before + gone) (c.args.most - stretch.result.left) c.args.cpu.now c.args.space.now stretch.new.cpu stretch.new.space (omega arith)
+    (goes_far before c.args.cpu.now c.args.space.now c.loop-cpu.cpu c.loop-cpu.space c.loop-cpu.invariant.went gone stretch.new.cpu stretch.new.space stretch.ensures.went) in
+    let at = subst (λ (e : Ended). IsEnded c.loop-cpu.left stretch.result.left stretch.new.cpu stretch.new.space e) c.in-AtCall.is stretch.ensures.ended in
+    goes_to_call (c.args.most - stretch.result.left) c.args.cpu.now c.args.space.now stretch.new.cpu stretch.new.space far c.system_call.new.cpu c.system_call.result at
+    c.system_call.ensures.processor c.system_call.ensures.came

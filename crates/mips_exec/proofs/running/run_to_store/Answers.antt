@@ -1,7 +1,7 @@
-use Rattle.std.proofs.Common.{◌≡◌, ◌+◌, ◌-◌, ◌<◌, Option, IfSome, arith, refl, sym, subst}
+use Rattle.std.proofs.Common.{◌+◌, ◌-◌, arith, refl, sym, subst}
 use Rattle.mips_exec.specs.Going.{Goes}
-use Rattle.mips_exec.specs.Step.{effect_at}
-use Rattle.mips_exec.specs.declared.running.Store.{Store}
+use Rattle.mips_exec.specs.declared.running.Next.{Next as Behind}
+use Rattle.mips_exec.specs.inside.Quietly.{IsNext}
 use Rattle.mips_exec.specs.declared.effect.Effect.TheVariants as Effect
 use Rattle.mips_exec.specs.declared.execution.Stepped.TheVariants.{Next}
 use Rattle.mips_exec.proofs.Going.{goes_as, goes_one, step_by_effect}
@@ -10,9 +10,8 @@ use Rattle.mips_exec.proofs.running.run_to_store.Goals as goal
 pub returns-then-store_quietly-clause-went : goal.returns-then-store_quietly-clause-went
 returns-then-store_quietly-clause-went c =
     let rest = c.run_here-rest in
-    let store = c.in-Some.store in
-    let next =
-    subst (λ (o : Option Store). IfSome o (λ s. (0 < rest.result.left) × (effect_at rest.new.cpu c.args.space.now ≡ Effect.Store s.span s.address s.value))) c.in-Some.is rest.ensures.next in
+    let store = c.in-Store.store in
+    let next = subst (λ (n : Behind). IsNext rest.result.left rest.new.cpu c.args.space.now n) c.in-Store.is rest.ensures.next in
     let few = rest.ensures.few in
     let some = next.0 in
     goes_as (c.args.most - rest.result.left + 1) (c.args.most - (rest.result.left - 1)) c.args.cpu.now c.args.space.now c.store_quietly.new.cpu c.store_quietly.new.space (omega arith)
