@@ -29,4 +29,4 @@ def taken(program, count):
     return (listed - without) / LISTINGS
 
 
-sys.exit(compare(__doc__, program, COUNTS, LIMIT, taken))
+sys.exit(compare(__doc__, program, [(COUNTS, LIMIT, taken, "names")]))

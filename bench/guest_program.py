@@ -60,6 +60,10 @@ def sll(rd, rt, shift):
     return register_word(0, rt, rd, 0x00, shift=shift)
 
 
+def srl(rd, rt, shift):
+    return register_word(0, rt, rd, 0x02, shift=shift)
+
+
 def mul(rd, rs, rt):
     return register_word(rs, rt, rd, 0x02, opcode=0x1C)
 

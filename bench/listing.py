@@ -59,7 +59,7 @@ def main(folder):
         without = best([*command, 0], "0\n")
         return (listed - without) / LISTINGS
 
-    return compare(__doc__, program, COUNTS, LIMIT, taken)
+    return compare(__doc__, program, [(COUNTS, LIMIT, taken, "names")])
 
 
 with tempfile.TemporaryDirectory() as name:

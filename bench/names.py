@@ -26,4 +26,4 @@ def taken(program, count):
     return best([program, count], f"{count} names made and removed\n")
 
 
-sys.exit(compare(__doc__, program, COUNTS, LIMIT, taken))
+sys.exit(compare(__doc__, program, [(COUNTS, LIMIT, taken, "names")]))
