@@ -161,7 +161,7 @@ fn a_run_goes_from_page_to_page(rt: HostRuntime) -> Result<(), Fail> {
 #[test]
 fn a_run_ends_at_a_fault(rt: HostRuntime) -> Result<(), Fail> {
     for (words, came, quiet, pc, tenth) in [
-        // SW $9, 0($8) and LW $9, 0($8) of an absent page, also in a slot; a branch in a slot; a word of no instruction
+        // SW $9, 0($8) and LW $9, 0($8) of an absent page, also in a slot; a branch and a call in a slot; a word of no instruction
         (
             [SEVEN, 0xAD09_0000],
             Came::Signal(Sig::Segv, 1, 0x3000),
@@ -192,6 +192,13 @@ fn a_run_ends_at_a_fault(rt: HostRuntime) -> Result<(), Fail> {
         ),
         (
             [GO_ON, GO_ON],
+            Came::Signal(Sig::Ill, 1, 0x1000),
+            1,
+            0x1000,
+            KEPT,
+        ),
+        (
+            [GO_ON, SYSCALL],
             Came::Signal(Sig::Ill, 1, 0x1000),
             1,
             0x1000,
@@ -231,6 +238,19 @@ fn a_run_has_at_most_so_many_instructions_and_one(rt: HostRuntime) -> Result<(),
         (
             (0x1000, [0xAD09_0000, SEVEN, ONE, 0, 0], 0x2000, 5, 1),
             (1, Came::Next, 0x1008, 5, 7),
+        ),
+        // a call as the one more instruction, and as one of the most
+        (
+            (0x1000, [SYSCALL, ONE, ONE, 0, 0], 0x2000, 5, 0),
+            (0, Came::Call, 0x1004, 5, KEPT),
+        ),
+        (
+            (0x1000, [SEVEN, SYSCALL, ONE, 0, 0], 0x2000, 5, 1),
+            (1, Came::Call, 0x1008, 5, 7),
+        ),
+        (
+            (0x1000, [SEVEN, SYSCALL, ONE, 0, 0], 0x2000, 5, 2),
+            (1, Came::Call, 0x1008, 5, 7),
         ),
         // LL $10, 0($8) and SC $9, 0($8)
         (
