@@ -12,7 +12,7 @@ import sys
 
 sys.path.insert(0, str(pathlib.Path(__file__).resolve().parent))
 
-from growth import best, built_program, compare  # noqa: E402
+from growth import Kind, best, built_program, compare  # noqa: E402
 
 COUNTS = [32_768, 65_536, 131_072]
 LISTINGS = 20
@@ -29,4 +29,4 @@ def taken(program, count):
     return (listed - without) / LISTINGS
 
 
-sys.exit(compare(__doc__, program, [(COUNTS, LIMIT, taken, "names")]))
+sys.exit(compare(__doc__, program, [Kind("names", COUNTS, LIMIT, taken)]))

@@ -18,6 +18,8 @@ import struct
 import subprocess
 import sys
 import tempfile
+from collections.abc import Callable
+from typing import NamedTuple
 
 sys.dont_write_bytecode = True
 
@@ -81,7 +83,7 @@ NOP = sll(ZERO, ZERO, 0)
 
 
 def repeat(words):
-    """These words as many times as S2 says, which they keep; it is 0 then."""
+    """These words, which keep S2, as many times as it says; S2 is 0 afterwards."""
     return [*words, addiu(S2, S2, -1), bne(S2, ZERO, -len(words) - 2), NOP]
 
 
@@ -117,13 +119,6 @@ def signals(count):
     return Program("signals", [*blocked, *call(RT_SIGPROCMASK_CALL)], rounds_of(words), FAILED, data=SIGNAL_DATA)
 
 
-# Each kind: its name, its counts, and the program and the rounds that do it so many times.
-KINDS = [
-    ("mappings", [8_000, 16_000, 32_000], lambda count: (mappings_of_a_page(), count)),
-    ("descriptors", [250, 500, 1_000], lambda count: (descriptors(count), 400)),
-    ("nodes", [8_000, 16_000, 32_000], lambda count: (nodes(), count)),
-    ("pending signals", [250, 500, 1_000], lambda count: (signals(count), 200)),
-]
 
 
 def built_program(crate, words):
@@ -152,30 +147,38 @@ def best(command, printed, repetitions=REPETITIONS):
     return min(seconds(command, printed) for _ in range(repetitions))
 
 
-def is_within(program, counts, limit, taken, things):
-    """Prints what each count takes, and how much longer that is than for the one before: whether it is at most `limit` times as long."""
+class Kind(NamedTuple):
+    """Things that a program has more and more of: their name, the counts, each twice the one before, how many times as long twice as
+    many may take, and the seconds that a program takes for a count."""
+
+    things: str
+    counts: list
+    limit: float
+    taken: Callable
+
+
+def measure(program, kind):
+    """Prints what each count takes, and how much longer that is than for the one before: whether none takes longer than it may."""
     last, within = None, True
-    for count in counts:
-        time = taken(program, count)
+    for count in kind.counts:
+        time = kind.taken(program, count)
+        if time <= 0:
+            sys.exit(f"{count} {kind.things}: too short to be measured")
         ratio = "" if last is None else f", {time / last:.2f} times as long as for half as many"
-        within = within and (last is None or time / last <= limit)
-        print(f"{count:7,} {things}: {time:.4f} seconds{ratio}", flush=True)
+        within = within and (last is None or time / last <= kind.limit)
+        print(f"{count:7,} {kind.things}: {time:.4f} seconds{ratio}", flush=True)
         last = time
     return within
 
 
 def compare(document, program_of, kinds):
-    """Prints what each count of each kind takes, of which each is twice the one before. The status: 1 where one takes more than the
-    kind's limit times as long as the one before.
-
-    `program_of` builds the program; a kind is its counts, that limit, the seconds that the program takes for a count, and its name.
-    """
+    """Prints what each count of each kind takes. The status: 1 where one takes longer than it may. `program_of` builds the program."""
     if len(sys.argv) > 1:
         print(document.strip())
         return 0 if sys.argv[1:] == ["--help"] else 2
     program = program_of()
     print(f"{processor_name()}, {os.cpu_count()} processors, load {os.getloadavg()[0]:.1f}")
-    within = [is_within(program, *kind) for kind in kinds]
+    within = [measure(program, kind) for kind in kinds]
     print(f"load at the end {os.getloadavg()[0]:.1f}")
     return 0 if all(within) else 1
 
@@ -187,19 +190,26 @@ def seconds_of_guest(emulator, program, rounds):
         return best([emulator, "run", guest], "", GUEST_REPETITIONS)
 
 
-def taken_by(made):
-    """The seconds that a count of a kind takes, whose program and rounds these are."""
+def kind_of_guests(things, counts, made):
+    """The kind whose program and rounds are made for a count."""
 
     def taken(emulator, count):
         program, rounds = made(count)
         return seconds_of_guest(emulator, program, rounds) - seconds_of_guest(emulator, program, 1)
 
-    return taken
+    return Kind(things, counts, LIMIT, taken)
+
+
+KINDS = [
+    kind_of_guests("mappings", [8_000, 16_000, 32_000], lambda count: (mappings_of_a_page(), count)),
+    kind_of_guests("descriptors", [250, 500, 1_000], lambda count: (descriptors(count), 400)),
+    kind_of_guests("nodes", [8_000, 16_000, 32_000], lambda count: (nodes(), count)),
+    kind_of_guests("pending signals", [250, 500, 1_000], lambda count: (signals(count), 200)),
+]
 
 
 def main():
-    kinds = [(counts, LIMIT, taken_by(made), name) for name, counts, made in KINDS]
-    return compare(__doc__, lambda: default_emulator(argparse.ArgumentParser(prog="growth.py")), kinds)
+    return compare(__doc__, lambda: default_emulator(argparse.ArgumentParser(prog="growth.py")), KINDS)
 
 
 if __name__ == "__main__":

@@ -18,7 +18,7 @@ sys.dont_write_bytecode = True
 here = pathlib.Path(__file__).resolve().parent
 sys.path.insert(0, str(here))
 
-from growth import best, compare  # noqa: E402
+from growth import Kind, best, compare  # noqa: E402
 
 COUNTS = [32_768, 65_536, 131_072]
 LISTINGS = 20
@@ -59,7 +59,7 @@ def main(folder):
         without = best([*command, 0], "0\n")
         return (listed - without) / LISTINGS
 
-    return compare(__doc__, program, [(COUNTS, LIMIT, taken, "names")])
+    return compare(__doc__, program, [Kind("names", COUNTS, LIMIT, taken)])
 
 
 with tempfile.TemporaryDirectory() as name:

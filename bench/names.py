@@ -12,7 +12,7 @@ import sys
 
 sys.path.insert(0, str(pathlib.Path(__file__).resolve().parent))
 
-from growth import best, built_program, compare  # noqa: E402
+from growth import Kind, best, built_program, compare  # noqa: E402
 
 COUNTS = [16_384, 32_768, 65_536]
 LIMIT = 2.3
@@ -26,4 +26,4 @@ def taken(program, count):
     return best([program, count], f"{count} names made and removed\n")
 
 
-sys.exit(compare(__doc__, program, [(COUNTS, LIMIT, taken, "names")]))
+sys.exit(compare(__doc__, program, [Kind("names", COUNTS, LIMIT, taken)]))

@@ -143,6 +143,11 @@ fn a_run_goes_from_page_to_page(rt: HostRuntime) -> Result<(), Fail> {
             (0x1FF8, [GO_ON, SEVEN, 0, SYSCALL, 0], 0, 5, 100),
             (2, Came::Call, 0x2008, 5, 7),
         ),
+        // a call at the end of a page
+        (
+            (0x1FF8, [SEVEN, SYSCALL, 0, 0, 0], 0, 5, 100),
+            (1, Came::Call, 0x2000, 5, 7),
+        ),
         // an absent page, and JR $8 to an unaligned address
         (
             (0x2FEC, [0, 0, 0, 0, SEVEN], 0, 5, 100),
@@ -239,7 +244,7 @@ fn a_run_has_at_most_so_many_instructions_and_one(rt: HostRuntime) -> Result<(),
             (0x1000, [0xAD09_0000, SEVEN, ONE, 0, 0], 0x2000, 5, 1),
             (1, Came::Next, 0x1008, 5, 7),
         ),
-        // a call as the one more instruction, and as one of the most
+        // a call behind the most that are quiet, and one before so many were carried out
         (
             (0x1000, [SYSCALL, ONE, ONE, 0, 0], 0x2000, 5, 0),
             (0, Came::Call, 0x1004, 5, KEPT),
