@@ -23,6 +23,7 @@ from typing import NamedTuple
 
 sys.dont_write_bytecode = True
 
+from calls import go_round  # noqa: E402
 from guest_program import (  # noqa: E402
     A0,
     A1,
@@ -87,17 +88,12 @@ def repeat(words):
     return [*words, addiu(S2, S2, -1), bne(S2, ZERO, -len(words) - 2), NOP]
 
 
-def rounds_of(words):
-    """The words of a round: these, and the branch back to the first of them."""
-    return lambda _start, _function: [*words, addiu(COUNTER, COUNTER, -1), bne(COUNTER, ZERO, -len(words) - 2), NOP]
-
-
 def descriptors(count):
     """Each round makes so many copies of standard input, the first of which is 3, and closes them."""
     made = repeat([addu(A0, ZERO, ZERO), *call(DUP_CALL)])
     closed = repeat([addu(A0, S3, ZERO), *call(CLOSE_CALL), addiu(S3, S3, 1)])
     number = load_constant(S2, count)
-    return Program("descriptors", [], rounds_of([*number, *made, *number, addiu(S3, ZERO, 3), *closed]), FAILED)
+    return Program("descriptors", [], go_round([*number, *made, *number, addiu(S3, ZERO, 3), *closed]), FAILED)
 
 
 def nodes():
@@ -106,7 +102,7 @@ def nodes():
     opened = [addu(A0, S2, ZERO), addiu(A1, ZERO, WRITE_AND_CREATE), addiu(A2, ZERO, 0o600), *call(OPEN_CALL)]
     closed = [addu(A0, V0, ZERO), *call(CLOSE_CALL)]
     words = [addu(T0, COUNTER, ZERO), *sum(byte, []), *opened, *closed]
-    return Program("nodes", load_constant(S2, DATA), rounds_of(words), FAILED, data=b"/")
+    return Program("nodes", load_constant(S2, DATA), go_round(words), FAILED, data=b"/")
 
 
 def signals(count):
@@ -116,7 +112,7 @@ def signals(count):
     asked = [*load_constant(A0, SET), addu(A1, ZERO, ZERO), *load_constant(A2, NO_TIME), addiu(A3, ZERO, SET_SIZE)]
     number = load_constant(S2, count)
     words = [*number, *repeat(queued), *number, *repeat([*asked, *call(RT_SIGTIMEDWAIT_CALL)])]
-    return Program("signals", [*blocked, *call(RT_SIGPROCMASK_CALL)], rounds_of(words), FAILED, data=SIGNAL_DATA)
+    return Program("signals", [*blocked, *call(RT_SIGPROCMASK_CALL)], go_round(words), FAILED, data=SIGNAL_DATA)
 
 
 
