@@ -19,6 +19,7 @@ use crate::numbers::{
     SETITIMER, SIGALTSTACK, SYMLINKAT, TGKILL, TKILL, TRUNCATE, UMASK, UNAME, UNLINKAT, UTIMENSAT,
     WRITE, WRITEV,
 };
+use crate::readiness::OpenFiles;
 use crate::replies::failure;
 use crate::sleeping::{CLOCK_MONOTONIC, TIMER_ABSTIME};
 use host_mem::HostMem;
@@ -277,7 +278,7 @@ impl NativeKernel {
                 };
                 let count = low_word(args[0]).cast_signed();
                 pselect(
-                    &self.files,
+                    &OpenFiles(&self.files),
                     self.clock,
                     count,
                     places,
@@ -287,7 +288,7 @@ impl NativeKernel {
                 )
             }
             PPOLL => ppoll(
-                &self.files,
+                &OpenFiles(&self.files),
                 self.clock,
                 args[0],
                 low_word(args[1]),

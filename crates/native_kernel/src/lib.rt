@@ -17,6 +17,7 @@ mod nodes;
 mod numbers;
 mod paths;
 mod pipes;
+mod readiness;
 mod replies;
 mod signal_bytes;
 mod signal_posts;

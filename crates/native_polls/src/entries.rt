@@ -8,10 +8,10 @@ ghost use Rattle.layouts.specs.Shape.{record_values};
 ghost use Rattle.native_calls.specs.Polls.{pollfd, unless_negative};
 ghost use Rattle.native_polls.specs.inside.Entries.{told_in};
 
+use crate::readiness::Readiness;
 use crate::structures::{short_at, word_at};
 use bitflags::Flags;
 use kernel_core::{EventBits, PollBits};
-use native_files::Files;
 use number_tables::poll_bits_in_native;
 
 /// The size of an entry, in bytes.
@@ -21,9 +21,9 @@ pub(crate) const ENTRY_SIZE: usize = 8;
 const EVENTS: usize = 4;
 
 /// What is told of the entry that some bytes begin with.
-pub(crate) fn told_in(files: &Files, bytes: &[u8]) -> PollBits
+pub(crate) fn told_in<F: Readiness>(files: &F, bytes: &[u8]) -> PollBits
     requires { 8 ≤ length bytes.now }
-    ensures { result ≡ told_in files.now bytes.now }
+    ensures { result ≡ told_in (F.files files.now) bytes.now }
 {
     let asked = poll_bits_in_native(u64::from(short_at(bytes, EVENTS)));
     match descriptor_in(bytes) {

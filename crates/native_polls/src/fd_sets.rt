@@ -12,11 +12,11 @@ ghost use Rattle.native_polls.specs.inside.FdSets.{AreWhere, Holds, fds_of, has_
 ghost use Rattle.native_polls.specs.inside.FdSets.{words_bytes};
 ghost use Rattle.signal_sets.specs.NativeSets.{bits_where};
 
+use crate::readiness::Readiness;
 use crate::structures::double_at;
 use byteorder::{ByteOrder, LittleEndian};
 use host_mem::HostMem;
 use kernel_core::{Errno, PollBits};
-use native_files::Files;
 
 /// How many words a set has: enough for the 1,024 descriptors that there are.
 pub(crate) const WORDS: usize = 16;
@@ -96,9 +96,9 @@ fn words_in(bytes: &[u8], count: usize) -> [u64; WORDS]
 }
 
 /// Whether a set has a descriptor that counts and is not open.
-pub(crate) fn names_closed(files: &Files, count: u32, words: &[u64; WORDS]) -> bool
+pub(crate) fn names_closed<F: Readiness>(files: &F, count: u32, words: &[u64; WORDS]) -> bool
     requires { count ≤ 1024 }
-    ensures { result ≡ spec.names_closed files.now (fds_of count words.now) }
+    ensures { result ≡ spec.names_closed (F.files files.now) (fds_of count words.now) }
 {
     for fd in 0..count {
         if has_closed(files, words, fd) {
@@ -109,9 +109,9 @@ pub(crate) fn names_closed(files: &Files, count: u32, words: &[u64; WORDS]) -> b
 }
 
 /// Whether a descriptor is in a set and is not open.
-fn has_closed(files: &Files, words: &[u64; WORDS], fd: u32) -> bool
+fn has_closed<F: Readiness>(files: &F, words: &[u64; WORDS], fd: u32) -> bool
     requires { fd < 1024 }
-    ensures { result ≡ (has_bit words.now fd && (spec.ready files.now fd).nval) }
+    ensures { result ≡ (has_bit words.now fd && (spec.ready (F.files files.now) fd).nval) }
 {
     has(words, fd) && files.ready(fd).nval()
 }
@@ -132,16 +132,26 @@ pub(crate) fn size_of(count: u32, words: &[u64; WORDS]) -> u32
 }
 
 /// The set of those descriptors of a set that count and are ready for what it is about.
-pub(crate) fn ready_set(files: &Files, count: u32, words: &[u64; WORDS], side: Side) -> [u64; WORDS]
+pub(crate) fn ready_set<F: Readiness>(
+    files: &F,
+    count: u32,
+    words: &[u64; WORDS],
+    side: Side,
+) -> [u64; WORDS]
     requires { count ≤ 1024 }
-    ensures { Holds count result (ready_fds files.now side (fds_of count words.now)) }
+    ensures { Holds count result (ready_fds (F.files files.now) side (fds_of count words.now)) }
 {
     ready_words(files, count, words, side)
 }
 
-fn ready_words(files: &Files, count: u32, words: &[u64; WORDS], side: Side) -> [u64; WORDS]
+fn ready_words<F: Readiness>(
+    files: &F,
+    count: u32,
+    words: &[u64; WORDS],
+    side: Side,
+) -> [u64; WORDS]
     requires { count ≤ 1024 }
-    ensures { AreWhere (is_told files.now count words.now side) (set_words count) result }
+    ensures { AreWhere (is_told (F.files files.now) count words.now side) (set_words count) result }
 {
     let mut ready = [0; WORDS];
     for k in 0..words_of(count) {
@@ -151,9 +161,15 @@ fn ready_words(files: &Files, count: u32, words: &[u64; WORDS], side: Side) -> [
 }
 
 /// The word of that set for the 64 descriptors from one on.
-fn ready_word(files: &Files, count: u32, words: &[u64; WORDS], side: Side, first: u32) -> u64
+fn ready_word<F: Readiness>(
+    files: &F,
+    count: u32,
+    words: &[u64; WORDS],
+    side: Side,
+    first: u32,
+) -> u64
     requires { first + 64 ≤ 1024 }
-    ensures { result ≡ bits_where (is_told files.now count words.now side) first 64 }
+    ensures { result ≡ bits_where (is_told (F.files files.now) count words.now side) first 64 }
 {
     let mut word = 0;
     for done in 0..WORD_BITS {
@@ -172,9 +188,9 @@ fn with_bit(word: u64, bit: bool) -> u64
 }
 
 /// Whether a descriptor counts, is in a set and is ready.
-fn is_told(files: &Files, count: u32, words: &[u64; WORDS], side: Side, fd: u32) -> bool
+fn is_told<F: Readiness>(files: &F, count: u32, words: &[u64; WORDS], side: Side, fd: u32) -> bool
     requires { fd < 1024 }
-    ensures { result ≡ is_told files.now count words.now side fd }
+    ensures { result ≡ is_told (F.files files.now) count words.now side fd }
 {
     fd < count && has(words, fd) && is_ready_for(side, files.ready(fd))
 }

@@ -1,4 +1,4 @@
-//! The native calls that wait for descriptors, over the files of the modelled kernel: ppoll(2), pselect(2).
+//! The native calls that wait for descriptors, over what tells which of them are ready: ppoll(2), pselect(2).
 #![tactic(auto)]
 
 mod ends;
@@ -6,13 +6,12 @@ mod entries;
 mod fd_sets;
 mod masks;
 mod poll;
+mod readiness;
 mod select;
 mod structures;
 mod telling;
 mod times;
 
 pub use poll::ppoll;
+pub use readiness::Readiness;
 pub use select::{SetPlaces, pselect};
-
-#[cfg(test)]
-mod tests;

@@ -7,11 +7,11 @@ ghost use Rattle.native_polls.specs.inside.Waiting.{Finds, poll_entries, poll_wa
 
 use crate::ends::{Found, ended, found_or_wait};
 use crate::masks::masked_wait;
+use crate::readiness::Readiness;
 use crate::telling::{store_told, told_count};
 use crate::times::wait_at;
 use host_mem::HostMem;
 use kernel_core::{Errno, Reply};
-use native_files::Files;
 
 /// How many entries there are at most: as many as descriptors (EINVAL of poll(2)).
 const ENTRY_LIMIT: u32 = 1024;
@@ -25,8 +25,8 @@ const ENTRY_LIMIT: u32 = 1024;
 /// null; nothing is stored while it waits. EFAULT and EINVAL of the time come first, then those of the mask, then
 /// EINVAL for more than 1,024 entries, then EFAULT of the entries. The time left is stored at each end, also at an
 /// error once the time was accepted. The call takes no memory.
-pub fn ppoll(
-    files: &Files,
+pub fn ppoll<F: Readiness>(
+    files: &F,
     clock: u64,
     address: u64,
     count: u32,
@@ -36,7 +36,7 @@ pub fn ppoll(
     mem: &mut HostMem,
 ) -> Reply
     ensures { Answers (λ kernel left. ppoll_row kernel mem.old address count time mask size left)
-        files.now clock result mem.new }
+        (F.files files.now) clock result mem.new }
 {
     let wait = wait_at(mem, time);
     let masked = masked_wait(mem, wait, mask, size);
@@ -45,8 +45,8 @@ pub fn ppoll(
 }
 
 /// What a poll comes to that waits so long, or whose time or mask is wrong.
-fn poll(
-    files: &Files,
+fn poll<F: Readiness>(
+    files: &F,
     clock: u64,
     wait: Result<Option<u128>, Errno>,
     address: u64,
@@ -54,7 +54,7 @@ fn poll(
     mem: &mut HostMem,
 ) -> Result<Found, Errno>
     ensures { Finds (polled address mem.old) (count_by is_any)
-        (poll_waiting files.now clock wait count (entries_at mem.old address count)) result mem.old mem.new }
+        (poll_waiting (F.files files.now) clock wait count (entries_at mem.old address count)) result mem.old mem.new }
 {
     let wait = wait?;
     if count > ENTRY_LIMIT {
@@ -64,8 +64,8 @@ fn poll(
 }
 
 /// What a poll of entries comes to that are not too many.
-fn poll_entries(
-    files: &Files,
+fn poll_entries<F: Readiness>(
+    files: &F,
     clock: u64,
     wait: Option<u128>,
     address: u64,
@@ -74,7 +74,7 @@ fn poll_entries(
 ) -> Result<Found, Errno>
     requires { count ≤ entry_limit }
     ensures { Finds (polled address mem.old) (count_by is_any)
-        (poll_entries files.now clock wait (entries_at mem.old address count)) result mem.old mem.new }
+        (poll_entries (F.files files.now) clock wait (entries_at mem.old address count)) result mem.old mem.new }
 {
     let told = told_count(files, address, count, mem)?;
     let found = found_or_wait(clock, wait, told);

@@ -11,10 +11,10 @@ ghost use Rattle.native_polls.specs.inside.Waiting.{Finds, select_counted, selec
 use crate::ends::{Found, ended, found_or_wait};
 use crate::fd_sets::{FdSets, Side, WORDS, names_closed, ready_set, set_at, size_of, store_set};
 use crate::masks::{after_argument, masked_by};
+use crate::readiness::Readiness;
 use crate::times::wait_at;
 use host_mem::HostMem;
 use kernel_core::{Errno, Reply};
-use native_files::Files;
 
 /// How many descriptors count at most: as many as there are.
 const FD_LIMIT: u32 = 1024;
@@ -38,8 +38,8 @@ pub struct SetPlaces {
 /// then EINVAL for a count below 0, then EFAULT of the sets, then EBADF where a set has a descriptor that is not
 /// open. The time left is stored at each end, also at an error once the time was accepted. The call takes no
 /// memory.
-pub fn pselect(
-    files: &Files,
+pub fn pselect<F: Readiness>(
+    files: &F,
     clock: u64,
     count: i32,
     places: SetPlaces,
@@ -48,7 +48,7 @@ pub fn pselect(
     mem: &mut HostMem,
 ) -> Reply
     ensures { Answers (λ kernel left. pselect_row kernel mem.old count (places_of places) time argument left)
-        files.now clock result mem.new }
+        (F.files files.now) clock result mem.new }
 {
     let wait = wait_at(mem, time);
     let masked = masked_by(mem, wait, argument);
@@ -58,8 +58,8 @@ pub fn pselect(
 }
 
 /// What a select comes to that waits so long, or whose time or mask is wrong.
-fn select(
-    files: &Files,
+fn select<F: Readiness>(
+    files: &F,
     clock: u64,
     wait: Result<Option<u128>, Errno>,
     count: i32,
@@ -67,7 +67,7 @@ fn select(
     mem: &mut HostMem,
 ) -> Result<Found, Errno>
     ensures { Finds (selected (counted_fds count) (places_of places) mem.old) set_count
-        (select_waiting files.now clock wait count (polls.sets_at mem.old (counted_fds count) (places_of places)))
+        (select_waiting (F.files files.now) clock wait count (polls.sets_at mem.old (counted_fds count) (places_of places)))
         result mem.old mem.new }
 {
     let wait = wait?;
@@ -85,8 +85,8 @@ fn select(
 }
 
 /// What a select of so many descriptors comes to.
-fn select_sets(
-    files: &Files,
+fn select_sets<F: Readiness>(
+    files: &F,
     clock: u64,
     wait: Option<u128>,
     count: u32,
@@ -95,7 +95,7 @@ fn select_sets(
 ) -> Result<Found, Errno>
     requires { count ≤ 1024 }
     ensures { Finds (selected count (places_of places) mem.old) set_count
-        (select_sets files.now clock wait count (polls.sets_at mem.old count (places_of places)))
+        (select_sets (F.files files.now) clock wait count (polls.sets_at mem.old count (places_of places)))
         result mem.old mem.new }
 {
     let sets = sets_at(mem, count, places)?;
@@ -118,8 +118,8 @@ fn sets_at(mem: &HostMem, count: u32, places: SetPlaces) -> Result<FdSets, Errno
 }
 
 /// What a select of so many descriptors of these sets comes to.
-fn select_counted(
-    files: &Files,
+fn select_counted<F: Readiness>(
+    files: &F,
     clock: u64,
     wait: Option<u128>,
     count: u32,
@@ -129,7 +129,7 @@ fn select_counted(
 ) -> Result<Found, Errno>
     requires { count ≤ 1024 }
     ensures { Finds (selected count (places_of places) mem.old) set_count
-        (select_counted files.now clock wait (sets_of count sets.now)) result mem.old mem.new }
+        (select_counted (F.files files.now) clock wait (sets_of count sets.now)) result mem.old mem.new }
 {
     if names_any_closed(files, count, sets) {
         return Err(Errno::EBADF);
@@ -144,9 +144,9 @@ fn select_counted(
 }
 
 /// Whether any of the sets has a descriptor that counts and is not open.
-fn names_any_closed(files: &Files, count: u32, sets: &FdSets) -> bool
+fn names_any_closed<F: Readiness>(files: &F, count: u32, sets: &FdSets) -> bool
     requires { count ≤ 1024 }
-    ensures { result ≡ names_any_closed files.now (sets_of count sets.now) }
+    ensures { result ≡ names_any_closed (F.files files.now) (sets_of count sets.now) }
 {
     names_closed(files, count, &sets.read)
         || names_closed(files, count, &sets.write)

@@ -5,10 +5,10 @@
 const CALLS: &str = "
     getcwd 17 dup 23 dup3 24 fcntl 25 ioctl 29 mkdirat 34 unlinkat 35 symlinkat 36 linkat 37 renameat 38 truncate 45 ftruncate 46
     faccessat 48 chdir 49 fchdir 50 fchmod 52 fchmodat 53 openat 56 close 57 pipe2 59 getdents64 61 lseek 62 read 63 write 64
-    readv 65 writev 66 pread64 67 pwrite64 68 readlinkat 78 newfstatat 79 fstat 80 fsync 82 fdatasync 83 utimensat 88
-    nanosleep 101 getitimer 102 setitimer 103 clock_gettime 113 clock_getres 114 clock_nanosleep 115 kill 129 tkill 130 tgkill 131
-    sigaltstack 132 rt_sigsuspend 133 rt_sigaction 134 rt_sigprocmask 135 rt_sigpending 136 rt_sigtimedwait 137
-    rt_sigqueueinfo 138 uname 160 umask 166 getpid 172 getppid 173 prlimit64 261 getrandom 278
+    readv 65 writev 66 pread64 67 pwrite64 68 pselect6 72 ppoll 73 readlinkat 78 newfstatat 79 fstat 80 fsync 82 fdatasync 83
+    utimensat 88 nanosleep 101 getitimer 102 setitimer 103 clock_gettime 113 clock_getres 114 clock_nanosleep 115
+    kill 129 tkill 130 tgkill 131 sigaltstack 132 rt_sigsuspend 133 rt_sigaction 134 rt_sigprocmask 135 rt_sigpending 136
+    rt_sigtimedwait 137 rt_sigqueueinfo 138 uname 160 umask 166 getpid 172 getppid 173 prlimit64 261 getrandom 278
 
     no_call 4 more_than_read 0x10000003F
 ";

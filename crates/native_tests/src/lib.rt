@@ -34,6 +34,8 @@ mod nodes;
 #[cfg(test)]
 mod opening;
 #[cfg(test)]
+mod polls;
+#[cfg(test)]
 mod posts;
 #[cfg(test)]
 mod sending;

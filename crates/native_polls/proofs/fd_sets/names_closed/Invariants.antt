@@ -5,4 +5,4 @@ use Rattle.native_polls.proofs.fd_sets.names_closed.Given as goal
 
 -- the descriptors to come decide
 abbrev pub invariant-loop-fd : goal.invariant-loop-fd
-invariant-loop-fd l = names_closed l.files (fds_from l.words l.fd (l.count - l.fd)) ≡ names_closed l.files (fds_of l.count l.words)
+invariant-loop-fd g l = names_closed (g.F.Readiness.files l.files) (fds_from l.words l.fd (l.count - l.fd)) ≡ names_closed (g.F.Readiness.files l.files) (fds_of l.count l.words)

@@ -4,7 +4,7 @@ use Rattle.native_polls.proofs.fd_sets.ready_words.Given as goal
 
 -- the words so far
 abbrev pub invariant-loop-k : goal.invariant-loop-k
-invariant-loop-k l = record {
+invariant-loop-k g l = record {
   long : length l.ready ≡ 16;
-  are : AreWhere (is_told l.files l.count l.words l.side) l.k l.ready;
+  are : AreWhere (is_told (g.F.Readiness.files l.files) l.count l.words l.side) l.k l.ready;
 }

@@ -10,17 +10,17 @@ use Rattle.native_polls.proofs.Founds.{told_finds}
 use Rattle.native_polls.proofs.poll.poll_entries.Goals as goal
 
 pub returns-in-Told : goal.returns-in-Told
-returns-in-Told c =
+returns-in-Told g c =
     let entries : Given (List PollEntry) = entries_at c.args.mem.now c.args.address c.args.count in
-    let stored : List ℕ = told_if c.args.files.now c.args.address c.args.mem.now entries in
-    told_finds c.args.files.now c.args.clock c.args.wait c.args.address c.args.mem.now c.store_told.new.mem entries c.in_ok-told.told c.found_or_wait-found.result
+    let stored : List ℕ = told_if (g.F.Readiness.files c.args.files.now) c.args.address c.args.mem.now entries in
+    told_finds (g.F.Readiness.files c.args.files.now) c.args.clock c.args.wait c.args.address c.args.mem.now c.store_told.new.mem entries c.in_ok-told.told c.found_or_wait-found.result
     (sym c.in_ok-told.was ∙ c.told_count.ensures) c.found_or_wait-found.ensures
     (c.store_told.ensures ∙ ap (λ (f : Found). stored_if (came_of (Ok f)) c.args.mem.now stored) (sym c.in-Told.is))
 
 pub returns-in_default : goal.returns-in_default
-returns-in_default c =
+returns-in_default g c =
     let entries : Given (List PollEntry) = entries_at c.args.mem.now c.args.address c.args.count in
-    let stored : List ℕ = told_if c.args.files.now c.args.address c.args.mem.now entries in
-    told_finds c.args.files.now c.args.clock c.args.wait c.args.address c.args.mem.now c.args.mem.now entries c.in_ok-told.told c.found_or_wait-found.result
+    let stored : List ℕ = told_if (g.F.Readiness.files c.args.files.now) c.args.address c.args.mem.now entries in
+    told_finds (g.F.Readiness.files c.args.files.now) c.args.clock c.args.wait c.args.address c.args.mem.now c.args.mem.now entries c.in_ok-told.told c.found_or_wait-found.result
     (sym c.in_ok-told.was ∙ c.told_count.ensures) c.found_or_wait-found.ensures
     (ap (λ (f : Found). stored_if (came_of (Ok f)) c.args.mem.now stored) (sym c.in_default.is))

@@ -12,7 +12,7 @@ use Rattle.native_polls.proofs.poll.ppoll.Goals as goal
 
 pub returns : goal.returns
 unfolding ppoll_row
-returns c = λ kernel left same_files same_clock.
+returns g c = λ kernel left same_files same_clock.
     let memory : List ℕ = c.args.mem.now in
     let given : Given (Option ℕ) = wait_at memory c.args.time in
     let entries : Given (List PollEntry) = entries_at memory c.args.address c.args.count in
@@ -21,6 +21,6 @@ returns c = λ kernel left same_files same_clock.
     c.masked_wait-masked.ensures ∙ ap (λ (w : Given (Option ℕ)). masked_wait w c.args.size mask) c.wait_at-wait.ensures in
     answers (polled c.args.address memory) (count_by is_any) c.args.time given c.wait_at-wait.result memory c.poll-came.new.mem c.ended.new.mem left
     kernel c.args.clock (poll kernel (masked_wait given c.args.size mask) c.args.count entries)
-    (poll_waiting c.args.files.now c.args.clock c.masked_wait-masked.result c.args.count entries) c.poll-came.result c.ended.result
-    (poll_is kernel c.args.files.now c.args.clock (masked_wait given c.args.size mask) c.masked_wait-masked.result c.args.count entries same_files same_clock masked)
+    (poll_waiting (g.F.Readiness.files c.args.files.now) c.args.clock c.masked_wait-masked.result c.args.count entries) c.poll-came.result c.ended.result
+    (poll_is kernel (g.F.Readiness.files c.args.files.now) c.args.clock (masked_wait given c.args.size mask) c.masked_wait-masked.result c.args.count entries same_files same_clock masked)
     same_clock c.wait_at-wait.ensures c.poll-came.ensures c.ended.ensures.reply c.ended.ensures.memory

@@ -12,7 +12,7 @@ use Rattle.native_polls.proofs.select.pselect.Goals as goal
 
 pub returns : goal.returns
 unfolding pselect_row
-returns c = λ kernel left same_files same_clock.
+returns g c = λ kernel left same_files same_clock.
     let memory : List ℕ = c.args.mem.now in
     let wait : Given (Option ℕ) = wait_at memory c.args.time in
     let argument : Option (Given MaskArgument) = mask_argument_at memory c.args.argument in
@@ -22,14 +22,14 @@ returns c = λ kernel left same_files same_clock.
     let accepted : c.after_argument-accepted.result ≡ after_argument argument wait =
     c.after_argument-accepted.ensures ∙ ap (λ (w : Given (Option ℕ)). after_argument argument w) c.wait_at-wait.ensures in
     let found : Finds (selected (counted_fds c.args.count) (places_of c.args.places) memory) set_count
-    (select_waiting c.args.files.now c.args.clock c.masked_by-masked.result c.args.count sets) c.select-came.result memory c.select-came.new.mem =
+    (select_waiting (g.F.Readiness.files c.args.files.now) c.args.clock c.masked_by-masked.result c.args.count sets) c.select-came.result memory c.select-came.new.mem =
     subst (λ (n : ℤ). Finds (selected (counted_fds n) (places_of c.args.places) memory) set_count
-    (select_waiting c.args.files.now c.args.clock c.masked_by-masked.result n (sets_at memory (counted_fds n) (places_of c.args.places)))
+    (select_waiting (g.F.Readiness.files c.args.files.now) c.args.clock c.masked_by-masked.result n (sets_at memory (counted_fds n) (places_of c.args.places)))
     c.select-came.result memory c.select-came.new.mem)
     (to_z-of_z w32 c.args.count c.ranges.count) c.select-came.ensures in
     answers (selected (counted_fds c.args.count) (places_of c.args.places) memory) set_count c.args.time (after_argument argument wait) c.after_argument-accepted.result
     memory c.select-came.new.mem c.ended.new.mem left
     kernel c.args.clock (select kernel (masked_by memory wait argument) c.args.count sets)
-    (select_waiting c.args.files.now c.args.clock c.masked_by-masked.result c.args.count sets) c.select-came.result c.ended.result
-    (select_is kernel c.args.files.now c.args.clock (masked_by memory wait argument) c.masked_by-masked.result c.args.count sets same_files same_clock masked)
+    (select_waiting (g.F.Readiness.files c.args.files.now) c.args.clock c.masked_by-masked.result c.args.count sets) c.select-came.result c.ended.result
+    (select_is kernel (g.F.Readiness.files c.args.files.now) c.args.clock (masked_by memory wait argument) c.masked_by-masked.result c.args.count sets same_files same_clock masked)
     same_clock accepted found c.ended.ensures.reply c.ended.ensures.memory

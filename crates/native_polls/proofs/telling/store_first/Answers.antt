@@ -8,12 +8,12 @@ use Rattle.number_tables.specs.PollNumbers.{native_poll}
 use Rattle.native_polls.proofs.telling.store_first.Goals as goal
 
 pub returns : goal.returns
-returns c =
+returns g c =
     let size : c.args.address - 65536 + c.args.count * 8 - (c.args.address - 65536) ≡ c.args.count * 8 = omega arith in
-    let told : c.told_in-told.result ≡ told_in c.args.files.now (entry_bytes c.args.mem.now c.args.address c.args.count) =
+    let told : c.told_in-told.result ≡ told_in (g.F.Readiness.files c.args.files.now) (entry_bytes c.args.mem.now c.args.address c.args.count) =
     c.told_in-told.ensures
-    ∙ ap (λ (n : ℕ). told_in c.args.files.now (take n (drop (c.args.address - 65536) c.as_slice.result.now))) size
-    ∙ ap (λ (m : List ℕ). told_in c.args.files.now (take (c.args.count * 8) (drop (c.args.address - 65536) m))) c.as_slice.ensures in
+    ∙ ap (λ (n : ℕ). told_in (g.F.Readiness.files c.args.files.now) (take n (drop (c.args.address - 65536) c.as_slice.result.now))) size
+    ∙ ap (λ (m : List ℕ). told_in (g.F.Readiness.files c.args.files.now) (take (c.args.count * 8) (drop (c.args.address - 65536) m))) c.as_slice.ensures in
     c.write-there.ensures.written
     ∙ ap (λ (bs : List ℕ). written c.args.mem.now (c.args.address + 6) bs)
     (c.number_bytes.ensures ∙ ap (λ (e : PollSet). bytes_of false 2 (native_poll e)) told)

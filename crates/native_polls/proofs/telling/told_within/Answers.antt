@@ -10,9 +10,9 @@ use Rattle.native_polls.proofs.telling.told_within.Goals as goal
 use Rattle.native_polls.proofs.telling.told_within.Goals.{then-is_any, else-is_any}
 
 pub loop-done-preserved : goal.loop-done-preserved
-loop-done-preserved c =
-    let named : c.is_any.result ≡ is_any (told_in c.args.files.now (drop (c.loop-done.done * 8) c.args.bytes.now)) =
-    c.is_any.ensures ∙ ap is_any (c.told_in.ensures ∙ ap (told_in c.args.files.now) (take_rest c.args.bytes.now (c.loop-done.done * 8))) in
+loop-done-preserved g c =
+    let named : c.is_any.result ≡ is_any (told_in (g.F.Readiness.files c.args.files.now) (drop (c.loop-done.done * 8) c.args.bytes.now)) =
+    c.is_any.ensures ∙ ap is_any (c.told_in.ensures ∙ ap (told_in (g.F.Readiness.files c.args.files.now)) (take_rest c.args.bytes.now (c.loop-done.done * 8))) in
     let next : c.if-is_any.told ≡ c.loop-done.told + one_if c.is_any.result =
     elim c.if-is_any.branch [
       | then-is_any w ↦
@@ -29,8 +29,8 @@ loop-done-preserved c =
     ] in
     record {
       all =
-          counted_more c.args.files.now c.args.bytes.now c.args.count c.loop-done.done c.loop-done.told c.if-is_any.told
-          (count_by is_any (returned c.args.files.now (entries_in c.args.count c.args.bytes.now))) c.is_any.result
+          counted_more (g.F.Readiness.files c.args.files.now) c.args.bytes.now c.args.count c.loop-done.done c.loop-done.told c.if-is_any.told
+          (count_by is_any (returned (g.F.Readiness.files c.args.files.now) (entries_in c.args.count c.args.bytes.now))) c.is_any.result
           c.loop-done-test.true named next c.loop-done.invariant.all;
       bound = bound;
     }
