@@ -14,7 +14,7 @@ use Rattle.o32_model.specs.Step.{Guest, O32Step}
 use Rattle.o32_model.specs.declared.outcome.Outcome.{Outcome}
 use Rattle.outside.proofs.OutputLemmas.{GainsText-nothing}
 use Rattle.outside.specs.Streams.{Contents}
-use Rattle.bridge_acceptance.specs.Ends as ends
+use Rattle.bridge_signal_state.specs.Ends as ends
 use Rattle.bridge_acceptance.specs.declared.telling.Told.{Told}
 use Rattle.bridge_acceptance.specs.inside.Telling.{ended, outcome_of, telling}
 use Rattle.bridge_signal_state.specs.Passed.{Keeps, Logged, reached}

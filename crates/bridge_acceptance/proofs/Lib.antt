@@ -1,5 +1,5 @@
 pub mod Closed
 pub mod HostRooms
+mod Lending
 pub mod Naming
-pub mod Passed
 pub mod Rows

@@ -1,4 +1,2 @@
-pub mod Ends
 pub mod Found
-pub mod Passed
 pub mod inside

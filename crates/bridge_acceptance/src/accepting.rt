@@ -1,5 +1,6 @@
 //! Accepting a signal: sigtimedwait(2).
 ghost use Rattle.std.specs.Prelude.{◌≡◌, true, Some};
+ghost use Rattle.bridge_signal_state.specs.Passed.{LeadsOn};
 ghost use Rattle.bridge_acceptance.specs.inside.Accepting as spec;
 ghost use Rattle.bridge_acceptance.specs.inside.Accepting.{acceptance, did, met};
 ghost use Rattle.bridge_signal_state.specs.Acts.{Acts};
@@ -17,12 +18,10 @@ ghost use Rattle.outside.specs.Streams.{NoCountFell, contents};
 
 use crate::asked::{Wanted, asked, is_timed};
 use crate::waiting::wait;
-use bridge_signal_state::{NativeKernel, pending, take};
+use bridge_signal_state::{Below, pending, take};
 use guest_space::Space;
-use host_mem::HostMem;
 use kernel_core::{Errno, Info, Sig, Stop};
 use kernel_model::TimeSpec;
-use o32_model::Log;
 use outside::{Devices, Sink, Source};
 use signal_choice::accepted;
 
@@ -45,42 +44,40 @@ pub(crate) fn accept<I: Source, O: Sink, E: Sink>(
     time: u32,
     size: u32,
     space: &Space,
-    k: &mut NativeKernel,
-    mem: &mut HostMem,
     dev: &mut Devices<I, O, E>,
-    log: &mut Log,
+    below: &mut Below,
 ) -> Result<Accepted, Stop>
-    ensures acts { Acts (λ came became. accept k.old all_signals blockable (set_at space.now set)
-        (unless_null time (spec_at space.now time)) size ≡ did became came) result k.old k.new
-        (contents I.left O.written E.written dev.old) (contents I.left O.written E.written dev.new) log.old log.new }
+    ensures acts { Acts (λ came became. accept below.old.kernel.now all_signals blockable (set_at space.now set)
+        (unless_null time (spec_at space.now time)) size ≡ did became came) result below.old.kernel.now below.new.kernel.now
+        (contents I.left O.written E.written dev.old) (contents I.left O.written E.written dev.new) below.old.log.now below.new.log.now }
     ensures cause { StopsOnlyIfRose I.faults O.faults E.faults result dev.old dev.new }
     ensures counts { NoCountFell I.faults O.faults E.faults dev.old dev.new }
-    ensures clock { k.new.clock ≡ k.old.clock }
+    ensures clock { below.new.kernel.now.clock ≡ below.old.kernel.now.clock }
+    ensures same { LeadsOn below.old below.new }
 {
     match asked(set, time, size, space) {
         Err(error) => Ok(Accepted::Refused(error)),
-        Ok(asked) => accept_asked(asked, k, mem, dev, log),
+        Ok(asked) => accept_asked(asked, dev, below),
     }
 }
 
 /// The same by what is asked for.
 fn accept_asked<I: Source, O: Sink, E: Sink>(
     asked: Wanted,
-    k: &mut NativeKernel,
-    mem: &mut HostMem,
     dev: &mut Devices<I, O, E>,
-    log: &mut Log,
+    below: &mut Below,
 ) -> Result<Accepted, Stop>
-    ensures acts { Acts (λ came became. acceptance k.old asked ≡ did became came) result k.old k.new
-        (contents I.left O.written E.written dev.old) (contents I.left O.written E.written dev.new) log.old log.new }
+    ensures acts { Acts (λ came became. acceptance below.old.kernel.now asked ≡ did became came) result below.old.kernel.now below.new.kernel.now
+        (contents I.left O.written E.written dev.old) (contents I.left O.written E.written dev.new) below.old.log.now below.new.log.now }
     ensures cause { StopsOnlyIfRose I.faults O.faults E.faults result dev.old dev.new }
     ensures counts { NoCountFell I.faults O.faults E.faults dev.old dev.new }
-    ensures clock { k.new.clock ≡ k.old.clock }
+    ensures clock { below.new.kernel.now.clock ≡ below.old.kernel.now.clock }
+    ensures same { LeadsOn below.old below.new }
 {
-    let pending = pending(k, mem, dev, log)?;
+    let pending = pending(dev, below)?;
     match accepted(pending, asked.set) {
-        None => wait(asked, k, mem, dev, log),
-        Some(sig) => accept_signal(sig, asked.time, k, mem, dev, log),
+        None => wait(asked, dev, below),
+        Some(sig) => accept_signal(sig, asked.time, dev, below),
     }
 }
 
@@ -88,40 +85,38 @@ fn accept_asked<I: Source, O: Sink, E: Sink>(
 fn accept_signal<I: Source, O: Sink, E: Sink>(
     sig: Sig,
     time: Option<TimeSpec>,
-    k: &mut NativeKernel,
-    mem: &mut HostMem,
     dev: &mut Devices<I, O, E>,
-    log: &mut Log,
+    below: &mut Below,
 ) -> Result<Accepted, Stop>
-    ensures acts { pends k.old.signals sig ≡ true
-        → Acts (λ came became. met k.old time (Some sig) ≡ did became came) result k.old k.new
-        (contents I.left O.written E.written dev.old) (contents I.left O.written E.written dev.new) log.old log.new }
+    ensures acts { pends below.old.kernel.now.signals sig ≡ true
+        → Acts (λ came became. met below.old.kernel.now time (Some sig) ≡ did became came) result below.old.kernel.now below.new.kernel.now
+        (contents I.left O.written E.written dev.old) (contents I.left O.written E.written dev.new) below.old.log.now below.new.log.now }
     ensures cause { StopsOnlyIfRose I.faults O.faults E.faults result dev.old dev.new }
     ensures counts { NoCountFell I.faults O.faults E.faults dev.old dev.new }
-    ensures clock { k.new.clock ≡ k.old.clock }
+    ensures clock { below.new.kernel.now.clock ≡ below.old.kernel.now.clock }
+    ensures same { LeadsOn below.old below.new }
 {
     if !is_timed(time) {
         return Ok(Accepted::Refused(Errno::EINVAL));
     }
-    take_signal(sig, k, mem, dev, log)
+    take_signal(sig, dev, below)
 }
 
 /// Takes a signal that pends.
 fn take_signal<I: Source, O: Sink, E: Sink>(
     sig: Sig,
-    k: &mut NativeKernel,
-    mem: &mut HostMem,
     dev: &mut Devices<I, O, E>,
-    log: &mut Log,
+    below: &mut Below,
 ) -> Result<Accepted, Stop>
-    ensures acts { (none : Did Kernel shared.Info) → pends k.old.signals sig ≡ true
-        → Acts (λ came became. accept_signal k.old (Some sig) none ≡ did became came) result k.old k.new
-        (contents I.left O.written E.written dev.old) (contents I.left O.written E.written dev.new) log.old log.new }
+    ensures acts { (none : Did Kernel shared.Info) → pends below.old.kernel.now.signals sig ≡ true
+        → Acts (λ came became. accept_signal below.old.kernel.now (Some sig) none ≡ did became came) result below.old.kernel.now below.new.kernel.now
+        (contents I.left O.written E.written dev.old) (contents I.left O.written E.written dev.new) below.old.log.now below.new.log.now }
     ensures cause { StopsOnlyIfRose I.faults O.faults E.faults result dev.old dev.new }
     ensures counts { NoCountFell I.faults O.faults E.faults dev.old dev.new }
-    ensures clock { k.new.clock ≡ k.old.clock }
+    ensures clock { below.new.kernel.now.clock ≡ below.old.kernel.now.clock }
+    ensures same { LeadsOn below.old below.new }
 {
-    let info = take(sig, k, mem, dev, log)?;
+    let info = take(sig, dev, below)?;
     Ok(taken(info))
 }
 

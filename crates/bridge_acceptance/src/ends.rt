@@ -1,6 +1,7 @@
 //! How the wait of the call ends.
 ghost use Rattle.std.specs.Prelude.{◌≡◌, []};
-ghost use Rattle.bridge_acceptance.specs.Ends.{Closes, KeepsEnd};
+ghost use Rattle.bridge_signal_state.specs.Passed.{LeadsOn};
+ghost use Rattle.bridge_signal_state.specs.Ends.{Closes, KeepsEnd};
 ghost use Rattle.kernel_model.specs.Stops.{StopsOnlyIfRose};
 ghost use Rattle.o32_model.specs.SignalWaitEnds.{acceptance_ended, ended_by, finding};
 ghost use Rattle.o32_model.specs.Suspending.{rt_sigtimedwait_row};
@@ -9,11 +10,10 @@ ghost use Rattle.outside.specs.Streams.{NoCountFell, contents};
 
 use crate::accepting::accept;
 use crate::telling::{close_of, tell};
-use bridge_signal_state::NativeKernel;
+use bridge_signal_state::Below;
 use guest_space::Space;
-use host_mem::HostMem;
 use kernel_core::{Errno, Stop};
-use o32_model::{Cause, Close, Log, Wait};
+use o32_model::{Cause, Close, Wait};
 use outside::{Devices, Sink, Source};
 
 /// Ends the wait of rt_sigtimedwait(2) for a cause: EAGAIN where its time is over, EINTR by a handler and where the
@@ -23,21 +23,20 @@ pub fn acceptance_end<I: Source, O: Sink, E: Sink>(
     wait: &Wait,
     cause: Cause,
     space: &mut Space,
-    k: &mut NativeKernel,
-    mem: &mut HostMem,
     dev: &mut Devices<I, O, E>,
-    log: &mut Log,
+    below: &mut Below,
 ) -> Result<Close, Stop>
-    ensures ends { Closes (acceptance_ended wait.now cause k.old space.old) result k.new space.new
+    ensures ends { Closes (acceptance_ended wait.now cause below.old.kernel.now space.old) result below.new.kernel.now space.new
         (contents I.left O.written E.written dev.old) (contents I.left O.written E.written dev.new) }
-    ensures kept { KeepsEnd result (I.left dev.old.input) k.old k.new space.old.pages space.new.pages log.old log.new }
+    ensures kept { KeepsEnd result (I.left dev.old.input) below.old.kernel.now below.new.kernel.now space.old.pages space.new.pages below.old.log.now below.new.log.now }
     ensures cause { StopsOnlyIfRose I.faults O.faults E.faults result dev.old dev.new }
     ensures counts { NoCountFell I.faults O.faults E.faults dev.old dev.new }
-    ensures clock { k.new.clock ≡ k.old.clock }
+    ensures clock { below.new.kernel.now.clock ≡ below.old.kernel.now.clock }
+    ensures same { LeadsOn below.old below.new }
 {
     match cause {
         Cause::Due => Ok(Close::Error(Errno::EAGAIN)),
-        Cause::Accepted => accept_again(wait, space, k, mem, dev, log),
+        Cause::Accepted => accept_again(wait, space, dev, below),
         Cause::Handler => Ok(Close::Error(Errno::EINTR)),
         Cause::Stopped => Ok(Close::Error(Errno::EINTR)),
     }
@@ -47,21 +46,20 @@ pub fn acceptance_end<I: Source, O: Sink, E: Sink>(
 fn accept_again<I: Source, O: Sink, E: Sink>(
     wait: &Wait,
     space: &mut Space,
-    k: &mut NativeKernel,
-    mem: &mut HostMem,
     dev: &mut Devices<I, O, E>,
-    log: &mut Log,
+    below: &mut Below,
 ) -> Result<Close, Stop>
-    ensures ends { Closes (ended_by (rt_sigtimedwait_row k.old (finding wait.now space.old) (wait_word wait.now 0)
-        (wait_word wait.now 1) (wait_word wait.now 2) (wait_word wait.now 3) [])) result k.new space.new
+    ensures ends { Closes (ended_by (rt_sigtimedwait_row below.old.kernel.now (finding wait.now space.old) (wait_word wait.now 0)
+        (wait_word wait.now 1) (wait_word wait.now 2) (wait_word wait.now 3) [])) result below.new.kernel.now space.new
         (contents I.left O.written E.written dev.old) (contents I.left O.written E.written dev.new) }
-    ensures kept { KeepsEnd result (I.left dev.old.input) k.old k.new space.old.pages space.new.pages log.old log.new }
+    ensures kept { KeepsEnd result (I.left dev.old.input) below.old.kernel.now below.new.kernel.now space.old.pages space.new.pages below.old.log.now below.new.log.now }
     ensures cause { StopsOnlyIfRose I.faults O.faults E.faults result dev.old dev.new }
     ensures counts { NoCountFell I.faults O.faults E.faults dev.old dev.new }
-    ensures clock { k.new.clock ≡ k.old.clock }
+    ensures clock { below.new.kernel.now.clock ≡ below.old.kernel.now.clock }
+    ensures same { LeadsOn below.old below.new }
 {
     let [set, info, time, size, _, _] = wait.words;
-    let came = accept(set, time, size, space, k, mem, dev, log)?;
-    let told = tell(came, info, space, log)?;
+    let came = accept(set, time, size, space, dev, below)?;
+    let told = tell(came, info, space, below.log)?;
     Ok(close_of(told))
 }

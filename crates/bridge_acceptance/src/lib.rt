@@ -14,10 +14,6 @@ mod structures;
 mod telling;
 mod waiting;
 
-pub use bridge_signal_state::{
-    NativeKernel, action, load_structure, look, mask, outcome_of, pending, put, set_default,
-    set_mask, six_words, stack, take, wrote,
-};
 pub use call::acceptance_call;
 pub use ends::acceptance_end;
 pub use named::{accepts, awaits, is_acceptance_call};

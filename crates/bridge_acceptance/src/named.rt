@@ -2,7 +2,7 @@
 ghost use Rattle.std.specs.Prelude.{◌≡◌, ◌==◌};
 ghost use Rattle.std.specs.List.{list_any};
 ghost use Rattle.bridge_acceptance.specs.inside.Named.{named_set};
-ghost use Rattle.bridge_signal_state.specs.Passed.{LooksFor};
+ghost use Rattle.bridge_signal_state.specs.Passed.{LeadsOn, LooksFor};
 ghost use Rattle.kernel_core.specs.declared.signal.Sig.{Sig};
 ghost use Rattle.kernel_model.specs.SignalRows.{pends};
 ghost use Rattle.kernel_model.specs.SignalSets.{place};
@@ -11,7 +11,7 @@ ghost use Rattle.o32_model.specs.SignalWaitEnds.{named_signals};
 ghost use Rattle.outside.specs.Streams.{NoCountFell, contents};
 
 use crate::structures::set_in_program;
-use bridge_signal_state::{NativeKernel, pending};
+use bridge_signal_state::{Below, NativeKernel, pending};
 use guest_space::Space;
 use host_mem::HostMem;
 use kernel_core::{Sig, Stop};
@@ -57,10 +57,33 @@ pub fn accepts<I: Source, O: Sink, E: Sink>(
     ensures counts { NoCountFell I.faults O.faults E.faults dev.old dev.new }
     ensures clock { k.new.clock ≡ k.old.clock }
 {
+    let below = &mut Below {
+        kernel: k,
+        memory: mem,
+        log,
+    };
+    pends_named(wait, space, dev, below)
+}
+
+/// The same, with the kernel and what its calls are made with as one value.
+fn pends_named<I: Source, O: Sink, E: Sink>(
+    wait: &Wait,
+    space: &Space,
+    dev: &mut Devices<I, O, E>,
+    below: &mut Below,
+) -> Result<bool, Stop>
+    ensures looks { LooksFor (λ found. found ≡ list_any (λ (signal : Sig). pends below.old.kernel.now.signals signal)
+        (named_signals space.now wait.now)) result below.old.kernel.now below.new.kernel.now
+        (contents I.left O.written E.written dev.old) (contents I.left O.written E.written dev.new) below.old.log.now below.new.log.now }
+    ensures cause { StopsOnlyIfRose I.faults O.faults E.faults result dev.old dev.new }
+    ensures counts { NoCountFell I.faults O.faults E.faults dev.old dev.new }
+    ensures clock { below.new.kernel.now.clock ≡ below.old.kernel.now.clock }
+    ensures same { LeadsOn below.old below.new }
+{
     let Some(set) = named_set(wait, space) else {
         return Ok(false);
     };
-    let pending = pending(k, mem, dev, log)?;
+    let pending = pending(dev, below)?;
     Ok(accepted(pending, set).is_some())
 }
 

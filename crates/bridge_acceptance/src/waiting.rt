@@ -1,8 +1,7 @@
 //! The call where none of the signals pends that it waits for: it waits, or its time is over.
 ghost use Rattle.std.specs.Prelude.{◌≡◌, None};
+ghost use Rattle.bridge_signal_state.specs.Passed.{LeadsOn, LooksFor, error_of};
 ghost use Rattle.bridge_acceptance.specs.inside.Accepting.{acceptance, came_of, did};
-ghost use Rattle.bridge_signal_state.specs.Passed.{LooksFor};
-ghost use Rattle.bridge_signal_state.specs.Passed.{error_of};
 ghost use Rattle.kernel_model.specs.SignalRows.{first_pending};
 ghost use Rattle.kernel_model.specs.SignalSets.{blockable};
 ghost use Rattle.kernel_model.specs.Stops.{StopsOnlyIfRose};
@@ -13,32 +12,30 @@ use crate::accepting::Accepted;
 use crate::asked::Wanted;
 use crate::numbers::{RT_SIGTIMEDWAIT, SIGSETSIZE};
 use crate::rooms::put_asked;
-use bridge_signal_state::{NativeKernel, look};
-use host_mem::{FIRST_ADDRESS, HostMem};
+use bridge_signal_state::Below;
+use host_mem::FIRST_ADDRESS;
 use kernel_core::{Errno, Reply, Stop};
 use number_tables::NativeNumber;
-use o32_model::Log;
 use outside::{Devices, Sink, Source};
 
 /// Makes the native call, which changes nothing where none of the signals pends: EINVAL for a time that is no length of
 /// time, and EAGAIN where the time is over.
 pub(crate) fn wait<I: Source, O: Sink, E: Sink>(
     asked: Wanted,
-    k: &mut NativeKernel,
-    mem: &mut HostMem,
     dev: &mut Devices<I, O, E>,
-    log: &mut Log,
+    below: &mut Below,
 ) -> Result<Accepted, Stop>
-    ensures looks { first_pending k.old.signals all_signals (blockable asked.set) ≡ None
-        → LooksFor (λ came. acceptance k.old asked ≡ did k.old came) result k.old k.new
-        (contents I.left O.written E.written dev.old) (contents I.left O.written E.written dev.new) log.old log.new }
+    ensures looks { first_pending below.old.kernel.now.signals all_signals (blockable asked.set) ≡ None
+        → LooksFor (λ came. acceptance below.old.kernel.now asked ≡ did below.old.kernel.now came) result below.old.kernel.now below.new.kernel.now
+        (contents I.left O.written E.written dev.old) (contents I.left O.written E.written dev.new) below.old.log.now below.new.log.now }
     ensures cause { StopsOnlyIfRose I.faults O.faults E.faults result dev.old dev.new }
     ensures counts { NoCountFell I.faults O.faults E.faults dev.old dev.new }
-    ensures clock { k.new.clock ≡ k.old.clock }
+    ensures clock { below.new.kernel.now.clock ≡ below.old.kernel.now.clock }
+    ensures same { LeadsOn below.old below.new }
 {
-    let time = put_asked(asked, mem)?;
+    let time = put_asked(asked, below.memory)?;
     let args = [FIRST_ADDRESS, 0, time, SIGSETSIZE, 0, 0];
-    let reply = look(k, RT_SIGTIMEDWAIT, args, mem, dev, log)?;
+    let reply = below.look(RT_SIGTIMEDWAIT, args, dev)?;
     Ok(came_of(reply))
 }
 

@@ -1,5 +1,6 @@
 //! The delivery of signals, round by round.
 ghost use Rattle.std.specs.Prelude.{◌≡◌, Some};
+ghost use Rattle.bridge_ends.specs.Passed.{LeadsOn};
 ghost use Rattle.bridge_ends.specs.Ends.{KeepsEnd};
 ghost use Rattle.bridge_delivery.specs.inside.Standings.{Finds, is_over};
 ghost use Rattle.guest_space.specs.Memory.{Pages};
@@ -13,7 +14,7 @@ ghost use Rattle.outside.specs.Streams.{NoCountFell, contents};
 use crate::dispositions::{dispose, has_handler, kill};
 use crate::handling::handle;
 use crate::quiet::is_quiet;
-use bridge_ends::{NativeKernel, action, mask, pending, take};
+use bridge_ends::{Below, NativeKernel, action, mask, pending, take};
 use guest_space::Space;
 use host_mem::HostMem;
 use kernel_core::{Info, Sig, Stop};
@@ -52,14 +53,41 @@ pub fn deliver<I: Source, O: Sink, E: Sink>(
     ensures counts { NoCountFell I.faults O.faults E.faults dev.old dev.new }
     ensures clock { k.new.clock ≡ clock }
 {
+    let below = &mut Below {
+        kernel: k,
+        memory: mem,
+        log,
+    };
+    deliver_rounds(clock, going, cpu, space, dev, below)
+}
+
+/// The same, with the kernel and what its calls are made with as one value.
+fn deliver_rounds<I: Source, O: Sink, E: Sink>(
+    clock: u64,
+    going: &mut Going,
+    cpu: &mut Cpu,
+    space: &mut Space,
+    dev: &mut Devices<I, O, E>,
+    below: &mut Below,
+) -> Result<(), Stop>
+    requires clock { below.old.kernel.now.clock ≡ clock }
+    ensures delivered { Carries (spec.deliver whole_end) result
+        (within_of going.old cpu.old space.old below.old.kernel.now) (within_of going.new cpu.new space.new below.new.kernel.now)
+        (contents I.left O.written E.written dev.old) (contents I.left O.written E.written dev.new) }
+    ensures kept { KeepsEnd result (I.left dev.old.input) below.old.kernel.now below.new.kernel.now space.old.pages space.new.pages below.old.log.now below.new.log.now }
+    ensures cause { StopsOnlyIfRose I.faults O.faults E.faults result dev.old dev.new }
+    ensures counts { NoCountFell I.faults O.faults E.faults dev.old dev.new }
+    ensures clock { below.new.kernel.now.clock ≡ clock }
+    ensures same { LeadsOn below.old below.new }
+{
     if cpu.slot.is_some() {
         return Ok(());
     }
     for _round in 0..MOST_ROUNDS {
-        if is_delivered(going, k) {
+        if is_delivered(going, below.kernel) {
             return Ok(());
         }
-        round(clock, going, cpu, space, k, mem, dev, log)?;
+        round(clock, going, cpu, space, dev, below)?;
     }
     Ok(())
 }
@@ -77,23 +105,22 @@ fn round<I: Source, O: Sink, E: Sink>(
     going: &mut Going,
     cpu: &mut Cpu,
     space: &mut Space,
-    k: &mut NativeKernel,
-    mem: &mut HostMem,
     dev: &mut Devices<I, O, E>,
-    log: &mut Log,
+    below: &mut Below,
 ) -> Result<(), Stop>
-    requires { k.old.clock ≡ clock }
+    requires { below.old.kernel.now.clock ≡ clock }
     ensures delivered { Carries (λ within. spec.round_by whole_end within within.machine.fault) result
-        (within_of going.old cpu.old space.old k.old) (within_of going.new cpu.new space.new k.new)
+        (within_of going.old cpu.old space.old below.old.kernel.now) (within_of going.new cpu.new space.new below.new.kernel.now)
         (contents I.left O.written E.written dev.old) (contents I.left O.written E.written dev.new) }
-    ensures kept { KeepsEnd result (I.left dev.old.input) k.old k.new space.old.pages space.new.pages log.old log.new }
+    ensures kept { KeepsEnd result (I.left dev.old.input) below.old.kernel.now below.new.kernel.now space.old.pages space.new.pages below.old.log.now below.new.log.now }
     ensures cause { StopsOnlyIfRose I.faults O.faults E.faults result dev.old dev.new }
     ensures counts { NoCountFell I.faults O.faults E.faults dev.old dev.new }
-    ensures clock { k.new.clock ≡ clock }
+    ensures clock { below.new.kernel.now.clock ≡ clock }
+    ensures same { LeadsOn below.old below.new }
 {
     match going.fault {
-        Some(info) => take_fault(clock, &info, going, cpu, space, k, mem, dev, log),
-        None => take_next(clock, going, cpu, space, k, mem, dev, log),
+        Some(info) => take_fault(clock, &info, going, cpu, space, dev, below),
+        None => take_next(clock, going, cpu, space, dev, below),
     }
 }
 
@@ -104,26 +131,23 @@ fn take_fault<I: Source, O: Sink, E: Sink>(
     going: &mut Going,
     cpu: &mut Cpu,
     space: &mut Space,
-    k: &mut NativeKernel,
-    mem: &mut HostMem,
     dev: &mut Devices<I, O, E>,
-    log: &mut Log,
+    below: &mut Below,
 ) -> Result<(), Stop>
-    requires { k.old.clock ≡ clock }
+    requires { below.old.kernel.now.clock ≡ clock }
     ensures delivered { Carries (λ within. spec.fault_taken whole_end within info.now) result
-        (within_of going.old cpu.old space.old k.old) (within_of going.new cpu.new space.new k.new)
+        (within_of going.old cpu.old space.old below.old.kernel.now) (within_of going.new cpu.new space.new below.new.kernel.now)
         (contents I.left O.written E.written dev.old) (contents I.left O.written E.written dev.new) }
-    ensures kept { KeepsEnd result (I.left dev.old.input) k.old k.new space.old.pages space.new.pages log.old log.new }
+    ensures kept { KeepsEnd result (I.left dev.old.input) below.old.kernel.now below.new.kernel.now space.old.pages space.new.pages below.old.log.now below.new.log.now }
     ensures cause { StopsOnlyIfRose I.faults O.faults E.faults result dev.old dev.new }
     ensures counts { NoCountFell I.faults O.faults E.faults dev.old dev.new }
-    ensures clock { k.new.clock ≡ clock }
+    ensures clock { below.new.kernel.now.clock ≡ clock }
+    ensures same { LeadsOn below.old below.new }
 {
     going.fault = None;
-    let action = action(info.sig, k, mem, dev, log)?;
-    let blocked = mask(k, mem, dev, log)?;
-    deliver_fault(
-        clock, info, &action, blocked, going, cpu, space, k, mem, dev, log,
-    )
+    let action = action(info.sig, dev, below)?;
+    let blocked = mask(dev, below)?;
+    deliver_fault(clock, info, &action, blocked, going, cpu, space, dev, below)
 }
 
 /// A fault is delivered whose action this is, where this is the mask that stands.
@@ -135,23 +159,22 @@ fn deliver_fault<I: Source, O: Sink, E: Sink>(
     going: &mut Going,
     cpu: &mut Cpu,
     space: &mut Space,
-    k: &mut NativeKernel,
-    mem: &mut HostMem,
     dev: &mut Devices<I, O, E>,
-    log: &mut Log,
+    below: &mut Below,
 ) -> Result<(), Stop>
-    requires { k.old.clock ≡ clock }
-    ensures delivered { blocked ≡ k.old.signals.mask
+    requires { below.old.kernel.now.clock ≡ clock }
+    ensures delivered { blocked ≡ below.old.kernel.now.signals.mask
         → Carries (λ within. fault_delivered whole_end within info.now action.now) result
-        (within_of going.old cpu.old space.old k.old) (within_of going.new cpu.new space.new k.new)
+        (within_of going.old cpu.old space.old below.old.kernel.now) (within_of going.new cpu.new space.new below.new.kernel.now)
         (contents I.left O.written E.written dev.old) (contents I.left O.written E.written dev.new) }
-    ensures kept { KeepsEnd result (I.left dev.old.input) k.old k.new space.old.pages space.new.pages log.old log.new }
+    ensures kept { KeepsEnd result (I.left dev.old.input) below.old.kernel.now below.new.kernel.now space.old.pages space.new.pages below.old.log.now below.new.log.now }
     ensures cause { StopsOnlyIfRose I.faults O.faults E.faults result dev.old dev.new }
     ensures counts { NoCountFell I.faults O.faults E.faults dev.old dev.new }
-    ensures clock { k.new.clock ≡ clock }
+    ensures clock { below.new.kernel.now.clock ≡ clock }
+    ensures same { LeadsOn below.old below.new }
 {
     if !has(&blocked, info.sig) && has_handler(action) {
-        return handle(clock, info, action, going, cpu, space, k, mem, dev, log);
+        return handle(clock, info, action, going, cpu, space, dev, below);
     }
     kill(info.sig, going)?;
     Ok(())
@@ -163,42 +186,40 @@ fn take_next<I: Source, O: Sink, E: Sink>(
     going: &mut Going,
     cpu: &mut Cpu,
     space: &mut Space,
-    k: &mut NativeKernel,
-    mem: &mut HostMem,
     dev: &mut Devices<I, O, E>,
-    log: &mut Log,
+    below: &mut Below,
 ) -> Result<(), Stop>
-    requires { k.old.clock ≡ clock }
+    requires { below.old.kernel.now.clock ≡ clock }
     ensures delivered { Carries (λ within. next_taken whole_end within (next_signal within.machine.kernel.signals)) result
-        (within_of going.old cpu.old space.old k.old) (within_of going.new cpu.new space.new k.new)
+        (within_of going.old cpu.old space.old below.old.kernel.now) (within_of going.new cpu.new space.new below.new.kernel.now)
         (contents I.left O.written E.written dev.old) (contents I.left O.written E.written dev.new) }
-    ensures kept { KeepsEnd result (I.left dev.old.input) k.old k.new space.old.pages space.new.pages log.old log.new }
+    ensures kept { KeepsEnd result (I.left dev.old.input) below.old.kernel.now below.new.kernel.now space.old.pages space.new.pages below.old.log.now below.new.log.now }
     ensures cause { StopsOnlyIfRose I.faults O.faults E.faults result dev.old dev.new }
     ensures counts { NoCountFell I.faults O.faults E.faults dev.old dev.new }
-    ensures clock { k.new.clock ≡ clock }
+    ensures clock { below.new.kernel.now.clock ≡ clock }
+    ensures same { LeadsOn below.old below.new }
 {
-    match next(k, mem, dev, log)? {
+    match next(dev, below)? {
         None => Ok(()),
-        Some(sig) => take_signal(clock, sig, going, cpu, space, k, mem, dev, log),
+        Some(sig) => take_signal(clock, sig, going, cpu, space, dev, below),
     }
 }
 
 /// Which signal is delivered next.
 fn next<I: Source, O: Sink, E: Sink>(
-    k: &mut NativeKernel,
-    mem: &mut HostMem,
     dev: &mut Devices<I, O, E>,
-    log: &mut Log,
+    below: &mut Below,
 ) -> Result<Option<Sig>, Stop>
-    ensures looks { Finds (λ signal. signal ≡ next_signal k.old.signals) result k.old k.new
+    ensures looks { Finds (λ signal. signal ≡ next_signal below.old.kernel.now.signals) result below.old.kernel.now below.new.kernel.now
         (contents I.left O.written E.written dev.old) (contents I.left O.written E.written dev.new) }
-    ensures kept { (pages : Pages) → KeepsEnd result (I.left dev.old.input) k.old k.new pages pages log.old log.new }
+    ensures kept { (pages : Pages) → KeepsEnd result (I.left dev.old.input) below.old.kernel.now below.new.kernel.now pages pages below.old.log.now below.new.log.now }
     ensures cause { StopsOnlyIfRose I.faults O.faults E.faults result dev.old dev.new }
     ensures counts { NoCountFell I.faults O.faults E.faults dev.old dev.new }
-    ensures clock { k.new.clock ≡ k.old.clock }
+    ensures clock { below.new.kernel.now.clock ≡ below.old.kernel.now.clock }
+    ensures same { LeadsOn below.old below.new }
 {
-    let pending = pending(k, mem, dev, log)?;
-    let blocked = mask(k, mem, dev, log)?;
+    let pending = pending(dev, below)?;
+    let blocked = mask(dev, below)?;
     Ok(choose(pending, blocked))
 }
 
@@ -209,24 +230,23 @@ fn take_signal<I: Source, O: Sink, E: Sink>(
     going: &mut Going,
     cpu: &mut Cpu,
     space: &mut Space,
-    k: &mut NativeKernel,
-    mem: &mut HostMem,
     dev: &mut Devices<I, O, E>,
-    log: &mut Log,
+    below: &mut Below,
 ) -> Result<(), Stop>
-    requires { k.old.clock ≡ clock }
+    requires { below.old.kernel.now.clock ≡ clock }
     ensures delivered { Carries (λ within. next_taken whole_end within (Some sig)) result
-        (within_of going.old cpu.old space.old k.old) (within_of going.new cpu.new space.new k.new)
+        (within_of going.old cpu.old space.old below.old.kernel.now) (within_of going.new cpu.new space.new below.new.kernel.now)
         (contents I.left O.written E.written dev.old) (contents I.left O.written E.written dev.new) }
-    ensures kept { KeepsEnd result (I.left dev.old.input) k.old k.new space.old.pages space.new.pages log.old log.new }
+    ensures kept { KeepsEnd result (I.left dev.old.input) below.old.kernel.now below.new.kernel.now space.old.pages space.new.pages below.old.log.now below.new.log.now }
     ensures cause { StopsOnlyIfRose I.faults O.faults E.faults result dev.old dev.new }
     ensures counts { NoCountFell I.faults O.faults E.faults dev.old dev.new }
-    ensures clock { k.new.clock ≡ clock }
+    ensures clock { below.new.kernel.now.clock ≡ clock }
+    ensures same { LeadsOn below.old below.new }
 {
-    let action = action(sig, k, mem, dev, log)?;
-    match take(sig, k, mem, dev, log)? {
+    let action = action(sig, dev, below)?;
+    match take(sig, dev, below)? {
         None => Ok(()),
-        Some(info) => deliver_sent(clock, &info, &action, going, cpu, space, k, mem, dev, log),
+        Some(info) => deliver_sent(clock, &info, &action, going, cpu, space, dev, below),
     }
 }
 
@@ -238,22 +258,21 @@ fn deliver_sent<I: Source, O: Sink, E: Sink>(
     going: &mut Going,
     cpu: &mut Cpu,
     space: &mut Space,
-    k: &mut NativeKernel,
-    mem: &mut HostMem,
     dev: &mut Devices<I, O, E>,
-    log: &mut Log,
+    below: &mut Below,
 ) -> Result<(), Stop>
-    requires { k.old.clock ≡ clock }
+    requires { below.old.kernel.now.clock ≡ clock }
     ensures delivered { Carries (λ within. spec.delivered whole_end within info.now action.now) result
-        (within_of going.old cpu.old space.old k.old) (within_of going.new cpu.new space.new k.new)
+        (within_of going.old cpu.old space.old below.old.kernel.now) (within_of going.new cpu.new space.new below.new.kernel.now)
         (contents I.left O.written E.written dev.old) (contents I.left O.written E.written dev.new) }
-    ensures kept { KeepsEnd result (I.left dev.old.input) k.old k.new space.old.pages space.new.pages log.old log.new }
+    ensures kept { KeepsEnd result (I.left dev.old.input) below.old.kernel.now below.new.kernel.now space.old.pages space.new.pages below.old.log.now below.new.log.now }
     ensures cause { StopsOnlyIfRose I.faults O.faults E.faults result dev.old dev.new }
     ensures counts { NoCountFell I.faults O.faults E.faults dev.old dev.new }
-    ensures clock { k.new.clock ≡ clock }
+    ensures clock { below.new.kernel.now.clock ≡ clock }
+    ensures same { LeadsOn below.old below.new }
 {
     if has_handler(action) {
-        return handle(clock, info, action, going, cpu, space, k, mem, dev, log);
+        return handle(clock, info, action, going, cpu, space, dev, below);
     }
     dispose(info.sig, action, going)?;
     Ok(())

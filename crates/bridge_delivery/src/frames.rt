@@ -2,8 +2,7 @@
 ghost use Rattle.std.specs.Prelude.{◌≡◌, ◌≤◌, ◌+◌, ◌%◌, ◌^◌, length, None, OnOk, Some};
 ghost use Rattle.bridge_delivery.specs.inside.Frames as spec;
 ghost use Rattle.bridge_delivery.specs.inside.Frames.{Enters};
-ghost use Rattle.bridge_ends.specs.Passed.{reached};
-ghost use Rattle.bridge_ends.specs.Passed.{written};
+ghost use Rattle.bridge_ends.specs.Passed.{reached, written};
 ghost use Rattle.guest_space.specs.Access.{first_denied};
 ghost use Rattle.guest_space.specs.Bytes.{bytes_at};
 ghost use Rattle.guest_space.specs.Memory.{Memory};

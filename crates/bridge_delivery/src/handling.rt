@@ -1,5 +1,6 @@
 //! A handler begins.
 ghost use Rattle.std.specs.Prelude.{◌≡◌};
+ghost use Rattle.bridge_ends.specs.Passed.{LeadsOn};
 ghost use Rattle.bridge_ends.specs.Ends.{KeepsEnd};
 ghost use Rattle.bridge_delivery.specs.inside.Standings.{Becomes};
 ghost use Rattle.guest_space.specs.Memory.{Pages};
@@ -13,13 +14,12 @@ ghost use Rattle.outside.specs.Streams.{NoCountFell, contents};
 use crate::dispositions::{after_frame, keep_mask, tell};
 use crate::frames::enter;
 use crate::sets::handling_mask;
-use bridge_ends::{NativeKernel, end_wait, mask, set_default, set_mask, stack};
+use bridge_ends::{Below, end_wait, mask, set_default, set_mask, stack};
 use guest_space::Space;
-use host_mem::HostMem;
 use kernel_core::{Delivery, Info, Sig, Stop};
 use kernel_model::{Action, SigStack};
 use mips_exec::Cpu;
-use o32_model::{Cause, Log};
+use o32_model::Cause;
 use o32_turns::Going;
 use outside::{Devices, Sink, Source};
 use signal_choice::is_unblockable;
@@ -34,23 +34,22 @@ pub(crate) fn handle<I: Source, O: Sink, E: Sink>(
     going: &mut Going,
     cpu: &mut Cpu,
     space: &mut Space,
-    k: &mut NativeKernel,
-    mem: &mut HostMem,
     dev: &mut Devices<I, O, E>,
-    log: &mut Log,
+    below: &mut Below,
 ) -> Result<(), Stop>
-    requires { k.old.clock ≡ clock }
+    requires { below.old.kernel.now.clock ≡ clock }
     ensures handled { Carries (λ within. spec.handled whole_end within info.now action.now) result
-        (within_of going.old cpu.old space.old k.old) (within_of going.new cpu.new space.new k.new)
+        (within_of going.old cpu.old space.old below.old.kernel.now) (within_of going.new cpu.new space.new below.new.kernel.now)
         (contents I.left O.written E.written dev.old) (contents I.left O.written E.written dev.new) }
-    ensures kept { KeepsEnd result (I.left dev.old.input) k.old k.new space.old.pages space.new.pages log.old log.new }
+    ensures kept { KeepsEnd result (I.left dev.old.input) below.old.kernel.now below.new.kernel.now space.old.pages space.new.pages below.old.log.now below.new.log.now }
     ensures cause { StopsOnlyIfRose I.faults O.faults E.faults result dev.old dev.new }
     ensures counts { NoCountFell I.faults O.faults E.faults dev.old dev.new }
-    ensures clock { k.new.clock ≡ clock }
+    ensures clock { below.new.kernel.now.clock ≡ clock }
+    ensures same { LeadsOn below.old below.new }
 {
-    leave_wait(clock, action, going, cpu, space, k, mem, dev, log)?;
+    leave_wait(clock, action, going, cpu, space, dev, below)?;
     tell(info.sig, Delivery::Handler, going)?;
-    begin(info, action, going, cpu, space, k, mem, dev, log)
+    begin(info, action, going, cpu, space, dev, below)
 }
 
 /// The call that waits, if there is one, ends by a handler with this action.
@@ -60,19 +59,18 @@ fn leave_wait<I: Source, O: Sink, E: Sink>(
     going: &mut Going,
     cpu: &mut Cpu,
     space: &mut Space,
-    k: &mut NativeKernel,
-    mem: &mut HostMem,
     dev: &mut Devices<I, O, E>,
-    log: &mut Log,
+    below: &mut Below,
 ) -> Result<(), Stop>
-    requires { k.old.clock ≡ clock }
+    requires { below.old.kernel.now.clock ≡ clock }
     ensures left { Carries (λ within. wait_left_by whole_end action.now within.machine.wait within) result
-        (within_of going.old cpu.old space.old k.old) (within_of going.new cpu.new space.new k.new)
+        (within_of going.old cpu.old space.old below.old.kernel.now) (within_of going.new cpu.new space.new below.new.kernel.now)
         (contents I.left O.written E.written dev.old) (contents I.left O.written E.written dev.new) }
-    ensures kept { KeepsEnd result (I.left dev.old.input) k.old k.new space.old.pages space.new.pages log.old log.new }
+    ensures kept { KeepsEnd result (I.left dev.old.input) below.old.kernel.now below.new.kernel.now space.old.pages space.new.pages below.old.log.now below.new.log.now }
     ensures cause { StopsOnlyIfRose I.faults O.faults E.faults result dev.old dev.new }
     ensures counts { NoCountFell I.faults O.faults E.faults dev.old dev.new }
-    ensures clock { k.new.clock ≡ clock }
+    ensures clock { below.new.kernel.now.clock ≡ clock }
+    ensures same { LeadsOn below.old below.new }
 {
     let restarts = action.flags.restart();
     keep_mask(going);
@@ -83,10 +81,10 @@ fn leave_wait<I: Source, O: Sink, E: Sink>(
         going,
         cpu,
         space,
-        k,
-        mem,
+        below.kernel,
+        below.memory,
         dev,
-        log,
+        below.log,
     )
 }
 
@@ -97,24 +95,21 @@ fn begin<I: Source, O: Sink, E: Sink>(
     going: &mut Going,
     cpu: &mut Cpu,
     space: &mut Space,
-    k: &mut NativeKernel,
-    mem: &mut HostMem,
     dev: &mut Devices<I, O, E>,
-    log: &mut Log,
+    below: &mut Below,
 ) -> Result<(), Stop>
     ensures begun { Carries (λ within. begun within info.now action.now) result
-        (within_of going.old cpu.old space.old k.old) (within_of going.new cpu.new space.new k.new)
+        (within_of going.old cpu.old space.old below.old.kernel.now) (within_of going.new cpu.new space.new below.new.kernel.now)
         (contents I.left O.written E.written dev.old) (contents I.left O.written E.written dev.new) }
-    ensures kept { KeepsEnd result (I.left dev.old.input) k.old k.new space.old.pages space.new.pages log.old log.new }
+    ensures kept { KeepsEnd result (I.left dev.old.input) below.old.kernel.now below.new.kernel.now space.old.pages space.new.pages below.old.log.now below.new.log.now }
     ensures cause { StopsOnlyIfRose I.faults O.faults E.faults result dev.old dev.new }
     ensures counts { NoCountFell I.faults O.faults E.faults dev.old dev.new }
-    ensures clock { k.new.clock ≡ k.old.clock }
+    ensures clock { below.new.kernel.now.clock ≡ below.old.kernel.now.clock }
+    ensures same { LeadsOn below.old below.new }
 {
-    let blocked = mask(k, mem, dev, log)?;
-    let stack = stack(k, mem, dev, log)?;
-    begin_on(
-        info, action, blocked, stack, going, cpu, space, k, mem, dev, log,
-    )
+    let blocked = mask(dev, below)?;
+    let stack = stack(dev, below)?;
+    begin_on(info, action, blocked, stack, going, cpu, space, dev, below)
 }
 
 /// The same, where this is the mask that stands and the alternate stack.
@@ -126,25 +121,24 @@ fn begin_on<I: Source, O: Sink, E: Sink>(
     going: &mut Going,
     cpu: &mut Cpu,
     space: &mut Space,
-    k: &mut NativeKernel,
-    mem: &mut HostMem,
     dev: &mut Devices<I, O, E>,
-    log: &mut Log,
+    below: &mut Below,
 ) -> Result<(), Stop>
-    ensures begun { blocked ≡ k.old.signals.mask → stack ≡ k.old.signals.stack
+    ensures begun { blocked ≡ below.old.kernel.now.signals.mask → stack ≡ below.old.kernel.now.signals.stack
         → Carries (λ within. begun within info.now action.now) result
-        (within_of going.old cpu.old space.old k.old) (within_of going.new cpu.new space.new k.new)
+        (within_of going.old cpu.old space.old below.old.kernel.now) (within_of going.new cpu.new space.new below.new.kernel.now)
         (contents I.left O.written E.written dev.old) (contents I.left O.written E.written dev.new) }
-    ensures kept { KeepsEnd result (I.left dev.old.input) k.old k.new space.old.pages space.new.pages log.old log.new }
+    ensures kept { KeepsEnd result (I.left dev.old.input) below.old.kernel.now below.new.kernel.now space.old.pages space.new.pages below.old.log.now below.new.log.now }
     ensures cause { StopsOnlyIfRose I.faults O.faults E.faults result dev.old dev.new }
     ensures counts { NoCountFell I.faults O.faults E.faults dev.old dev.new }
-    ensures clock { k.new.clock ≡ k.old.clock }
+    ensures clock { below.new.kernel.now.clock ≡ below.old.kernel.now.clock }
+    ensures same { LeadsOn below.old below.new }
 {
     let kept = going.saved.unwrap_or(blocked);
-    let written = enter(info, action, kept, stack, cpu, space, log)?;
+    let written = enter(info, action, kept, stack, cpu, space, below.log)?;
     after_frame(written, info.sig, going)?;
     if written {
-        run_handler(info.sig, action, blocked, k, mem, dev, log)?;
+        run_handler(info.sig, action, blocked, dev, below)?;
     }
     Ok(())
 }
@@ -155,21 +149,20 @@ fn run_handler<I: Source, O: Sink, E: Sink>(
     sig: Sig,
     action: &Action,
     blocked: [u32; 4],
-    k: &mut NativeKernel,
-    mem: &mut HostMem,
     dev: &mut Devices<I, O, E>,
-    log: &mut Log,
+    below: &mut Below,
 ) -> Result<(), Stop>
-    ensures handling { blocked ≡ k.old.signals.mask → Becomes (λ kernel. spec.handling kernel sig action.now) result k.old k.new
+    ensures handling { blocked ≡ below.old.kernel.now.signals.mask → Becomes (λ kernel. spec.handling kernel sig action.now) result below.old.kernel.now below.new.kernel.now
         (contents I.left O.written E.written dev.old) (contents I.left O.written E.written dev.new) }
-    ensures kept { (pages : Pages) → KeepsEnd result (I.left dev.old.input) k.old k.new pages pages log.old log.new }
+    ensures kept { (pages : Pages) → KeepsEnd result (I.left dev.old.input) below.old.kernel.now below.new.kernel.now pages pages below.old.log.now below.new.log.now }
     ensures cause { StopsOnlyIfRose I.faults O.faults E.faults result dev.old dev.new }
     ensures counts { NoCountFell I.faults O.faults E.faults dev.old dev.new }
-    ensures clock { k.new.clock ≡ k.old.clock }
+    ensures clock { below.new.kernel.now.clock ≡ below.old.kernel.now.clock }
+    ensures same { LeadsOn below.old below.new }
 {
-    set_mask(handling_mask(blocked, sig, action), k, mem, dev, log)?;
+    set_mask(handling_mask(blocked, sig, action), dev, below)?;
     if action.flags.resethand() {
-        reset(sig, k, mem, dev, log)?;
+        reset(sig, dev, below)?;
     }
     Ok(())
 }
@@ -177,20 +170,19 @@ fn run_handler<I: Source, O: Sink, E: Sink>(
 /// A signal has its default action again; KILL and STOP always have it.
 fn reset<I: Source, O: Sink, E: Sink>(
     sig: Sig,
-    k: &mut NativeKernel,
-    mem: &mut HostMem,
     dev: &mut Devices<I, O, E>,
-    log: &mut Log,
+    below: &mut Below,
 ) -> Result<(), Stop>
-    ensures reset { Becomes (without_action sig) result k.old k.new
+    ensures reset { Becomes (without_action sig) result below.old.kernel.now below.new.kernel.now
         (contents I.left O.written E.written dev.old) (contents I.left O.written E.written dev.new) }
-    ensures kept { (pages : Pages) → KeepsEnd result (I.left dev.old.input) k.old k.new pages pages log.old log.new }
+    ensures kept { (pages : Pages) → KeepsEnd result (I.left dev.old.input) below.old.kernel.now below.new.kernel.now pages pages below.old.log.now below.new.log.now }
     ensures cause { StopsOnlyIfRose I.faults O.faults E.faults result dev.old dev.new }
     ensures counts { NoCountFell I.faults O.faults E.faults dev.old dev.new }
-    ensures clock { k.new.clock ≡ k.old.clock }
+    ensures clock { below.new.kernel.now.clock ≡ below.old.kernel.now.clock }
+    ensures same { LeadsOn below.old below.new }
 {
     if is_unblockable(sig) {
         return Ok(());
     }
-    set_default(sig, k, mem, dev, log)
+    set_default(sig, dev, below)
 }

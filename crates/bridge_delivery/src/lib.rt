@@ -8,10 +8,10 @@ mod handling;
 mod quiet;
 mod sets;
 
+// Passed on: the turn ends waits, posts and delivers, and names one crate for it.
 pub use bridge_ends::{
     acceptance_call, accepts, end_wait, event_info, is_acceptance_call, is_poll_call,
     is_select_call, poll_call, post_event, post_timer, select_call, wait_call,
 };
-// Passed on: the turn ends waits, posts and delivers, and names one crate for it.
 pub use delivering::deliver;
 pub use quiet::is_quiet;

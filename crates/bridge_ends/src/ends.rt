@@ -1,6 +1,6 @@
 //! How a wait ends.
 ghost use Rattle.std.specs.Prelude.{◌≡◌};
-ghost use Rattle.bridge_poll.specs.Passed.{Closes, KeepsEnd};
+ghost use Rattle.bridge_poll.specs.Passed.{Closes, KeepsEnd, LeadsOn};
 ghost use Rattle.bridge_ends.specs.Ended.{ended_wait};
 ghost use Rattle.bridge_ends.specs.inside.Endings.{old_mask, suspension_end};
 ghost use Rattle.bridge_wait.specs.Numbers.{is_sleep};
@@ -13,9 +13,8 @@ ghost use Rattle.o32_turns.specs.Going.{Carries, within_of};
 ghost use Rattle.outside.specs.Streams.{NoCountFell, contents};
 
 use crate::closing::close;
-use bridge_poll::{
-    NativeKernel, acceptance_end, is_acceptance_call, is_poll_call, poll_end, set_mask,
-};
+use bridge_acceptance::{acceptance_end, is_acceptance_call};
+use bridge_poll::{Below, NativeKernel, is_poll_call, poll_end, set_mask};
 use bridge_select::select_end;
 use bridge_wait::wait_end;
 use guest_space::Space;
@@ -52,10 +51,39 @@ pub fn end_wait<I: Source, O: Sink, E: Sink>(
     ensures counts { NoCountFell I.faults O.faults E.faults dev.old dev.new }
     ensures clock { k.new.clock ≡ clock }
 {
+    let below = &mut Below {
+        kernel: k,
+        memory: mem,
+        log,
+    };
+    end_call(restarts, cause, clock, going, cpu, space, dev, below)
+}
+
+/// The same, with the kernel and what its calls are made with as one value.
+fn end_call<I: Source, O: Sink, E: Sink>(
+    restarts: bool,
+    cause: Cause,
+    clock: u64,
+    going: &mut Going,
+    cpu: &mut Cpu,
+    space: &mut Space,
+    dev: &mut Devices<I, O, E>,
+    below: &mut Below,
+) -> Result<(), Stop>
+    requires clock { below.old.kernel.now.clock ≡ clock }
+    ensures ends { Carries (λ within. ended_wait restarts cause within within.machine.wait) result
+        (within_of going.old cpu.old space.old below.old.kernel.now) (within_of going.new cpu.new space.new below.new.kernel.now)
+        (contents I.left O.written E.written dev.old) (contents I.left O.written E.written dev.new) }
+    ensures kept { KeepsEnd result (I.left dev.old.input) below.old.kernel.now below.new.kernel.now space.old.pages space.new.pages below.old.log.now below.new.log.now }
+    ensures cause { StopsOnlyIfRose I.faults O.faults E.faults result dev.old dev.new }
+    ensures counts { NoCountFell I.faults O.faults E.faults dev.old dev.new }
+    ensures clock { below.new.kernel.now.clock ≡ clock }
+    ensures same { LeadsOn below.old below.new }
+{
     let Some(wait) = going.wait else {
         return Ok(());
     };
-    let end = wait_close(restarts, &wait, cause, clock, space, k, mem, dev, log)?;
+    let end = wait_close(restarts, &wait, cause, clock, space, dev, below)?;
     close(&wait, end, going, cpu)?;
     Ok(())
 }
@@ -67,26 +95,25 @@ fn wait_close<I: Source, O: Sink, E: Sink>(
     cause: Cause,
     clock: u64,
     space: &mut Space,
-    k: &mut NativeKernel,
-    mem: &mut HostMem,
     dev: &mut Devices<I, O, E>,
-    log: &mut Log,
+    below: &mut Below,
 ) -> Result<Close, Stop>
-    requires { k.old.clock ≡ clock }
-    ensures ends { Closes (whole_end restarts wait.now cause k.old space.old) result k.new space.new
+    requires { below.old.kernel.now.clock ≡ clock }
+    ensures ends { Closes (whole_end restarts wait.now cause below.old.kernel.now space.old) result below.new.kernel.now space.new
         (contents I.left O.written E.written dev.old) (contents I.left O.written E.written dev.new) }
-    ensures kept { KeepsEnd result (I.left dev.old.input) k.old k.new space.old.pages space.new.pages log.old log.new }
+    ensures kept { KeepsEnd result (I.left dev.old.input) below.old.kernel.now below.new.kernel.now space.old.pages space.new.pages below.old.log.now below.new.log.now }
     ensures cause { StopsOnlyIfRose I.faults O.faults E.faults result dev.old dev.new }
     ensures counts { NoCountFell I.faults O.faults E.faults dev.old dev.new }
-    ensures clock { k.new.clock ≡ clock }
+    ensures clock { below.new.kernel.now.clock ≡ clock }
+    ensures same { LeadsOn below.old below.new }
 {
     if is_transfer(wait) {
         return Ok(transfer_close(restarts, wait, cause));
     }
     if is_signal_wait(wait) {
-        return signal_wait_close(wait, cause, space, k, mem, dev, log);
+        return signal_wait_close(wait, cause, space, dev, below);
     }
-    timed_wait_close(wait, cause, clock, space, k, mem, dev, log)
+    timed_wait_close(wait, cause, clock, space, dev, below)
 }
 
 /// Whether a wait is that of a transfer: read(2), write(2), readv(2), writev(2).
@@ -123,25 +150,24 @@ fn timed_wait_close<I: Source, O: Sink, E: Sink>(
     cause: Cause,
     clock: u64,
     space: &mut Space,
-    k: &mut NativeKernel,
-    mem: &mut HostMem,
     dev: &mut Devices<I, O, E>,
-    log: &mut Log,
+    below: &mut Below,
 ) -> Result<Close, Stop>
-    ensures ends { Closes (wait_ended wait.now cause clock k.old space.old) result k.new space.new
+    ensures ends { Closes (wait_ended wait.now cause clock below.old.kernel.now space.old) result below.new.kernel.now space.new
         (contents I.left O.written E.written dev.old) (contents I.left O.written E.written dev.new) }
-    ensures kept { KeepsEnd result (I.left dev.old.input) k.old k.new space.old.pages space.new.pages log.old log.new }
+    ensures kept { KeepsEnd result (I.left dev.old.input) below.old.kernel.now below.new.kernel.now space.old.pages space.new.pages below.old.log.now below.new.log.now }
     ensures cause { StopsOnlyIfRose I.faults O.faults E.faults result dev.old dev.new }
     ensures counts { NoCountFell I.faults O.faults E.faults dev.old dev.new }
-    ensures clock { k.new.clock ≡ k.old.clock }
+    ensures clock { below.new.kernel.now.clock ≡ below.old.kernel.now.clock }
+    ensures same { LeadsOn below.old below.new }
 {
     if is_sleep(wait.nr) {
-        return wait_end(wait, cause, clock, space, k, mem, log);
+        return wait_end(wait, cause, clock, space, below);
     }
     if is_poll_call(wait.nr) {
-        return poll_end(wait, cause, clock, space, k, mem, dev, log);
+        return poll_end(wait, cause, clock, space, dev, below);
     }
-    select_end(wait, cause, clock, space, k, mem, dev, log)
+    select_end(wait, cause, clock, space, dev, below)
 }
 
 /// Whether a call's wait is that of a sleep: nanosleep(2), clock_nanosleep(2).
@@ -156,48 +182,39 @@ fn signal_wait_close<I: Source, O: Sink, E: Sink>(
     wait: &Wait,
     cause: Cause,
     space: &mut Space,
-    k: &mut NativeKernel,
-    mem: &mut HostMem,
     dev: &mut Devices<I, O, E>,
-    log: &mut Log,
+    below: &mut Below,
 ) -> Result<Close, Stop>
-    ensures ends { Closes (signal_wait_ended wait.now cause k.old space.old) result k.new space.new
+    ensures ends { Closes (signal_wait_ended wait.now cause below.old.kernel.now space.old) result below.new.kernel.now space.new
         (contents I.left O.written E.written dev.old) (contents I.left O.written E.written dev.new) }
-    ensures kept { KeepsEnd result (I.left dev.old.input) k.old k.new space.old.pages space.new.pages log.old log.new }
+    ensures kept { KeepsEnd result (I.left dev.old.input) below.old.kernel.now below.new.kernel.now space.old.pages space.new.pages below.old.log.now below.new.log.now }
     ensures cause { StopsOnlyIfRose I.faults O.faults E.faults result dev.old dev.new }
     ensures counts { NoCountFell I.faults O.faults E.faults dev.old dev.new }
-    ensures clock { k.new.clock ≡ k.old.clock }
+    ensures clock { below.new.kernel.now.clock ≡ below.old.kernel.now.clock }
+    ensures same { LeadsOn below.old below.new }
 {
     if is_acceptance_call(wait.nr) {
-        return acceptance_end(wait, cause, space, k, mem, dev, log);
+        return acceptance_end(wait, cause, space, dev, below);
     }
-    suspension_close(wait, cause, k, mem, dev, log)
+    suspension_close(wait, cause, dev, below)
 }
 
 /// The end of pause(2) and of sigsuspend(2).
 fn suspension_close<I: Source, O: Sink, E: Sink>(
     wait: &Wait,
     cause: Cause,
-    k: &mut NativeKernel,
-    mem: &mut HostMem,
     dev: &mut Devices<I, O, E>,
-    log: &mut Log,
+    below: &mut Below,
 ) -> Result<Close, Stop>
-    ensures ends { (memory : Memory) → Closes (suspension_ended wait.now cause k.old memory) result k.new memory
+    ensures ends { (memory : Memory) → Closes (suspension_ended wait.now cause below.old.kernel.now memory) result below.new.kernel.now memory
         (contents I.left O.written E.written dev.old) (contents I.left O.written E.written dev.new) }
-    ensures kept { (pages : Pages) → KeepsEnd result (I.left dev.old.input) k.old k.new pages pages log.old log.new }
+    ensures kept { (pages : Pages) → KeepsEnd result (I.left dev.old.input) below.old.kernel.now below.new.kernel.now pages pages below.old.log.now below.new.log.now }
     ensures cause { StopsOnlyIfRose I.faults O.faults E.faults result dev.old dev.new }
     ensures counts { NoCountFell I.faults O.faults E.faults dev.old dev.new }
-    ensures clock { k.new.clock ≡ k.old.clock }
+    ensures clock { below.new.kernel.now.clock ≡ below.old.kernel.now.clock }
+    ensures same { LeadsOn below.old below.new }
 {
-    with_old_mask(
-        old_mask(wait, cause),
-        suspension_end(cause),
-        k,
-        mem,
-        dev,
-        log,
-    )
+    with_old_mask(old_mask(wait, cause), suspension_end(cause), dev, below)
 }
 
 /// The mask that the end of a suspension puts back: that from before the call, if it has set one of its own. Where a
@@ -225,22 +242,21 @@ fn suspension_end(cause: Cause) -> Close
 fn with_old_mask<I: Source, O: Sink, E: Sink>(
     mask: Option<[u32; 4]>,
     close: Close,
-    k: &mut NativeKernel,
-    mem: &mut HostMem,
     dev: &mut Devices<I, O, E>,
-    log: &mut Log,
+    below: &mut Below,
 ) -> Result<Close, Stop>
-    ensures ends { (memory : Memory) → Closes (ends_with close (with_old_mask mask k.old) memory) result k.new memory
+    ensures ends { (memory : Memory) → Closes (ends_with close (with_old_mask mask below.old.kernel.now) memory) result below.new.kernel.now memory
         (contents I.left O.written E.written dev.old) (contents I.left O.written E.written dev.new) }
-    ensures kept { (pages : Pages) → KeepsEnd result (I.left dev.old.input) k.old k.new pages pages log.old log.new }
+    ensures kept { (pages : Pages) → KeepsEnd result (I.left dev.old.input) below.old.kernel.now below.new.kernel.now pages pages below.old.log.now below.new.log.now }
     ensures cause { StopsOnlyIfRose I.faults O.faults E.faults result dev.old dev.new }
     ensures counts { NoCountFell I.faults O.faults E.faults dev.old dev.new }
-    ensures clock { k.new.clock ≡ k.old.clock }
+    ensures clock { below.new.kernel.now.clock ≡ below.old.kernel.now.clock }
+    ensures same { LeadsOn below.old below.new }
 {
     match mask {
         None => Ok(close),
         Some(mask) => {
-            set_mask(mask, k, mem, dev, log)?;
+            set_mask(mask, dev, below)?;
             Ok(close)
         }
     }

@@ -14,7 +14,8 @@ ghost use Rattle.o32_turns.specs.Going.{within_of};
 ghost use Rattle.o32_turns.specs.Posting.{event_info, let_go, post_event, sent_to, timer_posted};
 ghost use Rattle.schedule.specs.declared.events.Due.{Due};
 
-use bridge_poll::{NativeKernel, awaits};
+use bridge_acceptance::awaits;
+use bridge_poll::NativeKernel;
 use guest_space::Space;
 use kernel_core::{Event, Info, NoMemory, Sig};
 use kernel_model::Post;

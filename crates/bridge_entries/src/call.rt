@@ -1,4 +1,5 @@
 //! A call by its number.
+ghost use Rattle.bridge_log.specs.Leading.{LeadsOn};
 ghost use Rattle.std.specs.Prelude.{◌≡◌, IsTrue};
 ghost use Rattle.bridge_entries.specs.Found.{found};
 ghost use Rattle.bridge_entries.specs.Numbers.{is_entries_call};
@@ -9,7 +10,7 @@ ghost use Rattle.o32_model.specs.Table.{o32_call};
 ghost use Rattle.outside.specs.Streams.{NoCountFell, contents};
 
 use crate::listing::{getdents, getdents64};
-use bridge_log::NativeKernel;
+use bridge_log::{Below, NativeKernel};
 use guest_space::Space;
 use host_mem::HostMem;
 use kernel_core::Stop;
@@ -41,9 +42,36 @@ pub fn entries_call<I: Source, O: Sink, E: Sink>(
     ensures counts { NoCountFell I.faults O.faults E.faults dev.old dev.new }
     ensures clock { k.new.clock ≡ k.old.clock }
 {
+    let below = &mut Below {
+        kernel: k,
+        memory: mem,
+        log,
+    };
+    by_number(alloc, args, cpu, space, dev, below)
+}
+
+/// The same by its number, with the kernel and what its calls are made with as one value.
+fn by_number<I: Source, O: Sink, E: Sink>(
+    alloc: Global,
+    args: &CallWords,
+    cpu: &mut Cpu,
+    space: &mut Space,
+    dev: &mut Devices<I, O, E>,
+    below: &mut Below,
+) -> Result<Outcome, Stop>
+    requires { IsTrue (is_entries_call args.now.nr) }
+    ensures row { IsCall (o32_call below.old.kernel.now (found args.now cpu.old space.old)) result below.new.kernel.now space.new cpu.new
+        (contents I.left O.written E.written dev.old) (contents I.left O.written E.written dev.new) }
+    ensures kept { KeepsCall (o32_call below.old.kernel.now (found args.now cpu.old space.old)) result below.old.kernel.now
+        (found args.now cpu.old space.old) (I.left dev.old.input) below.old.log.now below.new.log.now }
+    ensures cause { StopsOnlyIfRose I.faults O.faults E.faults result dev.old dev.new }
+    ensures counts { NoCountFell I.faults O.faults E.faults dev.old dev.new }
+    ensures clock { below.new.kernel.now.clock ≡ below.old.kernel.now.clock }
+    ensures same { LeadsOn below.old below.new }
+{
     let [fd, buffer, size, _] = args.reg;
     match args.nr {
-        4141 => getdents(alloc, args, fd, buffer, size, space, k, mem, dev, log),
-        _ => getdents64(alloc, args, fd, buffer, size, space, k, mem, dev, log),
+        4141 => getdents(alloc, args, fd, buffer, size, space, dev, below),
+        _ => getdents64(alloc, args, fd, buffer, size, space, dev, below),
     }
 }

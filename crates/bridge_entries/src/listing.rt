@@ -1,5 +1,6 @@
 //! Listing a directory: getdents(2), getdents64(2).
 ghost use Rattle.std.specs.Prelude.{◌≡◌, ◌≤◌, OnOk, take};
+ghost use Rattle.bridge_log.specs.Leading.{LeadsOn};
 ghost use Rattle.bridge_entries.specs.inside.Answers.{IsGiven, narrow};
 ghost use Rattle.bridge_entries.specs.inside.Passing.{GoesTo};
 ghost use Rattle.bridge_log.specs.Fills.{bytes_back};
@@ -22,7 +23,7 @@ use crate::numbers::GETDENTS64;
 use crate::passing::{list, position, put_position};
 use crate::records::Form;
 use crate::showing::show_all;
-use bridge_log::{NativeKernel, fresh_room, native, outcome_of, put};
+use bridge_log::{Below, fresh_room, outcome_of, put};
 use guest_space::Space;
 use host_mem::{FIRST_ADDRESS, HostMem};
 use kernel_core::{NoMemory, Reply, Stop};
@@ -42,27 +43,32 @@ pub(crate) fn getdents64<I: Source, O: Sink, E: Sink>(
     buffer: u32,
     size: u32,
     space: &mut Space,
-    k: &mut NativeKernel,
-    mem: &mut HostMem,
     dev: &mut Devices<I, O, E>,
-    log: &mut Log,
+    below: &mut Below,
 ) -> Result<Outcome, Stop>
     ensures row { (guest : Guest) → guest.words ≡ words.now → guest.memory ≡ space.old
-        → IsCall (getdents_row entry64_form k.old guest fd buffer size) result k.new space.new guest.processor
+        → IsCall (getdents_row entry64_form below.old.kernel.now guest fd buffer size) result below.new.kernel.now space.new guest.processor
         (contents I.left O.written E.written dev.old) (contents I.left O.written E.written dev.new) }
     ensures kept { (guest : Guest) → guest.words ≡ words.now → guest.memory ≡ space.old
-        → KeepsCall (getdents_row entry64_form k.old guest fd buffer size) result k.old guest (I.left dev.old.input) log.old log.new }
+        → KeepsCall (getdents_row entry64_form below.old.kernel.now guest fd buffer size) result below.old.kernel.now guest (I.left dev.old.input) below.old.log.now below.new.log.now }
     ensures cause { StopsOnlyIfRose I.faults O.faults E.faults result dev.old dev.new }
     ensures counts { NoCountFell I.faults O.faults E.faults dev.old dev.new }
-    ensures clock { k.new.clock ≡ k.old.clock }
+    ensures clock { below.new.kernel.now.clock ≡ below.old.kernel.now.clock }
+    ensures same { LeadsOn below.old below.new }
 {
-    k.files_valid();
+    below.kernel.files_valid();
     let room = space.writable(buffer, size);
-    fresh_room(mem, room)?;
+    fresh_room(below.memory, room)?;
     let args = [u64::from(fd), FIRST_ADDRESS, u64::from(size), 0, 0, 0];
-    let reply = native(k, GETDENTS64, args, mem, dev, log)?;
-    let shown = show_all(alloc, Form::Wide, room as usize, 0, given(mem, reply))?;
-    put_some(space, buffer, shown.bytes.as_slice(), log)?;
+    let reply = below.native(GETDENTS64, args, dev)?;
+    let shown = show_all(
+        alloc,
+        Form::Wide,
+        room as usize,
+        0,
+        given(below.memory, reply),
+    )?;
+    put_some(space, buffer, shown.bytes.as_slice(), below.log)?;
     Ok(outcome_of(words, reply))
 }
 
@@ -76,24 +82,23 @@ pub(crate) fn getdents<I: Source, O: Sink, E: Sink>(
     buffer: u32,
     size: u32,
     space: &mut Space,
-    k: &mut NativeKernel,
-    mem: &mut HostMem,
     dev: &mut Devices<I, O, E>,
-    log: &mut Log,
+    below: &mut Below,
 ) -> Result<Outcome, Stop>
     ensures row { (guest : Guest) → guest.words ≡ words.now → guest.memory ≡ space.old
-        → IsCall (getdents_row entry_form k.old guest fd buffer size) result k.new space.new guest.processor
+        → IsCall (getdents_row entry_form below.old.kernel.now guest fd buffer size) result below.new.kernel.now space.new guest.processor
         (contents I.left O.written E.written dev.old) (contents I.left O.written E.written dev.new) }
     ensures kept { (guest : Guest) → guest.words ≡ words.now → guest.memory ≡ space.old
-        → KeepsCall (getdents_row entry_form k.old guest fd buffer size) result k.old guest (I.left dev.old.input) log.old log.new }
+        → KeepsCall (getdents_row entry_form below.old.kernel.now guest fd buffer size) result below.old.kernel.now guest (I.left dev.old.input) below.old.log.now below.new.log.now }
     ensures cause { StopsOnlyIfRose I.faults O.faults E.faults result dev.old dev.new }
     ensures counts { NoCountFell I.faults O.faults E.faults dev.old dev.new }
-    ensures clock { k.new.clock ≡ k.old.clock }
+    ensures clock { below.new.kernel.now.clock ≡ below.old.kernel.now.clock }
+    ensures same { LeadsOn below.old below.new }
 {
-    k.files_valid();
+    below.kernel.files_valid();
     let room = space.writable(buffer, size);
-    let answer = answer_call(alloc, words, fd, size, room, k, mem, dev, log)?;
-    put_some(space, buffer, answer.bytes.as_slice(), log)?;
+    let answer = answer_call(alloc, words, fd, size, room, dev, below)?;
+    put_some(space, buffer, answer.bytes.as_slice(), below.log)?;
     Ok(answer.outcome)
 }
 
@@ -105,23 +110,22 @@ fn answer_call<I: Source, O: Sink, E: Sink>(
     fd: u32,
     size: u32,
     room: u32,
-    k: &mut NativeKernel,
-    mem: &mut HostMem,
     dev: &mut Devices<I, O, E>,
-    log: &mut Log,
+    below: &mut Below,
 ) -> Result<Answer, Stop>
     requires { room ≤ user_end }
-    ensures goes { GoesTo (IsGiven words.now (entries k.old.files fd narrow size room).came) result k.old
-        (with_files k.old (entries k.old.files fd narrow size room).state) k.new
-        (contents I.left O.written E.written dev.old) (contents I.left O.written E.written dev.new) log.old log.new }
+    ensures goes { GoesTo (IsGiven words.now (entries below.old.kernel.now.files fd narrow size room).came) result below.old.kernel.now
+        (with_files below.old.kernel.now (entries below.old.kernel.now.files fd narrow size room).state) below.new.kernel.now
+        (contents I.left O.written E.written dev.old) (contents I.left O.written E.written dev.new) below.old.log.now below.new.log.now }
     ensures cause { StopsOnlyIfRose I.faults O.faults E.faults result dev.old dev.new }
     ensures counts { NoCountFell I.faults O.faults E.faults dev.old dev.new }
-    ensures clock { k.new.clock ≡ k.old.clock }
+    ensures clock { below.new.kernel.now.clock ≡ below.old.kernel.now.clock }
+    ensures same { LeadsOn below.old below.new }
 {
-    k.files_valid();
+    below.kernel.files_valid();
     let asked = size.min(room + LONGEST_NARROW);
-    let before = position(k, fd, mem, dev, log)?;
-    let reply = list(k, fd, 2 * asked, mem, dev, log)?;
+    let before = position(fd, dev, below)?;
+    let reply = list(fd, 2 * asked, dev, below)?;
     let answer = answer_to(
         alloc,
         words,
@@ -129,12 +133,12 @@ fn answer_call<I: Source, O: Sink, E: Sink>(
         room,
         before.unwrap_or(0),
         reply,
-        given(mem, reply),
+        given(below.memory, reply),
     )?;
     match answer.place {
         None => Ok(answer),
         Some(place) => {
-            put_position(k, fd, place, mem, dev, log)?;
+            put_position(fd, place, dev, below)?;
             Ok(answer)
         }
     }

@@ -1,8 +1,8 @@
 //! A call by its number.
 ghost use Rattle.std.specs.Prelude.{◌≡◌, IsTrue};
+ghost use Rattle.bridge_paths.specs.Passed.{KeepsCall, LeadsOn};
 ghost use Rattle.bridge_paths.specs.Found.{found};
 ghost use Rattle.bridge_file.specs.Numbers.{is_call_there, is_name_call, is_node_call, is_place_call, is_size_call, is_text_call};
-ghost use Rattle.bridge_paths.specs.Passed.{KeepsCall};
 ghost use Rattle.kernel_model.specs.Stops.{StopsOnlyIfRose};
 ghost use Rattle.o32_model.specs.Answered.{IsCall};
 ghost use Rattle.o32_model.specs.Table.{o32_call};
@@ -16,7 +16,7 @@ use crate::seeking::{llseek, lseek};
 use crate::sizes::{ftruncate, truncate};
 use crate::texts::{getcwd, readlink};
 use crate::times::utimensat;
-use bridge_paths::NativeKernel;
+use bridge_paths::{Below, NativeKernel};
 use guest_space::Space;
 use host_mem::HostMem;
 use kernel_core::Stop;
@@ -56,16 +56,43 @@ pub fn file_call<I: Source, O: Sink, E: Sink>(
     ensures counts { NoCountFell I.faults O.faults E.faults dev.old dev.new }
     ensures clock { k.new.clock ≡ k.old.clock }
 {
+    let below = &mut Below {
+        kernel: k,
+        memory: mem,
+        log,
+    };
+    by_number(alloc, args, cpu, space, dev, below)
+}
+
+/// The same by its number, with the kernel and what its calls are made with as one value.
+fn by_number<I: Source, O: Sink, E: Sink>(
+    alloc: Global,
+    args: &CallWords,
+    cpu: &mut Cpu,
+    space: &mut Space,
+    dev: &mut Devices<I, O, E>,
+    below: &mut Below,
+) -> Result<Outcome, Stop>
+    requires { IsTrue (is_call_there args.now.nr) }
+    ensures row { IsCall (o32_call below.old.kernel.now (found args.now cpu.old space.old)) result below.new.kernel.now space.new cpu.new
+        (contents I.left O.written E.written dev.old) (contents I.left O.written E.written dev.new) }
+    ensures kept { KeepsCall (o32_call below.old.kernel.now (found args.now cpu.old space.old)) result below.old.kernel.now
+        (found args.now cpu.old space.old) (I.left dev.old.input) below.old.log.now below.new.log.now }
+    ensures cause { StopsOnlyIfRose I.faults O.faults E.faults result dev.old dev.new }
+    ensures counts { NoCountFell I.faults O.faults E.faults dev.old dev.new }
+    ensures clock { below.new.kernel.now.clock ≡ below.old.kernel.now.clock }
+    ensures same { LeadsOn below.old below.new }
+{
     if is_node_call(args.nr) {
-        node_call(alloc, args, cpu, space, k, mem, dev, log)
+        node_call(alloc, args, cpu, space, dev, below)
     } else if is_text_call(args.nr) {
-        text_call(alloc, args, cpu, space, k, mem, dev, log)
+        text_call(alloc, args, cpu, space, dev, below)
     } else if is_size_call(args.nr) {
-        size_call(alloc, args, cpu, space, k, mem, dev, log)
+        size_call(alloc, args, cpu, space, dev, below)
     } else if is_place_call(args.nr) {
-        place_call(args, cpu, space, k, mem, dev, log)
+        place_call(args, cpu, space, dev, below)
     } else {
-        name_call(alloc, args, cpu, space, k, mem, dev, log)
+        name_call(alloc, args, cpu, space, dev, below)
     }
 }
 
@@ -75,48 +102,32 @@ fn name_call<I: Source, O: Sink, E: Sink>(
     args: &CallWords,
     cpu: &mut Cpu,
     space: &mut Space,
-    k: &mut NativeKernel,
-    mem: &mut HostMem,
     dev: &mut Devices<I, O, E>,
-    log: &mut Log,
+    below: &mut Below,
 ) -> Result<Outcome, Stop>
     requires { IsTrue (is_name_call args.now.nr) }
-    ensures row { IsCall (o32_call k.old (found args.now cpu.old space.old)) result k.new space.new cpu.new
+    ensures row { IsCall (o32_call below.old.kernel.now (found args.now cpu.old space.old)) result below.new.kernel.now space.new cpu.new
         (contents I.left O.written E.written dev.old) (contents I.left O.written E.written dev.new) }
-    ensures kept { KeepsCall (o32_call k.old (found args.now cpu.old space.old)) result k.old
-        (found args.now cpu.old space.old) (I.left dev.old.input) log.old log.new }
+    ensures kept { KeepsCall (o32_call below.old.kernel.now (found args.now cpu.old space.old)) result below.old.kernel.now
+        (found args.now cpu.old space.old) (I.left dev.old.input) below.old.log.now below.new.log.now }
     ensures cause { StopsOnlyIfRose I.faults O.faults E.faults result dev.old dev.new }
     ensures counts { NoCountFell I.faults O.faults E.faults dev.old dev.new }
-    ensures clock { k.new.clock ≡ k.old.clock }
+    ensures clock { below.new.kernel.now.clock ≡ below.old.kernel.now.clock }
+    ensures same { LeadsOn below.old below.new }
 {
     let [a0, a1, a2, a3] = args.reg;
     match args.nr {
-        4009 => link(
-            alloc, args, WORKING, a0, WORKING, a1, 0, space, k, mem, dev, log,
-        ),
-        4010 => remove(alloc, args, WORKING, a0, 0, space, k, mem, dev, log),
-        4038 => rename(
-            alloc, args, WORKING, a0, WORKING, a1, space, k, mem, dev, log,
-        ),
-        4039 => mkdir(alloc, args, WORKING, a0, a1, space, k, mem, dev, log),
-        4040 => remove(
-            alloc,
-            args,
-            WORKING,
-            a0,
-            AT_REMOVEDIR,
-            space,
-            k,
-            mem,
-            dev,
-            log,
-        ),
-        4083 => symlink(alloc, args, a0, WORKING, a1, space, k, mem, dev, log),
-        4289 => mkdir(alloc, args, a0, a1, a2, space, k, mem, dev, log),
-        4294 => remove(alloc, args, a0, a1, a2, space, k, mem, dev, log),
-        4295 => rename(alloc, args, a0, a1, a2, a3, space, k, mem, dev, log),
-        4296 => linkat(alloc, args, a0, a1, a2, a3, space, k, mem, dev, log),
-        _ => symlink(alloc, args, a0, a1, a2, space, k, mem, dev, log),
+        4009 => link(alloc, args, WORKING, a0, WORKING, a1, 0, space, dev, below),
+        4010 => remove(alloc, args, WORKING, a0, 0, space, dev, below),
+        4038 => rename(alloc, args, WORKING, a0, WORKING, a1, space, dev, below),
+        4039 => mkdir(alloc, args, WORKING, a0, a1, space, dev, below),
+        4040 => remove(alloc, args, WORKING, a0, AT_REMOVEDIR, space, dev, below),
+        4083 => symlink(alloc, args, a0, WORKING, a1, space, dev, below),
+        4289 => mkdir(alloc, args, a0, a1, a2, space, dev, below),
+        4294 => remove(alloc, args, a0, a1, a2, space, dev, below),
+        4295 => rename(alloc, args, a0, a1, a2, a3, space, dev, below),
+        4296 => linkat(alloc, args, a0, a1, a2, a3, space, dev, below),
+        _ => symlink(alloc, args, a0, a1, a2, space, dev, below),
     }
 }
 
@@ -126,33 +137,32 @@ fn node_call<I: Source, O: Sink, E: Sink>(
     args: &CallWords,
     cpu: &mut Cpu,
     space: &mut Space,
-    k: &mut NativeKernel,
-    mem: &mut HostMem,
     dev: &mut Devices<I, O, E>,
-    log: &mut Log,
+    below: &mut Below,
 ) -> Result<Outcome, Stop>
     requires { IsTrue (is_node_call args.now.nr) }
-    ensures row { IsCall (o32_call k.old (found args.now cpu.old space.old)) result k.new space.new cpu.new
+    ensures row { IsCall (o32_call below.old.kernel.now (found args.now cpu.old space.old)) result below.new.kernel.now space.new cpu.new
         (contents I.left O.written E.written dev.old) (contents I.left O.written E.written dev.new) }
-    ensures kept { KeepsCall (o32_call k.old (found args.now cpu.old space.old)) result k.old
-        (found args.now cpu.old space.old) (I.left dev.old.input) log.old log.new }
+    ensures kept { KeepsCall (o32_call below.old.kernel.now (found args.now cpu.old space.old)) result below.old.kernel.now
+        (found args.now cpu.old space.old) (I.left dev.old.input) below.old.log.now below.new.log.now }
     ensures cause { StopsOnlyIfRose I.faults O.faults E.faults result dev.old dev.new }
     ensures counts { NoCountFell I.faults O.faults E.faults dev.old dev.new }
-    ensures clock { k.new.clock ≡ k.old.clock }
+    ensures clock { below.new.kernel.now.clock ≡ below.old.kernel.now.clock }
+    ensures same { LeadsOn below.old below.new }
 {
     let [a0, a1, a2, a3] = args.reg;
     match args.nr {
-        4012 => chdir(alloc, args, a0, space, k, mem, dev, log),
-        4015 => chmod(alloc, args, WORKING, a0, a1, space, k, mem, dev, log),
-        4033 => access(alloc, args, WORKING, a0, a1, space, k, mem, dev, log),
-        4060 => umask(args, a0, k, mem, dev, log),
-        4094 => fchmod(args, a0, a1, k, mem, dev, log),
-        4118 => fsync(args, a0, k, mem, dev, log),
-        4133 => fchdir(args, a0, k, mem, dev, log),
-        4152 => fdatasync(args, a0, k, mem, dev, log),
-        4299 => chmod(alloc, args, a0, a1, a2, space, k, mem, dev, log),
-        4316 => utimensat(alloc, args, a0, a1, a2, a3, space, k, mem, dev, log),
-        _ => access(alloc, args, a0, a1, a2, space, k, mem, dev, log),
+        4012 => chdir(alloc, args, a0, space, dev, below),
+        4015 => chmod(alloc, args, WORKING, a0, a1, space, dev, below),
+        4033 => access(alloc, args, WORKING, a0, a1, space, dev, below),
+        4060 => umask(args, a0, dev, below),
+        4094 => fchmod(args, a0, a1, dev, below),
+        4118 => fsync(args, a0, dev, below),
+        4133 => fchdir(args, a0, dev, below),
+        4152 => fdatasync(args, a0, dev, below),
+        4299 => chmod(alloc, args, a0, a1, a2, space, dev, below),
+        4316 => utimensat(alloc, args, a0, a1, a2, a3, space, dev, below),
+        _ => access(alloc, args, a0, a1, a2, space, dev, below),
     }
 }
 
@@ -162,25 +172,24 @@ fn text_call<I: Source, O: Sink, E: Sink>(
     args: &CallWords,
     cpu: &mut Cpu,
     space: &mut Space,
-    k: &mut NativeKernel,
-    mem: &mut HostMem,
     dev: &mut Devices<I, O, E>,
-    log: &mut Log,
+    below: &mut Below,
 ) -> Result<Outcome, Stop>
     requires { IsTrue (is_text_call args.now.nr) }
-    ensures row { IsCall (o32_call k.old (found args.now cpu.old space.old)) result k.new space.new cpu.new
+    ensures row { IsCall (o32_call below.old.kernel.now (found args.now cpu.old space.old)) result below.new.kernel.now space.new cpu.new
         (contents I.left O.written E.written dev.old) (contents I.left O.written E.written dev.new) }
-    ensures kept { KeepsCall (o32_call k.old (found args.now cpu.old space.old)) result k.old
-        (found args.now cpu.old space.old) (I.left dev.old.input) log.old log.new }
+    ensures kept { KeepsCall (o32_call below.old.kernel.now (found args.now cpu.old space.old)) result below.old.kernel.now
+        (found args.now cpu.old space.old) (I.left dev.old.input) below.old.log.now below.new.log.now }
     ensures cause { StopsOnlyIfRose I.faults O.faults E.faults result dev.old dev.new }
     ensures counts { NoCountFell I.faults O.faults E.faults dev.old dev.new }
-    ensures clock { k.new.clock ≡ k.old.clock }
+    ensures clock { below.new.kernel.now.clock ≡ below.old.kernel.now.clock }
+    ensures same { LeadsOn below.old below.new }
 {
     let [a0, a1, a2, a3] = args.reg;
     match args.nr {
-        4085 => readlink(alloc, args, WORKING, a0, a1, a2, space, k, mem, dev, log),
-        4203 => getcwd(args, a0, a1, space, k, mem, dev, log),
-        _ => readlink(alloc, args, a0, a1, a2, a3, space, k, mem, dev, log),
+        4085 => readlink(alloc, args, WORKING, a0, a1, a2, space, dev, below),
+        4203 => getcwd(args, a0, a1, space, dev, below),
+        _ => readlink(alloc, args, a0, a1, a2, a3, space, dev, below),
     }
 }
 
@@ -190,26 +199,25 @@ fn size_call<I: Source, O: Sink, E: Sink>(
     args: &CallWords,
     cpu: &mut Cpu,
     space: &mut Space,
-    k: &mut NativeKernel,
-    mem: &mut HostMem,
     dev: &mut Devices<I, O, E>,
-    log: &mut Log,
+    below: &mut Below,
 ) -> Result<Outcome, Stop>
     requires { IsTrue (is_size_call args.now.nr) }
-    ensures row { IsCall (o32_call k.old (found args.now cpu.old space.old)) result k.new space.new cpu.new
+    ensures row { IsCall (o32_call below.old.kernel.now (found args.now cpu.old space.old)) result below.new.kernel.now space.new cpu.new
         (contents I.left O.written E.written dev.old) (contents I.left O.written E.written dev.new) }
-    ensures kept { KeepsCall (o32_call k.old (found args.now cpu.old space.old)) result k.old
-        (found args.now cpu.old space.old) (I.left dev.old.input) log.old log.new }
+    ensures kept { KeepsCall (o32_call below.old.kernel.now (found args.now cpu.old space.old)) result below.old.kernel.now
+        (found args.now cpu.old space.old) (I.left dev.old.input) below.old.log.now below.new.log.now }
     ensures cause { StopsOnlyIfRose I.faults O.faults E.faults result dev.old dev.new }
     ensures counts { NoCountFell I.faults O.faults E.faults dev.old dev.new }
-    ensures clock { k.new.clock ≡ k.old.clock }
+    ensures clock { below.new.kernel.now.clock ≡ below.old.kernel.now.clock }
+    ensures same { LeadsOn below.old below.new }
 {
     let [a0, a1, a2, a3] = args.reg;
     match args.nr {
-        4092 => truncate(alloc, args, a0, widened(a1), space, k, mem, dev, log),
-        4093 => ftruncate(args, a0, widened(a1), k, mem, dev, log),
-        4211 => truncate(alloc, args, a0, pair(a2, a3), space, k, mem, dev, log),
-        _ => ftruncate(args, a0, pair(a2, a3), k, mem, dev, log),
+        4092 => truncate(alloc, args, a0, widened(a1), space, dev, below),
+        4093 => ftruncate(args, a0, widened(a1), dev, below),
+        4211 => truncate(alloc, args, a0, pair(a2, a3), space, dev, below),
+        _ => ftruncate(args, a0, pair(a2, a3), dev, below),
     }
 }
 
@@ -218,23 +226,22 @@ fn place_call<I: Source, O: Sink, E: Sink>(
     args: &CallWords,
     cpu: &mut Cpu,
     space: &mut Space,
-    k: &mut NativeKernel,
-    mem: &mut HostMem,
     dev: &mut Devices<I, O, E>,
-    log: &mut Log,
+    below: &mut Below,
 ) -> Result<Outcome, Stop>
     requires { IsTrue (is_place_call args.now.nr) }
-    ensures row { IsCall (o32_call k.old (found args.now cpu.old space.old)) result k.new space.new cpu.new
+    ensures row { IsCall (o32_call below.old.kernel.now (found args.now cpu.old space.old)) result below.new.kernel.now space.new cpu.new
         (contents I.left O.written E.written dev.old) (contents I.left O.written E.written dev.new) }
-    ensures kept { KeepsCall (o32_call k.old (found args.now cpu.old space.old)) result k.old
-        (found args.now cpu.old space.old) (I.left dev.old.input) log.old log.new }
+    ensures kept { KeepsCall (o32_call below.old.kernel.now (found args.now cpu.old space.old)) result below.old.kernel.now
+        (found args.now cpu.old space.old) (I.left dev.old.input) below.old.log.now below.new.log.now }
     ensures cause { StopsOnlyIfRose I.faults O.faults E.faults result dev.old dev.new }
     ensures counts { NoCountFell I.faults O.faults E.faults dev.old dev.new }
-    ensures clock { k.new.clock ≡ k.old.clock }
+    ensures clock { below.new.kernel.now.clock ≡ below.old.kernel.now.clock }
+    ensures same { LeadsOn below.old below.new }
 {
     let [a0, a1, a2, a3] = args.reg;
     match args.nr {
-        4019 => lseek(args, a0, a1, a2, k, mem, dev, log),
-        _ => llseek(args, a0, a1, a2, a3, space, k, mem, dev, log),
+        4019 => lseek(args, a0, a1, a2, dev, below),
+        _ => llseek(args, a0, a1, a2, a3, space, dev, below),
     }
 }

@@ -1,21 +1,18 @@
 //! o32 calls with paths that are one native call.
 ghost use Rattle.std.specs.Prelude.{◌≡◌, ℕ, ◌<◌, List, None, Ok, length, position, slice_set, true};
-ghost use Rattle.bridge_paths.specs.Passed.{AreUnusedZero, takes_address};
-ghost use Rattle.bridge_paths.specs.Passed.{KeepsCall};
+ghost use Rattle.bridge_paths.specs.Passed.{AreUnusedZero, KeepsCall, LeadsOn, built_call, takes_address};
 ghost use Rattle.kernel_model.specs.Stops.{StopsOnlyIfRose};
 ghost use Rattle.native_calls.specs.Table.{native_call};
-ghost use Rattle.bridge_paths.specs.Passed.{built_call};
 ghost use Rattle.o32_model.specs.Answered.{IsCall};
 ghost use Rattle.o32_model.specs.Paths.{is_nul, path_at, path_limit};
 ghost use Rattle.o32_model.specs.Step.{Guest, O32Step};
 ghost use Rattle.outside.specs.Streams.{NoCountFell, contents};
 ghost use Rattle.bridge_file.specs.inside.Paths.{MirrorsPath, MirrorsPaths};
 
-use bridge_paths::{NativeKernel, number_call, put_one, put_two, read_path};
+use bridge_paths::{Below, put_one, put_two, read_path};
 use guest_space::Space;
-use host_mem::HostMem;
 use kernel_core::{Bytes, Stop};
-use o32_model::{CallWords, Log, Outcome};
+use o32_model::{CallWords, Outcome};
 use outside::{Devices, Sink, Source};
 use std::alloc::Global;
 
@@ -27,32 +24,31 @@ pub(crate) fn path_call<I: Source, O: Sink, E: Sink>(
     words: &CallWords,
     address: u32,
     space: &Space,
-    k: &mut NativeKernel,
     nr: u64,
     args: [u64; 6],
-    mem: &mut HostMem,
     dev: &mut Devices<I, O, E>,
-    log: &mut Log,
+    below: &mut Below,
 ) -> Result<Outcome, Stop>
     requires built { built_call nr ≡ native_call nr }
     requires unused { AreUnusedZero nr args }
     requires address { takes_address nr ≡ true }
     ensures row { (guest : Guest) (step : List ℕ → O32Step) → guest.words ≡ words.now → guest.memory ≡ space.now
-        → MirrorsPath guest k.old address (native_call nr args k.old) step
-        → IsCall step result k.new guest.memory guest.processor
+        → MirrorsPath guest below.old.kernel.now address (native_call nr args below.old.kernel.now) step
+        → IsCall step result below.new.kernel.now guest.memory guest.processor
         (contents I.left O.written E.written dev.old) (contents I.left O.written E.written dev.new) }
     ensures kept { (guest : Guest) (step : List ℕ → O32Step) → guest.words ≡ words.now → guest.memory ≡ space.now
-        → MirrorsPath guest k.old address (native_call nr args k.old) step
-        → KeepsCall step result k.old guest (I.left dev.old.input) log.old log.new }
+        → MirrorsPath guest below.old.kernel.now address (native_call nr args below.old.kernel.now) step
+        → KeepsCall step result below.old.kernel.now guest (I.left dev.old.input) below.old.log.now below.new.log.now }
     ensures cause { StopsOnlyIfRose I.faults O.faults E.faults result dev.old dev.new }
     ensures counts { NoCountFell I.faults O.faults E.faults dev.old dev.new }
-    ensures clock { k.new.clock ≡ k.old.clock }
+    ensures clock { below.new.kernel.now.clock ≡ below.old.kernel.now.clock }
+    ensures same { LeadsOn below.old below.new }
 {
     match read_path(alloc, space, address)? {
         Err(error) => Ok(Outcome::Error(error)),
         Ok(path) => {
-            put_one(mem, &path)?;
-            number_call(words, k, nr, args, mem, dev, log)
+            put_one(below.memory, &path)?;
+            below.number_call(words, nr, args, dev)
         }
     }
 }
@@ -66,32 +62,31 @@ pub(crate) fn paths_call<I: Source, O: Sink, E: Sink>(
     second: u32,
     place: usize,
     space: &Space,
-    k: &mut NativeKernel,
     nr: u64,
     args: [u64; 6],
-    mem: &mut HostMem,
     dev: &mut Devices<I, O, E>,
-    log: &mut Log,
+    below: &mut Below,
 ) -> Result<Outcome, Stop>
     requires built { built_call nr ≡ native_call nr }
     requires unused { (at : ℕ) → AreUnusedZero nr (slice_set args place at) }
     requires address { takes_address nr ≡ true }
     requires place { place < 6 }
     ensures row { (guest : Guest) (step : List ℕ → O32Step) → guest.words ≡ words.now → guest.memory ≡ space.now
-        → MirrorsPaths guest k.old first second (λ at. native_call nr (slice_set args place at) k.old) step
-        → IsCall step result k.new guest.memory guest.processor
+        → MirrorsPaths guest below.old.kernel.now first second (λ at. native_call nr (slice_set args place at) below.old.kernel.now) step
+        → IsCall step result below.new.kernel.now guest.memory guest.processor
         (contents I.left O.written E.written dev.old) (contents I.left O.written E.written dev.new) }
     ensures kept { (guest : Guest) (step : List ℕ → O32Step) → guest.words ≡ words.now → guest.memory ≡ space.now
-        → MirrorsPaths guest k.old first second (λ at. native_call nr (slice_set args place at) k.old) step
-        → KeepsCall step result k.old guest (I.left dev.old.input) log.old log.new }
+        → MirrorsPaths guest below.old.kernel.now first second (λ at. native_call nr (slice_set args place at) below.old.kernel.now) step
+        → KeepsCall step result below.old.kernel.now guest (I.left dev.old.input) below.old.log.now below.new.log.now }
     ensures cause { StopsOnlyIfRose I.faults O.faults E.faults result dev.old dev.new }
     ensures counts { NoCountFell I.faults O.faults E.faults dev.old dev.new }
-    ensures clock { k.new.clock ≡ k.old.clock }
+    ensures clock { below.new.kernel.now.clock ≡ below.old.kernel.now.clock }
+    ensures same { LeadsOn below.old below.new }
 {
     match read_path(alloc, space, first)? {
         Err(error) => Ok(Outcome::Error(error)),
         Ok(one) => second_call(
-            alloc, words, first, &one, second, place, space, k, nr, args, mem, dev, log,
+            alloc, words, first, &one, second, place, space, nr, args, dev, below,
         ),
     }
 }
@@ -105,12 +100,10 @@ fn second_call<I: Source, O: Sink, E: Sink>(
     second: u32,
     place: usize,
     space: &Space,
-    k: &mut NativeKernel,
     nr: u64,
     args: [u64; 6],
-    mem: &mut HostMem,
     dev: &mut Devices<I, O, E>,
-    log: &mut Log,
+    below: &mut Below,
 ) -> Result<Outcome, Stop>
     requires built { built_call nr ≡ native_call nr }
     requires unused { (at : ℕ) → AreUnusedZero nr (slice_set args place at) }
@@ -120,22 +113,23 @@ fn second_call<I: Source, O: Sink, E: Sink>(
     requires short { length one.now < path_limit }
     requires plain { position is_nul one.now ≡ None }
     ensures row { (guest : Guest) (step : List ℕ → O32Step) → guest.words ≡ words.now → guest.memory ≡ space.now
-        → MirrorsPaths guest k.old first second (λ at. native_call nr (slice_set args place at) k.old) step
-        → IsCall step result k.new guest.memory guest.processor
+        → MirrorsPaths guest below.old.kernel.now first second (λ at. native_call nr (slice_set args place at) below.old.kernel.now) step
+        → IsCall step result below.new.kernel.now guest.memory guest.processor
         (contents I.left O.written E.written dev.old) (contents I.left O.written E.written dev.new) }
     ensures kept { (guest : Guest) (step : List ℕ → O32Step) → guest.words ≡ words.now → guest.memory ≡ space.now
-        → MirrorsPaths guest k.old first second (λ at. native_call nr (slice_set args place at) k.old) step
-        → KeepsCall step result k.old guest (I.left dev.old.input) log.old log.new }
+        → MirrorsPaths guest below.old.kernel.now first second (λ at. native_call nr (slice_set args place at) below.old.kernel.now) step
+        → KeepsCall step result below.old.kernel.now guest (I.left dev.old.input) below.old.log.now below.new.log.now }
     ensures cause { StopsOnlyIfRose I.faults O.faults E.faults result dev.old dev.new }
     ensures counts { NoCountFell I.faults O.faults E.faults dev.old dev.new }
-    ensures clock { k.new.clock ≡ k.old.clock }
+    ensures clock { below.new.kernel.now.clock ≡ below.old.kernel.now.clock }
+    ensures same { LeadsOn below.old below.new }
 {
     match read_path(alloc, space, second)? {
         Err(error) => Ok(Outcome::Error(error)),
         Ok(two) => {
-            let at = put_two(mem, one, &two)?;
+            let at = put_two(below.memory, one, &two)?;
             let args = with_argument(args, place, at);
-            number_call(words, k, nr, args, mem, dev, log)
+            below.number_call(words, nr, args, dev)
         }
     }
 }

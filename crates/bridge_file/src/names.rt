@@ -1,7 +1,7 @@
 //! The calls on names: mkdir(2), rmdir(2), unlink(2), symlink(2), link(2), rename(2), and their forms with
 //! descriptors of directories. What is wrong with a path is EFAULT or ENAMETOOLONG, and what the walk finds.
 ghost use Rattle.std.specs.Prelude.{◌≡◌, ℕ, List};
-ghost use Rattle.bridge_paths.specs.Passed.{KeepsCall};
+ghost use Rattle.bridge_paths.specs.Passed.{KeepsCall, LeadsOn};
 ghost use Rattle.kernel_model.specs.Stops.{StopsOnlyIfRose};
 ghost use Rattle.o32_model.specs.Answered.{IsCall};
 ghost use Rattle.o32_model.specs.Names.{follow_flag, linked, linkat_row, mkdir_row, remove_directory_flag, remove_row, rename_row, symlink_row};
@@ -13,11 +13,11 @@ ghost use Rattle.outside.specs.Streams.{NoCountFell, contents};
 use crate::arguments::fifth;
 use crate::calls::{path_call, paths_call};
 use crate::numbers::{LINKAT, MKDIRAT, RENAMEAT, SYMLINKAT, UNLINKAT};
-use bridge_paths::NativeKernel;
+use bridge_paths::Below;
 use guest_space::Space;
-use host_mem::{FIRST_ADDRESS, HostMem};
+use host_mem::FIRST_ADDRESS;
 use kernel_core::{Errno, Stop};
-use o32_model::{CallWords, Log, Outcome};
+use o32_model::{CallWords, Outcome};
 use outside::{Devices, Sink, Source};
 use std::alloc::Global;
 
@@ -29,19 +29,18 @@ pub(crate) fn mkdir<I: Source, O: Sink, E: Sink>(
     address: u32,
     mode: u32,
     space: &Space,
-    k: &mut NativeKernel,
-    mem: &mut HostMem,
     dev: &mut Devices<I, O, E>,
-    log: &mut Log,
+    below: &mut Below,
 ) -> Result<Outcome, Stop>
     ensures row { (guest : Guest) → guest.words ≡ words.now → guest.memory ≡ space.now
-        → IsCall (mkdir_row k.old guest (base directory) address mode) result k.new guest.memory guest.processor
+        → IsCall (mkdir_row below.old.kernel.now guest (base directory) address mode) result below.new.kernel.now guest.memory guest.processor
         (contents I.left O.written E.written dev.old) (contents I.left O.written E.written dev.new) }
     ensures kept { (guest : Guest) → guest.words ≡ words.now → guest.memory ≡ space.now
-        → KeepsCall (mkdir_row k.old guest (base directory) address mode) result k.old guest (I.left dev.old.input) log.old log.new }
+        → KeepsCall (mkdir_row below.old.kernel.now guest (base directory) address mode) result below.old.kernel.now guest (I.left dev.old.input) below.old.log.now below.new.log.now }
     ensures cause { StopsOnlyIfRose I.faults O.faults E.faults result dev.old dev.new }
     ensures counts { NoCountFell I.faults O.faults E.faults dev.old dev.new }
-    ensures clock { k.new.clock ≡ k.old.clock }
+    ensures clock { below.new.kernel.now.clock ≡ below.old.kernel.now.clock }
+    ensures same { LeadsOn below.old below.new }
 {
     let args = [
         u64::from(directory),
@@ -51,9 +50,7 @@ pub(crate) fn mkdir<I: Source, O: Sink, E: Sink>(
         0,
         0,
     ];
-    path_call(
-        alloc, words, address, space, k, MKDIRAT, args, mem, dev, log,
-    )
+    path_call(alloc, words, address, space, MKDIRAT, args, dev, below)
 }
 
 /// unlinkat(2), of which unlink(2) and rmdir(2) are forms: what is wrong with the path; EINVAL for flags other than
@@ -65,19 +62,18 @@ pub(crate) fn remove<I: Source, O: Sink, E: Sink>(
     address: u32,
     flags: u32,
     space: &Space,
-    k: &mut NativeKernel,
-    mem: &mut HostMem,
     dev: &mut Devices<I, O, E>,
-    log: &mut Log,
+    below: &mut Below,
 ) -> Result<Outcome, Stop>
     ensures row { (guest : Guest) → guest.words ≡ words.now → guest.memory ≡ space.now
-        → IsCall (remove_row k.old guest (base directory) address (one_flag remove_directory_flag flags)) result k.new guest.memory guest.processor
+        → IsCall (remove_row below.old.kernel.now guest (base directory) address (one_flag remove_directory_flag flags)) result below.new.kernel.now guest.memory guest.processor
         (contents I.left O.written E.written dev.old) (contents I.left O.written E.written dev.new) }
     ensures kept { (guest : Guest) → guest.words ≡ words.now → guest.memory ≡ space.now
-        → KeepsCall (remove_row k.old guest (base directory) address (one_flag remove_directory_flag flags)) result k.old guest (I.left dev.old.input) log.old log.new }
+        → KeepsCall (remove_row below.old.kernel.now guest (base directory) address (one_flag remove_directory_flag flags)) result below.old.kernel.now guest (I.left dev.old.input) below.old.log.now below.new.log.now }
     ensures cause { StopsOnlyIfRose I.faults O.faults E.faults result dev.old dev.new }
     ensures counts { NoCountFell I.faults O.faults E.faults dev.old dev.new }
-    ensures clock { k.new.clock ≡ k.old.clock }
+    ensures clock { below.new.kernel.now.clock ≡ below.old.kernel.now.clock }
+    ensures same { LeadsOn below.old below.new }
 {
     let args = [
         u64::from(directory),
@@ -87,9 +83,7 @@ pub(crate) fn remove<I: Source, O: Sink, E: Sink>(
         0,
         0,
     ];
-    path_call(
-        alloc, words, address, space, k, UNLINKAT, args, mem, dev, log,
-    )
+    path_call(alloc, words, address, space, UNLINKAT, args, dev, below)
 }
 
 /// symlink(2), symlinkat(2): what is wrong with the target and the path; ENOENT for an empty target, EEXIST, ENOSPC.
@@ -100,23 +94,22 @@ pub(crate) fn symlink<I: Source, O: Sink, E: Sink>(
     directory: u32,
     address: u32,
     space: &Space,
-    k: &mut NativeKernel,
-    mem: &mut HostMem,
     dev: &mut Devices<I, O, E>,
-    log: &mut Log,
+    below: &mut Below,
 ) -> Result<Outcome, Stop>
     ensures row { (guest : Guest) → guest.words ≡ words.now → guest.memory ≡ space.now
-        → IsCall (symlink_row k.old guest target (base directory) address) result k.new guest.memory guest.processor
+        → IsCall (symlink_row below.old.kernel.now guest target (base directory) address) result below.new.kernel.now guest.memory guest.processor
         (contents I.left O.written E.written dev.old) (contents I.left O.written E.written dev.new) }
     ensures kept { (guest : Guest) → guest.words ≡ words.now → guest.memory ≡ space.now
-        → KeepsCall (symlink_row k.old guest target (base directory) address) result k.old guest (I.left dev.old.input) log.old log.new }
+        → KeepsCall (symlink_row below.old.kernel.now guest target (base directory) address) result below.old.kernel.now guest (I.left dev.old.input) below.old.log.now below.new.log.now }
     ensures cause { StopsOnlyIfRose I.faults O.faults E.faults result dev.old dev.new }
     ensures counts { NoCountFell I.faults O.faults E.faults dev.old dev.new }
-    ensures clock { k.new.clock ≡ k.old.clock }
+    ensures clock { below.new.kernel.now.clock ≡ below.old.kernel.now.clock }
+    ensures same { LeadsOn below.old below.new }
 {
     let args = [FIRST_ADDRESS, u64::from(directory), 0, 0, 0, 0];
     paths_call(
-        alloc, words, target, address, 2, space, k, SYMLINKAT, args, mem, dev, log,
+        alloc, words, target, address, 2, space, SYMLINKAT, args, dev, below,
     )
 }
 
@@ -129,19 +122,18 @@ pub(crate) fn rename<I: Source, O: Sink, E: Sink>(
     new_directory: u32,
     new: u32,
     space: &Space,
-    k: &mut NativeKernel,
-    mem: &mut HostMem,
     dev: &mut Devices<I, O, E>,
-    log: &mut Log,
+    below: &mut Below,
 ) -> Result<Outcome, Stop>
     ensures row { (guest : Guest) → guest.words ≡ words.now → guest.memory ≡ space.now
-        → IsCall (rename_row k.old guest (base old_directory) old (base new_directory) new) result k.new guest.memory guest.processor
+        → IsCall (rename_row below.old.kernel.now guest (base old_directory) old (base new_directory) new) result below.new.kernel.now guest.memory guest.processor
         (contents I.left O.written E.written dev.old) (contents I.left O.written E.written dev.new) }
     ensures kept { (guest : Guest) → guest.words ≡ words.now → guest.memory ≡ space.now
-        → KeepsCall (rename_row k.old guest (base old_directory) old (base new_directory) new) result k.old guest (I.left dev.old.input) log.old log.new }
+        → KeepsCall (rename_row below.old.kernel.now guest (base old_directory) old (base new_directory) new) result below.old.kernel.now guest (I.left dev.old.input) below.old.log.now below.new.log.now }
     ensures cause { StopsOnlyIfRose I.faults O.faults E.faults result dev.old dev.new }
     ensures counts { NoCountFell I.faults O.faults E.faults dev.old dev.new }
-    ensures clock { k.new.clock ≡ k.old.clock }
+    ensures clock { below.new.kernel.now.clock ≡ below.old.kernel.now.clock }
+    ensures same { LeadsOn below.old below.new }
 {
     let args = [
         u64::from(old_directory),
@@ -151,9 +143,7 @@ pub(crate) fn rename<I: Source, O: Sink, E: Sink>(
         0,
         0,
     ];
-    paths_call(
-        alloc, words, old, new, 3, space, k, RENAMEAT, args, mem, dev, log,
-    )
+    paths_call(alloc, words, old, new, 3, space, RENAMEAT, args, dev, below)
 }
 
 /// linkat(2), of which link(2) is a form: what is wrong with the paths; EINVAL for flags other than AT_SYMLINK_FOLLOW;
@@ -167,19 +157,18 @@ pub(crate) fn link<I: Source, O: Sink, E: Sink>(
     new: u32,
     flags: u32,
     space: &Space,
-    k: &mut NativeKernel,
-    mem: &mut HostMem,
     dev: &mut Devices<I, O, E>,
-    log: &mut Log,
+    below: &mut Below,
 ) -> Result<Outcome, Stop>
     ensures row { (guest : Guest) → guest.words ≡ words.now → guest.memory ≡ space.now
-        → IsCall (λ left. gives guest (linked k.old guest (base old_directory) old (base new_directory) new (one_flag follow_flag flags)) left) result k.new guest.memory guest.processor
+        → IsCall (λ left. gives guest (linked below.old.kernel.now guest (base old_directory) old (base new_directory) new (one_flag follow_flag flags)) left) result below.new.kernel.now guest.memory guest.processor
         (contents I.left O.written E.written dev.old) (contents I.left O.written E.written dev.new) }
     ensures kept { (guest : Guest) → guest.words ≡ words.now → guest.memory ≡ space.now
-        → KeepsCall (λ left. gives guest (linked k.old guest (base old_directory) old (base new_directory) new (one_flag follow_flag flags)) left) result k.old guest (I.left dev.old.input) log.old log.new }
+        → KeepsCall (λ left. gives guest (linked below.old.kernel.now guest (base old_directory) old (base new_directory) new (one_flag follow_flag flags)) left) result below.old.kernel.now guest (I.left dev.old.input) below.old.log.now below.new.log.now }
     ensures cause { StopsOnlyIfRose I.faults O.faults E.faults result dev.old dev.new }
     ensures counts { NoCountFell I.faults O.faults E.faults dev.old dev.new }
-    ensures clock { k.new.clock ≡ k.old.clock }
+    ensures clock { below.new.kernel.now.clock ≡ below.old.kernel.now.clock }
+    ensures same { LeadsOn below.old below.new }
 {
     let args = [
         u64::from(old_directory),
@@ -189,9 +178,7 @@ pub(crate) fn link<I: Source, O: Sink, E: Sink>(
         u64::from(flags),
         0,
     ];
-    paths_call(
-        alloc, words, old, new, 3, space, k, LINKAT, args, mem, dev, log,
-    )
+    paths_call(alloc, words, old, new, 3, space, LINKAT, args, dev, below)
 }
 
 /// linkat(2), whose flags are the fifth argument: EFAULT before all else where they can't be read (this
@@ -204,19 +191,18 @@ pub(crate) fn linkat<I: Source, O: Sink, E: Sink>(
     new_directory: u32,
     new: u32,
     space: &Space,
-    k: &mut NativeKernel,
-    mem: &mut HostMem,
     dev: &mut Devices<I, O, E>,
-    log: &mut Log,
+    below: &mut Below,
 ) -> Result<Outcome, Stop>
     ensures row { (guest : Guest) → guest.words ≡ words.now → guest.memory ≡ space.now
-        → IsCall (linkat_row k.old guest (base old_directory) old (base new_directory) new (stack_word words.now 0)) result k.new guest.memory guest.processor
+        → IsCall (linkat_row below.old.kernel.now guest (base old_directory) old (base new_directory) new (stack_word words.now 0)) result below.new.kernel.now guest.memory guest.processor
         (contents I.left O.written E.written dev.old) (contents I.left O.written E.written dev.new) }
     ensures kept { (guest : Guest) → guest.words ≡ words.now → guest.memory ≡ space.now
-        → KeepsCall (linkat_row k.old guest (base old_directory) old (base new_directory) new (stack_word words.now 0)) result k.old guest (I.left dev.old.input) log.old log.new }
+        → KeepsCall (linkat_row below.old.kernel.now guest (base old_directory) old (base new_directory) new (stack_word words.now 0)) result below.old.kernel.now guest (I.left dev.old.input) below.old.log.now below.new.log.now }
     ensures cause { StopsOnlyIfRose I.faults O.faults E.faults result dev.old dev.new }
     ensures counts { NoCountFell I.faults O.faults E.faults dev.old dev.new }
-    ensures clock { k.new.clock ≡ k.old.clock }
+    ensures clock { below.new.kernel.now.clock ≡ below.old.kernel.now.clock }
+    ensures same { LeadsOn below.old below.new }
 {
     match fifth(words) {
         None => Ok(Outcome::Error(Errno::EFAULT)),
@@ -229,10 +215,8 @@ pub(crate) fn linkat<I: Source, O: Sink, E: Sink>(
             new,
             flags,
             space,
-            k,
-            mem,
             dev,
-            log,
+            below,
         ),
     }
 }

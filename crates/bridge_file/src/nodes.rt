@@ -2,7 +2,7 @@
 //! fchmod(2), fsync(2), chdir(2), fchdir(2), umask(2). What is wrong with a path is EFAULT or ENAMETOOLONG, and what the
 //! walk finds.
 ghost use Rattle.std.specs.Prelude.{◌≡◌};
-ghost use Rattle.bridge_paths.specs.Passed.{KeepsCall};
+ghost use Rattle.bridge_paths.specs.Passed.{KeepsCall, LeadsOn};
 ghost use Rattle.kernel_model.specs.Stops.{StopsOnlyIfRose};
 ghost use Rattle.o32_model.specs.Answered.{IsCall};
 ghost use Rattle.o32_model.specs.NodeCalls.{access_row, chdir_row, chmod_row, fchdir_row, fchmod_row, sync_row, umask_row};
@@ -12,11 +12,11 @@ ghost use Rattle.outside.specs.Streams.{NoCountFell, contents};
 
 use crate::calls::path_call;
 use crate::numbers::{CHDIR, FACCESSAT, FCHDIR, FCHMOD, FCHMODAT, FDATASYNC, FSYNC, UMASK};
-use bridge_paths::{NativeKernel, number_call};
+use bridge_paths::Below;
 use guest_space::Space;
-use host_mem::{FIRST_ADDRESS, HostMem};
+use host_mem::FIRST_ADDRESS;
 use kernel_core::Stop;
-use o32_model::{CallWords, Log, Outcome};
+use o32_model::{CallWords, Outcome};
 use outside::{Devices, Sink, Source};
 use std::alloc::Global;
 
@@ -28,19 +28,18 @@ pub(crate) fn access<I: Source, O: Sink, E: Sink>(
     address: u32,
     mode: u32,
     space: &Space,
-    k: &mut NativeKernel,
-    mem: &mut HostMem,
     dev: &mut Devices<I, O, E>,
-    log: &mut Log,
+    below: &mut Below,
 ) -> Result<Outcome, Stop>
     ensures row { (guest : Guest) → guest.words ≡ words.now → guest.memory ≡ space.now
-        → IsCall (access_row k.old guest (base directory) address mode) result k.new guest.memory guest.processor
+        → IsCall (access_row below.old.kernel.now guest (base directory) address mode) result below.new.kernel.now guest.memory guest.processor
         (contents I.left O.written E.written dev.old) (contents I.left O.written E.written dev.new) }
     ensures kept { (guest : Guest) → guest.words ≡ words.now → guest.memory ≡ space.now
-        → KeepsCall (access_row k.old guest (base directory) address mode) result k.old guest (I.left dev.old.input) log.old log.new }
+        → KeepsCall (access_row below.old.kernel.now guest (base directory) address mode) result below.old.kernel.now guest (I.left dev.old.input) below.old.log.now below.new.log.now }
     ensures cause { StopsOnlyIfRose I.faults O.faults E.faults result dev.old dev.new }
     ensures counts { NoCountFell I.faults O.faults E.faults dev.old dev.new }
-    ensures clock { k.new.clock ≡ k.old.clock }
+    ensures clock { below.new.kernel.now.clock ≡ below.old.kernel.now.clock }
+    ensures same { LeadsOn below.old below.new }
 {
     let args = [
         u64::from(directory),
@@ -50,9 +49,7 @@ pub(crate) fn access<I: Source, O: Sink, E: Sink>(
         0,
         0,
     ];
-    path_call(
-        alloc, words, address, space, k, FACCESSAT, args, mem, dev, log,
-    )
+    path_call(alloc, words, address, space, FACCESSAT, args, dev, below)
 }
 
 /// chmod(2), fchmodat(2): what is wrong with the path.
@@ -63,19 +60,18 @@ pub(crate) fn chmod<I: Source, O: Sink, E: Sink>(
     address: u32,
     mode: u32,
     space: &Space,
-    k: &mut NativeKernel,
-    mem: &mut HostMem,
     dev: &mut Devices<I, O, E>,
-    log: &mut Log,
+    below: &mut Below,
 ) -> Result<Outcome, Stop>
     ensures row { (guest : Guest) → guest.words ≡ words.now → guest.memory ≡ space.now
-        → IsCall (chmod_row k.old guest (base directory) address mode) result k.new guest.memory guest.processor
+        → IsCall (chmod_row below.old.kernel.now guest (base directory) address mode) result below.new.kernel.now guest.memory guest.processor
         (contents I.left O.written E.written dev.old) (contents I.left O.written E.written dev.new) }
     ensures kept { (guest : Guest) → guest.words ≡ words.now → guest.memory ≡ space.now
-        → KeepsCall (chmod_row k.old guest (base directory) address mode) result k.old guest (I.left dev.old.input) log.old log.new }
+        → KeepsCall (chmod_row below.old.kernel.now guest (base directory) address mode) result below.old.kernel.now guest (I.left dev.old.input) below.old.log.now below.new.log.now }
     ensures cause { StopsOnlyIfRose I.faults O.faults E.faults result dev.old dev.new }
     ensures counts { NoCountFell I.faults O.faults E.faults dev.old dev.new }
-    ensures clock { k.new.clock ≡ k.old.clock }
+    ensures clock { below.new.kernel.now.clock ≡ below.old.kernel.now.clock }
+    ensures same { LeadsOn below.old below.new }
 {
     let args = [
         u64::from(directory),
@@ -85,9 +81,7 @@ pub(crate) fn chmod<I: Source, O: Sink, E: Sink>(
         0,
         0,
     ];
-    path_call(
-        alloc, words, address, space, k, FCHMODAT, args, mem, dev, log,
-    )
+    path_call(alloc, words, address, space, FCHMODAT, args, dev, below)
 }
 
 /// chdir(2): what is wrong with the path; ENOTDIR.
@@ -96,22 +90,21 @@ pub(crate) fn chdir<I: Source, O: Sink, E: Sink>(
     words: &CallWords,
     address: u32,
     space: &Space,
-    k: &mut NativeKernel,
-    mem: &mut HostMem,
     dev: &mut Devices<I, O, E>,
-    log: &mut Log,
+    below: &mut Below,
 ) -> Result<Outcome, Stop>
     ensures row { (guest : Guest) → guest.words ≡ words.now → guest.memory ≡ space.now
-        → IsCall (chdir_row k.old guest address) result k.new guest.memory guest.processor
+        → IsCall (chdir_row below.old.kernel.now guest address) result below.new.kernel.now guest.memory guest.processor
         (contents I.left O.written E.written dev.old) (contents I.left O.written E.written dev.new) }
     ensures kept { (guest : Guest) → guest.words ≡ words.now → guest.memory ≡ space.now
-        → KeepsCall (chdir_row k.old guest address) result k.old guest (I.left dev.old.input) log.old log.new }
+        → KeepsCall (chdir_row below.old.kernel.now guest address) result below.old.kernel.now guest (I.left dev.old.input) below.old.log.now below.new.log.now }
     ensures cause { StopsOnlyIfRose I.faults O.faults E.faults result dev.old dev.new }
     ensures counts { NoCountFell I.faults O.faults E.faults dev.old dev.new }
-    ensures clock { k.new.clock ≡ k.old.clock }
+    ensures clock { below.new.kernel.now.clock ≡ below.old.kernel.now.clock }
+    ensures same { LeadsOn below.old below.new }
 {
     let args = [FIRST_ADDRESS, 0, 0, 0, 0, 0];
-    path_call(alloc, words, address, space, k, CHDIR, args, mem, dev, log)
+    path_call(alloc, words, address, space, CHDIR, args, dev, below)
 }
 
 /// fchmod(2): EBADF.
@@ -119,114 +112,109 @@ pub(crate) fn fchmod<I: Source, O: Sink, E: Sink>(
     words: &CallWords,
     fd: u32,
     mode: u32,
-    k: &mut NativeKernel,
-    mem: &mut HostMem,
     dev: &mut Devices<I, O, E>,
-    log: &mut Log,
+    below: &mut Below,
 ) -> Result<Outcome, Stop>
     ensures row { (guest : Guest) → guest.words ≡ words.now
-        → IsCall (fchmod_row k.old guest fd mode) result k.new guest.memory guest.processor
+        → IsCall (fchmod_row below.old.kernel.now guest fd mode) result below.new.kernel.now guest.memory guest.processor
         (contents I.left O.written E.written dev.old) (contents I.left O.written E.written dev.new) }
     ensures kept { (guest : Guest) → guest.words ≡ words.now
-        → KeepsCall (fchmod_row k.old guest fd mode) result k.old guest (I.left dev.old.input) log.old log.new }
+        → KeepsCall (fchmod_row below.old.kernel.now guest fd mode) result below.old.kernel.now guest (I.left dev.old.input) below.old.log.now below.new.log.now }
     ensures cause { StopsOnlyIfRose I.faults O.faults E.faults result dev.old dev.new }
     ensures counts { NoCountFell I.faults O.faults E.faults dev.old dev.new }
-    ensures clock { k.new.clock ≡ k.old.clock }
+    ensures clock { below.new.kernel.now.clock ≡ below.old.kernel.now.clock }
+    ensures same { LeadsOn below.old below.new }
 {
-    mem.clear();
+    below.memory.clear();
     let args = [u64::from(fd), u64::from(mode), 0, 0, 0, 0];
-    number_call(words, k, FCHMOD, args, mem, dev, log)
+    below.number_call(words, FCHMOD, args, dev)
 }
 
 /// fchdir(2): EBADF, ENOTDIR.
 pub(crate) fn fchdir<I: Source, O: Sink, E: Sink>(
     words: &CallWords,
     fd: u32,
-    k: &mut NativeKernel,
-    mem: &mut HostMem,
     dev: &mut Devices<I, O, E>,
-    log: &mut Log,
+    below: &mut Below,
 ) -> Result<Outcome, Stop>
     ensures row { (guest : Guest) → guest.words ≡ words.now
-        → IsCall (fchdir_row k.old guest fd) result k.new guest.memory guest.processor
+        → IsCall (fchdir_row below.old.kernel.now guest fd) result below.new.kernel.now guest.memory guest.processor
         (contents I.left O.written E.written dev.old) (contents I.left O.written E.written dev.new) }
     ensures kept { (guest : Guest) → guest.words ≡ words.now
-        → KeepsCall (fchdir_row k.old guest fd) result k.old guest (I.left dev.old.input) log.old log.new }
+        → KeepsCall (fchdir_row below.old.kernel.now guest fd) result below.old.kernel.now guest (I.left dev.old.input) below.old.log.now below.new.log.now }
     ensures cause { StopsOnlyIfRose I.faults O.faults E.faults result dev.old dev.new }
     ensures counts { NoCountFell I.faults O.faults E.faults dev.old dev.new }
-    ensures clock { k.new.clock ≡ k.old.clock }
+    ensures clock { below.new.kernel.now.clock ≡ below.old.kernel.now.clock }
+    ensures same { LeadsOn below.old below.new }
 {
-    mem.clear();
+    below.memory.clear();
     let args = [u64::from(fd), 0, 0, 0, 0, 0];
-    number_call(words, k, FCHDIR, args, mem, dev, log)
+    below.number_call(words, FCHDIR, args, dev)
 }
 
 /// fsync(2): EBADF, EINVAL.
 pub(crate) fn fsync<I: Source, O: Sink, E: Sink>(
     words: &CallWords,
     fd: u32,
-    k: &mut NativeKernel,
-    mem: &mut HostMem,
     dev: &mut Devices<I, O, E>,
-    log: &mut Log,
+    below: &mut Below,
 ) -> Result<Outcome, Stop>
     ensures row { (guest : Guest) → guest.words ≡ words.now
-        → IsCall (sync_row k.old guest fd) result k.new guest.memory guest.processor
+        → IsCall (sync_row below.old.kernel.now guest fd) result below.new.kernel.now guest.memory guest.processor
         (contents I.left O.written E.written dev.old) (contents I.left O.written E.written dev.new) }
     ensures kept { (guest : Guest) → guest.words ≡ words.now
-        → KeepsCall (sync_row k.old guest fd) result k.old guest (I.left dev.old.input) log.old log.new }
+        → KeepsCall (sync_row below.old.kernel.now guest fd) result below.old.kernel.now guest (I.left dev.old.input) below.old.log.now below.new.log.now }
     ensures cause { StopsOnlyIfRose I.faults O.faults E.faults result dev.old dev.new }
     ensures counts { NoCountFell I.faults O.faults E.faults dev.old dev.new }
-    ensures clock { k.new.clock ≡ k.old.clock }
+    ensures clock { below.new.kernel.now.clock ≡ below.old.kernel.now.clock }
+    ensures same { LeadsOn below.old below.new }
 {
-    mem.clear();
+    below.memory.clear();
     let args = [u64::from(fd), 0, 0, 0, 0, 0];
-    number_call(words, k, FSYNC, args, mem, dev, log)
+    below.number_call(words, FSYNC, args, dev)
 }
 
 /// fdatasync(2): EBADF, EINVAL.
 pub(crate) fn fdatasync<I: Source, O: Sink, E: Sink>(
     words: &CallWords,
     fd: u32,
-    k: &mut NativeKernel,
-    mem: &mut HostMem,
     dev: &mut Devices<I, O, E>,
-    log: &mut Log,
+    below: &mut Below,
 ) -> Result<Outcome, Stop>
     ensures row { (guest : Guest) → guest.words ≡ words.now
-        → IsCall (sync_row k.old guest fd) result k.new guest.memory guest.processor
+        → IsCall (sync_row below.old.kernel.now guest fd) result below.new.kernel.now guest.memory guest.processor
         (contents I.left O.written E.written dev.old) (contents I.left O.written E.written dev.new) }
     ensures kept { (guest : Guest) → guest.words ≡ words.now
-        → KeepsCall (sync_row k.old guest fd) result k.old guest (I.left dev.old.input) log.old log.new }
+        → KeepsCall (sync_row below.old.kernel.now guest fd) result below.old.kernel.now guest (I.left dev.old.input) below.old.log.now below.new.log.now }
     ensures cause { StopsOnlyIfRose I.faults O.faults E.faults result dev.old dev.new }
     ensures counts { NoCountFell I.faults O.faults E.faults dev.old dev.new }
-    ensures clock { k.new.clock ≡ k.old.clock }
+    ensures clock { below.new.kernel.now.clock ≡ below.old.kernel.now.clock }
+    ensures same { LeadsOn below.old below.new }
 {
-    mem.clear();
+    below.memory.clear();
     let args = [u64::from(fd), 0, 0, 0, 0, 0];
-    number_call(words, k, FDATASYNC, args, mem, dev, log)
+    below.number_call(words, FDATASYNC, args, dev)
 }
 
 /// umask(2), which always succeeds: nine bits are kept, and the result is the old ones.
 pub(crate) fn umask<I: Source, O: Sink, E: Sink>(
     words: &CallWords,
     mask: u32,
-    k: &mut NativeKernel,
-    mem: &mut HostMem,
     dev: &mut Devices<I, O, E>,
-    log: &mut Log,
+    below: &mut Below,
 ) -> Result<Outcome, Stop>
     ensures row { (guest : Guest) → guest.words ≡ words.now
-        → IsCall (umask_row k.old guest mask) result k.new guest.memory guest.processor
+        → IsCall (umask_row below.old.kernel.now guest mask) result below.new.kernel.now guest.memory guest.processor
         (contents I.left O.written E.written dev.old) (contents I.left O.written E.written dev.new) }
     ensures kept { (guest : Guest) → guest.words ≡ words.now
-        → KeepsCall (umask_row k.old guest mask) result k.old guest (I.left dev.old.input) log.old log.new }
+        → KeepsCall (umask_row below.old.kernel.now guest mask) result below.old.kernel.now guest (I.left dev.old.input) below.old.log.now below.new.log.now }
     ensures cause { StopsOnlyIfRose I.faults O.faults E.faults result dev.old dev.new }
     ensures counts { NoCountFell I.faults O.faults E.faults dev.old dev.new }
-    ensures clock { k.new.clock ≡ k.old.clock }
+    ensures clock { below.new.kernel.now.clock ≡ below.old.kernel.now.clock }
+    ensures same { LeadsOn below.old below.new }
 {
-    k.files_valid();
-    mem.clear();
+    below.kernel.files_valid();
+    below.memory.clear();
     let args = [u64::from(mask), 0, 0, 0, 0, 0];
-    number_call(words, k, UMASK, args, mem, dev, log)
+    below.number_call(words, UMASK, args, dev)
 }

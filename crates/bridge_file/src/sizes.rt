@@ -2,7 +2,7 @@
 //! a signed number (off_t, loff_t).
 ghost use Rattle.std.specs.Prelude.{◌≡◌};
 ghost use Rattle.std.specs.Int.{cast_signed, w64};
-ghost use Rattle.bridge_paths.specs.Passed.{KeepsCall};
+ghost use Rattle.bridge_paths.specs.Passed.{KeepsCall, LeadsOn};
 ghost use Rattle.kernel_model.specs.Stops.{StopsOnlyIfRose};
 ghost use Rattle.o32_model.specs.Answered.{IsCall};
 ghost use Rattle.o32_model.specs.NodeCalls.{ftruncate_row, truncate_row};
@@ -11,11 +11,11 @@ ghost use Rattle.outside.specs.Streams.{NoCountFell, contents};
 
 use crate::calls::path_call;
 use crate::numbers::{FTRUNCATE, TRUNCATE};
-use bridge_paths::{NativeKernel, number_call};
+use bridge_paths::Below;
 use guest_space::Space;
-use host_mem::{FIRST_ADDRESS, HostMem};
+use host_mem::FIRST_ADDRESS;
 use kernel_core::Stop;
-use o32_model::{CallWords, Log, Outcome};
+use o32_model::{CallWords, Outcome};
 use outside::{Devices, Sink, Source};
 use std::alloc::Global;
 
@@ -27,24 +27,21 @@ pub(crate) fn truncate<I: Source, O: Sink, E: Sink>(
     address: u32,
     size: u64,
     space: &Space,
-    k: &mut NativeKernel,
-    mem: &mut HostMem,
     dev: &mut Devices<I, O, E>,
-    log: &mut Log,
+    below: &mut Below,
 ) -> Result<Outcome, Stop>
     ensures row { (guest : Guest) → guest.words ≡ words.now → guest.memory ≡ space.now
-        → IsCall (truncate_row k.old guest address (cast_signed w64 size)) result k.new guest.memory guest.processor
+        → IsCall (truncate_row below.old.kernel.now guest address (cast_signed w64 size)) result below.new.kernel.now guest.memory guest.processor
         (contents I.left O.written E.written dev.old) (contents I.left O.written E.written dev.new) }
     ensures kept { (guest : Guest) → guest.words ≡ words.now → guest.memory ≡ space.now
-        → KeepsCall (truncate_row k.old guest address (cast_signed w64 size)) result k.old guest (I.left dev.old.input) log.old log.new }
+        → KeepsCall (truncate_row below.old.kernel.now guest address (cast_signed w64 size)) result below.old.kernel.now guest (I.left dev.old.input) below.old.log.now below.new.log.now }
     ensures cause { StopsOnlyIfRose I.faults O.faults E.faults result dev.old dev.new }
     ensures counts { NoCountFell I.faults O.faults E.faults dev.old dev.new }
-    ensures clock { k.new.clock ≡ k.old.clock }
+    ensures clock { below.new.kernel.now.clock ≡ below.old.kernel.now.clock }
+    ensures same { LeadsOn below.old below.new }
 {
     let args = [FIRST_ADDRESS, size, 0, 0, 0, 0];
-    path_call(
-        alloc, words, address, space, k, TRUNCATE, args, mem, dev, log,
-    )
+    path_call(alloc, words, address, space, TRUNCATE, args, dev, below)
 }
 
 /// ftruncate(2), ftruncate64(2), by the bits of the size: EBADF; EINVAL for a size below 0, for a descriptor
@@ -53,21 +50,20 @@ pub(crate) fn ftruncate<I: Source, O: Sink, E: Sink>(
     words: &CallWords,
     fd: u32,
     size: u64,
-    k: &mut NativeKernel,
-    mem: &mut HostMem,
     dev: &mut Devices<I, O, E>,
-    log: &mut Log,
+    below: &mut Below,
 ) -> Result<Outcome, Stop>
     ensures row { (guest : Guest) → guest.words ≡ words.now
-        → IsCall (ftruncate_row k.old guest fd (cast_signed w64 size)) result k.new guest.memory guest.processor
+        → IsCall (ftruncate_row below.old.kernel.now guest fd (cast_signed w64 size)) result below.new.kernel.now guest.memory guest.processor
         (contents I.left O.written E.written dev.old) (contents I.left O.written E.written dev.new) }
     ensures kept { (guest : Guest) → guest.words ≡ words.now
-        → KeepsCall (ftruncate_row k.old guest fd (cast_signed w64 size)) result k.old guest (I.left dev.old.input) log.old log.new }
+        → KeepsCall (ftruncate_row below.old.kernel.now guest fd (cast_signed w64 size)) result below.old.kernel.now guest (I.left dev.old.input) below.old.log.now below.new.log.now }
     ensures cause { StopsOnlyIfRose I.faults O.faults E.faults result dev.old dev.new }
     ensures counts { NoCountFell I.faults O.faults E.faults dev.old dev.new }
-    ensures clock { k.new.clock ≡ k.old.clock }
+    ensures clock { below.new.kernel.now.clock ≡ below.old.kernel.now.clock }
+    ensures same { LeadsOn below.old below.new }
 {
-    mem.clear();
+    below.memory.clear();
     let args = [u64::from(fd), size, 0, 0, 0, 0];
-    number_call(words, k, FTRUNCATE, args, mem, dev, log)
+    below.number_call(words, FTRUNCATE, args, dev)
 }

@@ -1,7 +1,7 @@
 //! The calls that tell a text: readlink(2), readlinkat(2), getcwd(2).
 ghost use Rattle.std.specs.Prelude.{◌≡◌, ◌<◌, None, Ok, length, position};
 ghost use Rattle.std.specs.Int.{cast_signed, w32};
-ghost use Rattle.bridge_paths.specs.Passed.{KeepsCall};
+ghost use Rattle.bridge_paths.specs.Passed.{KeepsCall, LeadsOn};
 ghost use Rattle.kernel_model.specs.Stops.{StopsOnlyIfRose};
 ghost use Rattle.o32_model.specs.Answered.{IsCall};
 ghost use Rattle.o32_model.specs.Names.{readlink_row};
@@ -14,11 +14,11 @@ ghost use Rattle.bridge_file.specs.inside.Tells.{size_room};
 
 use crate::numbers::{GETCWD, READLINKAT};
 use crate::telling::{Told, tell_call};
-use bridge_paths::{NativeKernel, fresh_room, put_room, read_path};
+use bridge_paths::{Below, fresh_room, put_room, read_path};
 use guest_space::Space;
-use host_mem::{FIRST_ADDRESS, HostMem};
+use host_mem::FIRST_ADDRESS;
 use kernel_core::{Bytes, Stop};
-use o32_model::{CallWords, Log, Outcome};
+use o32_model::{CallWords, Outcome};
 use outside::{Devices, Sink, Source};
 use std::alloc::Global;
 
@@ -35,24 +35,23 @@ pub(crate) fn readlink<I: Source, O: Sink, E: Sink>(
     buffer: u32,
     size: u32,
     space: &mut Space,
-    k: &mut NativeKernel,
-    mem: &mut HostMem,
     dev: &mut Devices<I, O, E>,
-    log: &mut Log,
+    below: &mut Below,
 ) -> Result<Outcome, Stop>
     ensures row { (guest : Guest) → guest.words ≡ words.now → guest.memory ≡ space.old
-        → IsCall (readlink_row k.old guest (base directory) address buffer (cast_signed w32 size)) result k.new space.new guest.processor
+        → IsCall (readlink_row below.old.kernel.now guest (base directory) address buffer (cast_signed w32 size)) result below.new.kernel.now space.new guest.processor
         (contents I.left O.written E.written dev.old) (contents I.left O.written E.written dev.new) }
     ensures kept { (guest : Guest) → guest.words ≡ words.now → guest.memory ≡ space.old
-        → KeepsCall (readlink_row k.old guest (base directory) address buffer (cast_signed w32 size)) result k.old guest (I.left dev.old.input) log.old log.new }
+        → KeepsCall (readlink_row below.old.kernel.now guest (base directory) address buffer (cast_signed w32 size)) result below.old.kernel.now guest (I.left dev.old.input) below.old.log.now below.new.log.now }
     ensures cause { StopsOnlyIfRose I.faults O.faults E.faults result dev.old dev.new }
     ensures counts { NoCountFell I.faults O.faults E.faults dev.old dev.new }
-    ensures clock { k.new.clock ≡ k.old.clock }
+    ensures clock { below.new.kernel.now.clock ≡ below.old.kernel.now.clock }
+    ensures same { LeadsOn below.old below.new }
 {
     match read_path(alloc, space, address)? {
         Err(error) => Ok(Outcome::Error(error)),
         Ok(path) => link_text(
-            words, directory, address, &path, buffer, size, space, k, mem, dev, log,
+            words, directory, address, &path, buffer, size, space, dev, below,
         ),
     }
 }
@@ -66,25 +65,24 @@ fn link_text<I: Source, O: Sink, E: Sink>(
     buffer: u32,
     size: u32,
     space: &mut Space,
-    k: &mut NativeKernel,
-    mem: &mut HostMem,
     dev: &mut Devices<I, O, E>,
-    log: &mut Log,
+    below: &mut Below,
 ) -> Result<Outcome, Stop>
     requires found { path_at space.old address ≡ Ok path.now }
     requires short { length path.now < path_limit }
     requires plain { position is_nul path.now ≡ None }
     ensures row { (guest : Guest) → guest.words ≡ words.now → guest.memory ≡ space.old
-        → IsCall (readlink_row k.old guest (base directory) address buffer (cast_signed w32 size)) result k.new space.new guest.processor
+        → IsCall (readlink_row below.old.kernel.now guest (base directory) address buffer (cast_signed w32 size)) result below.new.kernel.now space.new guest.processor
         (contents I.left O.written E.written dev.old) (contents I.left O.written E.written dev.new) }
     ensures kept { (guest : Guest) → guest.words ≡ words.now → guest.memory ≡ space.old
-        → KeepsCall (readlink_row k.old guest (base directory) address buffer (cast_signed w32 size)) result k.old guest (I.left dev.old.input) log.old log.new }
+        → KeepsCall (readlink_row below.old.kernel.now guest (base directory) address buffer (cast_signed w32 size)) result below.old.kernel.now guest (I.left dev.old.input) below.old.log.now below.new.log.now }
     ensures cause { StopsOnlyIfRose I.faults O.faults E.faults result dev.old dev.new }
     ensures counts { NoCountFell I.faults O.faults E.faults dev.old dev.new }
-    ensures clock { k.new.clock ≡ k.old.clock }
+    ensures clock { below.new.kernel.now.clock ≡ below.old.kernel.now.clock }
+    ensures same { LeadsOn below.old below.new }
 {
     let room = space.writable(buffer, size_room(size));
-    let at = put_room(mem, path, room)?;
+    let at = put_room(below.memory, path, room)?;
     let args = [
         u64::from(directory),
         FIRST_ADDRESS,
@@ -98,12 +96,10 @@ fn link_text<I: Source, O: Sink, E: Sink>(
         buffer,
         Told::Text(at),
         space,
-        k,
         READLINKAT,
         args,
-        mem,
         dev,
-        log,
+        below,
     )
 }
 
@@ -121,32 +117,29 @@ pub(crate) fn getcwd<I: Source, O: Sink, E: Sink>(
     buffer: u32,
     size: u32,
     space: &mut Space,
-    k: &mut NativeKernel,
-    mem: &mut HostMem,
     dev: &mut Devices<I, O, E>,
-    log: &mut Log,
+    below: &mut Below,
 ) -> Result<Outcome, Stop>
     ensures row { (guest : Guest) → guest.words ≡ words.now → guest.memory ≡ space.old
-        → IsCall (getcwd_row k.old guest buffer size) result k.new space.new guest.processor
+        → IsCall (getcwd_row below.old.kernel.now guest buffer size) result below.new.kernel.now space.new guest.processor
         (contents I.left O.written E.written dev.old) (contents I.left O.written E.written dev.new) }
     ensures kept { (guest : Guest) → guest.words ≡ words.now → guest.memory ≡ space.old
-        → KeepsCall (getcwd_row k.old guest buffer size) result k.old guest (I.left dev.old.input) log.old log.new }
+        → KeepsCall (getcwd_row below.old.kernel.now guest buffer size) result below.old.kernel.now guest (I.left dev.old.input) below.old.log.now below.new.log.now }
     ensures cause { StopsOnlyIfRose I.faults O.faults E.faults result dev.old dev.new }
     ensures counts { NoCountFell I.faults O.faults E.faults dev.old dev.new }
-    ensures clock { k.new.clock ≡ k.old.clock }
+    ensures clock { below.new.kernel.now.clock ≡ below.old.kernel.now.clock }
+    ensures same { LeadsOn below.old below.new }
 {
-    fresh_room(mem, space.writable(buffer, size))?;
+    fresh_room(below.memory, space.writable(buffer, size))?;
     let args = [FIRST_ADDRESS, u64::from(size), 0, 0, 0, 0];
     tell_call(
         words,
         buffer,
         Told::Text(FIRST_ADDRESS),
         space,
-        k,
         GETCWD,
         args,
-        mem,
         dev,
-        log,
+        below,
     )
 }

@@ -1,7 +1,7 @@
 //! The call that sets the times of a node: utimensat(2).
 ghost use Rattle.std.specs.Prelude.{◌≡◌, ◌<◌, ◌≤◌, List, IfOk, IfSome, None, Ok, OnOk, Option, ℕ, length, option_map, position, true};
 ghost use Rattle.byteorder.specs.Endian.{big_number};
-ghost use Rattle.bridge_paths.specs.Passed.{KeepsCall};
+ghost use Rattle.bridge_paths.specs.Passed.{KeepsCall, LeadsOn};
 ghost use Rattle.kernel_model.specs.Came.{given_or_none};
 ghost use Rattle.kernel_model.specs.Stops.{StopsOnlyIfRose};
 ghost use Rattle.layouts.specs.Number.{value_of};
@@ -25,14 +25,14 @@ ghost use Rattle.bridge_file.specs.inside.BothTimes.{
 };
 
 use crate::numbers::UTIMENSAT;
-use bridge_paths::{NativeKernel, load_structure, number_call, put_path, read_path};
+use bridge_paths::{Below, load_structure, put_path, read_path};
 use byteorder::{BigEndian, ByteOrder};
 use guest_space::Space;
 use host_mem::HostMem;
 use kernel_core::{Bytes, Errno, NoMemory, Stop};
 use kernel_model::TimeSpec;
 use layouts::{NativeStructure, native_layout, put_record};
-use o32_model::{CallWords, Log, Outcome};
+use o32_model::{CallWords, Outcome};
 use outside::{Devices, Sink, Source};
 use std::alloc::Global;
 
@@ -56,24 +56,23 @@ pub(crate) fn utimensat<I: Source, O: Sink, E: Sink>(
     times: u32,
     flags: u32,
     space: &Space,
-    k: &mut NativeKernel,
-    mem: &mut HostMem,
     dev: &mut Devices<I, O, E>,
-    log: &mut Log,
+    below: &mut Below,
 ) -> Result<Outcome, Stop>
     ensures row { (guest : Guest) → guest.words ≡ words.now → guest.memory ≡ space.now
-        → IsCall (utimensat_row k.old guest (base directory) address times flags) result k.new guest.memory guest.processor
+        → IsCall (utimensat_row below.old.kernel.now guest (base directory) address times flags) result below.new.kernel.now guest.memory guest.processor
         (contents I.left O.written E.written dev.old) (contents I.left O.written E.written dev.new) }
     ensures kept { (guest : Guest) → guest.words ≡ words.now → guest.memory ≡ space.now
-        → KeepsCall (utimensat_row k.old guest (base directory) address times flags) result k.old guest (I.left dev.old.input) log.old log.new }
+        → KeepsCall (utimensat_row below.old.kernel.now guest (base directory) address times flags) result below.old.kernel.now guest (I.left dev.old.input) below.old.log.now below.new.log.now }
     ensures cause { StopsOnlyIfRose I.faults O.faults E.faults result dev.old dev.new }
     ensures counts { NoCountFell I.faults O.faults E.faults dev.old dev.new }
-    ensures clock { k.new.clock ≡ k.old.clock }
+    ensures clock { below.new.kernel.now.clock ≡ below.old.kernel.now.clock }
+    ensures same { LeadsOn below.old below.new }
 {
     match read_path_or_none(alloc, space, address)? {
         Err(error) => Ok(Outcome::Error(error)),
         Ok(path) => set_times(
-            words, directory, address, &path, times, flags, space, k, mem, dev, log,
+            words, directory, address, &path, times, flags, space, dev, below,
         ),
     }
 }
@@ -87,30 +86,29 @@ fn set_times<I: Source, O: Sink, E: Sink>(
     times: u32,
     flags: u32,
     space: &Space,
-    k: &mut NativeKernel,
-    mem: &mut HostMem,
     dev: &mut Devices<I, O, E>,
-    log: &mut Log,
+    below: &mut Below,
 ) -> Result<Outcome, Stop>
     requires found { path_or_none space.now address ≡ Ok path.now }
     requires short { IfSome path.now (λ path. length path < path_limit) }
     requires plain { IfSome path.now (λ path. position is_nul path ≡ None) }
     ensures row { (guest : Guest) → guest.words ≡ words.now → guest.memory ≡ space.now
-        → IsCall (utimensat_row k.old guest (base directory) address times flags) result k.new guest.memory guest.processor
+        → IsCall (utimensat_row below.old.kernel.now guest (base directory) address times flags) result below.new.kernel.now guest.memory guest.processor
         (contents I.left O.written E.written dev.old) (contents I.left O.written E.written dev.new) }
     ensures kept { (guest : Guest) → guest.words ≡ words.now → guest.memory ≡ space.now
-        → KeepsCall (utimensat_row k.old guest (base directory) address times flags) result k.old guest (I.left dev.old.input) log.old log.new }
+        → KeepsCall (utimensat_row below.old.kernel.now guest (base directory) address times flags) result below.old.kernel.now guest (I.left dev.old.input) below.old.log.now below.new.log.now }
     ensures cause { StopsOnlyIfRose I.faults O.faults E.faults result dev.old dev.new }
     ensures counts { NoCountFell I.faults O.faults E.faults dev.old dev.new }
-    ensures clock { k.new.clock ≡ k.old.clock }
+    ensures clock { below.new.kernel.now.clock ≡ below.old.kernel.now.clock }
+    ensures same { LeadsOn below.old below.new }
 {
     match read_times(space, times) {
         Err(error) => Ok(Outcome::Error(error)),
         Ok(given) => {
-            let at = put_path_or_none(mem, path)?;
-            let times_at = put_times_or_none(mem, given)?;
+            let at = put_path_or_none(below.memory, path)?;
+            let times_at = put_times_or_none(below.memory, given)?;
             let args = [u64::from(directory), at, times_at, u64::from(flags), 0, 0];
-            number_call(words, k, UTIMENSAT, args, mem, dev, log)
+            below.number_call(words, UTIMENSAT, args, dev)
         }
     }
 }

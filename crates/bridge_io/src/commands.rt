@@ -1,5 +1,6 @@
 //! fcntl(2).
 ghost use Rattle.std.specs.Prelude.{◌≡◌, ◌<◌, ◌≤◌, ℕ, List};
+ghost use Rattle.bridge_log.specs.Leading.{LeadsOn};
 ghost use Rattle.bridge_io.specs.inside.Outcomes.{handed, native_status_flags, outcome_flags, told_flags};
 ghost use Rattle.bridge_log.specs.Arguments.{AreUnusedZero, IsPlaced};
 ghost use Rattle.bridge_log.specs.Keeping.{KeepsCall};
@@ -16,10 +17,9 @@ ghost use Rattle.o32_model.specs.Step.{Guest, O32Step};
 ghost use Rattle.outside.specs.Streams.{NoCountFell, contents};
 
 use crate::numbers::{F_GETFL, F_SETFL, FCNTL};
-use bridge_log::{NativeKernel, native, number_call, outcome_of};
-use host_mem::HostMem;
+use bridge_log::{Below, outcome_of};
 use kernel_core::{Reply, Stop};
-use o32_model::{CallWords, Log, Outcome};
+use o32_model::{CallWords, Outcome};
 use outside::{Devices, Sink, Source};
 
 /// fcntl(2): EBADF; EINVAL for a command that is not listed and for a least descriptor past the last; EMFILE.
@@ -29,32 +29,31 @@ pub(crate) fn fcntl<I: Source, O: Sink, E: Sink>(
     fd: u32,
     command: u32,
     argument: u32,
-    k: &mut NativeKernel,
-    mem: &mut HostMem,
     dev: &mut Devices<I, O, E>,
-    log: &mut Log,
+    below: &mut Below,
 ) -> Result<Outcome, Stop>
     ensures row { (guest : Guest) → guest.words ≡ words.now
-        → IsCall (fcntl_row k.old guest fd command argument) result k.new guest.memory guest.processor
+        → IsCall (fcntl_row below.old.kernel.now guest fd command argument) result below.new.kernel.now guest.memory guest.processor
         (contents I.left O.written E.written dev.old) (contents I.left O.written E.written dev.new) }
     ensures kept { (guest : Guest) → guest.words ≡ words.now
-        → KeepsCall (fcntl_row k.old guest fd command argument) result k.old guest (I.left dev.old.input) log.old log.new }
+        → KeepsCall (fcntl_row below.old.kernel.now guest fd command argument) result below.old.kernel.now guest (I.left dev.old.input) below.old.log.now below.new.log.now }
     ensures cause { StopsOnlyIfRose I.faults O.faults E.faults result dev.old dev.new }
     ensures counts { NoCountFell I.faults O.faults E.faults dev.old dev.new }
-    ensures clock { k.new.clock ≡ k.old.clock }
+    ensures clock { below.new.kernel.now.clock ≡ below.old.kernel.now.clock }
+    ensures same { LeadsOn below.old below.new }
 {
-    k.whole();
-    mem.clear();
+    below.kernel.whole();
+    below.memory.clear();
     let fd = u64::from(fd);
     if command == 3 {
-        return flags_call(words, k, FCNTL, [fd, F_GETFL, 0, 0, 0, 0], mem, dev, log);
+        return flags_call(words, FCNTL, [fd, F_GETFL, 0, 0, 0, 0], dev, below);
     }
     if command == 4 {
         let args = [fd, F_SETFL, native_status_flags(argument), 0, 0, 0];
-        return number_call(words, k, FCNTL, args, mem, dev, log);
+        return below.number_call(words, FCNTL, args, dev);
     }
     let args = [fd, u64::from(command), handed(command, argument), 0, 0, 0];
-    number_call(words, k, FCNTL, args, mem, dev, log)
+    below.number_call(words, FCNTL, args, dev)
 }
 
 /// The last argument that the native call is handed: that of F_DUPFD, F_SETFD, F_SETFL and F_DUPFD_CLOEXEC, and 0 for a
@@ -71,28 +70,27 @@ fn handed(command: u32, argument: u32) -> u64
 /// Makes a native call whose number is flags of open(2).
 fn flags_call<I: Source, O: Sink, E: Sink>(
     words: &CallWords,
-    k: &mut NativeKernel,
     nr: u64,
     args: [u64; 6],
-    mem: &mut HostMem,
     dev: &mut Devices<I, O, E>,
-    log: &mut Log,
+    below: &mut Below,
 ) -> Result<Outcome, Stop>
     requires built { built_call nr ≡ native_call nr }
     requires unused { AreUnusedZero nr args }
-    requires placed { IsPlaced nr mem.old }
+    requires placed { IsPlaced nr below.old.memory.now }
     ensures row { (guest : Guest) (step : List ℕ → O32Step) → guest.words ≡ words.now
-        → ((left : List ℕ) → Mirrors guest (told_flags guest.words) (native_call nr args k.old mem.old left) (step left))
-        → IsCall step result k.new guest.memory guest.processor
+        → ((left : List ℕ) → Mirrors guest (told_flags guest.words) (native_call nr args below.old.kernel.now below.old.memory.now left) (step left))
+        → IsCall step result below.new.kernel.now guest.memory guest.processor
         (contents I.left O.written E.written dev.old) (contents I.left O.written E.written dev.new) }
     ensures kept { (guest : Guest) (step : List ℕ → O32Step) → guest.words ≡ words.now
-        → ((left : List ℕ) → Mirrors guest (told_flags guest.words) (native_call nr args k.old mem.old left) (step left))
-        → KeepsCall step result k.old guest (I.left dev.old.input) log.old log.new }
+        → ((left : List ℕ) → Mirrors guest (told_flags guest.words) (native_call nr args below.old.kernel.now below.old.memory.now left) (step left))
+        → KeepsCall step result below.old.kernel.now guest (I.left dev.old.input) below.old.log.now below.new.log.now }
     ensures cause { StopsOnlyIfRose I.faults O.faults E.faults result dev.old dev.new }
     ensures counts { NoCountFell I.faults O.faults E.faults dev.old dev.new }
-    ensures clock { k.new.clock ≡ k.old.clock }
+    ensures clock { below.new.kernel.now.clock ≡ below.old.kernel.now.clock }
+    ensures same { LeadsOn below.old below.new }
 {
-    let reply = native(k, nr, args, mem, dev, log)?;
+    let reply = below.native(nr, args, dev)?;
     Ok(outcome_flags(words, reply))
 }
 

@@ -17,7 +17,5 @@ mod terminal;
 mod vectors;
 mod writing;
 
-pub use bridge_log::{
-    NativeKernel, fill_call, fresh_room, load_structure, native, number_call, outcome_of, put,
-};
+pub use bridge_log::{Below, NativeKernel, fresh_room, load_structure, outcome_of, put};
 pub use call::io_call;

@@ -1,5 +1,6 @@
 //! Making pipes: pipe(2), pipe2(2).
 ghost use Rattle.std.specs.Prelude.{◌≡◌, ◌<◌, ℕ, List, replicate, true};
+ghost use Rattle.bridge_log.specs.Leading.{LeadsOn};
 ghost use Rattle.bridge_io.specs.inside.Outcomes.{outcome_pair, told_pair, native_pipe_flags, int_at, host_place};
 ghost use Rattle.bridge_log.specs.Arguments.{AreUnusedZero, takes_address};
 ghost use Rattle.bridge_log.specs.Keeping.{KeepsCall};
@@ -15,11 +16,11 @@ ghost use Rattle.outside.specs.Streams.{NoCountFell, contents};
 use crate::commands::bit;
 use crate::numbers::PIPE2;
 use crate::structures::{Structure, byte_at, store_call};
-use bridge_log::{NativeKernel, fresh_room, native, outcome_of};
+use bridge_log::{Below, fresh_room, outcome_of};
 use guest_space::Space;
 use host_mem::{FIRST_ADDRESS, HostMem};
 use kernel_core::{Reply, Stop};
-use o32_model::{CallWords, Log, Outcome};
+use o32_model::{CallWords, Outcome};
 use outside::{Devices, Sink, Source};
 
 /// How many bytes two descriptors have in memory.
@@ -28,52 +29,50 @@ const PAIR_SIZE: u32 = 8;
 /// pipe(2): EMFILE. Both descriptors are results, the end that is read first.
 pub(crate) fn pipe<I: Source, O: Sink, E: Sink>(
     words: &CallWords,
-    k: &mut NativeKernel,
-    mem: &mut HostMem,
     dev: &mut Devices<I, O, E>,
-    log: &mut Log,
+    below: &mut Below,
 ) -> Result<Outcome, Stop>
     ensures row { (guest : Guest) → guest.words ≡ words.now
-        → IsCall (pipe_row k.old guest) result k.new guest.memory guest.processor
+        → IsCall (pipe_row below.old.kernel.now guest) result below.new.kernel.now guest.memory guest.processor
         (contents I.left O.written E.written dev.old) (contents I.left O.written E.written dev.new) }
     ensures kept { (guest : Guest) → guest.words ≡ words.now
-        → KeepsCall (pipe_row k.old guest) result k.old guest (I.left dev.old.input) log.old log.new }
+        → KeepsCall (pipe_row below.old.kernel.now guest) result below.old.kernel.now guest (I.left dev.old.input) below.old.log.now below.new.log.now }
     ensures cause { StopsOnlyIfRose I.faults O.faults E.faults result dev.old dev.new }
     ensures counts { NoCountFell I.faults O.faults E.faults dev.old dev.new }
-    ensures clock { k.new.clock ≡ k.old.clock }
+    ensures clock { below.new.kernel.now.clock ≡ below.old.kernel.now.clock }
+    ensures same { LeadsOn below.old below.new }
 {
-    k.whole();
+    below.kernel.whole();
     let args = [FIRST_ADDRESS, 0, 0, 0, 0, 0];
-    pair_call(words, k, PIPE2, args, mem, dev, log)
+    pair_call(words, PIPE2, args, dev, below)
 }
 
 /// Makes a native call that puts two descriptors into host memory, which are the results.
 fn pair_call<I: Source, O: Sink, E: Sink>(
     words: &CallWords,
-    k: &mut NativeKernel,
     nr: u64,
     args: [u64; 6],
-    mem: &mut HostMem,
     dev: &mut Devices<I, O, E>,
-    log: &mut Log,
+    below: &mut Below,
 ) -> Result<Outcome, Stop>
     requires built { built_call nr ≡ native_call nr }
     requires unused { AreUnusedZero nr args }
     requires address { takes_address nr ≡ true }
     ensures row { (guest : Guest) (step : List ℕ → O32Step) → guest.words ≡ words.now
-        → ((left : List ℕ) → Mirrors guest (told_pair guest.words) (native_call nr args k.old (replicate 8 0) left) (step left))
-        → IsCall step result k.new guest.memory guest.processor
+        → ((left : List ℕ) → Mirrors guest (told_pair guest.words) (native_call nr args below.old.kernel.now (replicate 8 0) left) (step left))
+        → IsCall step result below.new.kernel.now guest.memory guest.processor
         (contents I.left O.written E.written dev.old) (contents I.left O.written E.written dev.new) }
     ensures kept { (guest : Guest) (step : List ℕ → O32Step) → guest.words ≡ words.now
-        → ((left : List ℕ) → Mirrors guest (told_pair guest.words) (native_call nr args k.old (replicate 8 0) left) (step left))
-        → KeepsCall step result k.old guest (I.left dev.old.input) log.old log.new }
+        → ((left : List ℕ) → Mirrors guest (told_pair guest.words) (native_call nr args below.old.kernel.now (replicate 8 0) left) (step left))
+        → KeepsCall step result below.old.kernel.now guest (I.left dev.old.input) below.old.log.now below.new.log.now }
     ensures cause { StopsOnlyIfRose I.faults O.faults E.faults result dev.old dev.new }
     ensures counts { NoCountFell I.faults O.faults E.faults dev.old dev.new }
-    ensures clock { k.new.clock ≡ k.old.clock }
+    ensures clock { below.new.kernel.now.clock ≡ below.old.kernel.now.clock }
+    ensures same { LeadsOn below.old below.new }
 {
-    fresh_room(mem, PAIR_SIZE)?;
-    let reply = native(k, nr, args, mem, dev, log)?;
-    Ok(outcome_pair(words, mem, reply))
+    fresh_room(below.memory, PAIR_SIZE)?;
+    let reply = below.native(nr, args, dev)?;
+    Ok(outcome_pair(words, below.memory, reply))
 }
 
 fn outcome_pair(words: &CallWords, mem: &HostMem, reply: Reply) -> Outcome
@@ -105,21 +104,20 @@ pub(crate) fn pipe2<I: Source, O: Sink, E: Sink>(
     address: u32,
     flags: u32,
     space: &mut Space,
-    k: &mut NativeKernel,
-    mem: &mut HostMem,
     dev: &mut Devices<I, O, E>,
-    log: &mut Log,
+    below: &mut Below,
 ) -> Result<Outcome, Stop>
     ensures row { (guest : Guest) → guest.words ≡ words.now → guest.memory ≡ space.old
-        → IsCall (pipe2_row k.old guest address flags) result k.new space.new guest.processor
+        → IsCall (pipe2_row below.old.kernel.now guest address flags) result below.new.kernel.now space.new guest.processor
         (contents I.left O.written E.written dev.old) (contents I.left O.written E.written dev.new) }
     ensures kept { (guest : Guest) → guest.words ≡ words.now → guest.memory ≡ space.old
-        → KeepsCall (pipe2_row k.old guest address flags) result k.old guest (I.left dev.old.input) log.old log.new }
+        → KeepsCall (pipe2_row below.old.kernel.now guest address flags) result below.old.kernel.now guest (I.left dev.old.input) below.old.log.now below.new.log.now }
     ensures cause { StopsOnlyIfRose I.faults O.faults E.faults result dev.old dev.new }
     ensures counts { NoCountFell I.faults O.faults E.faults dev.old dev.new }
-    ensures clock { k.new.clock ≡ k.old.clock }
+    ensures clock { below.new.kernel.now.clock ≡ below.old.kernel.now.clock }
+    ensures same { LeadsOn below.old below.new }
 {
-    k.whole();
+    below.kernel.whole();
     let place = host_place(space, address, PAIR_SIZE);
     let args = [place, native_pipe_flags(flags), 0, 0, 0, 0];
     store_call(
@@ -127,12 +125,10 @@ pub(crate) fn pipe2<I: Source, O: Sink, E: Sink>(
         address,
         Structure::Pair,
         space,
-        k,
         PIPE2,
         args,
-        mem,
         dev,
-        log,
+        below,
     )
 }
 

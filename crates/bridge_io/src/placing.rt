@@ -1,6 +1,7 @@
 //! Writing at a place: pwrite(2).
 ghost use Rattle.std.specs.Prelude.{◌≡◌, ◌<◌, ◌^◌, ℤ, Some, true, false};
 ghost use Rattle.std.specs.Int.{w64, cast_signed};
+ghost use Rattle.bridge_log.specs.Leading.{LeadsOn};
 ghost use Rattle.bridge_log.specs.Looks.{LooksFor};
 ghost use Rattle.bridge_io.specs.inside.Plans.{IsPlan};
 ghost use Rattle.bridge_io.specs.inside.Rooms.{flags_there, size_there};
@@ -18,11 +19,11 @@ use crate::looking::{SMALL_FILE_LIMIT, is_ready, size, write_flags};
 use crate::numbers::PWRITE64;
 use crate::room::{Plan, WriteFlags};
 use crate::telling::past_outcome;
-use bridge_log::{NativeKernel, load_buffer, number_call, stack_pair};
+use bridge_log::{Below, load_buffer, stack_pair};
 use guest_space::Space;
-use host_mem::{FIRST_ADDRESS, HostMem};
+use host_mem::FIRST_ADDRESS;
 use kernel_core::{Errno, Stop};
-use o32_model::{CallWords, Log, Outcome};
+use o32_model::{CallWords, Outcome};
 use outside::{Devices, Sink, Source};
 
 /// From here on a place is one below 0.
@@ -39,23 +40,22 @@ pub(crate) fn pwrite<I: Source, O: Sink, E: Sink>(
     buffer: u32,
     count: u32,
     space: &Space,
-    k: &mut NativeKernel,
-    mem: &mut HostMem,
     dev: &mut Devices<I, O, E>,
-    log: &mut Log,
+    below: &mut Below,
 ) -> Result<Outcome, Stop>
     ensures row { (guest : Guest) → guest.words ≡ words.now → guest.memory ≡ space.now
-        → IsCall (pwrite_row k.old guest fd buffer count (stack_pair words.now)) result k.new guest.memory guest.processor
+        → IsCall (pwrite_row below.old.kernel.now guest fd buffer count (stack_pair words.now)) result below.new.kernel.now guest.memory guest.processor
         (contents I.left O.written E.written dev.old) (contents I.left O.written E.written dev.new) }
     ensures kept { (guest : Guest) → guest.words ≡ words.now → guest.memory ≡ space.now
-        → KeepsCall (pwrite_row k.old guest fd buffer count (stack_pair words.now)) result k.old guest (I.left dev.old.input) log.old log.new }
+        → KeepsCall (pwrite_row below.old.kernel.now guest fd buffer count (stack_pair words.now)) result below.old.kernel.now guest (I.left dev.old.input) below.old.log.now below.new.log.now }
     ensures cause { StopsOnlyIfRose I.faults O.faults E.faults result dev.old dev.new }
     ensures counts { NoCountFell I.faults O.faults E.faults dev.old dev.new }
-    ensures clock { k.new.clock ≡ k.old.clock }
+    ensures clock { below.new.kernel.now.clock ≡ below.old.kernel.now.clock }
+    ensures same { LeadsOn below.old below.new }
 {
     match stack_pair(words) {
         None => Ok(Outcome::Error(Errno::EFAULT)),
-        Some(place) => write_at(words, fd, buffer, count, place, space, k, mem, dev, log),
+        Some(place) => write_at(words, fd, buffer, count, place, space, dev, below),
     }
 }
 
@@ -67,23 +67,22 @@ fn write_at<I: Source, O: Sink, E: Sink>(
     count: u32,
     place: u64,
     space: &Space,
-    k: &mut NativeKernel,
-    mem: &mut HostMem,
     dev: &mut Devices<I, O, E>,
-    log: &mut Log,
+    below: &mut Below,
 ) -> Result<Outcome, Stop>
     ensures row { (guest : Guest) → guest.words ≡ words.now → guest.memory ≡ space.now
-        → IsCall (pwrite_row k.old guest fd buffer count (Some place)) result k.new guest.memory guest.processor
+        → IsCall (pwrite_row below.old.kernel.now guest fd buffer count (Some place)) result below.new.kernel.now guest.memory guest.processor
         (contents I.left O.written E.written dev.old) (contents I.left O.written E.written dev.new) }
     ensures kept { (guest : Guest) → guest.words ≡ words.now → guest.memory ≡ space.now
-        → KeepsCall (pwrite_row k.old guest fd buffer count (Some place)) result k.old guest (I.left dev.old.input) log.old log.new }
+        → KeepsCall (pwrite_row below.old.kernel.now guest fd buffer count (Some place)) result below.old.kernel.now guest (I.left dev.old.input) below.old.log.now below.new.log.now }
     ensures cause { StopsOnlyIfRose I.faults O.faults E.faults result dev.old dev.new }
     ensures counts { NoCountFell I.faults O.faults E.faults dev.old dev.new }
-    ensures clock { k.new.clock ≡ k.old.clock }
+    ensures clock { below.new.kernel.now.clock ≡ below.old.kernel.now.clock }
+    ensures same { LeadsOn below.old below.new }
 {
-    let plan = plan(k, fd, place, mem, dev, log)?;
-    load_buffer(space, mem, buffer, count)?;
-    write_planned(words, fd, count, plan, k, mem, dev, log)
+    let plan = plan(fd, place, dev, below)?;
+    load_buffer(space, below.memory, buffer, count)?;
+    write_planned(words, fd, count, plan, dev, below)
 }
 
 /// Writes what stands in host memory, of `count` bytes that are asked for, as it is planned.
@@ -92,28 +91,27 @@ fn write_planned<I: Source, O: Sink, E: Sink>(
     fd: u32,
     count: u32,
     plan: Plan,
-    k: &mut NativeKernel,
-    mem: &mut HostMem,
     dev: &mut Devices<I, O, E>,
-    log: &mut Log,
+    below: &mut Below,
 ) -> Result<Outcome, Stop>
-    ensures row { (guest : Guest) (place : ℤ) → guest.words ≡ words.now → IsPlan k.old.files small_file_limit fd place plan
-        → IsCall (place_write_of k.old guest fd place count mem.old) result k.new guest.memory guest.processor
+    ensures row { (guest : Guest) (place : ℤ) → guest.words ≡ words.now → IsPlan below.old.kernel.now.files small_file_limit fd place plan
+        → IsCall (place_write_of below.old.kernel.now guest fd place count below.old.memory.now) result below.new.kernel.now guest.memory guest.processor
         (contents I.left O.written E.written dev.old) (contents I.left O.written E.written dev.new) }
-    ensures kept { (guest : Guest) (place : ℤ) → guest.words ≡ words.now → IsPlan k.old.files small_file_limit fd place plan
-        → KeepsCall (place_write_of k.old guest fd place count mem.old) result k.old guest (I.left dev.old.input) log.old log.new }
+    ensures kept { (guest : Guest) (place : ℤ) → guest.words ≡ words.now → IsPlan below.old.kernel.now.files small_file_limit fd place plan
+        → KeepsCall (place_write_of below.old.kernel.now guest fd place count below.old.memory.now) result below.old.kernel.now guest (I.left dev.old.input) below.old.log.now below.new.log.now }
     ensures cause { StopsOnlyIfRose I.faults O.faults E.faults result dev.old dev.new }
     ensures counts { NoCountFell I.faults O.faults E.faults dev.old dev.new }
-    ensures clock { k.new.clock ≡ k.old.clock }
+    ensures clock { below.new.kernel.now.clock ≡ below.old.kernel.now.clock }
+    ensures same { LeadsOn below.old below.new }
 {
     match plan {
         Plan::Write { most, place } => {
             let count = most.min(u64::from(count));
             let args = [u64::from(fd), FIRST_ADDRESS, count, place, 0, 0];
-            number_call(words, k, PWRITE64, args, mem, dev, log)
+            below.number_call(words, PWRITE64, args, dev)
         }
         Plan::Past { writable, file } => {
-            let there = mem.as_slice().len();
+            let there = below.memory.as_slice().len();
             Ok(past_outcome(writable, file, count, there))
         }
     }
@@ -121,54 +119,52 @@ fn write_planned<I: Source, O: Sink, E: Sink>(
 
 /// How bytes are written at a place. One below 0 is left to the native kernel.
 fn plan<I: Source, O: Sink, E: Sink>(
-    k: &mut NativeKernel,
     fd: u32,
     place: u64,
-    mem: &mut HostMem,
     dev: &mut Devices<I, O, E>,
-    log: &mut Log,
+    below: &mut Below,
 ) -> Result<Plan, Stop>
-    ensures looks { LooksFor (IsPlan k.old.files small_file_limit fd (cast_signed w64 place)) result k.old k.new
-        (contents I.left O.written E.written dev.old) (contents I.left O.written E.written dev.new) log.old log.new }
+    ensures looks { LooksFor (IsPlan below.old.kernel.now.files small_file_limit fd (cast_signed w64 place)) result below.old.kernel.now below.new.kernel.now
+        (contents I.left O.written E.written dev.old) (contents I.left O.written E.written dev.new) below.old.log.now below.new.log.now }
     ensures cause { StopsOnlyIfRose I.faults O.faults E.faults result dev.old dev.new }
     ensures counts { NoCountFell I.faults O.faults E.faults dev.old dev.new }
-    ensures clock { k.new.clock ≡ k.old.clock }
+    ensures clock { below.new.kernel.now.clock ≡ below.old.kernel.now.clock }
+    ensures same { LeadsOn below.old below.new }
 {
     let most = u64::MAX;
     if place >= FIRST_NEGATIVE {
         return Ok(Plan::Write { most, place });
     }
-    match write_flags(k, fd, mem, dev, log)? {
+    match write_flags(fd, dev, below)? {
         None => Ok(Plan::Write { most, place }),
-        Some(flags) => plan_under(k, fd, place, flags, mem, dev, log),
+        Some(flags) => plan_under(fd, place, flags, dev, below),
     }
 }
 
 /// The same, by the flags of the descriptor. Without O_LARGEFILE a place from the limit on is as good as one
 /// past every file.
 fn plan_under<I: Source, O: Sink, E: Sink>(
-    k: &mut NativeKernel,
     fd: u32,
     place: u64,
     flags: WriteFlags,
-    mem: &mut HostMem,
     dev: &mut Devices<I, O, E>,
-    log: &mut Log,
+    below: &mut Below,
 ) -> Result<Plan, Stop>
     requires { place < 2 ^ 63 }
-    ensures looks { flags_there (opened k.old.files fd) ≡ Some flags
-        → LooksFor (IsPlan k.old.files small_file_limit fd (cast_signed w64 place)) result k.old k.new
-        (contents I.left O.written E.written dev.old) (contents I.left O.written E.written dev.new) log.old log.new }
+    ensures looks { flags_there (opened below.old.kernel.now.files fd) ≡ Some flags
+        → LooksFor (IsPlan below.old.kernel.now.files small_file_limit fd (cast_signed w64 place)) result below.old.kernel.now below.new.kernel.now
+        (contents I.left O.written E.written dev.old) (contents I.left O.written E.written dev.new) below.old.log.now below.new.log.now }
     ensures cause { StopsOnlyIfRose I.faults O.faults E.faults result dev.old dev.new }
     ensures counts { NoCountFell I.faults O.faults E.faults dev.old dev.new }
-    ensures clock { k.new.clock ≡ k.old.clock }
+    ensures clock { below.new.kernel.now.clock ≡ below.old.kernel.now.clock }
+    ensures same { LeadsOn below.old below.new }
 {
     let most = u64::MAX;
     if flags.largefile {
         return Ok(Plan::Write { most, place });
     }
     if flags.append {
-        return plan_at_end(k, fd, place, flags, mem, dev, log);
+        return plan_at_end(fd, place, flags, dev, below);
     }
     if place < SMALL_FILE_LIMIT {
         let most = SMALL_FILE_LIMIT - place;
@@ -179,54 +175,52 @@ fn plan_under<I: Source, O: Sink, E: Sink>(
 
 /// The same under O_APPEND, which writes at the end of the file.
 fn plan_at_end<I: Source, O: Sink, E: Sink>(
-    k: &mut NativeKernel,
     fd: u32,
     place: u64,
     flags: WriteFlags,
-    mem: &mut HostMem,
     dev: &mut Devices<I, O, E>,
-    log: &mut Log,
+    below: &mut Below,
 ) -> Result<Plan, Stop>
     requires { place < 2 ^ 63 }
-    ensures looks { flags_there (opened k.old.files fd) ≡ Some flags → flags.largefile ≡ false → flags.append ≡ true
-        → LooksFor (IsPlan k.old.files small_file_limit fd (cast_signed w64 place)) result k.old k.new
-        (contents I.left O.written E.written dev.old) (contents I.left O.written E.written dev.new) log.old log.new }
+    ensures looks { flags_there (opened below.old.kernel.now.files fd) ≡ Some flags → flags.largefile ≡ false → flags.append ≡ true
+        → LooksFor (IsPlan below.old.kernel.now.files small_file_limit fd (cast_signed w64 place)) result below.old.kernel.now below.new.kernel.now
+        (contents I.left O.written E.written dev.old) (contents I.left O.written E.written dev.new) below.old.log.now below.new.log.now }
     ensures cause { StopsOnlyIfRose I.faults O.faults E.faults result dev.old dev.new }
     ensures counts { NoCountFell I.faults O.faults E.faults dev.old dev.new }
-    ensures clock { k.new.clock ≡ k.old.clock }
+    ensures clock { below.new.kernel.now.clock ≡ below.old.kernel.now.clock }
+    ensures same { LeadsOn below.old below.new }
 {
     let most = u64::MAX;
-    match size(k, fd, mem, dev, log)? {
+    match size(fd, dev, below)? {
         None => Ok(Plan::Write { most, place }),
-        Some(size) => plan_behind(k, fd, place, flags, size, mem, dev, log),
+        Some(size) => plan_behind(fd, place, flags, size, dev, below),
     }
 }
 
 /// The same, by the size of what is open.
 fn plan_behind<I: Source, O: Sink, E: Sink>(
-    k: &mut NativeKernel,
     fd: u32,
     place: u64,
     flags: WriteFlags,
     size: u64,
-    mem: &mut HostMem,
     dev: &mut Devices<I, O, E>,
-    log: &mut Log,
+    below: &mut Below,
 ) -> Result<Plan, Stop>
     requires { place < 2 ^ 63 }
-    ensures looks { flags_there (opened k.old.files fd) ≡ Some flags → flags.largefile ≡ false → flags.append ≡ true
-        → size_there k.old.files (opened k.old.files fd) ≡ Some size
-        → LooksFor (IsPlan k.old.files small_file_limit fd (cast_signed w64 place)) result k.old k.new
-        (contents I.left O.written E.written dev.old) (contents I.left O.written E.written dev.new) log.old log.new }
+    ensures looks { flags_there (opened below.old.kernel.now.files fd) ≡ Some flags → flags.largefile ≡ false → flags.append ≡ true
+        → size_there below.old.kernel.now.files (opened below.old.kernel.now.files fd) ≡ Some size
+        → LooksFor (IsPlan below.old.kernel.now.files small_file_limit fd (cast_signed w64 place)) result below.old.kernel.now below.new.kernel.now
+        (contents I.left O.written E.written dev.old) (contents I.left O.written E.written dev.new) below.old.log.now below.new.log.now }
     ensures cause { StopsOnlyIfRose I.faults O.faults E.faults result dev.old dev.new }
     ensures counts { NoCountFell I.faults O.faults E.faults dev.old dev.new }
-    ensures clock { k.new.clock ≡ k.old.clock }
+    ensures clock { below.new.kernel.now.clock ≡ below.old.kernel.now.clock }
+    ensures same { LeadsOn below.old below.new }
 {
     if size < SMALL_FILE_LIMIT {
         let most = SMALL_FILE_LIMIT - size;
         return Ok(Plan::Write { most, place });
     }
-    let file = is_ready(k, fd, mem, dev, log)?;
+    let file = is_ready(fd, dev, below)?;
     let writable = flags.writable;
     Ok(Plan::Past { writable, file })
 }

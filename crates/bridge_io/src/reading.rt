@@ -1,5 +1,6 @@
 //! Reading: read(2), pread(2).
 ghost use Rattle.std.specs.Prelude.{◌≡◌};
+ghost use Rattle.bridge_log.specs.Leading.{LeadsOn};
 ghost use Rattle.bridge_log.specs.Keeping.{KeepsCall};
 ghost use Rattle.kernel_model.specs.Stops.{StopsOnlyIfRose};
 ghost use Rattle.o32_model.specs.Answered.{IsCall};
@@ -9,11 +10,11 @@ ghost use Rattle.o32_model.specs.Words.{stack_pair};
 ghost use Rattle.outside.specs.Streams.{NoCountFell, contents};
 
 use crate::numbers::{PREAD64, READ};
-use bridge_log::{NativeKernel, fill_call, stack_pair};
+use bridge_log::{Below, stack_pair};
 use guest_space::Space;
-use host_mem::{FIRST_ADDRESS, HostMem};
+use host_mem::FIRST_ADDRESS;
 use kernel_core::{Errno, Stop};
-use o32_model::{CallWords, Log, Outcome};
+use o32_model::{CallWords, Outcome};
 use outside::{Devices, Sink, Source};
 
 /// read(2): EBADF, EFAULT, EISDIR, EAGAIN. The longest prefix of the buffer that may be stored to is filled.
@@ -23,22 +24,21 @@ pub(crate) fn read<I: Source, O: Sink, E: Sink>(
     buffer: u32,
     count: u32,
     space: &mut Space,
-    k: &mut NativeKernel,
-    mem: &mut HostMem,
     dev: &mut Devices<I, O, E>,
-    log: &mut Log,
+    below: &mut Below,
 ) -> Result<Outcome, Stop>
     ensures row { (guest : Guest) → guest.words ≡ words.now → guest.memory ≡ space.old
-        → IsCall (read_row k.old guest fd buffer count) result k.new space.new guest.processor
+        → IsCall (read_row below.old.kernel.now guest fd buffer count) result below.new.kernel.now space.new guest.processor
         (contents I.left O.written E.written dev.old) (contents I.left O.written E.written dev.new) }
     ensures kept { (guest : Guest) → guest.words ≡ words.now → guest.memory ≡ space.old
-        → KeepsCall (read_row k.old guest fd buffer count) result k.old guest (I.left dev.old.input) log.old log.new }
+        → KeepsCall (read_row below.old.kernel.now guest fd buffer count) result below.old.kernel.now guest (I.left dev.old.input) below.old.log.now below.new.log.now }
     ensures cause { StopsOnlyIfRose I.faults O.faults E.faults result dev.old dev.new }
     ensures counts { NoCountFell I.faults O.faults E.faults dev.old dev.new }
-    ensures clock { k.new.clock ≡ k.old.clock }
+    ensures clock { below.new.kernel.now.clock ≡ below.old.kernel.now.clock }
+    ensures same { LeadsOn below.old below.new }
 {
     let args = [u64::from(fd), FIRST_ADDRESS, u64::from(count), 0, 0, 0];
-    fill_call(words, buffer, count, space, k, READ, args, mem, dev, log)
+    below.fill_call(words, buffer, count, space, READ, args, dev)
 }
 
 /// pread(2): as read(2) at a place, which two words on the stack give. EFAULT before all else where one of
@@ -49,23 +49,22 @@ pub(crate) fn pread<I: Source, O: Sink, E: Sink>(
     buffer: u32,
     count: u32,
     space: &mut Space,
-    k: &mut NativeKernel,
-    mem: &mut HostMem,
     dev: &mut Devices<I, O, E>,
-    log: &mut Log,
+    below: &mut Below,
 ) -> Result<Outcome, Stop>
     ensures row { (guest : Guest) → guest.words ≡ words.now → guest.memory ≡ space.old
-        → IsCall (pread_row k.old guest fd buffer count (stack_pair words.now)) result k.new space.new guest.processor
+        → IsCall (pread_row below.old.kernel.now guest fd buffer count (stack_pair words.now)) result below.new.kernel.now space.new guest.processor
         (contents I.left O.written E.written dev.old) (contents I.left O.written E.written dev.new) }
     ensures kept { (guest : Guest) → guest.words ≡ words.now → guest.memory ≡ space.old
-        → KeepsCall (pread_row k.old guest fd buffer count (stack_pair words.now)) result k.old guest (I.left dev.old.input) log.old log.new }
+        → KeepsCall (pread_row below.old.kernel.now guest fd buffer count (stack_pair words.now)) result below.old.kernel.now guest (I.left dev.old.input) below.old.log.now below.new.log.now }
     ensures cause { StopsOnlyIfRose I.faults O.faults E.faults result dev.old dev.new }
     ensures counts { NoCountFell I.faults O.faults E.faults dev.old dev.new }
-    ensures clock { k.new.clock ≡ k.old.clock }
+    ensures clock { below.new.kernel.now.clock ≡ below.old.kernel.now.clock }
+    ensures same { LeadsOn below.old below.new }
 {
     let Some(place) = stack_pair(words) else {
         return Ok(Outcome::Error(Errno::EFAULT));
     };
     let args = [u64::from(fd), FIRST_ADDRESS, u64::from(count), place, 0, 0];
-    fill_call(words, buffer, count, space, k, PREAD64, args, mem, dev, log)
+    below.fill_call(words, buffer, count, space, PREAD64, args, dev)
 }

@@ -1,6 +1,7 @@
 //! Structures, whose bytes have another order in the program's memory than in host memory, and calls that
 //! give one.
 ghost use Rattle.std.specs.Prelude.{◌≡◌, ◌≤◌, ℕ, List, length, map, replicate, slice_index, true, OnOk};
+ghost use Rattle.bridge_log.specs.Leading.{LeadsOn};
 ghost use Rattle.bridge_io.specs.inside.Stores.{Stores, bytes_told, byte_from, places, size};
 ghost use Rattle.bridge_io.specs.inside.Takes.{places_back};
 ghost use Rattle.bridge_log.specs.Arguments.{AreUnusedZero, takes_address};
@@ -16,7 +17,7 @@ ghost use Rattle.o32_model.specs.GuestBytes.{with_stored};
 ghost use Rattle.o32_model.specs.Step.{Guest, O32Step};
 ghost use Rattle.outside.specs.Streams.{NoCountFell, contents};
 
-use bridge_log::{NativeKernel, fresh_room, native, outcome_of, put};
+use bridge_log::{Below, fresh_room, outcome_of, put};
 use guest_space::Space;
 use host_mem::HostMem;
 use kernel_core::{NoMemory, Reply, Stop};
@@ -208,30 +209,29 @@ pub(crate) fn store_call<I: Source, O: Sink, E: Sink>(
     address: u32,
     structure: Structure,
     space: &mut Space,
-    k: &mut NativeKernel,
     nr: u64,
     args: [u64; 6],
-    mem: &mut HostMem,
     dev: &mut Devices<I, O, E>,
-    log: &mut Log,
+    below: &mut Below,
 ) -> Result<Outcome, Stop>
     requires built { built_call nr ≡ native_call nr }
     requires unused { AreUnusedZero nr args }
     requires address { takes_address nr ≡ true }
     ensures row { (guest : Guest) (step : List ℕ → O32Step) → guest.words ≡ words.now → guest.memory ≡ space.old
-        → ((left : List ℕ) → Stores guest address structure (native_call nr args k.old (replicate (size structure) 0) left) (step left))
-        → IsCall step result k.new space.new guest.processor
+        → ((left : List ℕ) → Stores guest address structure (native_call nr args below.old.kernel.now (replicate (size structure) 0) left) (step left))
+        → IsCall step result below.new.kernel.now space.new guest.processor
         (contents I.left O.written E.written dev.old) (contents I.left O.written E.written dev.new) }
     ensures kept { (guest : Guest) (step : List ℕ → O32Step) → guest.words ≡ words.now → guest.memory ≡ space.old
-        → ((left : List ℕ) → Stores guest address structure (native_call nr args k.old (replicate (size structure) 0) left) (step left))
-        → KeepsCall step result k.old guest (I.left dev.old.input) log.old log.new }
+        → ((left : List ℕ) → Stores guest address structure (native_call nr args below.old.kernel.now (replicate (size structure) 0) left) (step left))
+        → KeepsCall step result below.old.kernel.now guest (I.left dev.old.input) below.old.log.now below.new.log.now }
     ensures cause { StopsOnlyIfRose I.faults O.faults E.faults result dev.old dev.new }
     ensures counts { NoCountFell I.faults O.faults E.faults dev.old dev.new }
-    ensures clock { k.new.clock ≡ k.old.clock }
+    ensures clock { below.new.kernel.now.clock ≡ below.old.kernel.now.clock }
+    ensures same { LeadsOn below.old below.new }
 {
-    fresh_room(mem, structure.size())?;
-    let reply = native(k, nr, args, mem, dev, log)?;
-    put_structure(space, address, structure, mem, reply, log)?;
+    fresh_room(below.memory, structure.size())?;
+    let reply = below.native(nr, args, dev)?;
+    put_structure(space, address, structure, below.memory, reply, below.log)?;
     Ok(outcome_of(words, reply))
 }
 

@@ -1,5 +1,6 @@
 //! Requests on terminals and on descriptors: ioctl(2).
 ghost use Rattle.std.specs.Prelude.{◌≡◌, [], ◌∷◌, ℕ, List, Some, length, replicate, map, true, IfOk, OnOk};
+ghost use Rattle.bridge_log.specs.Leading.{LeadsOn};
 ghost use Rattle.bridge_io.specs.inside.Outcomes.{host_place};
 ghost use Rattle.bridge_io.specs.inside.Stores.{Stores, byte_from, places, size};
 ghost use Rattle.bridge_io.specs.inside.Purposes.{purpose_of};
@@ -19,12 +20,12 @@ ghost use Rattle.outside.specs.Streams.{NoCountFell, contents};
 use crate::numbers::IOCTL;
 use crate::pipes::host_place;
 use crate::structures::{Structure, rearrange, store_call};
-use bridge_log::{NativeKernel, load_structure, number_call};
+use bridge_log::{Below, load_structure};
 use guest_space::Space;
 use host_mem::HostMem;
 use kernel_core::{NoMemory, Request, Stop};
 use number_tables::{NativeNumber, O32Number};
-use o32_model::{CallWords, Log, Outcome};
+use o32_model::{CallWords, Outcome};
 use outside::{Devices, Sink, Source};
 
 /// What the pointer of a request is for.
@@ -46,23 +47,22 @@ pub(crate) fn ioctl<I: Source, O: Sink, E: Sink>(
     request: u32,
     address: u32,
     space: &mut Space,
-    k: &mut NativeKernel,
-    mem: &mut HostMem,
     dev: &mut Devices<I, O, E>,
-    log: &mut Log,
+    below: &mut Below,
 ) -> Result<Outcome, Stop>
     ensures row { (guest : Guest) → guest.words ≡ words.now → guest.memory ≡ space.old
-        → IsCall (ioctl_row k.old guest fd request address) result k.new space.new guest.processor
+        → IsCall (ioctl_row below.old.kernel.now guest fd request address) result below.new.kernel.now space.new guest.processor
         (contents I.left O.written E.written dev.old) (contents I.left O.written E.written dev.new) }
     ensures kept { (guest : Guest) → guest.words ≡ words.now → guest.memory ≡ space.old
-        → KeepsCall (ioctl_row k.old guest fd request address) result k.old guest (I.left dev.old.input) log.old log.new }
+        → KeepsCall (ioctl_row below.old.kernel.now guest fd request address) result below.old.kernel.now guest (I.left dev.old.input) below.old.log.now below.new.log.now }
     ensures cause { StopsOnlyIfRose I.faults O.faults E.faults result dev.old dev.new }
     ensures counts { NoCountFell I.faults O.faults E.faults dev.old dev.new }
-    ensures clock { k.new.clock ≡ k.old.clock }
+    ensures clock { below.new.kernel.now.clock ≡ below.old.kernel.now.clock }
+    ensures same { LeadsOn below.old below.new }
 {
     match Request::of_o32(request) {
-        Some(found) => listed(words, fd, found, address, space, k, mem, dev, log),
-        None => plain(words, fd, 0, k, mem, dev, log),
+        Some(found) => listed(words, fd, found, address, space, dev, below),
+        None => plain(words, fd, 0, dev, below),
     }
 }
 
@@ -73,33 +73,28 @@ fn listed<I: Source, O: Sink, E: Sink>(
     request: Request,
     address: u32,
     space: &mut Space,
-    k: &mut NativeKernel,
-    mem: &mut HostMem,
     dev: &mut Devices<I, O, E>,
-    log: &mut Log,
+    below: &mut Below,
 ) -> Result<Outcome, Stop>
     ensures row { (guest : Guest) (asked : ℕ) → guest.words ≡ words.now → guest.memory ≡ space.old → request_of_o32 asked ≡ Some request
-        → IsCall (ioctl_row k.old guest fd asked address) result k.new space.new guest.processor
+        → IsCall (ioctl_row below.old.kernel.now guest fd asked address) result below.new.kernel.now space.new guest.processor
         (contents I.left O.written E.written dev.old) (contents I.left O.written E.written dev.new) }
     ensures kept { (guest : Guest) (asked : ℕ) → guest.words ≡ words.now → guest.memory ≡ space.old → request_of_o32 asked ≡ Some request
-        → KeepsCall (ioctl_row k.old guest fd asked address) result k.old guest (I.left dev.old.input) log.old log.new }
+        → KeepsCall (ioctl_row below.old.kernel.now guest fd asked address) result below.old.kernel.now guest (I.left dev.old.input) below.old.log.now below.new.log.now }
     ensures cause { StopsOnlyIfRose I.faults O.faults E.faults result dev.old dev.new }
     ensures counts { NoCountFell I.faults O.faults E.faults dev.old dev.new }
-    ensures clock { k.new.clock ≡ k.old.clock }
+    ensures clock { below.new.kernel.now.clock ≡ below.old.kernel.now.clock }
+    ensures same { LeadsOn below.old below.new }
 {
     let number = request.to_native();
     match purpose_of(request) {
         Purpose::Stores(structure) => {
-            show(
-                words, fd, number, address, structure, space, k, mem, dev, log,
-            )
+            show(words, fd, number, address, structure, space, dev, below)
         }
         Purpose::Loads(structure) => {
-            take(
-                words, fd, number, address, structure, space, k, mem, dev, log,
-            )
+            take(words, fd, number, address, structure, space, dev, below)
         }
-        Purpose::Unused => plain(words, fd, number, k, mem, dev, log),
+        Purpose::Unused => plain(words, fd, number, dev, below),
     }
 }
 
@@ -125,32 +120,23 @@ fn plain<I: Source, O: Sink, E: Sink>(
     words: &CallWords,
     fd: u32,
     number: u64,
-    k: &mut NativeKernel,
-    mem: &mut HostMem,
     dev: &mut Devices<I, O, E>,
-    log: &mut Log,
+    below: &mut Below,
 ) -> Result<Outcome, Stop>
     ensures row { (guest : Guest) (step : List ℕ → O32Step) → guest.words ≡ words.now
-        → ((left : List ℕ) → Mirrors guest (by_reply guest.words) (native_call 29 (fd ∷ number ∷ 0 ∷ 0 ∷ 0 ∷ 0 ∷ []) k.old [] left) (step left))
-        → IsCall step result k.new guest.memory guest.processor
+        → ((left : List ℕ) → Mirrors guest (by_reply guest.words) (native_call 29 (fd ∷ number ∷ 0 ∷ 0 ∷ 0 ∷ 0 ∷ []) below.old.kernel.now [] left) (step left))
+        → IsCall step result below.new.kernel.now guest.memory guest.processor
         (contents I.left O.written E.written dev.old) (contents I.left O.written E.written dev.new) }
     ensures kept { (guest : Guest) (step : List ℕ → O32Step) → guest.words ≡ words.now
-        → ((left : List ℕ) → Mirrors guest (by_reply guest.words) (native_call 29 (fd ∷ number ∷ 0 ∷ 0 ∷ 0 ∷ 0 ∷ []) k.old [] left) (step left))
-        → KeepsCall step result k.old guest (I.left dev.old.input) log.old log.new }
+        → ((left : List ℕ) → Mirrors guest (by_reply guest.words) (native_call 29 (fd ∷ number ∷ 0 ∷ 0 ∷ 0 ∷ 0 ∷ []) below.old.kernel.now [] left) (step left))
+        → KeepsCall step result below.old.kernel.now guest (I.left dev.old.input) below.old.log.now below.new.log.now }
     ensures cause { StopsOnlyIfRose I.faults O.faults E.faults result dev.old dev.new }
     ensures counts { NoCountFell I.faults O.faults E.faults dev.old dev.new }
-    ensures clock { k.new.clock ≡ k.old.clock }
+    ensures clock { below.new.kernel.now.clock ≡ below.old.kernel.now.clock }
+    ensures same { LeadsOn below.old below.new }
 {
-    mem.clear();
-    number_call(
-        words,
-        k,
-        IOCTL,
-        [u64::from(fd), number, 0, 0, 0, 0],
-        mem,
-        dev,
-        log,
-    )
+    below.memory.clear();
+    below.number_call(words, IOCTL, [u64::from(fd), number, 0, 0, 0, 0], dev)
 }
 
 /// Makes a native request that gives a structure.
@@ -161,30 +147,27 @@ fn show<I: Source, O: Sink, E: Sink>(
     address: u32,
     structure: Structure,
     space: &mut Space,
-    k: &mut NativeKernel,
-    mem: &mut HostMem,
     dev: &mut Devices<I, O, E>,
-    log: &mut Log,
+    below: &mut Below,
 ) -> Result<Outcome, Stop>
     requires asked { takes_last 29 (fd ∷ number ∷ []) ≡ true }
     ensures row { (guest : Guest) (step : List ℕ → O32Step) → guest.words ≡ words.now → guest.memory ≡ space.old
         → ((left : List ℕ) → Stores guest address structure
-        (native_call 29 (fd ∷ number ∷ host_place guest.memory address (length (places structure)) ∷ 0 ∷ 0 ∷ 0 ∷ []) k.old (replicate (size structure) 0) left) (step left))
-        → IsCall step result k.new space.new guest.processor
+        (native_call 29 (fd ∷ number ∷ host_place guest.memory address (length (places structure)) ∷ 0 ∷ 0 ∷ 0 ∷ []) below.old.kernel.now (replicate (size structure) 0) left) (step left))
+        → IsCall step result below.new.kernel.now space.new guest.processor
         (contents I.left O.written E.written dev.old) (contents I.left O.written E.written dev.new) }
     ensures kept { (guest : Guest) (step : List ℕ → O32Step) → guest.words ≡ words.now → guest.memory ≡ space.old
         → ((left : List ℕ) → Stores guest address structure
-        (native_call 29 (fd ∷ number ∷ host_place guest.memory address (length (places structure)) ∷ 0 ∷ 0 ∷ 0 ∷ []) k.old (replicate (size structure) 0) left) (step left))
-        → KeepsCall step result k.old guest (I.left dev.old.input) log.old log.new }
+        (native_call 29 (fd ∷ number ∷ host_place guest.memory address (length (places structure)) ∷ 0 ∷ 0 ∷ 0 ∷ []) below.old.kernel.now (replicate (size structure) 0) left) (step left))
+        → KeepsCall step result below.old.kernel.now guest (I.left dev.old.input) below.old.log.now below.new.log.now }
     ensures cause { StopsOnlyIfRose I.faults O.faults E.faults result dev.old dev.new }
     ensures counts { NoCountFell I.faults O.faults E.faults dev.old dev.new }
-    ensures clock { k.new.clock ≡ k.old.clock }
+    ensures clock { below.new.kernel.now.clock ≡ below.old.kernel.now.clock }
+    ensures same { LeadsOn below.old below.new }
 {
     let place = host_place(space, address, structure.size_for_program());
     let args = [u64::from(fd), number, place, 0, 0, 0];
-    store_call(
-        words, address, structure, space, k, IOCTL, args, mem, dev, log,
-    )
+    store_call(words, address, structure, space, IOCTL, args, dev, below)
 }
 
 /// Makes a native request that is given a structure.
@@ -195,28 +178,27 @@ fn take<I: Source, O: Sink, E: Sink>(
     address: u32,
     structure: Structure,
     space: &Space,
-    k: &mut NativeKernel,
-    mem: &mut HostMem,
     dev: &mut Devices<I, O, E>,
-    log: &mut Log,
+    below: &mut Below,
 ) -> Result<Outcome, Stop>
     requires asked { takes_last 29 (fd ∷ number ∷ []) ≡ true }
     ensures row { (guest : Guest) (step : List ℕ → O32Step) → guest.words ≡ words.now → guest.memory ≡ space.now
         → ((left room : List ℕ) (place : ℕ) → IsTaken guest.memory address structure room place
-        → Mirrors guest (by_reply guest.words) (native_call 29 (fd ∷ number ∷ place ∷ 0 ∷ 0 ∷ 0 ∷ []) k.old room left) (step left))
-        → IsCall step result k.new space.now guest.processor
+        → Mirrors guest (by_reply guest.words) (native_call 29 (fd ∷ number ∷ place ∷ 0 ∷ 0 ∷ 0 ∷ []) below.old.kernel.now room left) (step left))
+        → IsCall step result below.new.kernel.now space.now guest.processor
         (contents I.left O.written E.written dev.old) (contents I.left O.written E.written dev.new) }
     ensures kept { (guest : Guest) (step : List ℕ → O32Step) → guest.words ≡ words.now → guest.memory ≡ space.now
         → ((left room : List ℕ) (place : ℕ) → IsTaken guest.memory address structure room place
-        → Mirrors guest (by_reply guest.words) (native_call 29 (fd ∷ number ∷ place ∷ 0 ∷ 0 ∷ 0 ∷ []) k.old room left) (step left))
-        → KeepsCall step result k.old guest (I.left dev.old.input) log.old log.new }
+        → Mirrors guest (by_reply guest.words) (native_call 29 (fd ∷ number ∷ place ∷ 0 ∷ 0 ∷ 0 ∷ []) below.old.kernel.now room left) (step left))
+        → KeepsCall step result below.old.kernel.now guest (I.left dev.old.input) below.old.log.now below.new.log.now }
     ensures cause { StopsOnlyIfRose I.faults O.faults E.faults result dev.old dev.new }
     ensures counts { NoCountFell I.faults O.faults E.faults dev.old dev.new }
-    ensures clock { k.new.clock ≡ k.old.clock }
+    ensures clock { below.new.kernel.now.clock ≡ below.old.kernel.now.clock }
+    ensures same { LeadsOn below.old below.new }
 {
-    let place = take_structure(space, address, structure, mem)?;
+    let place = take_structure(space, address, structure, below.memory)?;
     let args = [u64::from(fd), number, place, 0, 0, 0];
-    number_call(words, k, IOCTL, args, mem, dev, log)
+    below.number_call(words, IOCTL, args, dev)
 }
 
 /// Makes host memory of a structure in the program's memory, and gives its place there, where no byte is if

@@ -1,5 +1,6 @@
 //! Reading into the buffers of a vector: readv(2).
 ghost use Rattle.std.specs.Prelude.{◌≡◌, ◌≤◌, ℕ, [], Ok, length, take, OnOk};
+ghost use Rattle.bridge_log.specs.Leading.{LeadsOn};
 ghost use Rattle.bridge_io.specs.inside.Outcomes.{wrong_count};
 ghost use Rattle.bridge_log.specs.Fills.{bytes_back};
 ghost use Rattle.bridge_log.specs.Keeping.{KeepsCall, reached};
@@ -14,7 +15,7 @@ ghost use Rattle.o32_model.specs.Transfers.{readv_row};
 ghost use Rattle.outside.specs.Streams.{NoCountFell, contents};
 
 use crate::numbers::{READ, READV};
-use bridge_log::{NativeKernel, Vector, fresh_room, native, number_call, outcome_of, put};
+use bridge_log::{Below, Vector, fresh_room, outcome_of, put};
 use guest_space::Space;
 use host_mem::{FIRST_ADDRESS, HostMem};
 use kernel_core::{Errno, NoMemory, Reply, Stop};
@@ -30,25 +31,24 @@ pub(crate) fn readv<I: Source, O: Sink, E: Sink>(
     address: u32,
     count: u32,
     space: &mut Space,
-    k: &mut NativeKernel,
-    mem: &mut HostMem,
     dev: &mut Devices<I, O, E>,
-    log: &mut Log,
+    below: &mut Below,
 ) -> Result<Outcome, Stop>
     ensures row { (guest : Guest) → guest.words ≡ words.now → guest.memory ≡ space.old
-        → IsCall (readv_row k.old guest fd address count) result k.new space.new guest.processor
+        → IsCall (readv_row below.old.kernel.now guest fd address count) result below.new.kernel.now space.new guest.processor
         (contents I.left O.written E.written dev.old) (contents I.left O.written E.written dev.new) }
     ensures kept { (guest : Guest) → guest.words ≡ words.now → guest.memory ≡ space.old
-        → KeepsCall (readv_row k.old guest fd address count) result k.old guest (I.left dev.old.input) log.old log.new }
+        → KeepsCall (readv_row below.old.kernel.now guest fd address count) result below.old.kernel.now guest (I.left dev.old.input) below.old.log.now below.new.log.now }
     ensures cause { StopsOnlyIfRose I.faults O.faults E.faults result dev.old dev.new }
     ensures counts { NoCountFell I.faults O.faults E.faults dev.old dev.new }
-    ensures clock { k.new.clock ≡ k.old.clock }
+    ensures clock { below.new.kernel.now.clock ≡ below.old.kernel.now.clock }
+    ensures same { LeadsOn below.old below.new }
 {
     match Vector::read(space, address, count) {
-        Ok(buffers) => fill_buffers(words, fd, &buffers, space, k, mem, dev, log),
+        Ok(buffers) => fill_buffers(words, fd, &buffers, space, dev, below),
         Err(error) => {
             let args = [u64::from(fd), 0, wrong_count(error), 0, 0, 0];
-            number_call(words, k, READV, args, mem, dev, log)
+            below.number_call(words, READV, args, dev)
         }
     }
 }
@@ -70,26 +70,25 @@ fn fill_buffers<I: Source, O: Sink, E: Sink>(
     fd: u32,
     buffers: &Vector,
     space: &mut Space,
-    k: &mut NativeKernel,
-    mem: &mut HostMem,
     dev: &mut Devices<I, O, E>,
-    log: &mut Log,
+    below: &mut Below,
 ) -> Result<Outcome, Stop>
     ensures row { (guest : Guest) (address count : ℕ) → guest.words ≡ words.now → guest.memory ≡ space.old → vector guest.memory address count ≡ Ok buffers.now
-        → IsCall (readv_row k.old guest fd address count) result k.new space.new guest.processor
+        → IsCall (readv_row below.old.kernel.now guest fd address count) result below.new.kernel.now space.new guest.processor
         (contents I.left O.written E.written dev.old) (contents I.left O.written E.written dev.new) }
     ensures kept { (guest : Guest) (address count : ℕ) → guest.words ≡ words.now → guest.memory ≡ space.old → vector guest.memory address count ≡ Ok buffers.now
-        → KeepsCall (readv_row k.old guest fd address count) result k.old guest (I.left dev.old.input) log.old log.new }
+        → KeepsCall (readv_row below.old.kernel.now guest fd address count) result below.old.kernel.now guest (I.left dev.old.input) below.old.log.now below.new.log.now }
     ensures cause { StopsOnlyIfRose I.faults O.faults E.faults result dev.old dev.new }
     ensures counts { NoCountFell I.faults O.faults E.faults dev.old dev.new }
-    ensures clock { k.new.clock ≡ k.old.clock }
+    ensures clock { below.new.kernel.now.clock ≡ below.old.kernel.now.clock }
+    ensures same { LeadsOn below.old below.new }
 {
     let total = buffers.total();
     let room = buffers.accessible(space);
-    fresh_room(mem, room)?;
+    fresh_room(below.memory, room)?;
     let args = [u64::from(fd), FIRST_ADDRESS, u64::from(total), 0, 0, 0];
-    let reply = native(k, READ, args, mem, dev, log)?;
-    scatter_back(space, buffers, mem, reply, log)?;
+    let reply = below.native(READ, args, dev)?;
+    scatter_back(space, buffers, below.memory, reply, below.log)?;
     Ok(outcome_of(words, reply))
 }
 

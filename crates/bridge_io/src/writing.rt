@@ -1,5 +1,6 @@
 //! Writing: write(2).
 ghost use Rattle.std.specs.Prelude.{◌≡◌, ◌<◌, ◌^◌, Some, None, length};
+ghost use Rattle.bridge_log.specs.Leading.{LeadsOn};
 ghost use Rattle.bridge_io.specs.inside.Rooms.{IsRoom};
 ghost use Rattle.bridge_io.specs.inside.Written.{write_of};
 ghost use Rattle.bridge_log.specs.Keeping.{KeepsCall};
@@ -14,11 +15,11 @@ use crate::looking::room;
 use crate::numbers::WRITE;
 use crate::room::Room;
 use crate::telling::past_outcome;
-use bridge_log::{NativeKernel, load_buffer, native, number_call, outcome_of, sent_back};
+use bridge_log::{Below, load_buffer, outcome_of, sent_back};
 use guest_space::Space;
-use host_mem::{FIRST_ADDRESS, HostMem};
+use host_mem::FIRST_ADDRESS;
 use kernel_core::Stop;
-use o32_model::{CallWords, Log, Outcome};
+use o32_model::{CallWords, Outcome};
 use outside::{Devices, Sink, Source};
 
 /// write(2): EBADF, EFAULT, EFBIG past 2^31 - 1 bytes without O_LARGEFILE, ENOSPC, EAGAIN, EPIPE. The
@@ -29,29 +30,28 @@ pub(crate) fn write<I: Source, O: Sink, E: Sink>(
     buffer: u32,
     count: u32,
     space: &Space,
-    k: &mut NativeKernel,
-    mem: &mut HostMem,
     dev: &mut Devices<I, O, E>,
-    log: &mut Log,
+    below: &mut Below,
 ) -> Result<Outcome, Stop>
     ensures row { (guest : Guest) → guest.words ≡ words.now → guest.memory ≡ space.now
-        → IsCall (write_row k.old guest fd buffer count) result k.new guest.memory guest.processor
+        → IsCall (write_row below.old.kernel.now guest fd buffer count) result below.new.kernel.now guest.memory guest.processor
         (contents I.left O.written E.written dev.old) (contents I.left O.written E.written dev.new) }
     ensures kept { (guest : Guest) → guest.words ≡ words.now → guest.memory ≡ space.now
-        → KeepsCall (write_row k.old guest fd buffer count) result k.old guest (I.left dev.old.input) log.old log.new }
+        → KeepsCall (write_row below.old.kernel.now guest fd buffer count) result below.old.kernel.now guest (I.left dev.old.input) below.old.log.now below.new.log.now }
     ensures cause { StopsOnlyIfRose I.faults O.faults E.faults result dev.old dev.new }
     ensures counts { NoCountFell I.faults O.faults E.faults dev.old dev.new }
-    ensures clock { k.new.clock ≡ k.old.clock }
+    ensures clock { below.new.kernel.now.clock ≡ below.old.kernel.now.clock }
+    ensures same { LeadsOn below.old below.new }
 {
-    match k.output(fd) {
+    match below.kernel.output(fd) {
         Some(stream) => {
-            load_buffer(space, mem, buffer, count)?;
-            send_loaded(words, fd, stream, count, k, mem, dev, log)
+            load_buffer(space, below.memory, buffer, count)?;
+            send_loaded(words, fd, stream, count, dev, below)
         }
         None => {
-            let room = room(k, fd, mem, dev, log)?;
-            load_buffer(space, mem, buffer, count)?;
-            write_loaded(words, fd, count, room, k, mem, dev, log)
+            let room = room(fd, dev, below)?;
+            load_buffer(space, below.memory, buffer, count)?;
+            write_loaded(words, fd, count, room, dev, below)
         }
     }
 }
@@ -62,23 +62,22 @@ pub(crate) fn send_loaded<I: Source, O: Sink, E: Sink>(
     fd: u32,
     stream: u8,
     count: u32,
-    k: &mut NativeKernel,
-    mem: &mut HostMem,
     dev: &mut Devices<I, O, E>,
-    log: &mut Log,
+    below: &mut Below,
 ) -> Result<Outcome, Stop>
-    ensures row { (guest : Guest) → guest.words ≡ words.now → output_of k.old.files fd ≡ Some stream
-        → IsCall (write_of k.old guest fd count mem.old) result k.new guest.memory guest.processor
+    ensures row { (guest : Guest) → guest.words ≡ words.now → output_of below.old.kernel.now.files fd ≡ Some stream
+        → IsCall (write_of below.old.kernel.now guest fd count below.old.memory.now) result below.new.kernel.now guest.memory guest.processor
         (contents I.left O.written E.written dev.old) (contents I.left O.written E.written dev.new) }
-    ensures kept { (guest : Guest) → guest.words ≡ words.now → output_of k.old.files fd ≡ Some stream → length mem.old < 2 ^ 32
-        → KeepsCall (write_of k.old guest fd count mem.old) result k.old guest (I.left dev.old.input) log.old log.new }
+    ensures kept { (guest : Guest) → guest.words ≡ words.now → output_of below.old.kernel.now.files fd ≡ Some stream → length below.old.memory.now < 2 ^ 32
+        → KeepsCall (write_of below.old.kernel.now guest fd count below.old.memory.now) result below.old.kernel.now guest (I.left dev.old.input) below.old.log.now below.new.log.now }
     ensures cause { StopsOnlyIfRose I.faults O.faults E.faults result dev.old dev.new }
     ensures counts { NoCountFell I.faults O.faults E.faults dev.old dev.new }
-    ensures clock { k.new.clock ≡ k.old.clock }
+    ensures clock { below.new.kernel.now.clock ≡ below.old.kernel.now.clock }
+    ensures same { LeadsOn below.old below.new }
 {
     let args = [u64::from(fd), FIRST_ADDRESS, u64::from(count), 0, 0, 0];
-    let reply = native(k, WRITE, args, mem, dev, log)?;
-    sent_back(log, stream, mem, reply)?;
+    let reply = below.native(WRITE, args, dev)?;
+    sent_back(below.log, stream, below.memory, reply)?;
     Ok(outcome_of(words, reply))
 }
 
@@ -89,30 +88,29 @@ pub(crate) fn write_loaded<I: Source, O: Sink, E: Sink>(
     fd: u32,
     count: u32,
     room: Room,
-    k: &mut NativeKernel,
-    mem: &mut HostMem,
     dev: &mut Devices<I, O, E>,
-    log: &mut Log,
+    below: &mut Below,
 ) -> Result<Outcome, Stop>
-    ensures row { (guest : Guest) → guest.words ≡ words.now → output_of k.old.files fd ≡ None
-        → IsRoom k.old.files small_file_limit (λ d. d.position) (opened k.old.files fd) room
-        → IsCall (write_of k.old guest fd count mem.old) result k.new guest.memory guest.processor
+    ensures row { (guest : Guest) → guest.words ≡ words.now → output_of below.old.kernel.now.files fd ≡ None
+        → IsRoom below.old.kernel.now.files small_file_limit (λ d. d.position) (opened below.old.kernel.now.files fd) room
+        → IsCall (write_of below.old.kernel.now guest fd count below.old.memory.now) result below.new.kernel.now guest.memory guest.processor
         (contents I.left O.written E.written dev.old) (contents I.left O.written E.written dev.new) }
-    ensures kept { (guest : Guest) → guest.words ≡ words.now → output_of k.old.files fd ≡ None
-        → IsRoom k.old.files small_file_limit (λ d. d.position) (opened k.old.files fd) room
-        → KeepsCall (write_of k.old guest fd count mem.old) result k.old guest (I.left dev.old.input) log.old log.new }
+    ensures kept { (guest : Guest) → guest.words ≡ words.now → output_of below.old.kernel.now.files fd ≡ None
+        → IsRoom below.old.kernel.now.files small_file_limit (λ d. d.position) (opened below.old.kernel.now.files fd) room
+        → KeepsCall (write_of below.old.kernel.now guest fd count below.old.memory.now) result below.old.kernel.now guest (I.left dev.old.input) below.old.log.now below.new.log.now }
     ensures cause { StopsOnlyIfRose I.faults O.faults E.faults result dev.old dev.new }
     ensures counts { NoCountFell I.faults O.faults E.faults dev.old dev.new }
-    ensures clock { k.new.clock ≡ k.old.clock }
+    ensures clock { below.new.kernel.now.clock ≡ below.old.kernel.now.clock }
+    ensures same { LeadsOn below.old below.new }
 {
     match room {
         Room::Most(most) => {
             let count = most.min(u64::from(count));
             let args = [u64::from(fd), FIRST_ADDRESS, count, 0, 0, 0];
-            number_call(words, k, WRITE, args, mem, dev, log)
+            below.number_call(words, WRITE, args, dev)
         }
         Room::Past { writable, file } => {
-            let there = mem.as_slice().len();
+            let there = below.memory.as_slice().len();
             Ok(past_outcome(writable, file, count, there))
         }
     }

@@ -15,10 +15,10 @@ use Rattle.o32_model.specs.Step.{Guest, O32Step}
 use Rattle.o32_model.specs.declared.outcome.Outcome.{Outcome}
 use Rattle.outside.proofs.OutputLemmas.{GainsText-nothing}
 use Rattle.outside.specs.Streams.{Contents}
-use Rattle.bridge_acceptance.proofs.Passed.{stopped_before}
-use Rattle.bridge_acceptance.proofs.Passed.{effected_none}
-use Rattle.bridge_acceptance.specs.Passed.{Keeps, Logged, reached}
-use Rattle.bridge_acceptance.specs.Passed.{Acted, Moves}
+use Rattle.bridge_signal_state.proofs.Passed.{stopped_before}
+use Rattle.bridge_signal_state.proofs.Passed.{effected_none}
+use Rattle.bridge_signal_state.specs.Passed.{Keeps, Logged, reached}
+use Rattle.bridge_signal_state.specs.Acts.{Acted, Moves}
 use Rattle.bridge_limits.proofs.LimitedRows.{step_of}
 
 pub ends_called : {kernel became : Kernel} {before after : Contents} {left : List ℕ} {old kept : Kept} (guest : Guest) (outcome : Outcome) (memory : Memory) (step : O32Step)

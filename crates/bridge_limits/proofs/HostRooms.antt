@@ -18,7 +18,7 @@ use Rattle.native_calls.specs.HostBytes.{given, read_as, unless_null}
 use Rattle.native_calls.specs.Polls.{wait_at}
 use Rattle.native_calls.specs.SignalBytes.{set_at, set_bytes, set_in}
 use Rattle.native_calls.specs.Times.{time_bytes, time_in, time_of}
-use Rattle.bridge_acceptance.proofs.Passed.{length-set_bytes, set_back}
+use Rattle.bridge_signal_state.proofs.Rooms.{length-set_bytes, set_back}
 use Rattle.bridge_limits.specs.Limits.{given_mask}
 use Rattle.bridge_limits.specs.declared.masks.OwnMask.{OwnMask}
 use Rattle.bridge_limits.specs.declared.masks.OwnMask.TheVariants as masks

@@ -1,2 +1,2 @@
 -- Lemmas on moves of the kernel, passed on for the calls that wait so.
-pub use Rattle.bridge_acceptance.proofs.Passed.{acted_after, moves_look, moves_none}
+pub use Rattle.bridge_signal_state.proofs.Moving.{acted_after, moves_look, moves_none}

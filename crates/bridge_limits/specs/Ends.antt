@@ -1,2 +1,2 @@
 -- What is said of the end of a wait, passed on for the calls that wait so.
-pub use Rattle.bridge_acceptance.specs.Ends.{Closes, Keeps, KeepsEnd}
+pub use Rattle.bridge_signal_state.specs.Ends.{Closes, Keeps, KeepsEnd}

@@ -1,11 +1,11 @@
 //! How the waits of ppoll(2), select(2) and pselect(2) end: the mask from before the call is put back, and the time that
 //! is left is stored.
 ghost use Rattle.std.specs.Prelude.{◌≡◌, OnOk};
-ghost use Rattle.bridge_acceptance.specs.Ends.{Closes, KeepsEnd};
+ghost use Rattle.bridge_signal_state.specs.Acts.{Acts};
+ghost use Rattle.bridge_signal_state.specs.Passed.{LeadsOn, reached};
+ghost use Rattle.bridge_signal_state.specs.Ends.{Closes, KeepsEnd};
 ghost use Rattle.bridge_limits.specs.Limits.{StoresAlike, left_form, unmasked_kernel};
 ghost use Rattle.bridge_limits.specs.inside.Lefts as spec_lefts;
-ghost use Rattle.bridge_acceptance.specs.Passed.{reached};
-ghost use Rattle.bridge_acceptance.specs.Passed.{Acts};
 ghost use Rattle.guest_space.specs.Memory.{Memory};
 ghost use Rattle.kernel_model.specs.Clock.{left_until};
 ghost use Rattle.kernel_model.specs.Pipes.{Sent};
@@ -19,9 +19,8 @@ ghost use Rattle.outside.specs.Streams.{NoCountFell, contents};
 
 use crate::lefts::{Left, put_left};
 use crate::times::TimePlace;
-use bridge_acceptance::{NativeKernel, set_mask};
+use bridge_signal_state::{Below, set_mask};
 use guest_space::Space;
-use host_mem::HostMem;
 use kernel_core::{Errno, NoMemory, Stop};
 use o32_model::{Cause, Close, Log, Wait};
 use outside::{Devices, Sink, Source};
@@ -58,22 +57,21 @@ pub fn end_limited<I: Source, O: Sink, E: Sink>(
     cause: Cause,
     clock: u64,
     space: &mut Space,
-    k: &mut NativeKernel,
-    mem: &mut HostMem,
     dev: &mut Devices<I, O, E>,
-    log: &mut Log,
+    below: &mut Below,
 ) -> Result<Close, Stop>
     ensures ends { (before : Memory) → StoresAlike before space.old
         → Closes (with_left (left_form at) wait.now clock before
-        (ends_with close (unmasked_kernel wait.now cause k.old) space.old)) result k.new space.new
+        (ends_with close (unmasked_kernel wait.now cause below.old.kernel.now) space.old)) result below.new.kernel.now space.new
         (contents I.left O.written E.written dev.old) (contents I.left O.written E.written dev.new) }
-    ensures kept { KeepsEnd result (I.left dev.old.input) k.old k.new space.old.pages space.new.pages log.old log.new }
+    ensures kept { KeepsEnd result (I.left dev.old.input) below.old.kernel.now below.new.kernel.now space.old.pages space.new.pages below.old.log.now below.new.log.now }
     ensures cause { StopsOnlyIfRose I.faults O.faults E.faults result dev.old dev.new }
     ensures counts { NoCountFell I.faults O.faults E.faults dev.old dev.new }
-    ensures clock { k.new.clock ≡ k.old.clock }
+    ensures clock { below.new.kernel.now.clock ≡ below.old.kernel.now.clock }
+    ensures same { LeadsOn below.old below.new }
 {
-    put_back(wait, cause, k, mem, dev, log)?;
-    store_remaining(at, wait, clock, space, log)?;
+    put_back(wait, cause, dev, below)?;
+    store_remaining(at, wait, clock, space, below.log)?;
     Ok(close)
 }
 
@@ -112,21 +110,20 @@ fn left_until(clock: u64, deadline: Option<u64>) -> u64
 fn put_back<I: Source, O: Sink, E: Sink>(
     wait: &Wait,
     cause: Cause,
-    k: &mut NativeKernel,
-    mem: &mut HostMem,
     dev: &mut Devices<I, O, E>,
-    log: &mut Log,
+    below: &mut Below,
 ) -> Result<(), Stop>
-    ensures acts { Acts (λ _ became. became ≡ unmasked_kernel wait.now cause k.old) result k.old k.new
-        (contents I.left O.written E.written dev.old) (contents I.left O.written E.written dev.new) log.old log.new }
+    ensures acts { Acts (λ _ became. became ≡ unmasked_kernel wait.now cause below.old.kernel.now) result below.old.kernel.now below.new.kernel.now
+        (contents I.left O.written E.written dev.old) (contents I.left O.written E.written dev.new) below.old.log.now below.new.log.now }
     ensures cause { StopsOnlyIfRose I.faults O.faults E.faults result dev.old dev.new }
     ensures counts { NoCountFell I.faults O.faults E.faults dev.old dev.new }
-    ensures clock { k.new.clock ≡ k.old.clock }
+    ensures clock { below.new.kernel.now.clock ≡ below.old.kernel.now.clock }
+    ensures same { LeadsOn below.old below.new }
 {
     match old_mask(wait, cause) {
         None => Ok(()),
         Some(mask) => {
-            set_mask(mask, k, mem, dev, log)?;
+            set_mask(mask, dev, below)?;
             Ok(())
         }
     }

@@ -2,7 +2,7 @@
 ghost use Rattle.std.specs.Prelude.{◌≡◌, ℕ, Option, OnOk, length};
 ghost use Rattle.bridge_limits.specs.Limits.{ShowsLeft, left_form};
 ghost use Rattle.bridge_limits.specs.inside.Lefts as spec;
-ghost use Rattle.bridge_acceptance.specs.Passed.{reached};
+ghost use Rattle.bridge_signal_state.specs.Passed.{reached};
 ghost use Rattle.kernel_model.specs.Pipes.{Sent};
 ghost use Rattle.mips_exec.specs.Processor.{Processor};
 ghost use Rattle.o32_model.specs.Effects.{Effected};
@@ -11,7 +11,7 @@ ghost use Rattle.o32_model.specs.TimeLeft.{with_left_of};
 
 use crate::times::{TimeForm, TimePlace};
 use crate::words::two_words;
-use bridge_acceptance::put;
+use bridge_signal_state::put;
 use byteorder::{ByteOrder, LittleEndian};
 use guest_space::Space;
 use host_mem::HostMem;

@@ -10,10 +10,9 @@ mod sleeping;
 mod times;
 mod words;
 
-pub use bridge_acceptance::{
-    NativeKernel, acceptance_call, acceptance_end, accepts, action, awaits, is_acceptance_call,
-    load_structure, look, mask, outcome_of, pending, put, set_default, set_mask, stack, take,
-    wrote,
+pub use bridge_signal_state::{
+    Below, NativeKernel, action, load_structure, mask, outcome_of, pending, put, set_default,
+    set_mask, stack, take, wrote,
 };
 pub use ends::{again_or_interrupted, end_limited};
 pub use lefts::store_left;

@@ -6,7 +6,7 @@ ghost use Rattle.o32_model.specs.Masks as spec;
 ghost use Rattle.o32_model.specs.Masks.{set_at};
 
 use crate::words::word_at;
-use bridge_acceptance::load_structure;
+use bridge_signal_state::load_structure;
 use guest_space::Space;
 
 const SET_SIZE: usize = 16;

@@ -1,18 +1,18 @@
 //! Calls that wait, with a mask of their own.
 ghost use Rattle.std.specs.Prelude.{◌≡◌, None, Some, Option};
+ghost use Rattle.bridge_signal_state.specs.Acts.{Acts};
+ghost use Rattle.bridge_signal_state.specs.Passed.{LeadsOn};
 ghost use Rattle.bridge_limits.specs.Limits.{asleep, given_mask, masked_kernel};
 ghost use Rattle.bridge_limits.specs.inside.Waiting as spec;
-ghost use Rattle.bridge_acceptance.specs.Passed.{Acts};
 ghost use Rattle.kernel_model.specs.SignalRows.{with_mask};
 ghost use Rattle.kernel_model.specs.Stops.{StopsOnlyIfRose};
 ghost use Rattle.o32_model.specs.Step as o32_step;
 ghost use Rattle.outside.specs.Streams.{NoCountFell, contents};
 
 use crate::masks::OwnMask;
-use bridge_acceptance::{NativeKernel, mask, set_mask, six_words};
-use host_mem::HostMem;
+use bridge_signal_state::{Below, mask, set_mask, six_words};
 use kernel_core::Stop;
-use o32_model::{CallWords, Log, Outcome, Wait};
+use o32_model::{CallWords, Outcome, Wait};
 use outside::{Devices, Sink, Source};
 
 /// A call with these words waits, until a time of the clock in nanoseconds or without end. Where it has a mask of its own
@@ -22,23 +22,22 @@ pub fn sleep<I: Source, O: Sink, E: Sink>(
     words: &CallWords,
     until: Option<u64>,
     own: OwnMask,
-    k: &mut NativeKernel,
-    mem: &mut HostMem,
     dev: &mut Devices<I, O, E>,
-    log: &mut Log,
+    below: &mut Below,
 ) -> Result<Outcome, Stop>
     ensures acts { Acts (λ outcome became.
-        (outcome ≡ asleep k.old (o32_step.wait_of words.now (record { done = 0; until = until })) (given_mask own))
-        × (became ≡ masked_kernel k.old (given_mask own))) result k.old k.new
-        (contents I.left O.written E.written dev.old) (contents I.left O.written E.written dev.new) log.old log.new }
+        (outcome ≡ asleep below.old.kernel.now (o32_step.wait_of words.now (record { done = 0; until = until })) (given_mask own))
+        × (became ≡ masked_kernel below.old.kernel.now (given_mask own))) result below.old.kernel.now below.new.kernel.now
+        (contents I.left O.written E.written dev.old) (contents I.left O.written E.written dev.new) below.old.log.now below.new.log.now }
     ensures cause { StopsOnlyIfRose I.faults O.faults E.faults result dev.old dev.new }
     ensures counts { NoCountFell I.faults O.faults E.faults dev.old dev.new }
-    ensures clock { k.new.clock ≡ k.old.clock }
+    ensures clock { below.new.kernel.now.clock ≡ below.old.kernel.now.clock }
+    ensures same { LeadsOn below.old below.new }
 {
     match own {
         OwnMask::None => Ok(Outcome::Sleep(waiting(words, until, None))),
         OwnMask::Unreadable => Ok(Outcome::Sleep(waiting(words, until, None))),
-        OwnMask::Set(set) => sleep_masked(words, until, set, k, mem, dev, log),
+        OwnMask::Set(set) => sleep_masked(words, until, set, dev, below),
     }
 }
 
@@ -47,20 +46,19 @@ fn sleep_masked<I: Source, O: Sink, E: Sink>(
     words: &CallWords,
     until: Option<u64>,
     set: [u32; 4],
-    k: &mut NativeKernel,
-    mem: &mut HostMem,
     dev: &mut Devices<I, O, E>,
-    log: &mut Log,
+    below: &mut Below,
 ) -> Result<Outcome, Stop>
     ensures acts { Acts (λ outcome became.
-        (outcome ≡ spec.sleeping words.now until (Some k.old.signals.mask)) × (became ≡ with_mask k.old set)) result k.old k.new
-        (contents I.left O.written E.written dev.old) (contents I.left O.written E.written dev.new) log.old log.new }
+        (outcome ≡ spec.sleeping words.now until (Some below.old.kernel.now.signals.mask)) × (became ≡ with_mask below.old.kernel.now set)) result below.old.kernel.now below.new.kernel.now
+        (contents I.left O.written E.written dev.old) (contents I.left O.written E.written dev.new) below.old.log.now below.new.log.now }
     ensures cause { StopsOnlyIfRose I.faults O.faults E.faults result dev.old dev.new }
     ensures counts { NoCountFell I.faults O.faults E.faults dev.old dev.new }
-    ensures clock { k.new.clock ≡ k.old.clock }
+    ensures clock { below.new.kernel.now.clock ≡ below.old.kernel.now.clock }
+    ensures same { LeadsOn below.old below.new }
 {
-    let before = mask(k, mem, dev, log)?;
-    set_mask(set, k, mem, dev, log)?;
+    let before = mask(dev, below)?;
+    set_mask(set, dev, below)?;
     Ok(Outcome::Sleep(waiting(words, until, Some(before))))
 }
 

@@ -6,7 +6,7 @@ ghost use Rattle.kernel_model.specs.Clock.{length_of};
 ghost use Rattle.kernel_model.specs.Readiness.{select_length};
 
 use crate::words::signed_word_at;
-use bridge_acceptance::load_structure;
+use bridge_signal_state::load_structure;
 use guest_space::Space;
 use kernel_core::Errno;
 

@@ -2,6 +2,4 @@
 pub use Rattle.native_kernel.proofs.MaskLemmas.{union_words}
 pub use Rattle.native_kernel.proofs.Read.{length_read}
 pub use Rattle.native_kernel.proofs.SignalFields.{action_fits, info_fits}
-pub use Rattle.native_kernel.proofs.SignalOrder.{whole_order}
 pub use Rattle.native_kernel.proofs.Unblocked.{without_words}
-pub use Rattle.native_kernel.specs.inside.Signals.{order_from}

@@ -1,4 +1,4 @@
--- How many of its six arguments a native call takes (the manual page of each call, as man(2) has it), and that it is handed 0 for each
+-- How many of its six arguments a native call takes (the manual page of each call, in section 2), and that it is handed 0 for each
 -- that it doesn't take, and no byte of host memory where none of them is an address. (That it is, is this project's own.)
 use Rattle.std.specs.Prelude.{◌≡◌, ℕ, ◌-◌, ◌==◌, ◌||◌, Bool, true, false, not, ⊤, List, [], ◌∷◌, drop, replicate, if◌then◌else◌}
 use Rattle.kernel_core.specs.Bits.{has}

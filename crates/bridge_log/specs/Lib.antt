@@ -1,8 +1,10 @@
 pub mod Arguments
 pub mod Bounds
 pub mod Built
+pub mod Ends
 pub mod Fills
 pub mod Keeping
+pub mod Leading
 pub mod Looks
 pub mod Mirrors
 pub mod Moved

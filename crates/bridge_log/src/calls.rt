@@ -15,10 +15,8 @@ use o32_model::Log;
 use outside::{Devices, Sink, Source};
 use std::alloc::Global;
 
-/// Makes a native call, by its number and six arguments over host memory, and keeps it where native calls
-/// are kept: one entry, and no other. Host memory is copied only then. The number is that of a call that
-/// the kernel has, and arguments that the call doesn't take are 0.
-pub fn native<I: Source, O: Sink, E: Sink>(
+/// Makes a native call, and keeps it where native calls are kept.
+pub(crate) fn native<I: Source, O: Sink, E: Sink>(
     k: &mut NativeKernel,
     nr: u64,
     args: [u64; 6],

@@ -2,6 +2,7 @@
 //! makes an o32 outcome of a native reply.
 #![tactic(auto)]
 
+mod below;
 mod calls;
 mod effects;
 mod filled;
@@ -11,14 +12,11 @@ mod outcomes;
 mod storing;
 
 // Passed on: who makes native calls for a program names one crate for the kernel, for its host's rooms and for the program's memory.
+pub use below::Below;
 pub use bridge_mem::{
     PathError, Vector, fresh_room, load_buffer, load_structure, path, six_words, stack_pair,
 };
-pub use calls::native;
 pub use effects::{sent, wrote};
-pub use filled::fill_call;
-pub use looks::look;
-pub use mirrored::number_call;
 pub use native_kernel::NativeKernel;
 pub use outcomes::outcome_of;
 pub use storing::{put, sent_back};

@@ -1,4 +1,5 @@
 //! A call on mappings by its number.
+ghost use Rattle.bridge_log.specs.Leading.{LeadsOn};
 ghost use Rattle.std.specs.Prelude.{◌≡◌, true, false, IfOk, IsTrue, OnErr, OnOk};
 ghost use Rattle.bridge_log.specs.Keeping.{KeepsCall};
 ghost use Rattle.bridge_map.specs.Rows.{HasRoom, IsCallOfMemory, Leads, asks_for_room, guest_of, is_call_of_memory, is_mmap, maps_no_file};
@@ -12,7 +13,7 @@ use crate::mmap_file::mmap_file;
 use crate::program_break::brk;
 use crate::ranges_mapped::{madvise, mprotect, msync, munmap};
 use crate::remap::mremap;
-use bridge_log::NativeKernel;
+use bridge_log::{Below, NativeKernel};
 use guest_space::Space;
 use host_mem::HostMem;
 use kernel_core::address_space::PAGE_SIZE;
@@ -45,13 +46,41 @@ pub fn map_call<I: Source, O: Sink, E: Sink>(
     ensures counts { NoCountFell I.faults O.faults E.faults dev.old dev.new }
     ensures clock { k.new.clock ≡ k.old.clock }
 {
+    let below = &mut Below {
+        kernel: k,
+        memory: mem,
+        log,
+    };
+    by_number(args, cpu, space, dev, seen, below)
+}
+
+/// The same by its number, with the kernel and what its calls are made with as one value.
+fn by_number<I: Source, O: Sink, E: Sink>(
+    args: &CallWords,
+    cpu: &mut Cpu,
+    space: &mut Space,
+    dev: &mut Devices<I, O, E>,
+    seen: &Seen,
+    below: &mut Below,
+) -> Result<Outcome, Stop>
+    requires { IsTrue (is_map_call args.now.nr) }
+    ensures no_memory { OnErr result (asks_for_room args.now ≡ true → HasRoom args.now space.old) }
+    ensures row { IsCall (o32_call below.old.kernel.now (guest_of args.now cpu.old space.old)) result below.new.kernel.now space.new cpu.new
+        (contents I.left O.written E.written dev.old) (contents I.left O.written E.written dev.new) }
+    ensures kept { KeepsCall (o32_call below.old.kernel.now (guest_of args.now cpu.old space.old)) result below.old.kernel.now
+        (guest_of args.now cpu.old space.old) (I.left dev.old.input) below.old.log.now below.new.log.now }
+    ensures cause { StopsOnlyIfRose I.faults O.faults E.faults result dev.old dev.new }
+    ensures counts { NoCountFell I.faults O.faults E.faults dev.old dev.new }
+    ensures clock { below.new.kernel.now.clock ≡ below.old.kernel.now.clock }
+    ensures same { LeadsOn below.old below.new }
+{
     if maps_no_file(args) {
-        return Ok(memory_call(args, space, log)?);
+        return Ok(memory_call(args, space, below.log)?);
     }
     match args.nr {
-        4090 => mmap_file(args, 1, space, k, mem, dev, log),
-        4210 => mmap_file(args, PAGE_SIZE, space, k, mem, dev, log),
-        _ => Ok(memory_call(args, space, log)?),
+        4090 => mmap_file(args, 1, space, dev, below),
+        4210 => mmap_file(args, PAGE_SIZE, space, dev, below),
+        _ => Ok(memory_call(args, space, below.log)?),
     }
 }
 

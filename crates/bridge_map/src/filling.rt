@@ -1,5 +1,6 @@
 //! Bytes of a file that go to the program's memory.
 ghost use Rattle.std.specs.Prelude.{◌≡◌, ◌≤◌, ◌<◌, ◌+◌, ◌^◌, ⊤, ℕ, length, List, Some};
+ghost use Rattle.bridge_log.specs.Leading.{LeadsOn};
 ghost use Rattle.bridge_map.specs.Shown.{AreStorable, Fills, Shows, count_of};
 ghost use Rattle.kernel_core.specs.FileContent.{FileContent};
 ghost use Rattle.kernel_model.specs.Stops.{StopsOnlyIfRose};
@@ -7,11 +8,11 @@ ghost use Rattle.kernel_model.specs.Transfers.{file_bytes};
 ghost use Rattle.outside.specs.Streams.{NoCountFell, contents};
 
 use crate::numbers::PREAD64;
-use bridge_log::{NativeKernel, fill_call};
+use bridge_log::Below;
 use guest_space::Space;
-use host_mem::{FIRST_ADDRESS, HostMem};
+use host_mem::FIRST_ADDRESS;
 use kernel_core::Stop;
-use o32_model::{CallWords, Log, Outcome};
+use o32_model::{CallWords, Outcome};
 use outside::{Devices, Sink, Source};
 
 /// How many bytes one native call reads at most, so that what a mapping costs goes by the file and not by its
@@ -27,38 +28,26 @@ pub(crate) fn fill<I: Source, O: Sink, E: Sink>(
     address: u32,
     count: u32,
     space: &mut Space,
-    k: &mut NativeKernel,
-    mem: &mut HostMem,
     dev: &mut Devices<I, O, E>,
-    log: &mut Log,
+    below: &mut Below,
 ) -> Result<(), Stop>
     requires offset { offset < 2 ^ 62 }
     requires range { address + count < 2 ^ 32 }
     ensures filled { (left : List ℕ) → I.left dev.old.input ≡ Some left
-        → (content : FileContent) → Shows k.old.files fd content → AreStorable space.old.pages address count
-        → Fills (λ _. ⊤) result k.old k.new left
+        → (content : FileContent) → Shows below.old.kernel.now.files fd content → AreStorable space.old.pages address count
+        → Fills (λ _. ⊤) result below.old.kernel.now below.new.kernel.now left
         (contents I.left O.written E.written dev.old) (contents I.left O.written E.written dev.new)
-        space.old space.new log.old log.new address (file_bytes content offset count) }
+        space.old space.new below.old.log.now below.new.log.now address (file_bytes content offset count) }
     ensures cause { StopsOnlyIfRose I.faults O.faults E.faults result dev.old dev.new }
     ensures counts { NoCountFell I.faults O.faults E.faults dev.old dev.new }
-    ensures clock { k.new.clock ≡ k.old.clock }
+    ensures clock { below.new.kernel.now.clock ≡ below.old.kernel.now.clock }
+    ensures same { LeadsOn below.old below.new }
 {
     for piece in 0..count.div_ceil(PIECE) {
         let done = piece * PIECE;
         let want = (count - done).min(PIECE);
         let from = offset + u64::from(done);
-        let got = fill_piece(
-            args,
-            fd,
-            from,
-            address + done,
-            want,
-            space,
-            k,
-            mem,
-            dev,
-            log,
-        )?;
+        let got = fill_piece(args, fd, from, address + done, want, space, dev, below)?;
         if got < want {
             return Ok(());
         }
@@ -74,25 +63,24 @@ fn fill_piece<I: Source, O: Sink, E: Sink>(
     address: u32,
     count: u32,
     space: &mut Space,
-    k: &mut NativeKernel,
-    mem: &mut HostMem,
     dev: &mut Devices<I, O, E>,
-    log: &mut Log,
+    below: &mut Below,
 ) -> Result<u32, Stop>
     requires offset { offset < 2 ^ 63 }
     requires some { 0 < count }
     requires few { count ≤ 65536 }
     ensures filled { (left : List ℕ) → I.left dev.old.input ≡ Some left
-        → (content : FileContent) → Shows k.old.files fd content → AreStorable space.old.pages address count
-        → Fills (λ got. got ≡ length (file_bytes content offset count)) result k.old k.new left
+        → (content : FileContent) → Shows below.old.kernel.now.files fd content → AreStorable space.old.pages address count
+        → Fills (λ got. got ≡ length (file_bytes content offset count)) result below.old.kernel.now below.new.kernel.now left
         (contents I.left O.written E.written dev.old) (contents I.left O.written E.written dev.new)
-        space.old space.new log.old log.new address (file_bytes content offset count) }
+        space.old space.new below.old.log.now below.new.log.now address (file_bytes content offset count) }
     ensures cause { StopsOnlyIfRose I.faults O.faults E.faults result dev.old dev.new }
     ensures counts { NoCountFell I.faults O.faults E.faults dev.old dev.new }
-    ensures clock { k.new.clock ≡ k.old.clock }
+    ensures clock { below.new.kernel.now.clock ≡ below.old.kernel.now.clock }
+    ensures same { LeadsOn below.old below.new }
 {
     let call = [u64::from(fd), FIRST_ADDRESS, u64::from(count), offset, 0, 0];
-    let outcome = fill_call(args, address, count, space, k, PREAD64, call, mem, dev, log)?;
+    let outcome = below.fill_call(args, address, count, space, PREAD64, call, dev)?;
     Ok(count_of(outcome))
 }
 

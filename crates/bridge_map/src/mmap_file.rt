@@ -1,5 +1,6 @@
 //! New mappings of a file: mmap(2).
 ghost use Rattle.std.specs.Prelude.{◌≡◌, ◌≤◌, ◌<◌, ◌+◌, ◌*◌, ◌^◌, false, ℕ, List, Some};
+ghost use Rattle.bridge_log.specs.Leading.{LeadsOn};
 ghost use Rattle.bridge_map.specs.Rows.{IsAsked, asked_for, guest_of, maps_no_file, placed};
 ghost use Rattle.bridge_map.specs.Shown.{Maps, Shows};
 ghost use Rattle.kernel_core.specs.FileContent.{FileContent};
@@ -15,12 +16,11 @@ use crate::effects::{map, protect};
 use crate::filling::fill;
 use crate::place::place_for;
 use crate::shown::refusal;
-use bridge_log::NativeKernel;
+use bridge_log::Below;
 use guest_space::Space;
-use host_mem::HostMem;
 use kernel_core::address_space::{PAGE_SIZE, PROT_READ, PROT_WRITE};
 use kernel_core::{Errno, Stop};
-use o32_model::{CallWords, Log, Outcome};
+use o32_model::{CallWords, Outcome};
 use outside::{Devices, Sink, Source};
 
 /// mmap(2) and mmap2(2) without MAP_ANONYMOUS, whose offset counts so many bytes.
@@ -28,24 +28,23 @@ pub(crate) fn mmap_file<I: Source, O: Sink, E: Sink>(
     args: &CallWords,
     unit: u32,
     space: &mut Space,
-    k: &mut NativeKernel,
-    mem: &mut HostMem,
     dev: &mut Devices<I, O, E>,
-    log: &mut Log,
+    below: &mut Below,
 ) -> Result<Outcome, Stop>
     requires unit { unit ≤ 4096 }
     requires file { maps_no_file args.now ≡ false }
     ensures row { (processor : Processor) (left : List ℕ) → I.left dev.old.input ≡ Some left
-        → Maps (mmap_in unit k.old (guest_of args.now processor space.old)) args.now result k.old k.new left
+        → Maps (mmap_in unit below.old.kernel.now (guest_of args.now processor space.old)) args.now result below.old.kernel.now below.new.kernel.now left
         (contents I.left O.written E.written dev.old) (contents I.left O.written E.written dev.new)
-        space.old space.new log.old log.new }
+        space.old space.new below.old.log.now below.new.log.now }
     ensures cause { StopsOnlyIfRose I.faults O.faults E.faults result dev.old dev.new }
     ensures counts { NoCountFell I.faults O.faults E.faults dev.old dev.new }
-    ensures clock { k.new.clock ≡ k.old.clock }
+    ensures clock { below.new.kernel.now.clock ≡ below.old.kernel.now.clock }
+    ensures same { LeadsOn below.old below.new }
 {
     match asked_in(args, unit) {
         Err(error) => Ok(Outcome::Error(error)),
-        Ok(asked) => map_file(args, &asked, space, k, mem, dev, log),
+        Ok(asked) => map_file(args, &asked, space, dev, below),
     }
 }
 
@@ -54,24 +53,23 @@ fn map_file<I: Source, O: Sink, E: Sink>(
     args: &CallWords,
     asked: &Asked,
     space: &mut Space,
-    k: &mut NativeKernel,
-    mem: &mut HostMem,
     dev: &mut Devices<I, O, E>,
-    log: &mut Log,
+    below: &mut Below,
 ) -> Result<Outcome, Stop>
     requires asked { IsAsked asked.now }
     requires file { asked.now.flags.anonymous ≡ false }
     ensures row { (left : List ℕ) → I.left dev.old.input ≡ Some left
-        → Maps (asked_for k.old.files space.old asked.now) args.now result k.old k.new left
+        → Maps (asked_for below.old.kernel.now.files space.old asked.now) args.now result below.old.kernel.now below.new.kernel.now left
         (contents I.left O.written E.written dev.old) (contents I.left O.written E.written dev.new)
-        space.old space.new log.old log.new }
+        space.old space.new below.old.log.now below.new.log.now }
     ensures cause { StopsOnlyIfRose I.faults O.faults E.faults result dev.old dev.new }
     ensures counts { NoCountFell I.faults O.faults E.faults dev.old dev.new }
-    ensures clock { k.new.clock ≡ k.old.clock }
+    ensures clock { below.new.kernel.now.clock ≡ below.old.kernel.now.clock }
+    ensures same { LeadsOn below.old below.new }
 {
-    match refusal(asked.fd, asked.flags.kind(), asked.offset, k, mem, dev, log)? {
+    match refusal(asked.fd, asked.flags.kind(), asked.offset, dev, below)? {
         Some(error) => Ok(Outcome::Error(error)),
-        None => map_shown(args, asked, space, k, mem, dev, log),
+        None => map_shown(args, asked, space, dev, below),
     }
 }
 
@@ -80,26 +78,25 @@ fn map_shown<I: Source, O: Sink, E: Sink>(
     args: &CallWords,
     asked: &Asked,
     space: &mut Space,
-    k: &mut NativeKernel,
-    mem: &mut HostMem,
     dev: &mut Devices<I, O, E>,
-    log: &mut Log,
+    below: &mut Below,
 ) -> Result<Outcome, Stop>
     requires { IsAsked asked.now }
     ensures row { (left : List ℕ) → I.left dev.old.input ≡ Some left
-        → (content : FileContent) → Shows k.old.files asked.now.fd content
+        → (content : FileContent) → Shows below.old.kernel.now.files asked.now.fd content
         → Maps (placed space.old asked.now.flags asked.now.address asked.now.count asked.now.protection
         (file_bytes content asked.now.offset (asked.now.count * page_size)))
-        args.now result k.old k.new left
+        args.now result below.old.kernel.now below.new.kernel.now left
         (contents I.left O.written E.written dev.old) (contents I.left O.written E.written dev.new)
-        space.old space.new log.old log.new }
+        space.old space.new below.old.log.now below.new.log.now }
     ensures cause { StopsOnlyIfRose I.faults O.faults E.faults result dev.old dev.new }
     ensures counts { NoCountFell I.faults O.faults E.faults dev.old dev.new }
-    ensures clock { k.new.clock ≡ k.old.clock }
+    ensures clock { below.new.kernel.now.clock ≡ below.old.kernel.now.clock }
+    ensures same { LeadsOn below.old below.new }
 {
     match place_for(space, asked.flags, asked.address, asked.count) {
         Err(error) => Ok(Outcome::Error(error)),
-        Ok(first) => map_shown_at(args, asked, first, space, k, mem, dev, log),
+        Ok(first) => map_shown_at(args, asked, first, space, dev, below),
     }
 }
 
@@ -109,25 +106,24 @@ fn map_shown_at<I: Source, O: Sink, E: Sink>(
     asked: &Asked,
     first: u32,
     space: &mut Space,
-    k: &mut NativeKernel,
-    mem: &mut HostMem,
     dev: &mut Devices<I, O, E>,
-    log: &mut Log,
+    below: &mut Below,
 ) -> Result<Outcome, Stop>
     requires asked { IsAsked asked.now }
     requires ends { first + asked.now.count ≤ 524280 }
     ensures row { (left : List ℕ) → I.left dev.old.input ≡ Some left
-        → (content : FileContent) → Shows k.old.files asked.now.fd content
+        → (content : FileContent) → Shows below.old.kernel.now.files asked.now.fd content
         → Maps (mapped space.old first asked.now.count asked.now.protection
         (file_bytes content asked.now.offset (asked.now.count * page_size)))
-        args.now result k.old k.new left
+        args.now result below.old.kernel.now below.new.kernel.now left
         (contents I.left O.written E.written dev.old) (contents I.left O.written E.written dev.new)
-        space.old space.new log.old log.new }
+        space.old space.new below.old.log.now below.new.log.now }
     ensures cause { StopsOnlyIfRose I.faults O.faults E.faults result dev.old dev.new }
     ensures counts { NoCountFell I.faults O.faults E.faults dev.old dev.new }
-    ensures clock { k.new.clock ≡ k.old.clock }
+    ensures clock { below.new.kernel.now.clock ≡ below.old.kernel.now.clock }
+    ensures same { LeadsOn below.old below.new }
 {
-    if !map(space, log, first, asked.count, PROT_READ + PROT_WRITE)? {
+    if !map(space, below.log, first, asked.count, PROT_READ + PROT_WRITE)? {
         return Ok(Outcome::Error(Errno::ENOMEM));
     }
     let address = first * PAGE_SIZE;
@@ -139,11 +135,9 @@ fn map_shown_at<I: Source, O: Sink, E: Sink>(
         address,
         bytes,
         space,
-        k,
-        mem,
         dev,
-        log,
+        below,
     )?;
-    protect(space, log, first, asked.count, asked.protection)?;
+    protect(space, below.log, first, asked.count, asked.protection)?;
     Ok(Outcome::Value(address))
 }

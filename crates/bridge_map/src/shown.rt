@@ -1,5 +1,6 @@
 //! Whether a mapping may show what a descriptor has open.
 ghost use Rattle.std.specs.Prelude.{◌≡◌, ◌<◌, ◌^◌, ℕ, true, List, Some};
+ghost use Rattle.bridge_log.specs.Leading.{LeadsOn};
 ghost use Rattle.bridge_map.specs.Shown.{Judged, Looked, access_error, access_error_told, file_error, file_error_told, file_of};
 ghost use Rattle.kernel_model.specs.Descriptions.{opened, reads};
 ghost use Rattle.kernel_model.specs.Stops.{StopsOnlyIfRose};
@@ -7,10 +8,9 @@ ghost use Rattle.kernel_model.specs.declared.descriptor.Description.{Description
 ghost use Rattle.outside.specs.Streams.{NoCountFell, contents};
 
 use crate::numbers::{F_GETFL, FCNTL, O_WRONLY, PREAD64};
-use bridge_log::{NativeKernel, fresh_room, native};
-use host_mem::{FIRST_ADDRESS, HostMem};
+use bridge_log::{Below, fresh_room};
+use host_mem::FIRST_ADDRESS;
 use kernel_core::{Errno, MapKind, Reply, Stop};
-use o32_model::Log;
 use outside::{Devices, Sink, Source};
 
 /// Why a mapping may not show what a descriptor has open, by native calls that change nothing of the kernel:
@@ -20,54 +20,45 @@ pub(crate) fn refusal<I: Source, O: Sink, E: Sink>(
     fd: u32,
     kind: MapKind,
     offset: u64,
-    k: &mut NativeKernel,
-    mem: &mut HostMem,
     dev: &mut Devices<I, O, E>,
-    log: &mut Log,
+    below: &mut Below,
 ) -> Result<Option<Errno>, Stop>
     requires { offset < 2 ^ 63 }
     ensures looked { (left : List ℕ) → I.left dev.old.input ≡ Some left
-        → Looked (λ answer. Judged k.old.files kind fd answer) result k.old k.new left
-        (contents I.left O.written E.written dev.old) (contents I.left O.written E.written dev.new) log.old.native log.new.native }
-    ensures effects { log.new.effects ≡ log.old.effects }
+        → Looked (λ answer. Judged below.old.kernel.now.files kind fd answer) result below.old.kernel.now below.new.kernel.now left
+        (contents I.left O.written E.written dev.old) (contents I.left O.written E.written dev.new) below.old.log.now.native below.new.log.now.native }
+    ensures effects { below.new.log.now.effects ≡ below.old.log.now.effects }
     ensures cause { StopsOnlyIfRose I.faults O.faults E.faults result dev.old dev.new }
     ensures counts { NoCountFell I.faults O.faults E.faults dev.old dev.new }
-    ensures clock { k.new.clock ≡ k.old.clock }
+    ensures clock { below.new.kernel.now.clock ≡ below.old.kernel.now.clock }
+    ensures same { LeadsOn below.old below.new }
 {
-    if let Some(error) = access_refusal(fd, k, mem, dev, log)? {
+    if let Some(error) = access_refusal(fd, dev, below)? {
         return Ok(Some(error));
     }
     match kind {
         MapKind::Shared => Ok(Some(Errno::ENODEV)),
-        MapKind::Private => file_refusal(fd, offset, k, mem, dev, log),
+        MapKind::Private => file_refusal(fd, offset, dev, below),
     }
 }
 
 /// Why a descriptor may not be read: EBADF, EACCES.
 fn access_refusal<I: Source, O: Sink, E: Sink>(
     fd: u32,
-    k: &mut NativeKernel,
-    mem: &mut HostMem,
     dev: &mut Devices<I, O, E>,
-    log: &mut Log,
+    below: &mut Below,
 ) -> Result<Option<Errno>, Stop>
     ensures looked { (left : List ℕ) → I.left dev.old.input ≡ Some left
-        → Looked (λ answer. answer ≡ access_error (opened k.old.files fd)) result k.old k.new left
-        (contents I.left O.written E.written dev.old) (contents I.left O.written E.written dev.new) log.old.native log.new.native }
-    ensures effects { log.new.effects ≡ log.old.effects }
+        → Looked (λ answer. answer ≡ access_error (opened below.old.kernel.now.files fd)) result below.old.kernel.now below.new.kernel.now left
+        (contents I.left O.written E.written dev.old) (contents I.left O.written E.written dev.new) below.old.log.now.native below.new.log.now.native }
+    ensures effects { below.new.log.now.effects ≡ below.old.log.now.effects }
     ensures cause { StopsOnlyIfRose I.faults O.faults E.faults result dev.old dev.new }
     ensures counts { NoCountFell I.faults O.faults E.faults dev.old dev.new }
-    ensures clock { k.new.clock ≡ k.old.clock }
+    ensures clock { below.new.kernel.now.clock ≡ below.old.kernel.now.clock }
+    ensures same { LeadsOn below.old below.new }
 {
-    mem.clear();
-    let reply = native(
-        k,
-        FCNTL,
-        [u64::from(fd), F_GETFL, 0, 0, 0, 0],
-        mem,
-        dev,
-        log,
-    )?;
+    below.memory.clear();
+    let reply = below.native(FCNTL, [u64::from(fd), F_GETFL, 0, 0, 0, 0], dev)?;
     Ok(access_error_told(reply))
 }
 
@@ -75,24 +66,23 @@ fn access_refusal<I: Source, O: Sink, E: Sink>(
 fn file_refusal<I: Source, O: Sink, E: Sink>(
     fd: u32,
     offset: u64,
-    k: &mut NativeKernel,
-    mem: &mut HostMem,
     dev: &mut Devices<I, O, E>,
-    log: &mut Log,
+    below: &mut Below,
 ) -> Result<Option<Errno>, Stop>
     requires { offset < 2 ^ 63 }
     ensures looked { (left : List ℕ) → I.left dev.old.input ≡ Some left
-        → (description : Description) → opened k.old.files fd ≡ Some description → reads description.flags.access ≡ true
-        → Looked (λ answer. answer ≡ file_error (file_of k.old.files description)) result k.old k.new left
-        (contents I.left O.written E.written dev.old) (contents I.left O.written E.written dev.new) log.old.native log.new.native }
-    ensures effects { log.new.effects ≡ log.old.effects }
+        → (description : Description) → opened below.old.kernel.now.files fd ≡ Some description → reads description.flags.access ≡ true
+        → Looked (λ answer. answer ≡ file_error (file_of below.old.kernel.now.files description)) result below.old.kernel.now below.new.kernel.now left
+        (contents I.left O.written E.written dev.old) (contents I.left O.written E.written dev.new) below.old.log.now.native below.new.log.now.native }
+    ensures effects { below.new.log.now.effects ≡ below.old.log.now.effects }
     ensures cause { StopsOnlyIfRose I.faults O.faults E.faults result dev.old dev.new }
     ensures counts { NoCountFell I.faults O.faults E.faults dev.old dev.new }
-    ensures clock { k.new.clock ≡ k.old.clock }
+    ensures clock { below.new.kernel.now.clock ≡ below.old.kernel.now.clock }
+    ensures same { LeadsOn below.old below.new }
 {
-    fresh_room(mem, 1)?;
+    fresh_room(below.memory, 1)?;
     let args = [u64::from(fd), FIRST_ADDRESS, 1, offset, 0, 0];
-    let reply = native(k, PREAD64, args, mem, dev, log)?;
+    let reply = below.native(PREAD64, args, dev)?;
     Ok(file_error_told(reply))
 }
 

@@ -1,6 +1,6 @@
 //! A call by its number.
+ghost use Rattle.bridge_paths.specs.Passed.{KeepsCall, LeadsOn};
 ghost use Rattle.std.specs.Prelude.{◌≡◌, IsTrue};
-ghost use Rattle.bridge_paths.specs.Passed.{KeepsCall};
 ghost use Rattle.bridge_open.specs.Numbers.{is_open_call};
 ghost use Rattle.bridge_paths.specs.Found.{found};
 ghost use Rattle.kernel_model.specs.Stops.{StopsOnlyIfRose};
@@ -9,7 +9,7 @@ ghost use Rattle.o32_model.specs.Table.{o32_call};
 ghost use Rattle.outside.specs.Streams.{NoCountFell, contents};
 
 use crate::opening::open;
-use bridge_paths::NativeKernel;
+use bridge_paths::{Below, NativeKernel};
 use guest_space::Space;
 use host_mem::HostMem;
 use kernel_core::Stop;
@@ -47,22 +47,37 @@ pub fn open_call<I: Source, O: Sink, E: Sink>(
     ensures counts { NoCountFell I.faults O.faults E.faults dev.old dev.new }
     ensures clock { k.new.clock ≡ k.old.clock }
 {
+    let below = &mut Below {
+        kernel: k,
+        memory: mem,
+        log,
+    };
+    by_number(alloc, args, cpu, space, dev, below)
+}
+
+/// The same by its number, with the kernel and what its calls are made with as one value.
+fn by_number<I: Source, O: Sink, E: Sink>(
+    alloc: Global,
+    args: &CallWords,
+    cpu: &mut Cpu,
+    space: &mut Space,
+    dev: &mut Devices<I, O, E>,
+    below: &mut Below,
+) -> Result<Outcome, Stop>
+    requires { IsTrue (is_open_call args.now.nr) }
+    ensures row { IsCall (o32_call below.old.kernel.now (found args.now cpu.old space.old)) result below.new.kernel.now space.new cpu.new
+        (contents I.left O.written E.written dev.old) (contents I.left O.written E.written dev.new) }
+    ensures kept { KeepsCall (o32_call below.old.kernel.now (found args.now cpu.old space.old)) result below.old.kernel.now
+        (found args.now cpu.old space.old) (I.left dev.old.input) below.old.log.now below.new.log.now }
+    ensures cause { StopsOnlyIfRose I.faults O.faults E.faults result dev.old dev.new }
+    ensures counts { NoCountFell I.faults O.faults E.faults dev.old dev.new }
+    ensures clock { below.new.kernel.now.clock ≡ below.old.kernel.now.clock }
+    ensures same { LeadsOn below.old below.new }
+{
     let [a0, a1, a2, a3] = args.reg;
     match args.nr {
-        4005 => open(alloc, args, WORKING, a0, a1, a2, space, k, mem, dev, log),
-        4008 => open(
-            alloc,
-            args,
-            WORKING,
-            a0,
-            CREAT_FLAGS,
-            a1,
-            space,
-            k,
-            mem,
-            dev,
-            log,
-        ),
-        _ => open(alloc, args, a0, a1, a2, a3, space, k, mem, dev, log),
+        4005 => open(alloc, args, WORKING, a0, a1, a2, space, dev, below),
+        4008 => open(alloc, args, WORKING, a0, CREAT_FLAGS, a1, space, dev, below),
+        _ => open(alloc, args, a0, a1, a2, a3, space, dev, below),
     }
 }

@@ -1,6 +1,6 @@
 //! Files that are too large to be opened without O_LARGEFILE.
 ghost use Rattle.std.specs.Prelude.{◌≡◌, ℕ, Ok, Some};
-ghost use Rattle.bridge_paths.specs.Passed.{KeepsCall};
+ghost use Rattle.bridge_paths.specs.Passed.{KeepsCall, LeadsOn};
 ghost use Rattle.bridge_open.specs.inside.Openings.{IsTooLarge, is_no_entry, outcome_of_large};
 ghost use Rattle.kernel_model.specs.Stops.{StopsOnlyIfRose};
 ghost use Rattle.o32_model.specs.Answered.{IsCall};
@@ -11,11 +11,11 @@ ghost use Rattle.o32_model.specs.Step.{Guest};
 ghost use Rattle.outside.specs.Streams.{NoCountFell, contents};
 
 use crate::numbers::OPENAT;
-use bridge_paths::{NativeKernel, native, outcome_of};
+use bridge_paths::{Below, outcome_of};
 use guest_space::Space;
-use host_mem::{FIRST_ADDRESS, HostMem};
+use host_mem::FIRST_ADDRESS;
 use kernel_core::{Bytes, Errno, OpenFlags, Reply, Stop};
-use o32_model::{CallWords, Log, Outcome};
+use o32_model::{CallWords, Outcome};
 use outside::{Devices, Sink, Source};
 
 /// The native number of ENOENT with its sign turned (Linux `include/uapi/asm-generic/errno-base.h`).
@@ -29,29 +29,28 @@ pub(crate) fn too_large<I: Source, O: Sink, E: Sink>(
     path: &Bytes,
     flags: OpenFlags,
     space: &Space,
-    k: &mut NativeKernel,
-    mem: &mut HostMem,
     dev: &mut Devices<I, O, E>,
-    log: &mut Log,
+    below: &mut Below,
 ) -> Result<Outcome, Stop>
     requires found { path_at space.now address ≡ Ok path.now }
     ensures row { (guest : Guest) (directory mode : ℕ) → guest.words ≡ words.now → guest.memory ≡ space.now
-        → IsTooLarge k.old.files (base directory) path.now flags
-        → IsCall (open_row k.old guest (base directory) address (Some flags) mode) result
-        k.new guest.memory guest.processor
+        → IsTooLarge below.old.kernel.now.files (base directory) path.now flags
+        → IsCall (open_row below.old.kernel.now guest (base directory) address (Some flags) mode) result
+        below.new.kernel.now guest.memory guest.processor
         (contents I.left O.written E.written dev.old) (contents I.left O.written E.written dev.new) }
     ensures kept { (guest : Guest) (directory mode : ℕ) → guest.words ≡ words.now → guest.memory ≡ space.now
-        → IsTooLarge k.old.files (base directory) path.now flags
-        → KeepsCall (open_row k.old guest (base directory) address (Some flags) mode) result k.old guest
-        (I.left dev.old.input) log.old log.new }
+        → IsTooLarge below.old.kernel.now.files (base directory) path.now flags
+        → KeepsCall (open_row below.old.kernel.now guest (base directory) address (Some flags) mode) result below.old.kernel.now guest
+        (I.left dev.old.input) below.old.log.now below.new.log.now }
     ensures cause { StopsOnlyIfRose I.faults O.faults E.faults result dev.old dev.new }
     ensures counts { NoCountFell I.faults O.faults E.faults dev.old dev.new }
-    ensures clock { k.new.clock ≡ k.old.clock }
+    ensures clock { below.new.kernel.now.clock ≡ below.old.kernel.now.clock }
+    ensures same { LeadsOn below.old below.new }
 {
-    mem.clear();
-    mem.push_zeros(1)?;
+    below.memory.clear();
+    below.memory.push_zeros(1)?;
     let args = [0, FIRST_ADDRESS, 0, 0, 0, 0];
-    let reply = native(k, OPENAT, args, mem, dev, log)?;
+    let reply = below.native(OPENAT, args, dev)?;
     Ok(outcome_of_large(words, reply))
 }
 

@@ -2,7 +2,7 @@
 //! is opened with O_LARGEFILE alone, which the native kernel does not ask for. So its size is looked at
 //! first.
 ghost use Rattle.std.specs.Prelude.{◌≡◌, ◌<◌, ◌&&◌, IsTrue, None, Ok, Some, false, length, position, if◌then◌else◌};
-ghost use Rattle.bridge_paths.specs.Passed.{KeepsCall};
+ghost use Rattle.bridge_paths.specs.Passed.{KeepsCall, LeadsOn};
 ghost use Rattle.bridge_open.specs.inside.Openings.{Unlimited, is_unlimited, size_led};
 ghost use Rattle.kernel_model.specs.Opening.{follows};
 ghost use Rattle.kernel_model.specs.Stops.{StopsOnlyIfRose};
@@ -17,12 +17,12 @@ ghost use Rattle.outside.specs.Streams.{NoCountFell, contents};
 use crate::large::too_large;
 use crate::numbers::OPENAT;
 use crate::sizes::size_led;
-use bridge_paths::{NativeKernel, number_call, put_one, read_path};
+use bridge_paths::{Below, put_one, read_path};
 use guest_space::Space;
-use host_mem::{FIRST_ADDRESS, HostMem};
+use host_mem::FIRST_ADDRESS;
 use kernel_core::{Bytes, Errno, OpenFlags, Stop};
 use number_tables::{NativeNumber, O32Number};
-use o32_model::{CallWords, Log, Outcome};
+use o32_model::{CallWords, Outcome};
 use outside::{Devices, Sink, Source};
 use std::alloc::Global;
 
@@ -41,26 +41,25 @@ pub(crate) fn open<I: Source, O: Sink, E: Sink>(
     flags: u32,
     mode: u32,
     space: &Space,
-    k: &mut NativeKernel,
-    mem: &mut HostMem,
     dev: &mut Devices<I, O, E>,
-    log: &mut Log,
+    below: &mut Below,
 ) -> Result<Outcome, Stop>
     ensures row { (guest : Guest) → guest.words ≡ words.now → guest.memory ≡ space.now
-        → IsCall (open_row k.old guest (base directory) address (open_of_o32 flags) mode) result
-        k.new guest.memory guest.processor
+        → IsCall (open_row below.old.kernel.now guest (base directory) address (open_of_o32 flags) mode) result
+        below.new.kernel.now guest.memory guest.processor
         (contents I.left O.written E.written dev.old) (contents I.left O.written E.written dev.new) }
     ensures kept { (guest : Guest) → guest.words ≡ words.now → guest.memory ≡ space.now
-        → KeepsCall (open_row k.old guest (base directory) address (open_of_o32 flags) mode) result k.old guest
-        (I.left dev.old.input) log.old log.new }
+        → KeepsCall (open_row below.old.kernel.now guest (base directory) address (open_of_o32 flags) mode) result below.old.kernel.now guest
+        (I.left dev.old.input) below.old.log.now below.new.log.now }
     ensures cause { StopsOnlyIfRose I.faults O.faults E.faults result dev.old dev.new }
     ensures counts { NoCountFell I.faults O.faults E.faults dev.old dev.new }
-    ensures clock { k.new.clock ≡ k.old.clock }
+    ensures clock { below.new.kernel.now.clock ≡ below.old.kernel.now.clock }
+    ensures same { LeadsOn below.old below.new }
 {
     match OpenFlags::of_o32(flags) {
         None => Ok(Outcome::Error(Errno::EINVAL)),
         Some(flags) => open_listed(
-            alloc, words, directory, address, flags, mode, space, k, mem, dev, log,
+            alloc, words, directory, address, flags, mode, space, dev, below,
         ),
     }
 }
@@ -74,22 +73,21 @@ fn open_listed<I: Source, O: Sink, E: Sink>(
     flags: OpenFlags,
     mode: u32,
     space: &Space,
-    k: &mut NativeKernel,
-    mem: &mut HostMem,
     dev: &mut Devices<I, O, E>,
-    log: &mut Log,
+    below: &mut Below,
 ) -> Result<Outcome, Stop>
     requires listed { IsTrue (is_synced flags) }
     ensures row { (guest : Guest) → guest.words ≡ words.now → guest.memory ≡ space.now
-        → IsCall (open_row k.old guest (base directory) address (Some flags) mode) result
-        k.new guest.memory guest.processor
+        → IsCall (open_row below.old.kernel.now guest (base directory) address (Some flags) mode) result
+        below.new.kernel.now guest.memory guest.processor
         (contents I.left O.written E.written dev.old) (contents I.left O.written E.written dev.new) }
     ensures kept { (guest : Guest) → guest.words ≡ words.now → guest.memory ≡ space.now
-        → KeepsCall (open_row k.old guest (base directory) address (Some flags) mode) result k.old guest
-        (I.left dev.old.input) log.old log.new }
+        → KeepsCall (open_row below.old.kernel.now guest (base directory) address (Some flags) mode) result below.old.kernel.now guest
+        (I.left dev.old.input) below.old.log.now below.new.log.now }
     ensures cause { StopsOnlyIfRose I.faults O.faults E.faults result dev.old dev.new }
     ensures counts { NoCountFell I.faults O.faults E.faults dev.old dev.new }
-    ensures clock { k.new.clock ≡ k.old.clock }
+    ensures clock { below.new.kernel.now.clock ≡ below.old.kernel.now.clock }
+    ensures same { LeadsOn below.old below.new }
 {
     if makes_directory(flags) {
         return Ok(Outcome::Error(Errno::EINVAL));
@@ -97,7 +95,7 @@ fn open_listed<I: Source, O: Sink, E: Sink>(
     match read_path(alloc, space, address)? {
         Err(error) => Ok(Outcome::Error(error)),
         Ok(path) => open_path(
-            words, directory, address, &path, flags, mode, space, k, mem, dev, log,
+            words, directory, address, &path, flags, mode, space, dev, below,
         ),
     }
 }
@@ -118,34 +116,33 @@ fn open_path<I: Source, O: Sink, E: Sink>(
     flags: OpenFlags,
     mode: u32,
     space: &Space,
-    k: &mut NativeKernel,
-    mem: &mut HostMem,
     dev: &mut Devices<I, O, E>,
-    log: &mut Log,
+    below: &mut Below,
 ) -> Result<Outcome, Stop>
     requires listed { IsTrue (is_synced flags) }
     requires found { path_at space.now address ≡ Ok path.now }
     requires short { length path.now < path_limit }
     requires plain { position is_nul path.now ≡ None }
     ensures row { (guest : Guest) → guest.words ≡ words.now → guest.memory ≡ space.now
-        → IsCall (open_row k.old guest (base directory) address (Some flags) mode) result
-        k.new guest.memory guest.processor
+        → IsCall (open_row below.old.kernel.now guest (base directory) address (Some flags) mode) result
+        below.new.kernel.now guest.memory guest.processor
         (contents I.left O.written E.written dev.old) (contents I.left O.written E.written dev.new) }
     ensures kept { (guest : Guest) → guest.words ≡ words.now → guest.memory ≡ space.now
-        → KeepsCall (open_row k.old guest (base directory) address (Some flags) mode) result k.old guest
-        (I.left dev.old.input) log.old log.new }
+        → KeepsCall (open_row below.old.kernel.now guest (base directory) address (Some flags) mode) result below.old.kernel.now guest
+        (I.left dev.old.input) below.old.log.now below.new.log.now }
     ensures cause { StopsOnlyIfRose I.faults O.faults E.faults result dev.old dev.new }
     ensures counts { NoCountFell I.faults O.faults E.faults dev.old dev.new }
-    ensures clock { k.new.clock ≡ k.old.clock }
+    ensures clock { below.new.kernel.now.clock ≡ below.old.kernel.now.clock }
+    ensures same { LeadsOn below.old below.new }
 {
     if is_unlimited(flags) {
         return open_now(
-            words, directory, address, path, flags, mode, space, k, mem, dev, log,
+            words, directory, address, path, flags, mode, space, dev, below,
         );
     }
-    let size = size_led(k, directory, path, follows(flags), mem, dev, log)?;
+    let size = size_led(directory, path, follows(flags), dev, below)?;
     open_sized(
-        words, directory, address, path, flags, mode, size, space, k, mem, dev, log,
+        words, directory, address, path, flags, mode, size, space, dev, below,
     )
 }
 
@@ -173,10 +170,8 @@ fn open_sized<I: Source, O: Sink, E: Sink>(
     mode: u32,
     size: u64,
     space: &Space,
-    k: &mut NativeKernel,
-    mem: &mut HostMem,
     dev: &mut Devices<I, O, E>,
-    log: &mut Log,
+    below: &mut Below,
 ) -> Result<Outcome, Stop>
     requires listed { IsTrue (is_synced flags) }
     requires found { path_at space.now address ≡ Ok path.now }
@@ -184,24 +179,25 @@ fn open_sized<I: Source, O: Sink, E: Sink>(
     requires plain { position is_nul path.now ≡ None }
     requires limited { is_unlimited flags ≡ false }
     ensures row { (guest : Guest) → guest.words ≡ words.now → guest.memory ≡ space.now
-        → size ≡ size_led k.old.files (base directory) path.now (follows flags)
-        → IsCall (open_row k.old guest (base directory) address (Some flags) mode) result
-        k.new guest.memory guest.processor
+        → size ≡ size_led below.old.kernel.now.files (base directory) path.now (follows flags)
+        → IsCall (open_row below.old.kernel.now guest (base directory) address (Some flags) mode) result
+        below.new.kernel.now guest.memory guest.processor
         (contents I.left O.written E.written dev.old) (contents I.left O.written E.written dev.new) }
     ensures kept { (guest : Guest) → guest.words ≡ words.now → guest.memory ≡ space.now
-        → size ≡ size_led k.old.files (base directory) path.now (follows flags)
-        → KeepsCall (open_row k.old guest (base directory) address (Some flags) mode) result k.old guest
-        (I.left dev.old.input) log.old log.new }
+        → size ≡ size_led below.old.kernel.now.files (base directory) path.now (follows flags)
+        → KeepsCall (open_row below.old.kernel.now guest (base directory) address (Some flags) mode) result below.old.kernel.now guest
+        (I.left dev.old.input) below.old.log.now below.new.log.now }
     ensures cause { StopsOnlyIfRose I.faults O.faults E.faults result dev.old dev.new }
     ensures counts { NoCountFell I.faults O.faults E.faults dev.old dev.new }
-    ensures clock { k.new.clock ≡ k.old.clock }
+    ensures clock { below.new.kernel.now.clock ≡ below.old.kernel.now.clock }
+    ensures same { LeadsOn below.old below.new }
 {
-    k.files_valid();
+    below.kernel.files_valid();
     if size > SMALL_FILE_LIMIT {
-        too_large(words, address, path, flags, space, k, mem, dev, log)
+        too_large(words, address, path, flags, space, dev, below)
     } else {
         open_now(
-            words, directory, address, path, flags, mode, space, k, mem, dev, log,
+            words, directory, address, path, flags, mode, space, dev, below,
         )
     }
 }
@@ -215,30 +211,29 @@ fn open_now<I: Source, O: Sink, E: Sink>(
     flags: OpenFlags,
     mode: u32,
     space: &Space,
-    k: &mut NativeKernel,
-    mem: &mut HostMem,
     dev: &mut Devices<I, O, E>,
-    log: &mut Log,
+    below: &mut Below,
 ) -> Result<Outcome, Stop>
     requires listed { IsTrue (is_synced flags) }
     requires found { path_at space.now address ≡ Ok path.now }
     requires short { length path.now < path_limit }
     requires plain { position is_nul path.now ≡ None }
     ensures row { (guest : Guest) → guest.words ≡ words.now → guest.memory ≡ space.now
-        → Unlimited k.old.files (base directory) path.now flags
-        → IsCall (open_row k.old guest (base directory) address (Some flags) mode) result
-        k.new guest.memory guest.processor
+        → Unlimited below.old.kernel.now.files (base directory) path.now flags
+        → IsCall (open_row below.old.kernel.now guest (base directory) address (Some flags) mode) result
+        below.new.kernel.now guest.memory guest.processor
         (contents I.left O.written E.written dev.old) (contents I.left O.written E.written dev.new) }
     ensures kept { (guest : Guest) → guest.words ≡ words.now → guest.memory ≡ space.now
-        → Unlimited k.old.files (base directory) path.now flags
-        → KeepsCall (open_row k.old guest (base directory) address (Some flags) mode) result k.old guest
-        (I.left dev.old.input) log.old log.new }
+        → Unlimited below.old.kernel.now.files (base directory) path.now flags
+        → KeepsCall (open_row below.old.kernel.now guest (base directory) address (Some flags) mode) result below.old.kernel.now guest
+        (I.left dev.old.input) below.old.log.now below.new.log.now }
     ensures cause { StopsOnlyIfRose I.faults O.faults E.faults result dev.old dev.new }
     ensures counts { NoCountFell I.faults O.faults E.faults dev.old dev.new }
-    ensures clock { k.new.clock ≡ k.old.clock }
+    ensures clock { below.new.kernel.now.clock ≡ below.old.kernel.now.clock }
+    ensures same { LeadsOn below.old below.new }
 {
-    k.whole();
-    put_one(mem, path)?;
+    below.kernel.whole();
+    put_one(below.memory, path)?;
     let args = [
         u64::from(directory),
         FIRST_ADDRESS,
@@ -247,7 +242,7 @@ fn open_now<I: Source, O: Sink, E: Sink>(
         0,
         0,
     ];
-    number_call(words, k, OPENAT, args, mem, dev, log)
+    below.number_call(words, OPENAT, args, dev)
 }
 
 /// The mode that the native call is handed: 0 without O_CREAT, where there is none.

@@ -1,6 +1,6 @@
 //! The size of what a path leads to, by a native call that changes nothing.
 ghost use Rattle.std.specs.Prelude.{◌≡◌, ◌+◌, ◌<◌, None, length, position, if◌then◌else◌};
-ghost use Rattle.bridge_paths.specs.Passed.{LooksFor};
+ghost use Rattle.bridge_paths.specs.Passed.{LeadsOn, LooksFor};
 ghost use Rattle.bridge_open.specs.inside.Openings.{size_led, size_there, size_told};
 ghost use Rattle.host_mem.specs.Memory.{bytes_at, first_address};
 ghost use Rattle.kernel_model.specs.Stops.{StopsOnlyIfRose};
@@ -9,11 +9,10 @@ ghost use Rattle.o32_model.specs.Paths.{is_nul, path_limit};
 ghost use Rattle.outside.specs.Streams.{NoCountFell, contents};
 
 use crate::numbers::NEWFSTATAT;
-use bridge_paths::{NativeKernel, look, put_behind};
+use bridge_paths::{Below, put_behind};
 use byteorder::{ByteOrder, LittleEndian};
 use host_mem::{FIRST_ADDRESS, HostMem};
 use kernel_core::{Bytes, Reply, Stop};
-use o32_model::Log;
 use outside::{Devices, Sink, Source};
 
 /// How many bytes a status has (struct stat of Linux `include/uapi/asm-generic/stat.h`).
@@ -27,24 +26,23 @@ const NOFOLLOW: u64 = 0x100;
 
 /// The size of what a path leads to, in bytes, and 0 where it leads to nothing.
 pub(crate) fn size_led<I: Source, O: Sink, E: Sink>(
-    k: &mut NativeKernel,
     directory: u32,
     path: &Bytes,
     follow: bool,
-    mem: &mut HostMem,
     dev: &mut Devices<I, O, E>,
-    log: &mut Log,
+    below: &mut Below,
 ) -> Result<u64, Stop>
     requires short { length path.now < path_limit }
     requires plain { position is_nul path.now ≡ None }
-    ensures looks { LooksFor (λ found. found ≡ size_led k.old.files (base directory) path.now follow) result k.old k.new
-        (contents I.left O.written E.written dev.old) (contents I.left O.written E.written dev.new) log.old log.new }
+    ensures looks { LooksFor (λ found. found ≡ size_led below.old.kernel.now.files (base directory) path.now follow) result below.old.kernel.now below.new.kernel.now
+        (contents I.left O.written E.written dev.old) (contents I.left O.written E.written dev.new) below.old.log.now below.new.log.now }
     ensures cause { StopsOnlyIfRose I.faults O.faults E.faults result dev.old dev.new }
     ensures counts { NoCountFell I.faults O.faults E.faults dev.old dev.new }
-    ensures clock { k.new.clock ≡ k.old.clock }
+    ensures clock { below.new.kernel.now.clock ≡ below.old.kernel.now.clock }
+    ensures same { LeadsOn below.old below.new }
 {
-    k.files_valid();
-    let at = put_behind(mem, STATUS_SIZE, path)?;
+    below.kernel.files_valid();
+    let at = put_behind(below.memory, STATUS_SIZE, path)?;
     let args = [
         u64::from(directory),
         at,
@@ -53,8 +51,8 @@ pub(crate) fn size_led<I: Source, O: Sink, E: Sink>(
         0,
         0,
     ];
-    let reply = look(k, NEWFSTATAT, args, mem, dev, log)?;
-    Ok(size_told(mem, reply))
+    let reply = below.look(NEWFSTATAT, args, dev)?;
+    Ok(size_told(below.memory, reply))
 }
 
 /// The flags of fstatat(2) by which a last link is followed, or is not.

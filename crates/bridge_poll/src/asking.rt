@@ -1,7 +1,6 @@
 //! The native call, ppoll(2).
 ghost use Rattle.std.specs.Prelude.{◌≡◌};
-ghost use Rattle.bridge_limits.specs.Passed.{LooksFor};
-ghost use Rattle.bridge_limits.specs.Passed.{error_of};
+ghost use Rattle.bridge_limits.specs.Passed.{LeadsOn, LooksFor, error_of};
 ghost use Rattle.bridge_poll.specs.inside.Asking as spec;
 ghost use Rattle.bridge_poll.specs.inside.Asking.{IsAnswer, polling};
 ghost use Rattle.kernel_model.specs.Stops.{StopsOnlyIfRose};
@@ -10,12 +9,10 @@ ghost use Rattle.outside.specs.Streams.{NoCountFell, contents};
 use crate::entries::{Entries, put_entries};
 use crate::limited::Limits;
 use crate::numbers::PPOLL;
-use bridge_limits::{NativeKernel, look, put_limits};
+use bridge_limits::{Below, put_limits};
 use guest_space::Space;
-use host_mem::HostMem;
 use kernel_core::{Errno, Reply, Stop};
 use number_tables::NativeNumber;
-use o32_model::Log;
 use outside::{Devices, Sink, Source};
 
 /// What a call comes to.
@@ -41,25 +38,24 @@ pub(crate) fn ask<I: Source, O: Sink, E: Sink>(
     entries: Entries,
     limits: Limits,
     space: &Space,
-    k: &mut NativeKernel,
-    mem: &mut HostMem,
     dev: &mut Devices<I, O, E>,
-    log: &mut Log,
+    below: &mut Below,
 ) -> Result<Answer, Stop>
-    ensures looks { LooksFor (λ answer. IsAnswer k.old limits.wait (polling k.old space.now entries limits)
-        entries.count answer mem.new) result k.old k.new
-        (contents I.left O.written E.written dev.old) (contents I.left O.written E.written dev.new) log.old log.new }
+    ensures looks { LooksFor (λ answer. IsAnswer below.old.kernel.now limits.wait (polling below.old.kernel.now space.now entries limits)
+        entries.count answer below.new.memory.now) result below.old.kernel.now below.new.kernel.now
+        (contents I.left O.written E.written dev.old) (contents I.left O.written E.written dev.new) below.old.log.now below.new.log.now }
     ensures cause { StopsOnlyIfRose I.faults O.faults E.faults result dev.old dev.new }
     ensures counts { NoCountFell I.faults O.faults E.faults dev.old dev.new }
-    ensures clock { k.new.clock ≡ k.old.clock }
+    ensures clock { below.new.kernel.now.clock ≡ below.old.kernel.now.clock }
+    ensures same { LeadsOn below.old below.new }
 {
     space.whole();
-    let placed = put_limits(limits.wait, limits.own, mem)?;
-    let place = put_entries(space, entries, mem)?;
+    let placed = put_limits(limits.wait, limits.own, below.memory)?;
+    let place = put_entries(space, entries, below.memory)?;
     let count = u64::from(entries.count);
     let size = u64::from(limits.size);
     let args = [place, count, placed.time, placed.mask, size, 0];
-    let reply = look(k, PPOLL, args, mem, dev, log)?;
+    let reply = below.look(PPOLL, args, dev)?;
     Ok(Answer {
         came: came_of(reply),
         entries: place,

@@ -1,6 +1,6 @@
 //! The calls by their words.
 ghost use Rattle.std.specs.Prelude.{◌≡◌, ◌==◌, ◌||◌, ◌⊎◌, Ok, Option, Some, None};
-ghost use Rattle.bridge_limits.specs.Passed.{KeepsCall};
+ghost use Rattle.bridge_limits.specs.Passed.{KeepsCall, LeadsOn};
 ghost use Rattle.bridge_poll.specs.Found.{found};
 ghost use Rattle.std.specs.Int.{cast_signed, w32};
 ghost use Rattle.kernel_model.specs.Readiness as readiness;
@@ -14,7 +14,7 @@ ghost use Rattle.outside.specs.Streams.{NoCountFell, contents};
 
 use crate::entries::Entries;
 use crate::limited::{Limits, limited};
-use bridge_limits::{NativeKernel, OwnMask, TimeForm, TimePlace, mask_at, wait_at};
+use bridge_limits::{Below, NativeKernel, OwnMask, TimeForm, TimePlace, mask_at, wait_at};
 use guest_space::Space;
 use host_mem::HostMem;
 use kernel_core::{Errno, Stop};
@@ -54,9 +54,36 @@ pub fn poll_call<I: Source, O: Sink, E: Sink>(
     ensures counts { NoCountFell I.faults O.faults E.faults dev.old dev.new }
     ensures clock { k.new.clock ≡ k.old.clock }
 {
+    let below = &mut Below {
+        kernel: k,
+        memory: mem,
+        log,
+    };
+    by_number(args, cpu, space, dev, seen, below)
+}
+
+/// The same by its number, with the kernel and what its calls are made with as one value.
+fn by_number<I: Source, O: Sink, E: Sink>(
+    args: &CallWords,
+    cpu: &mut Cpu,
+    space: &mut Space,
+    dev: &mut Devices<I, O, E>,
+    seen: &Seen,
+    below: &mut Below,
+) -> Result<Outcome, Stop>
+    requires { (args.now.nr ≡ 4188) ⊎ (args.now.nr ≡ 4302) }
+    ensures row { IsCall (machine_call seen.now below.old.kernel.now (found args.now cpu.old space.old)) result below.new.kernel.now space.new cpu.new
+        (contents I.left O.written E.written dev.old) (contents I.left O.written E.written dev.new) }
+    ensures kept { KeepsCall (machine_call seen.now below.old.kernel.now (found args.now cpu.old space.old)) result below.old.kernel.now
+        (found args.now cpu.old space.old) (I.left dev.old.input) below.old.log.now below.new.log.now }
+    ensures cause { StopsOnlyIfRose I.faults O.faults E.faults result dev.old dev.new }
+    ensures counts { NoCountFell I.faults O.faults E.faults dev.old dev.new }
+    ensures clock { below.new.kernel.now.clock ≡ below.old.kernel.now.clock }
+    ensures same { LeadsOn below.old below.new }
+{
     match args.nr {
-        4188 => poll(args, space, k, mem, dev, log),
-        _ => ppoll(args, space, k, mem, dev, log),
+        4188 => poll(args, space, dev, below),
+        _ => ppoll(args, space, dev, below),
     }
 }
 
@@ -64,21 +91,20 @@ pub fn poll_call<I: Source, O: Sink, E: Sink>(
 fn poll<I: Source, O: Sink, E: Sink>(
     words: &CallWords,
     space: &mut Space,
-    k: &mut NativeKernel,
-    mem: &mut HostMem,
     dev: &mut Devices<I, O, E>,
-    log: &mut Log,
+    below: &mut Below,
 ) -> Result<Outcome, Stop>
     ensures row { (guest : Guest) → guest.words ≡ words.now → guest.memory ≡ space.old
-        → IsCall (poll_row k.old guest (argument words.now 0) (argument words.now 1) (signed_argument words.now 2))
-        result k.new space.new guest.processor
+        → IsCall (poll_row below.old.kernel.now guest (argument words.now 0) (argument words.now 1) (signed_argument words.now 2))
+        result below.new.kernel.now space.new guest.processor
         (contents I.left O.written E.written dev.old) (contents I.left O.written E.written dev.new) }
     ensures kept { (guest : Guest) → guest.words ≡ words.now → guest.memory ≡ space.old
-        → KeepsCall (poll_row k.old guest (argument words.now 0) (argument words.now 1) (signed_argument words.now 2))
-        result k.old guest (I.left dev.old.input) log.old log.new }
+        → KeepsCall (poll_row below.old.kernel.now guest (argument words.now 0) (argument words.now 1) (signed_argument words.now 2))
+        result below.old.kernel.now guest (I.left dev.old.input) below.old.log.now below.new.log.now }
     ensures cause { StopsOnlyIfRose I.faults O.faults E.faults result dev.old dev.new }
     ensures counts { NoCountFell I.faults O.faults E.faults dev.old dev.new }
-    ensures clock { k.new.clock ≡ k.old.clock }
+    ensures clock { below.new.kernel.now.clock ≡ below.old.kernel.now.clock }
+    ensures same { LeadsOn below.old below.new }
 {
     let [address, count, milliseconds, _] = words.reg;
     let limits = Limits {
@@ -88,7 +114,7 @@ fn poll<I: Source, O: Sink, E: Sink>(
         left: None,
     };
     let entries = Entries { address, count };
-    limited(words, entries, limits, space, k, mem, dev, log)
+    limited(words, entries, limits, space, dev, below)
 }
 
 /// How long a poll(2) may wait, in nanoseconds, by its milliseconds: without end where they are below 0.
@@ -106,25 +132,24 @@ fn poll_wait(milliseconds: u32) -> Option<u64>
 fn ppoll<I: Source, O: Sink, E: Sink>(
     words: &CallWords,
     space: &mut Space,
-    k: &mut NativeKernel,
-    mem: &mut HostMem,
     dev: &mut Devices<I, O, E>,
-    log: &mut Log,
+    below: &mut Below,
 ) -> Result<Outcome, Stop>
     ensures row { (guest : Guest) → guest.words ≡ words.now → guest.memory ≡ space.old
-        → IsCall (ppoll_row k.old guest (argument words.now 0) (argument words.now 1) (argument words.now 2)
-        (argument words.now 3) (stack_word words.now 0)) result k.new space.new guest.processor
+        → IsCall (ppoll_row below.old.kernel.now guest (argument words.now 0) (argument words.now 1) (argument words.now 2)
+        (argument words.now 3) (stack_word words.now 0)) result below.new.kernel.now space.new guest.processor
         (contents I.left O.written E.written dev.old) (contents I.left O.written E.written dev.new) }
     ensures kept { (guest : Guest) → guest.words ≡ words.now → guest.memory ≡ space.old
-        → KeepsCall (ppoll_row k.old guest (argument words.now 0) (argument words.now 1) (argument words.now 2)
-        (argument words.now 3) (stack_word words.now 0)) result k.old guest (I.left dev.old.input) log.old log.new }
+        → KeepsCall (ppoll_row below.old.kernel.now guest (argument words.now 0) (argument words.now 1) (argument words.now 2)
+        (argument words.now 3) (stack_word words.now 0)) result below.old.kernel.now guest (I.left dev.old.input) below.old.log.now below.new.log.now }
     ensures cause { StopsOnlyIfRose I.faults O.faults E.faults result dev.old dev.new }
     ensures counts { NoCountFell I.faults O.faults E.faults dev.old dev.new }
-    ensures clock { k.new.clock ≡ k.old.clock }
+    ensures clock { below.new.kernel.now.clock ≡ below.old.kernel.now.clock }
+    ensures same { LeadsOn below.old below.new }
 {
     match words.stack[0] {
         None => Ok(Outcome::Error(Errno::EFAULT)),
-        Some(size) => ppoll_sized(size, words, space, k, mem, dev, log),
+        Some(size) => ppoll_sized(size, words, space, dev, below),
     }
 }
 
@@ -133,21 +158,20 @@ fn ppoll_sized<I: Source, O: Sink, E: Sink>(
     size: u32,
     words: &CallWords,
     space: &mut Space,
-    k: &mut NativeKernel,
-    mem: &mut HostMem,
     dev: &mut Devices<I, O, E>,
-    log: &mut Log,
+    below: &mut Below,
 ) -> Result<Outcome, Stop>
     ensures row { (guest : Guest) → guest.words ≡ words.now → guest.memory ≡ space.old
-        → IsCall (ppoll_row k.old guest (argument words.now 0) (argument words.now 1) (argument words.now 2)
-        (argument words.now 3) (Some size)) result k.new space.new guest.processor
+        → IsCall (ppoll_row below.old.kernel.now guest (argument words.now 0) (argument words.now 1) (argument words.now 2)
+        (argument words.now 3) (Some size)) result below.new.kernel.now space.new guest.processor
         (contents I.left O.written E.written dev.old) (contents I.left O.written E.written dev.new) }
     ensures kept { (guest : Guest) → guest.words ≡ words.now → guest.memory ≡ space.old
-        → KeepsCall (ppoll_row k.old guest (argument words.now 0) (argument words.now 1) (argument words.now 2)
-        (argument words.now 3) (Some size)) result k.old guest (I.left dev.old.input) log.old log.new }
+        → KeepsCall (ppoll_row below.old.kernel.now guest (argument words.now 0) (argument words.now 1) (argument words.now 2)
+        (argument words.now 3) (Some size)) result below.old.kernel.now guest (I.left dev.old.input) below.old.log.now below.new.log.now }
     ensures cause { StopsOnlyIfRose I.faults O.faults E.faults result dev.old dev.new }
     ensures counts { NoCountFell I.faults O.faults E.faults dev.old dev.new }
-    ensures clock { k.new.clock ≡ k.old.clock }
+    ensures clock { below.new.kernel.now.clock ≡ below.old.kernel.now.clock }
+    ensures same { LeadsOn below.old below.new }
 {
     let [address, count, time, mask] = words.reg;
     let at = TimePlace {
@@ -164,7 +188,7 @@ fn ppoll_sized<I: Source, O: Sink, E: Sink>(
                 left: Some(at),
             };
             let entries = Entries { address, count };
-            limited(words, entries, limits, space, k, mem, dev, log)
+            limited(words, entries, limits, space, dev, below)
         }
     }
 }

@@ -1,7 +1,7 @@
 //! How the waits of these calls end.
 ghost use Rattle.std.specs.Prelude.{◌≡◌, ◌⊎◌, IfOk, OnOk};
+ghost use Rattle.bridge_limits.specs.Passed.{LeadsOn, reached};
 ghost use Rattle.bridge_limits.specs.Ends.{Closes, KeepsEnd};
-ghost use Rattle.bridge_limits.specs.Passed.{reached};
 ghost use Rattle.bridge_poll.specs.inside.Ending.{ended_so, told_if};
 ghost use Rattle.kernel_model.specs.Pipes.{Sent};
 ghost use Rattle.kernel_model.specs.State.{Kernel};
@@ -14,9 +14,8 @@ ghost use Rattle.outside.specs.Streams.{NoCountFell, contents};
 
 use crate::entries::Entries;
 use crate::telling::store_told;
-use bridge_limits::{NativeKernel, TimeForm, TimePlace, again_or_interrupted, end_limited};
+use bridge_limits::{Below, TimeForm, TimePlace, again_or_interrupted, end_limited};
 use guest_space::Space;
-use host_mem::HostMem;
 use kernel_core::{Errno, NoMemory, Stop};
 use o32_model::{Cause, Close, Log, Wait};
 use outside::{Devices, Sink, Source};
@@ -30,25 +29,24 @@ pub fn poll_end<I: Source, O: Sink, E: Sink>(
     cause: Cause,
     clock: u64,
     space: &mut Space,
-    k: &mut NativeKernel,
-    mem: &mut HostMem,
     dev: &mut Devices<I, O, E>,
-    log: &mut Log,
+    below: &mut Below,
 ) -> Result<Close, Stop>
     requires { (wait.now.nr ≡ 4188) ⊎ (wait.now.nr ≡ 4302) }
-    ensures ends { Closes (wait_ended wait.now cause clock k.old space.old) result k.new space.new
+    ensures ends { Closes (wait_ended wait.now cause clock below.old.kernel.now space.old) result below.new.kernel.now space.new
         (contents I.left O.written E.written dev.old) (contents I.left O.written E.written dev.new) }
-    ensures kept { KeepsEnd result (I.left dev.old.input) k.old k.new space.old.pages space.new.pages log.old log.new }
+    ensures kept { KeepsEnd result (I.left dev.old.input) below.old.kernel.now below.new.kernel.now space.old.pages space.new.pages below.old.log.now below.new.log.now }
     ensures cause { StopsOnlyIfRose I.faults O.faults E.faults result dev.old dev.new }
     ensures counts { NoCountFell I.faults O.faults E.faults dev.old dev.new }
-    ensures clock { k.new.clock ≡ k.old.clock }
+    ensures clock { below.new.kernel.now.clock ≡ below.old.kernel.now.clock }
+    ensures same { LeadsOn below.old below.new }
 {
     match wait.nr {
         4188 => {
-            let close = end(wait, cause, Close::Restart, space, log)?;
+            let close = end(wait, cause, Close::Restart, space, below.log)?;
             Ok(close)
         }
-        _ => ppoll_end(wait, cause, clock, space, k, mem, dev, log),
+        _ => ppoll_end(wait, cause, clock, space, dev, below),
     }
 }
 
@@ -58,26 +56,25 @@ fn ppoll_end<I: Source, O: Sink, E: Sink>(
     cause: Cause,
     clock: u64,
     space: &mut Space,
-    k: &mut NativeKernel,
-    mem: &mut HostMem,
     dev: &mut Devices<I, O, E>,
-    log: &mut Log,
+    below: &mut Below,
 ) -> Result<Close, Stop>
     ensures ends { Closes (limited_ended (record { address = wait_word wait.now 2; bytes = spec_bytes })
-        (entries_told wait.now space.old) wait.now cause clock k.old space.old) result k.new space.new
+        (entries_told wait.now space.old) wait.now cause clock below.old.kernel.now space.old) result below.new.kernel.now space.new
         (contents I.left O.written E.written dev.old) (contents I.left O.written E.written dev.new) }
-    ensures kept { KeepsEnd result (I.left dev.old.input) k.old k.new space.old.pages space.new.pages log.old log.new }
+    ensures kept { KeepsEnd result (I.left dev.old.input) below.old.kernel.now below.new.kernel.now space.old.pages space.new.pages below.old.log.now below.new.log.now }
     ensures cause { StopsOnlyIfRose I.faults O.faults E.faults result dev.old dev.new }
     ensures counts { NoCountFell I.faults O.faults E.faults dev.old dev.new }
-    ensures clock { k.new.clock ≡ k.old.clock }
+    ensures clock { below.new.kernel.now.clock ≡ below.old.kernel.now.clock }
+    ensures same { LeadsOn below.old below.new }
 {
     let at = TimePlace {
         form: TimeForm::Nanoseconds,
         address: wait.words[2],
     };
     let stopped = again_or_interrupted(at, space, wait, clock);
-    let close = end(wait, cause, stopped, space, log)?;
-    end_limited(close, at, wait, cause, clock, space, k, mem, dev, log)
+    let close = end(wait, cause, stopped, space, below.log)?;
+    end_limited(close, at, wait, cause, clock, space, dev, below)
 }
 
 /// What a wait is closed by, and what it tells; `stopped` closes one after a stop.

@@ -10,8 +10,7 @@ mod numbers;
 mod telling;
 
 pub use bridge_limits::{
-    NativeKernel, acceptance_call, acceptance_end, accepts, action, awaits, is_acceptance_call,
-    mask, pending, set_default, set_mask, stack, take, wrote,
+    Below, NativeKernel, action, mask, pending, set_default, set_mask, stack, take, wrote,
 };
 pub use call::{is_poll_call, poll_call};
 pub use ends::poll_end;

@@ -1,7 +1,7 @@
 //! Calls that wait for their entries, with a limit of time and a mask.
 ghost use Rattle.std.specs.Prelude.{◌≡◌, ℕ, Option, Result, IfOk, OnOk};
+ghost use Rattle.bridge_limits.specs.Passed.{KeepsCall, LeadsOn, reached};
 ghost use Rattle.bridge_limits.specs.Limits.{ShowsLeft};
-ghost use Rattle.bridge_limits.specs.Passed.{KeepsCall, reached};
 ghost use Rattle.bridge_poll.specs.inside.Limited.{limited_row, outcome_by, told_memory, with_left_if};
 ghost use Rattle.bridge_poll.specs.inside.Telling.{pieces_told, told_bytes};
 ghost use Rattle.kernel_model.specs.Pipes.{Sent};
@@ -15,7 +15,7 @@ ghost use Rattle.outside.specs.Streams.{NoCountFell, contents};
 use crate::asking::{Answer, Came, ask};
 use crate::entries::Entries;
 use crate::telling::{native_entries, number_if, store_told};
-use bridge_limits::{NativeKernel, OwnMask, TimePlace, sleep, store_left};
+use bridge_limits::{Below, OwnMask, TimePlace, sleep, store_left};
 use guest_space::Space;
 use host_mem::HostMem;
 use kernel_core::{Errno, NoMemory, Stop};
@@ -40,27 +40,34 @@ pub(crate) fn limited<I: Source, O: Sink, E: Sink>(
     entries: Entries,
     limits: Limits,
     space: &mut Space,
-    k: &mut NativeKernel,
-    mem: &mut HostMem,
     dev: &mut Devices<I, O, E>,
-    log: &mut Log,
+    below: &mut Below,
 ) -> Result<Outcome, Stop>
     ensures row { (guest : Guest) → guest.words ≡ words.now → guest.memory ≡ space.old
-        → IsCall (limited_row k.old guest entries limits) result k.new space.new guest.processor
+        → IsCall (limited_row below.old.kernel.now guest entries limits) result below.new.kernel.now space.new guest.processor
         (contents I.left O.written E.written dev.old) (contents I.left O.written E.written dev.new) }
     ensures kept { (guest : Guest) → guest.words ≡ words.now → guest.memory ≡ space.old
-        → KeepsCall (limited_row k.old guest entries limits) result k.old guest (I.left dev.old.input) log.old log.new }
+        → KeepsCall (limited_row below.old.kernel.now guest entries limits) result below.old.kernel.now guest (I.left dev.old.input) below.old.log.now below.new.log.now }
     ensures cause { StopsOnlyIfRose I.faults O.faults E.faults result dev.old dev.new }
     ensures counts { NoCountFell I.faults O.faults E.faults dev.old dev.new }
-    ensures clock { k.new.clock ≡ k.old.clock }
+    ensures clock { below.new.kernel.now.clock ≡ below.old.kernel.now.clock }
+    ensures same { LeadsOn below.old below.new }
 {
-    let answer = ask(entries, limits, space, k, mem, dev, log)?;
+    let answer = ask(entries, limits, space, dev, below)?;
     match answer.came {
         Came::Ended(ended) => {
-            let outcome = end(ended, answer, entries, limits.left, mem, space, log)?;
+            let outcome = end(
+                ended,
+                answer,
+                entries,
+                limits.left,
+                below.memory,
+                space,
+                below.log,
+            )?;
             Ok(outcome)
         }
-        Came::Waits(until) => sleep(words, until, limits.own, k, mem, dev, log),
+        Came::Waits(until) => sleep(words, until, limits.own, dev, below),
     }
 }
 

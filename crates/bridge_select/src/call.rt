@@ -1,6 +1,6 @@
 //! The calls by their words: select(2) and pselect(2).
+ghost use Rattle.bridge_limits.specs.Passed.{KeepsCall, LeadsOn};
 ghost use Rattle.std.specs.Prelude.{◌≡◌, ◌==◌, ◌||◌, ◌⊎◌};
-ghost use Rattle.bridge_limits.specs.Passed.{KeepsCall};
 ghost use Rattle.bridge_select.specs.Found.{found};
 ghost use Rattle.kernel_model.specs.Stops.{StopsOnlyIfRose};
 ghost use Rattle.o32_model.specs.Answered.{IsCall};
@@ -10,7 +10,7 @@ ghost use Rattle.outside.specs.Streams.{NoCountFell, contents};
 use crate::numbers::{NEWSELECT, PSELECT6};
 use crate::requests::read_request;
 use crate::selecting::select;
-use bridge_limits::NativeKernel;
+use bridge_limits::{Below, NativeKernel};
 use guest_space::Space;
 use host_mem::HostMem;
 use kernel_core::Stop;
@@ -48,8 +48,35 @@ pub fn select_call<I: Source, O: Sink, E: Sink>(
     ensures counts { NoCountFell I.faults O.faults E.faults dev.old dev.new }
     ensures clock { k.new.clock ≡ k.old.clock }
 {
+    let below = &mut Below {
+        kernel: k,
+        memory: mem,
+        log,
+    };
+    by_number(args, cpu, space, dev, seen, below)
+}
+
+/// The same by its number, with the kernel and what its calls are made with as one value.
+fn by_number<I: Source, O: Sink, E: Sink>(
+    args: &CallWords,
+    cpu: &mut Cpu,
+    space: &mut Space,
+    dev: &mut Devices<I, O, E>,
+    seen: &Seen,
+    below: &mut Below,
+) -> Result<Outcome, Stop>
+    requires { (args.now.nr ≡ 4142) ⊎ (args.now.nr ≡ 4301) }
+    ensures row { IsCall (machine_call seen.now below.old.kernel.now (found args.now cpu.old space.old)) result below.new.kernel.now space.new cpu.new
+        (contents I.left O.written E.written dev.old) (contents I.left O.written E.written dev.new) }
+    ensures kept { KeepsCall (machine_call seen.now below.old.kernel.now (found args.now cpu.old space.old)) result below.old.kernel.now
+        (found args.now cpu.old space.old) (I.left dev.old.input) below.old.log.now below.new.log.now }
+    ensures cause { StopsOnlyIfRose I.faults O.faults E.faults result dev.old dev.new }
+    ensures counts { NoCountFell I.faults O.faults E.faults dev.old dev.new }
+    ensures clock { below.new.kernel.now.clock ≡ below.old.kernel.now.clock }
+    ensures same { LeadsOn below.old below.new }
+{
     match read_request(args, space) {
         Err(error) => Ok(Outcome::Error(error)),
-        Ok(request) => select(args, &request, space, k, mem, dev, log),
+        Ok(request) => select(args, &request, space, dev, below),
     }
 }

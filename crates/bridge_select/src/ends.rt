@@ -1,8 +1,8 @@
 //! How the waits of these calls end.
 ghost use Rattle.std.specs.Prelude.{◌≡◌, IfOk, OnOk, if◌then◌else◌};
+ghost use Rattle.bridge_limits.specs.Passed.{LeadsOn, reached};
 ghost use Rattle.bridge_limits.specs.Ends.{Closes, KeepsEnd};
 ghost use Rattle.bridge_limits.specs.Limits.{StoresAlike, left_form, unmasked_kernel};
-ghost use Rattle.bridge_limits.specs.Passed.{reached};
 ghost use Rattle.bridge_select.specs.Ends.{select_ended};
 ghost use Rattle.bridge_select.specs.inside.Ending.{closing, time_form};
 ghost use Rattle.bridge_select.specs.inside.Telling.{pieces_of};
@@ -22,9 +22,8 @@ use crate::asked::Asked;
 use crate::fd_sets::WORDS;
 use crate::numbers::NEWSELECT;
 use crate::telling::{FdSets, store_sets};
-use bridge_limits::{NativeKernel, TimeForm, TimePlace, again_or_interrupted, end_limited};
+use bridge_limits::{Below, TimeForm, TimePlace, again_or_interrupted, end_limited};
 use guest_space::Space;
-use host_mem::HostMem;
 use kernel_core::{Errno, NoMemory, Stop};
 use o32_model::{Cause, Close, Log, Wait};
 use outside::{Devices, Sink, Source};
@@ -38,21 +37,20 @@ pub fn select_end<I: Source, O: Sink, E: Sink>(
     cause: Cause,
     clock: u64,
     space: &mut Space,
-    k: &mut NativeKernel,
-    mem: &mut HostMem,
     dev: &mut Devices<I, O, E>,
-    log: &mut Log,
+    below: &mut Below,
 ) -> Result<Close, Stop>
-    ensures ends { Closes (select_ended wait.now cause clock k.old space.old) result k.new space.new
+    ensures ends { Closes (select_ended wait.now cause clock below.old.kernel.now space.old) result below.new.kernel.now space.new
         (contents I.left O.written E.written dev.old) (contents I.left O.written E.written dev.new) }
-    ensures kept { KeepsEnd result (I.left dev.old.input) k.old k.new space.old.pages space.new.pages log.old log.new }
+    ensures kept { KeepsEnd result (I.left dev.old.input) below.old.kernel.now below.new.kernel.now space.old.pages space.new.pages below.old.log.now below.new.log.now }
     ensures cause { StopsOnlyIfRose I.faults O.faults E.faults result dev.old dev.new }
     ensures counts { NoCountFell I.faults O.faults E.faults dev.old dev.new }
-    ensures clock { k.new.clock ≡ k.old.clock }
+    ensures clock { below.new.kernel.now.clock ≡ below.old.kernel.now.clock }
+    ensures same { LeadsOn below.old below.new }
 {
     let at = time_place(wait);
-    let close = close(at, wait, cause, clock, space, log)?;
-    end_limited(close, at, wait, cause, clock, space, k, mem, dev, log)
+    let close = close(at, wait, cause, clock, space, below.log)?;
+    end_limited(close, at, wait, cause, clock, space, dev, below)
 }
 
 /// Where the time of a call stands that waits.

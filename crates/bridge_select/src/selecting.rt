@@ -1,8 +1,7 @@
 //! The calls by what they ask for: one native call, whose answer is told, or a wait.
 ghost use Rattle.std.specs.Prelude.{◌≡◌, ◌%◌, ◌^◌};
 ghost use Rattle.std.specs.Int.{cast_signed, w32};
-ghost use Rattle.bridge_limits.specs.Passed.{KeepsCall};
-ghost use Rattle.bridge_limits.specs.Passed.{LooksFor};
+ghost use Rattle.bridge_limits.specs.Passed.{KeepsCall, LeadsOn, LooksFor};
 ghost use Rattle.bridge_select.specs.Found.{found};
 ghost use Rattle.bridge_select.specs.inside.Requests.{requested, selects};
 ghost use Rattle.bridge_select.specs.inside.Telling.{Answered};
@@ -15,11 +14,10 @@ use crate::numbers::NATIVE_PSELECT6;
 use crate::requests::Request;
 use crate::rooms::put_request;
 use crate::telling::{Answer, tell};
-use bridge_limits::{NativeKernel, look, sleep};
+use bridge_limits::{Below, sleep};
 use guest_space::Space;
-use host_mem::HostMem;
 use kernel_core::{Reply, Stop};
-use o32_model::{CallWords, Log, Outcome};
+use o32_model::{CallWords, Outcome};
 use outside::{Devices, Sink, Source};
 
 /// Makes a call by what it asks for: which descriptors are ready is found by the native kernel and stored, with the time
@@ -28,24 +26,23 @@ pub(crate) fn select<I: Source, O: Sink, E: Sink>(
     words: &CallWords,
     request: &Request,
     space: &mut Space,
-    k: &mut NativeKernel,
-    mem: &mut HostMem,
     dev: &mut Devices<I, O, E>,
-    log: &mut Log,
+    below: &mut Below,
 ) -> Result<Outcome, Stop>
-    ensures row { (processor : Processor) → IsCall (selects k.old (found words.now processor space.old) (requested request.now)) result k.new space.new processor
+    ensures row { (processor : Processor) → IsCall (selects below.old.kernel.now (found words.now processor space.old) (requested request.now)) result below.new.kernel.now space.new processor
         (contents I.left O.written E.written dev.old) (contents I.left O.written E.written dev.new) }
-    ensures kept { (processor : Processor) → KeepsCall (selects k.old (found words.now processor space.old) (requested request.now)) result k.old
-        (found words.now processor space.old) (I.left dev.old.input) log.old log.new }
+    ensures kept { (processor : Processor) → KeepsCall (selects below.old.kernel.now (found words.now processor space.old) (requested request.now)) result below.old.kernel.now
+        (found words.now processor space.old) (I.left dev.old.input) below.old.log.now below.new.log.now }
     ensures cause { StopsOnlyIfRose I.faults O.faults E.faults result dev.old dev.new }
     ensures counts { NoCountFell I.faults O.faults E.faults dev.old dev.new }
-    ensures clock { k.new.clock ≡ k.old.clock }
+    ensures clock { below.new.kernel.now.clock ≡ below.old.kernel.now.clock }
+    ensures same { LeadsOn below.old below.new }
 {
-    let answer = ask(request, space, k, mem, dev, log)?;
+    let answer = ask(request, space, dev, below)?;
     match answer.reply {
-        Reply::Sleep(wake) => sleep(words, wake.until, request.mask.mask, k, mem, dev, log),
+        Reply::Sleep(wake) => sleep(words, wake.until, request.mask.mask, dev, below),
         Reply::Done(_) => {
-            let outcome = tell(words, request, answer, mem, space, log)?;
+            let outcome = tell(words, request, answer, below.memory, space, below.log)?;
             Ok(outcome)
         }
     }
@@ -55,18 +52,17 @@ pub(crate) fn select<I: Source, O: Sink, E: Sink>(
 fn ask<I: Source, O: Sink, E: Sink>(
     request: &Request,
     space: &Space,
-    k: &mut NativeKernel,
-    mem: &mut HostMem,
     dev: &mut Devices<I, O, E>,
-    log: &mut Log,
+    below: &mut Below,
 ) -> Result<Answer, Stop>
-    ensures looks { LooksFor (λ answer. Answered k.old space.now (requested request.now) answer mem.new) result k.old k.new
-        (contents I.left O.written E.written dev.old) (contents I.left O.written E.written dev.new) log.old log.new }
+    ensures looks { LooksFor (λ answer. Answered below.old.kernel.now space.now (requested request.now) answer below.new.memory.now) result below.old.kernel.now below.new.kernel.now
+        (contents I.left O.written E.written dev.old) (contents I.left O.written E.written dev.new) below.old.log.now below.new.log.now }
     ensures cause { StopsOnlyIfRose I.faults O.faults E.faults result dev.old dev.new }
     ensures counts { NoCountFell I.faults O.faults E.faults dev.old dev.new }
-    ensures clock { k.new.clock ≡ k.old.clock }
+    ensures clock { below.new.kernel.now.clock ≡ below.old.kernel.now.clock }
+    ensures same { LeadsOn below.old below.new }
 {
-    let places = put_request(request, space, mem)?;
+    let places = put_request(request, space, below.memory)?;
     let args = [
         extended(request.asked.count),
         places.read,
@@ -75,7 +71,7 @@ fn ask<I: Source, O: Sink, E: Sink>(
         places.time,
         places.pair,
     ];
-    let reply = look(k, NATIVE_PSELECT6, args, mem, dev, log)?;
+    let reply = below.look(NATIVE_PSELECT6, args, dev)?;
     Ok(Answer { reply, places })
 }
 

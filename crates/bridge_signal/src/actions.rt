@@ -1,5 +1,6 @@
 //! The actions of signals, set and told: sigaction(2).
 ghost use Rattle.std.specs.Prelude.{◌≡◌, IfOk, false};
+ghost use Rattle.bridge_signal_state.specs.Passed.{LeadsOn};
 ghost use Rattle.bridge_signal.specs.inside.Asked.{IsAllowed, action_changed, action_set, action_set_to};
 ghost use Rattle.bridge_signal.specs.inside.Told.{did};
 ghost use Rattle.bridge_signal_state.specs.Acts.{Acts};
@@ -9,32 +10,29 @@ ghost use Rattle.outside.specs.Streams.{NoCountFell, contents};
 
 use crate::asked::ActionSetting;
 use crate::setting::set_action;
-use bridge_signal_state::{NativeKernel, action};
-use host_mem::HostMem;
+use bridge_signal_state::{Below, action};
 use kernel_core::{Errno, Sig, Stop};
 use kernel_model::Action;
-use o32_model::Log;
 use outside::{Devices, Sink, Source};
 
 /// Tells the action of a signal and sets the new one, as is asked, or tells the error.
 pub(crate) fn change_action<I: Source, O: Sink, E: Sink>(
     asked: Result<ActionSetting, Errno>,
-    k: &mut NativeKernel,
-    mem: &mut HostMem,
     dev: &mut Devices<I, O, E>,
-    log: &mut Log,
+    below: &mut Below,
 ) -> Result<Result<Action, Errno>, Stop>
     requires allowed { IfOk asked (λ asked. IsAllowed asked.sig asked.action) }
-    ensures acts { Acts (λ told became. action_changed k.old asked ≡ did became told) result k.old k.new
-        (contents I.left O.written E.written dev.old) (contents I.left O.written E.written dev.new) log.old log.new }
+    ensures acts { Acts (λ told became. action_changed below.old.kernel.now asked ≡ did became told) result below.old.kernel.now below.new.kernel.now
+        (contents I.left O.written E.written dev.old) (contents I.left O.written E.written dev.new) below.old.log.now below.new.log.now }
     ensures cause { StopsOnlyIfRose I.faults O.faults E.faults result dev.old dev.new }
     ensures counts { NoCountFell I.faults O.faults E.faults dev.old dev.new }
-    ensures clock { k.new.clock ≡ k.old.clock }
+    ensures clock { below.new.kernel.now.clock ≡ below.old.kernel.now.clock }
+    ensures same { LeadsOn below.old below.new }
 {
     match asked {
         Err(error) => Ok(Err(error)),
         Ok(asked) => {
-            let before = replace_action(asked.sig, asked.action, k, mem, dev, log)?;
+            let before = replace_action(asked.sig, asked.action, dev, below)?;
             Ok(Ok(before))
         }
     }
@@ -44,20 +42,19 @@ pub(crate) fn change_action<I: Source, O: Sink, E: Sink>(
 fn replace_action<I: Source, O: Sink, E: Sink>(
     sig: Sig,
     new: Option<Action>,
-    k: &mut NativeKernel,
-    mem: &mut HostMem,
     dev: &mut Devices<I, O, E>,
-    log: &mut Log,
+    below: &mut Below,
 ) -> Result<Action, Stop>
     requires allowed { IsAllowed sig new }
-    ensures acts { Acts (λ before became. (before ≡ rows.action_at k.old.signals sig) × (became ≡ action_set k.old sig new)) result k.old k.new
-        (contents I.left O.written E.written dev.old) (contents I.left O.written E.written dev.new) log.old log.new }
+    ensures acts { Acts (λ before became. (before ≡ rows.action_at below.old.kernel.now.signals sig) × (became ≡ action_set below.old.kernel.now sig new)) result below.old.kernel.now below.new.kernel.now
+        (contents I.left O.written E.written dev.old) (contents I.left O.written E.written dev.new) below.old.log.now below.new.log.now }
     ensures cause { StopsOnlyIfRose I.faults O.faults E.faults result dev.old dev.new }
     ensures counts { NoCountFell I.faults O.faults E.faults dev.old dev.new }
-    ensures clock { k.new.clock ≡ k.old.clock }
+    ensures clock { below.new.kernel.now.clock ≡ below.old.kernel.now.clock }
+    ensures same { LeadsOn below.old below.new }
 {
-    let before = action(sig, k, mem, dev, log)?;
-    set_new(sig, new, k, mem, dev, log)?;
+    let before = action(sig, dev, below)?;
+    set_new(sig, new, dev, below)?;
     Ok(before)
 }
 
@@ -65,20 +62,19 @@ fn replace_action<I: Source, O: Sink, E: Sink>(
 fn set_new<I: Source, O: Sink, E: Sink>(
     sig: Sig,
     new: Option<Action>,
-    k: &mut NativeKernel,
-    mem: &mut HostMem,
     dev: &mut Devices<I, O, E>,
-    log: &mut Log,
+    below: &mut Below,
 ) -> Result<(), Stop>
     requires allowed { IsAllowed sig new }
-    ensures acts { Acts (λ _ became. became ≡ action_set k.old sig new) result k.old k.new
-        (contents I.left O.written E.written dev.old) (contents I.left O.written E.written dev.new) log.old log.new }
+    ensures acts { Acts (λ _ became. became ≡ action_set below.old.kernel.now sig new) result below.old.kernel.now below.new.kernel.now
+        (contents I.left O.written E.written dev.old) (contents I.left O.written E.written dev.new) below.old.log.now below.new.log.now }
     ensures cause { StopsOnlyIfRose I.faults O.faults E.faults result dev.old dev.new }
     ensures counts { NoCountFell I.faults O.faults E.faults dev.old dev.new }
-    ensures clock { k.new.clock ≡ k.old.clock }
+    ensures clock { below.new.kernel.now.clock ≡ below.old.kernel.now.clock }
+    ensures same { LeadsOn below.old below.new }
 {
     match new {
         None => Ok(()),
-        Some(action) => set_action(sig, action, k, mem, dev, log),
+        Some(action) => set_action(sig, action, dev, below),
     }
 }

@@ -1,6 +1,6 @@
 //! A call on signals by its number.
+ghost use Rattle.bridge_signal_state.specs.Passed.{KeepsCall, LeadsOn};
 ghost use Rattle.std.specs.Prelude.{◌≡◌, IsTrue};
-ghost use Rattle.bridge_signal_state.specs.Passed.{KeepsCall};
 ghost use Rattle.bridge_signal.specs.Found.{found};
 ghost use Rattle.bridge_signal.specs.Numbers.{is_call_there};
 ghost use Rattle.kernel_model.specs.Stops.{StopsOnlyIfRose};
@@ -12,7 +12,7 @@ use crate::returning::{rt_sigreturn, sigreturn};
 use crate::sending::{kill, rt_sigqueueinfo, tgkill, tkill};
 use crate::suspending::{pause, restart_syscall, rt_sigsuspend};
 use crate::telling::{rt_sigaction, rt_sigpending, rt_sigprocmask, sigaltstack};
-use bridge_signal_state::NativeKernel;
+use bridge_signal_state::{Below, NativeKernel};
 use guest_space::Space;
 use host_mem::HostMem;
 use kernel_core::Stop;
@@ -44,20 +44,47 @@ pub fn signal_call<I: Source, O: Sink, E: Sink>(
     ensures counts { NoCountFell I.faults O.faults E.faults dev.old dev.new }
     ensures clock { k.new.clock ≡ k.old.clock }
 {
+    let below = &mut Below {
+        kernel: k,
+        memory: mem,
+        log,
+    };
+    by_number(args, cpu, space, dev, seen, below)
+}
+
+/// The same by its number, with the kernel and what its calls are made with as one value.
+fn by_number<I: Source, O: Sink, E: Sink>(
+    args: &CallWords,
+    cpu: &mut Cpu,
+    space: &mut Space,
+    dev: &mut Devices<I, O, E>,
+    seen: &Seen,
+    below: &mut Below,
+) -> Result<Outcome, Stop>
+    requires { IsTrue (is_call_there args.now.nr) }
+    ensures row { IsCall (machine_call seen.now below.old.kernel.now (found args.now cpu.old space.old)) result below.new.kernel.now space.new cpu.new
+        (contents I.left O.written E.written dev.old) (contents I.left O.written E.written dev.new) }
+    ensures kept { KeepsCall (machine_call seen.now below.old.kernel.now (found args.now cpu.old space.old)) result below.old.kernel.now
+        (found args.now cpu.old space.old) (I.left dev.old.input) below.old.log.now below.new.log.now }
+    ensures cause { StopsOnlyIfRose I.faults O.faults E.faults result dev.old dev.new }
+    ensures counts { NoCountFell I.faults O.faults E.faults dev.old dev.new }
+    ensures clock { below.new.kernel.now.clock ≡ below.old.kernel.now.clock }
+    ensures same { LeadsOn below.old below.new }
+{
     let [a0, a1, a2, a3] = args.reg;
     match args.nr {
-        4029 => pause(args, k, mem, dev, log),
-        4037 => kill(args, a0, a1, k, mem, dev, log),
-        4119 => sigreturn(cpu, space, k, mem, dev, log),
-        4193 => rt_sigreturn(cpu, space, k, mem, dev, log),
-        4194 => rt_sigaction(a0, a1, a2, a3, space, k, mem, dev, log),
-        4195 => rt_sigprocmask(a0, a1, a2, a3, space, k, mem, dev, log),
-        4196 => rt_sigpending(a0, a1, space, k, mem, dev, log),
-        4198 => rt_sigqueueinfo(args, a0, a1, a2, space, k, mem, dev, log),
-        4199 => rt_sigsuspend(args, a0, a1, space, k, mem, dev, log),
-        4206 => sigaltstack(cpu, a0, a1, space, k, mem, dev, log),
-        4236 => tkill(args, a0, a1, k, mem, dev, log),
+        4029 => pause(args, dev, below),
+        4037 => kill(args, a0, a1, dev, below),
+        4119 => sigreturn(cpu, space, dev, below),
+        4193 => rt_sigreturn(cpu, space, dev, below),
+        4194 => rt_sigaction(a0, a1, a2, a3, space, dev, below),
+        4195 => rt_sigprocmask(a0, a1, a2, a3, space, dev, below),
+        4196 => rt_sigpending(a0, a1, space, dev, below),
+        4198 => rt_sigqueueinfo(args, a0, a1, a2, space, dev, below),
+        4199 => rt_sigsuspend(args, a0, a1, space, dev, below),
+        4206 => sigaltstack(cpu, a0, a1, space, dev, below),
+        4236 => tkill(args, a0, a1, dev, below),
         4253 => Ok(restart_syscall(seen.restart)),
-        _ => tgkill(args, a0, a1, a2, k, mem, dev, log),
+        _ => tgkill(args, a0, a1, a2, dev, below),
     }
 }

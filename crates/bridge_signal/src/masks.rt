@@ -1,5 +1,6 @@
 //! The mask, set and told: sigprocmask(2).
 ghost use Rattle.std.specs.Prelude.{◌≡◌, ◌-◌, bit_and};
+ghost use Rattle.bridge_signal_state.specs.Passed.{LeadsOn};
 ghost use Rattle.bridge_signal.specs.inside.Asked.{mask_changed, mask_from, mask_set};
 ghost use Rattle.bridge_signal.specs.inside.Told.{did};
 ghost use Rattle.bridge_signal_state.specs.Acts.{Acts};
@@ -9,30 +10,27 @@ ghost use Rattle.kernel_model.specs.Stops.{StopsOnlyIfRose};
 ghost use Rattle.outside.specs.Streams.{NoCountFell, contents};
 
 use crate::asked::MaskSetting;
-use bridge_signal_state::{NativeKernel, mask, set_mask};
-use host_mem::HostMem;
+use bridge_signal_state::{Below, mask, set_mask};
 use kernel_core::{Errno, MaskChange, Stop};
-use o32_model::Log;
 use outside::{Devices, Sink, Source};
 
 /// Tells the mask and changes it as is asked, or tells the error.
 pub(crate) fn change_mask<I: Source, O: Sink, E: Sink>(
     asked: Result<Option<MaskSetting>, Errno>,
-    k: &mut NativeKernel,
-    mem: &mut HostMem,
     dev: &mut Devices<I, O, E>,
-    log: &mut Log,
+    below: &mut Below,
 ) -> Result<Result<[u32; 4], Errno>, Stop>
-    ensures acts { Acts (λ told became. mask_changed k.old asked ≡ did became told) result k.old k.new
-        (contents I.left O.written E.written dev.old) (contents I.left O.written E.written dev.new) log.old log.new }
+    ensures acts { Acts (λ told became. mask_changed below.old.kernel.now asked ≡ did became told) result below.old.kernel.now below.new.kernel.now
+        (contents I.left O.written E.written dev.old) (contents I.left O.written E.written dev.new) below.old.log.now below.new.log.now }
     ensures cause { StopsOnlyIfRose I.faults O.faults E.faults result dev.old dev.new }
     ensures counts { NoCountFell I.faults O.faults E.faults dev.old dev.new }
-    ensures clock { k.new.clock ≡ k.old.clock }
+    ensures clock { below.new.kernel.now.clock ≡ below.old.kernel.now.clock }
+    ensures same { LeadsOn below.old below.new }
 {
     match asked {
         Err(error) => Ok(Err(error)),
         Ok(change) => {
-            let before = replace_mask(change, k, mem, dev, log)?;
+            let before = replace_mask(change, dev, below)?;
             Ok(Ok(before))
         }
     }
@@ -41,19 +39,18 @@ pub(crate) fn change_mask<I: Source, O: Sink, E: Sink>(
 /// Tells the mask, and changes it where there is a change.
 fn replace_mask<I: Source, O: Sink, E: Sink>(
     change: Option<MaskSetting>,
-    k: &mut NativeKernel,
-    mem: &mut HostMem,
     dev: &mut Devices<I, O, E>,
-    log: &mut Log,
+    below: &mut Below,
 ) -> Result<[u32; 4], Stop>
-    ensures acts { Acts (λ before became. (before ≡ k.old.signals.mask) × (became ≡ mask_set k.old change)) result k.old k.new
-        (contents I.left O.written E.written dev.old) (contents I.left O.written E.written dev.new) log.old log.new }
+    ensures acts { Acts (λ before became. (before ≡ below.old.kernel.now.signals.mask) × (became ≡ mask_set below.old.kernel.now change)) result below.old.kernel.now below.new.kernel.now
+        (contents I.left O.written E.written dev.old) (contents I.left O.written E.written dev.new) below.old.log.now below.new.log.now }
     ensures cause { StopsOnlyIfRose I.faults O.faults E.faults result dev.old dev.new }
     ensures counts { NoCountFell I.faults O.faults E.faults dev.old dev.new }
-    ensures clock { k.new.clock ≡ k.old.clock }
+    ensures clock { below.new.kernel.now.clock ≡ below.old.kernel.now.clock }
+    ensures same { LeadsOn below.old below.new }
 {
-    let before = mask(k, mem, dev, log)?;
-    set_from(before, change, k, mem, dev, log)?;
+    let before = mask(dev, below)?;
+    set_from(before, change, dev, below)?;
     Ok(before)
 }
 
@@ -61,22 +58,21 @@ fn replace_mask<I: Source, O: Sink, E: Sink>(
 fn set_from<I: Source, O: Sink, E: Sink>(
     before: [u32; 4],
     change: Option<MaskSetting>,
-    k: &mut NativeKernel,
-    mem: &mut HostMem,
     dev: &mut Devices<I, O, E>,
-    log: &mut Log,
+    below: &mut Below,
 ) -> Result<(), Stop>
-    ensures acts { Acts (λ _ became. became ≡ mask_from k.old before change) result k.old k.new
-        (contents I.left O.written E.written dev.old) (contents I.left O.written E.written dev.new) log.old log.new }
+    ensures acts { Acts (λ _ became. became ≡ mask_from below.old.kernel.now before change) result below.old.kernel.now below.new.kernel.now
+        (contents I.left O.written E.written dev.old) (contents I.left O.written E.written dev.new) below.old.log.now below.new.log.now }
     ensures cause { StopsOnlyIfRose I.faults O.faults E.faults result dev.old dev.new }
     ensures counts { NoCountFell I.faults O.faults E.faults dev.old dev.new }
-    ensures clock { k.new.clock ≡ k.old.clock }
+    ensures clock { below.new.kernel.now.clock ≡ below.old.kernel.now.clock }
+    ensures same { LeadsOn below.old below.new }
 {
     match change {
         None => Ok(()),
         Some(change) => {
             let becomes = changed_mask(change.how, before, change.set);
-            set_mask(becomes, k, mem, dev, log)
+            set_mask(becomes, dev, below)
         }
     }
 }

@@ -1,6 +1,6 @@
 //! Returning from a handler: sigreturn(2), and rt_sigreturn.
 ghost use Rattle.std.specs.Prelude.{◌≡◌};
-ghost use Rattle.bridge_signal_state.specs.Passed.{KeepsCall};
+ghost use Rattle.bridge_signal_state.specs.Passed.{KeepsCall, LeadsOn};
 ghost use Rattle.bridge_signal.specs.inside.Returns.{restored, sig_stack};
 ghost use Rattle.bridge_signal_state.specs.Acts.{Acts};
 ghost use Rattle.kernel_model.specs.Stops.{StopsOnlyIfRose};
@@ -10,13 +10,12 @@ ghost use Rattle.o32_model.specs.Step.{Guest};
 ghost use Rattle.outside.specs.Streams.{NoCountFell, contents};
 
 use crate::stacks::replace_stack;
-use bridge_signal_state::{NativeKernel, set_mask};
+use bridge_signal_state::{Below, set_mask};
 use guest_space::Space;
-use host_mem::HostMem;
 use kernel_core::Stop;
 use kernel_model::SigStack;
 use mips_exec::Cpu;
-use o32_model::{Log, Outcome};
+use o32_model::Outcome;
 use outside::{Devices, Sink, Source};
 use signal_frames::{AltStack, Return, read_frame, read_rt_frame};
 
@@ -28,24 +27,23 @@ const STACK_POINTER: u8 = 29;
 pub(crate) fn sigreturn<I: Source, O: Sink, E: Sink>(
     cpu: &mut Cpu,
     space: &Space,
-    k: &mut NativeKernel,
-    mem: &mut HostMem,
     dev: &mut Devices<I, O, E>,
-    log: &mut Log,
+    below: &mut Below,
 ) -> Result<Outcome, Stop>
     ensures row { (guest : Guest) → guest.memory ≡ space.now → guest.processor ≡ cpu.old
-        → IsCall (sigreturn_row k.old guest) result k.new space.now cpu.new
+        → IsCall (sigreturn_row below.old.kernel.now guest) result below.new.kernel.now space.now cpu.new
         (contents I.left O.written E.written dev.old) (contents I.left O.written E.written dev.new) }
     ensures kept { (guest : Guest) → guest.memory ≡ space.now → guest.processor ≡ cpu.old
-        → KeepsCall (sigreturn_row k.old guest) result k.old guest (I.left dev.old.input) log.old log.new }
+        → KeepsCall (sigreturn_row below.old.kernel.now guest) result below.old.kernel.now guest (I.left dev.old.input) below.old.log.now below.new.log.now }
     ensures cause { StopsOnlyIfRose I.faults O.faults E.faults result dev.old dev.new }
     ensures counts { NoCountFell I.faults O.faults E.faults dev.old dev.new }
-    ensures clock { k.new.clock ≡ k.old.clock }
+    ensures clock { below.new.kernel.now.clock ≡ below.old.kernel.now.clock }
+    ensures same { LeadsOn below.old below.new }
 {
     match read_frame(cpu, space) {
         Err(_) => Ok(Outcome::BadFrame), // the turn of the call makes a fault of it
         Ok(mask) => {
-            set_mask(mask, k, mem, dev, log)?;
+            set_mask(mask, dev, below)?;
             Ok(Outcome::Frame)
         }
     }
@@ -56,25 +54,24 @@ pub(crate) fn sigreturn<I: Source, O: Sink, E: Sink>(
 pub(crate) fn rt_sigreturn<I: Source, O: Sink, E: Sink>(
     cpu: &mut Cpu,
     space: &Space,
-    k: &mut NativeKernel,
-    mem: &mut HostMem,
     dev: &mut Devices<I, O, E>,
-    log: &mut Log,
+    below: &mut Below,
 ) -> Result<Outcome, Stop>
     ensures row { (guest : Guest) → guest.memory ≡ space.now → guest.processor ≡ cpu.old
-        → IsCall (rt_sigreturn_row k.old guest) result k.new space.now cpu.new
+        → IsCall (rt_sigreturn_row below.old.kernel.now guest) result below.new.kernel.now space.now cpu.new
         (contents I.left O.written E.written dev.old) (contents I.left O.written E.written dev.new) }
     ensures kept { (guest : Guest) → guest.memory ≡ space.now → guest.processor ≡ cpu.old
-        → KeepsCall (rt_sigreturn_row k.old guest) result k.old guest (I.left dev.old.input) log.old log.new }
+        → KeepsCall (rt_sigreturn_row below.old.kernel.now guest) result below.old.kernel.now guest (I.left dev.old.input) below.old.log.now below.new.log.now }
     ensures cause { StopsOnlyIfRose I.faults O.faults E.faults result dev.old dev.new }
     ensures counts { NoCountFell I.faults O.faults E.faults dev.old dev.new }
-    ensures clock { k.new.clock ≡ k.old.clock }
+    ensures clock { below.new.kernel.now.clock ≡ below.old.kernel.now.clock }
+    ensures same { LeadsOn below.old below.new }
 {
     match read_rt_frame(cpu, space) {
         Err(_) => Ok(Outcome::BadFrame),
         Ok(back) => {
             let sp = cpu.register(STACK_POINTER);
-            restore(back, sp, k, mem, dev, log)?;
+            restore(back, sp, dev, below)?;
             Ok(Outcome::Frame)
         }
     }
@@ -84,19 +81,18 @@ pub(crate) fn rt_sigreturn<I: Source, O: Sink, E: Sink>(
 fn restore<I: Source, O: Sink, E: Sink>(
     back: Return,
     sp: u32,
-    k: &mut NativeKernel,
-    mem: &mut HostMem,
     dev: &mut Devices<I, O, E>,
-    log: &mut Log,
+    below: &mut Below,
 ) -> Result<(), Stop>
-    ensures acts { Acts (λ _ became. became ≡ restored k.old back sp) result k.old k.new
-        (contents I.left O.written E.written dev.old) (contents I.left O.written E.written dev.new) log.old log.new }
+    ensures acts { Acts (λ _ became. became ≡ restored below.old.kernel.now back sp) result below.old.kernel.now below.new.kernel.now
+        (contents I.left O.written E.written dev.old) (contents I.left O.written E.written dev.new) below.old.log.now below.new.log.now }
     ensures cause { StopsOnlyIfRose I.faults O.faults E.faults result dev.old dev.new }
     ensures counts { NoCountFell I.faults O.faults E.faults dev.old dev.new }
-    ensures clock { k.new.clock ≡ k.old.clock }
+    ensures clock { below.new.kernel.now.clock ≡ below.old.kernel.now.clock }
+    ensures same { LeadsOn below.old below.new }
 {
-    set_mask(back.mask, k, mem, dev, log)?;
-    let _ = replace_stack(Some(sig_stack(back.stack)), sp, k, mem, dev, log)?;
+    set_mask(back.mask, dev, below)?;
+    let _ = replace_stack(Some(sig_stack(back.stack)), sp, dev, below)?;
     Ok(())
 }
 

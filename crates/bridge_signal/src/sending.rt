@@ -1,7 +1,7 @@
 //! Sending signals: kill(2), tkill(2), tgkill(2), rt_sigqueueinfo(2).
 ghost use Rattle.std.specs.Prelude.{◌≡◌};
 ghost use Rattle.std.specs.Int.{w32, cast_signed};
-ghost use Rattle.bridge_signal_state.specs.Passed.{KeepsCall};
+ghost use Rattle.bridge_signal_state.specs.Passed.{KeepsCall, LeadsOn};
 ghost use Rattle.kernel_model.specs.Stops.{StopsOnlyIfRose};
 ghost use Rattle.o32_model.specs.Answered.{IsCall};
 ghost use Rattle.o32_model.specs.Sending.{kill_row, rt_sigqueueinfo_row, tgkill_row, tkill_row};
@@ -11,11 +11,10 @@ ghost use Rattle.outside.specs.Streams.{NoCountFell, contents};
 use crate::infos::take_info;
 use crate::named::native_number;
 use crate::numbers::{KILL, RT_SIGQUEUEINFO, TGKILL, TKILL};
-use bridge_signal_state::{NativeKernel, number_call};
+use bridge_signal_state::Below;
 use guest_space::Space;
-use host_mem::HostMem;
 use kernel_core::Stop;
-use o32_model::{CallWords, Log, Outcome};
+use o32_model::{CallWords, Outcome};
 use outside::{Devices, Sink, Source};
 
 /// kill(2): ESRCH for another process than this one and its group, EINVAL for a number above 128, EAGAIN where as
@@ -24,23 +23,22 @@ pub(crate) fn kill<I: Source, O: Sink, E: Sink>(
     words: &CallWords,
     pid: u32,
     number: u32,
-    k: &mut NativeKernel,
-    mem: &mut HostMem,
     dev: &mut Devices<I, O, E>,
-    log: &mut Log,
+    below: &mut Below,
 ) -> Result<Outcome, Stop>
     ensures row { (guest : Guest) → guest.words ≡ words.now
-        → IsCall (kill_row k.old guest (cast_signed w32 pid) number) result k.new guest.memory guest.processor
+        → IsCall (kill_row below.old.kernel.now guest (cast_signed w32 pid) number) result below.new.kernel.now guest.memory guest.processor
         (contents I.left O.written E.written dev.old) (contents I.left O.written E.written dev.new) }
     ensures kept { (guest : Guest) → guest.words ≡ words.now
-        → KeepsCall (kill_row k.old guest (cast_signed w32 pid) number) result k.old guest (I.left dev.old.input) log.old log.new }
+        → KeepsCall (kill_row below.old.kernel.now guest (cast_signed w32 pid) number) result below.old.kernel.now guest (I.left dev.old.input) below.old.log.now below.new.log.now }
     ensures cause { StopsOnlyIfRose I.faults O.faults E.faults result dev.old dev.new }
     ensures counts { NoCountFell I.faults O.faults E.faults dev.old dev.new }
-    ensures clock { k.new.clock ≡ k.old.clock }
+    ensures clock { below.new.kernel.now.clock ≡ below.old.kernel.now.clock }
+    ensures same { LeadsOn below.old below.new }
 {
-    mem.clear();
+    below.memory.clear();
     let args = [u64::from(pid), native_number(number), 0, 0, 0, 0];
-    number_call(words, k, KILL, args, mem, dev, log)
+    below.number_call(words, KILL, args, dev)
 }
 
 /// tkill(2): EINVAL for a thread below 1, ESRCH for another than the one of this process; then as [`kill`].
@@ -48,23 +46,22 @@ pub(crate) fn tkill<I: Source, O: Sink, E: Sink>(
     words: &CallWords,
     tid: u32,
     number: u32,
-    k: &mut NativeKernel,
-    mem: &mut HostMem,
     dev: &mut Devices<I, O, E>,
-    log: &mut Log,
+    below: &mut Below,
 ) -> Result<Outcome, Stop>
     ensures row { (guest : Guest) → guest.words ≡ words.now
-        → IsCall (tkill_row k.old guest (cast_signed w32 tid) number) result k.new guest.memory guest.processor
+        → IsCall (tkill_row below.old.kernel.now guest (cast_signed w32 tid) number) result below.new.kernel.now guest.memory guest.processor
         (contents I.left O.written E.written dev.old) (contents I.left O.written E.written dev.new) }
     ensures kept { (guest : Guest) → guest.words ≡ words.now
-        → KeepsCall (tkill_row k.old guest (cast_signed w32 tid) number) result k.old guest (I.left dev.old.input) log.old log.new }
+        → KeepsCall (tkill_row below.old.kernel.now guest (cast_signed w32 tid) number) result below.old.kernel.now guest (I.left dev.old.input) below.old.log.now below.new.log.now }
     ensures cause { StopsOnlyIfRose I.faults O.faults E.faults result dev.old dev.new }
     ensures counts { NoCountFell I.faults O.faults E.faults dev.old dev.new }
-    ensures clock { k.new.clock ≡ k.old.clock }
+    ensures clock { below.new.kernel.now.clock ≡ below.old.kernel.now.clock }
+    ensures same { LeadsOn below.old below.new }
 {
-    mem.clear();
+    below.memory.clear();
     let args = [u64::from(tid), native_number(number), 0, 0, 0, 0];
-    number_call(words, k, TKILL, args, mem, dev, log)
+    below.number_call(words, TKILL, args, dev)
 }
 
 /// tgkill(2): EINVAL for a process or a thread below 1, ESRCH for another than this one; then as [`kill`].
@@ -73,22 +70,21 @@ pub(crate) fn tgkill<I: Source, O: Sink, E: Sink>(
     pid: u32,
     tid: u32,
     number: u32,
-    k: &mut NativeKernel,
-    mem: &mut HostMem,
     dev: &mut Devices<I, O, E>,
-    log: &mut Log,
+    below: &mut Below,
 ) -> Result<Outcome, Stop>
     ensures row { (guest : Guest) → guest.words ≡ words.now
-        → IsCall (tgkill_row k.old guest (cast_signed w32 pid) (cast_signed w32 tid) number) result k.new guest.memory guest.processor
+        → IsCall (tgkill_row below.old.kernel.now guest (cast_signed w32 pid) (cast_signed w32 tid) number) result below.new.kernel.now guest.memory guest.processor
         (contents I.left O.written E.written dev.old) (contents I.left O.written E.written dev.new) }
     ensures kept { (guest : Guest) → guest.words ≡ words.now
-        → KeepsCall (tgkill_row k.old guest (cast_signed w32 pid) (cast_signed w32 tid) number) result k.old guest
-        (I.left dev.old.input) log.old log.new }
+        → KeepsCall (tgkill_row below.old.kernel.now guest (cast_signed w32 pid) (cast_signed w32 tid) number) result below.old.kernel.now guest
+        (I.left dev.old.input) below.old.log.now below.new.log.now }
     ensures cause { StopsOnlyIfRose I.faults O.faults E.faults result dev.old dev.new }
     ensures counts { NoCountFell I.faults O.faults E.faults dev.old dev.new }
-    ensures clock { k.new.clock ≡ k.old.clock }
+    ensures clock { below.new.kernel.now.clock ≡ below.old.kernel.now.clock }
+    ensures same { LeadsOn below.old below.new }
 {
-    mem.clear();
+    below.memory.clear();
     let args = [
         u64::from(pid),
         u64::from(tid),
@@ -97,7 +93,7 @@ pub(crate) fn tgkill<I: Source, O: Sink, E: Sink>(
         0,
         0,
     ];
-    number_call(words, k, TGKILL, args, mem, dev, log)
+    below.number_call(words, TGKILL, args, dev)
 }
 
 /// rt_sigqueueinfo(2): ESRCH for another process, EINVAL for a number above 128, EFAULT, EAGAIN. The code, errno, pid,
@@ -108,22 +104,21 @@ pub(crate) fn rt_sigqueueinfo<I: Source, O: Sink, E: Sink>(
     number: u32,
     address: u32,
     space: &Space,
-    k: &mut NativeKernel,
-    mem: &mut HostMem,
     dev: &mut Devices<I, O, E>,
-    log: &mut Log,
+    below: &mut Below,
 ) -> Result<Outcome, Stop>
     ensures row { (guest : Guest) → guest.words ≡ words.now → guest.memory ≡ space.now
-        → IsCall (rt_sigqueueinfo_row k.old guest (cast_signed w32 pid) number address) result k.new space.now guest.processor
+        → IsCall (rt_sigqueueinfo_row below.old.kernel.now guest (cast_signed w32 pid) number address) result below.new.kernel.now space.now guest.processor
         (contents I.left O.written E.written dev.old) (contents I.left O.written E.written dev.new) }
     ensures kept { (guest : Guest) → guest.words ≡ words.now → guest.memory ≡ space.now
-        → KeepsCall (rt_sigqueueinfo_row k.old guest (cast_signed w32 pid) number address) result k.old guest
-        (I.left dev.old.input) log.old log.new }
+        → KeepsCall (rt_sigqueueinfo_row below.old.kernel.now guest (cast_signed w32 pid) number address) result below.old.kernel.now guest
+        (I.left dev.old.input) below.old.log.now below.new.log.now }
     ensures cause { StopsOnlyIfRose I.faults O.faults E.faults result dev.old dev.new }
     ensures counts { NoCountFell I.faults O.faults E.faults dev.old dev.new }
-    ensures clock { k.new.clock ≡ k.old.clock }
+    ensures clock { below.new.kernel.now.clock ≡ below.old.kernel.now.clock }
+    ensures same { LeadsOn below.old below.new }
 {
-    let place = take_info(space, address, mem)?;
+    let place = take_info(space, address, below.memory)?;
     let args = [u64::from(pid), native_number(number), place, 0, 0, 0];
-    number_call(words, k, RT_SIGQUEUEINFO, args, mem, dev, log)
+    below.number_call(words, RT_SIGQUEUEINFO, args, dev)
 }

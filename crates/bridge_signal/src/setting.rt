@@ -1,6 +1,6 @@
 //! New actions in host memory, and the native call that sets them.
 ghost use Rattle.std.specs.Prelude.{◌≡◌, ◌∷◌, ◌<◌, ◌^◌, [], ℕ, List, All, OnOk, false, map, pos};
-ghost use Rattle.bridge_signal_state.specs.Passed.{AreUnusedZero, IsPlaced};
+ghost use Rattle.bridge_signal_state.specs.Passed.{AreUnusedZero, IsPlaced, LeadsOn, built_call};
 ghost use Rattle.bridge_signal.specs.inside.Asked.{action_set_to};
 ghost use Rattle.bridge_signal_state.specs.Acts.{Acts};
 ghost use Rattle.bridge_signal_state.specs.inside.Acting.{Answers, IsAct};
@@ -11,19 +11,17 @@ ghost use Rattle.kernel_model.specs.State.{Kernel};
 ghost use Rattle.kernel_model.specs.Stops.{StopsOnlyIfRose};
 ghost use Rattle.native_calls.specs.SignalBytes as spec;
 ghost use Rattle.native_calls.specs.Table.{native_call};
-ghost use Rattle.bridge_signal_state.specs.Passed.{built_call};
 ghost use Rattle.number_tables.specs.SaNumbers.{native_sa};
 ghost use Rattle.outside.specs.Streams.{NoCountFell, contents};
 ghost use Rattle.signal_sets.specs.NativeSets.{native_of};
 
 use crate::numbers::{RT_SIGACTION, SIGSETSIZE};
-use bridge_signal_state::{NativeKernel, native};
+use bridge_signal_state::Below;
 use host_mem::{FIRST_ADDRESS, HostMem};
 use kernel_core::{NoMemory, Reply, Sig, Stop};
 use kernel_model::Action;
 use layouts::{NativeStructure, native_layout, put_record};
 use number_tables::NativeNumber;
-use o32_model::Log;
 use outside::{Devices, Sink, Source};
 use signal_sets::to_native;
 
@@ -34,22 +32,21 @@ const ACTION_SIZE: usize = 32;
 pub(crate) fn set_action<I: Source, O: Sink, E: Sink>(
     sig: Sig,
     action: Action,
-    k: &mut NativeKernel,
-    mem: &mut HostMem,
     dev: &mut Devices<I, O, E>,
-    log: &mut Log,
+    below: &mut Below,
 ) -> Result<(), Stop>
     requires blockable { is_unblockable sig ≡ false }
-    ensures acts { Acts (λ _ became. became ≡ action_set_to k.old sig action) result k.old k.new
-        (contents I.left O.written E.written dev.old) (contents I.left O.written E.written dev.new) log.old log.new }
+    ensures acts { Acts (λ _ became. became ≡ action_set_to below.old.kernel.now sig action) result below.old.kernel.now below.new.kernel.now
+        (contents I.left O.written E.written dev.old) (contents I.left O.written E.written dev.new) below.old.log.now below.new.log.now }
     ensures cause { StopsOnlyIfRose I.faults O.faults E.faults result dev.old dev.new }
     ensures counts { NoCountFell I.faults O.faults E.faults dev.old dev.new }
-    ensures clock { k.new.clock ≡ k.old.clock }
+    ensures clock { below.new.kernel.now.clock ≡ below.old.kernel.now.clock }
+    ensures same { LeadsOn below.old below.new }
 {
     is_set(action.mask);
-    put_action(action, mem)?;
+    put_action(action, below.memory)?;
     let args = [sig.to_native(), FIRST_ADDRESS, 0, SIGSETSIZE, 0, 0];
-    act(k, RT_SIGACTION, args, mem, dev, log)?;
+    act(RT_SIGACTION, args, dev, below)?;
     Ok(())
 }
 
@@ -74,25 +71,24 @@ fn fits(word: u32)
 
 /// Makes a native call that takes and sends nothing.
 fn act<I: Source, O: Sink, E: Sink>(
-    k: &mut NativeKernel,
     nr: u64,
     args: [u64; 6],
-    mem: &mut HostMem,
     dev: &mut Devices<I, O, E>,
-    log: &mut Log,
+    below: &mut Below,
 ) -> Result<Reply, Stop>
     requires built { built_call nr ≡ native_call nr }
     requires unused { AreUnusedZero nr args }
-    requires placed { IsPlaced nr mem.old }
+    requires placed { IsPlaced nr below.old.memory.now }
     ensures acts { (to : Kernel) (reply : Reply) (memory : List ℕ)
-        → ((left : List ℕ) → IsAct to reply memory left (native_call nr args k.old mem.old left))
-        → Acts (Answers to reply memory mem.new) result k.old k.new
-        (contents I.left O.written E.written dev.old) (contents I.left O.written E.written dev.new) log.old log.new }
+        → ((left : List ℕ) → IsAct to reply memory left (native_call nr args below.old.kernel.now below.old.memory.now left))
+        → Acts (Answers to reply memory below.new.memory.now) result below.old.kernel.now below.new.kernel.now
+        (contents I.left O.written E.written dev.old) (contents I.left O.written E.written dev.new) below.old.log.now below.new.log.now }
     ensures cause { StopsOnlyIfRose I.faults O.faults E.faults result dev.old dev.new }
     ensures counts { NoCountFell I.faults O.faults E.faults dev.old dev.new }
-    ensures clock { k.new.clock ≡ k.old.clock }
+    ensures clock { below.new.kernel.now.clock ≡ below.old.kernel.now.clock }
+    ensures same { LeadsOn below.old below.new }
 {
-    native(k, nr, args, mem, dev, log)
+    below.native(nr, args, dev)
 }
 
 /// Makes host memory of an action.

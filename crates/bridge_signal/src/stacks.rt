@@ -1,5 +1,6 @@
 //! The alternate stack, set and told: sigaltstack(2).
 ghost use Rattle.std.specs.Prelude.{◌≡◌, Ok, Err, Some, if◌then◌else◌};
+ghost use Rattle.bridge_signal_state.specs.Passed.{LeadsOn};
 ghost use Rattle.bridge_signal.specs.inside.Stacks.{changed_stack, set_from, set_taken, told_if, wrong_with};
 ghost use Rattle.bridge_signal.specs.inside.Told.{did};
 ghost use Rattle.bridge_signal_state.specs.Acts.{Acts};
@@ -10,12 +11,10 @@ ghost use Rattle.o32_model.specs.Actions.{stack_at};
 ghost use Rattle.outside.specs.Streams.{NoCountFell, contents};
 
 use crate::structures::stack_in_program;
-use bridge_signal_state::{NativeKernel, set_stack, stack};
+use bridge_signal_state::{Below, set_stack, stack};
 use guest_space::Space;
-use host_mem::HostMem;
 use kernel_core::{Errno, Stop};
 use kernel_model::SigStack;
-use o32_model::Log;
 use outside::{Devices, Sink, Source};
 
 /// SS_ONSTACK: the process is on the stack.
@@ -41,20 +40,19 @@ pub(crate) fn asked_stack(space: &Space, address: u32) -> Result<Option<SigStack
 pub(crate) fn change_stack<I: Source, O: Sink, E: Sink>(
     asked: Result<Option<SigStack>, Errno>,
     sp: u32,
-    k: &mut NativeKernel,
-    mem: &mut HostMem,
     dev: &mut Devices<I, O, E>,
-    log: &mut Log,
+    below: &mut Below,
 ) -> Result<Result<SigStack, Errno>, Stop>
-    ensures acts { Acts (λ told became. changed_stack k.old sp asked ≡ did became told) result k.old k.new
-        (contents I.left O.written E.written dev.old) (contents I.left O.written E.written dev.new) log.old log.new }
+    ensures acts { Acts (λ told became. changed_stack below.old.kernel.now sp asked ≡ did became told) result below.old.kernel.now below.new.kernel.now
+        (contents I.left O.written E.written dev.old) (contents I.left O.written E.written dev.new) below.old.log.now below.new.log.now }
     ensures cause { StopsOnlyIfRose I.faults O.faults E.faults result dev.old dev.new }
     ensures counts { NoCountFell I.faults O.faults E.faults dev.old dev.new }
-    ensures clock { k.new.clock ≡ k.old.clock }
+    ensures clock { below.new.kernel.now.clock ≡ below.old.kernel.now.clock }
+    ensures same { LeadsOn below.old below.new }
 {
     match asked {
         Err(error) => Ok(Err(error)),
-        Ok(new) => replace_stack(new, sp, k, mem, dev, log),
+        Ok(new) => replace_stack(new, sp, dev, below),
     }
 }
 
@@ -63,19 +61,18 @@ pub(crate) fn change_stack<I: Source, O: Sink, E: Sink>(
 pub(crate) fn replace_stack<I: Source, O: Sink, E: Sink>(
     new: Option<SigStack>,
     sp: u32,
-    k: &mut NativeKernel,
-    mem: &mut HostMem,
     dev: &mut Devices<I, O, E>,
-    log: &mut Log,
+    below: &mut Below,
 ) -> Result<Result<SigStack, Errno>, Stop>
-    ensures acts { Acts (λ told became. rows.set_stack_to k.old (Some sp) new ≡ did became told) result k.old k.new
-        (contents I.left O.written E.written dev.old) (contents I.left O.written E.written dev.new) log.old log.new }
+    ensures acts { Acts (λ told became. rows.set_stack_to below.old.kernel.now (Some sp) new ≡ did became told) result below.old.kernel.now below.new.kernel.now
+        (contents I.left O.written E.written dev.old) (contents I.left O.written E.written dev.new) below.old.log.now below.new.log.now }
     ensures cause { StopsOnlyIfRose I.faults O.faults E.faults result dev.old dev.new }
     ensures counts { NoCountFell I.faults O.faults E.faults dev.old dev.new }
-    ensures clock { k.new.clock ≡ k.old.clock }
+    ensures clock { below.new.kernel.now.clock ≡ below.old.kernel.now.clock }
+    ensures same { LeadsOn below.old below.new }
 {
-    let before = stack(k, mem, dev, log)?;
-    let told = set_over(before, new, sp, k, mem, dev, log)?;
+    let before = stack(dev, below)?;
+    let told = set_over(before, new, sp, dev, below)?;
     Ok(told)
 }
 
@@ -84,20 +81,19 @@ fn set_over<I: Source, O: Sink, E: Sink>(
     before: SigStack,
     new: Option<SigStack>,
     sp: u32,
-    k: &mut NativeKernel,
-    mem: &mut HostMem,
     dev: &mut Devices<I, O, E>,
-    log: &mut Log,
+    below: &mut Below,
 ) -> Result<Result<SigStack, Errno>, Stop>
-    ensures acts { Acts (λ told became. set_from k.old before sp new ≡ did became told) result k.old k.new
-        (contents I.left O.written E.written dev.old) (contents I.left O.written E.written dev.new) log.old log.new }
+    ensures acts { Acts (λ told became. set_from below.old.kernel.now before sp new ≡ did became told) result below.old.kernel.now below.new.kernel.now
+        (contents I.left O.written E.written dev.old) (contents I.left O.written E.written dev.new) below.old.log.now below.new.log.now }
     ensures cause { StopsOnlyIfRose I.faults O.faults E.faults result dev.old dev.new }
     ensures counts { NoCountFell I.faults O.faults E.faults dev.old dev.new }
-    ensures clock { k.new.clock ≡ k.old.clock }
+    ensures clock { below.new.kernel.now.clock ≡ below.old.kernel.now.clock }
+    ensures same { LeadsOn below.old below.new }
 {
     match new {
         None => Ok(Ok(shown_stack(before, sp))),
-        Some(new) => set_unless_on(before, new, sp, k, mem, dev, log),
+        Some(new) => set_unless_on(before, new, sp, dev, below),
     }
 }
 
@@ -106,39 +102,37 @@ fn set_unless_on<I: Source, O: Sink, E: Sink>(
     before: SigStack,
     new: SigStack,
     sp: u32,
-    k: &mut NativeKernel,
-    mem: &mut HostMem,
     dev: &mut Devices<I, O, E>,
-    log: &mut Log,
+    below: &mut Below,
 ) -> Result<Result<SigStack, Errno>, Stop>
-    ensures acts { Acts (λ told became. set_from k.old before sp (Some new) ≡ did became told) result k.old k.new
-        (contents I.left O.written E.written dev.old) (contents I.left O.written E.written dev.new) log.old log.new }
+    ensures acts { Acts (λ told became. set_from below.old.kernel.now before sp (Some new) ≡ did became told) result below.old.kernel.now below.new.kernel.now
+        (contents I.left O.written E.written dev.old) (contents I.left O.written E.written dev.new) below.old.log.now below.new.log.now }
     ensures cause { StopsOnlyIfRose I.faults O.faults E.faults result dev.old dev.new }
     ensures counts { NoCountFell I.faults O.faults E.faults dev.old dev.new }
-    ensures clock { k.new.clock ≡ k.old.clock }
+    ensures clock { below.new.kernel.now.clock ≡ below.old.kernel.now.clock }
+    ensures same { LeadsOn below.old below.new }
 {
     if is_on(before, sp) {
         return Ok(Err(Errno::EPERM));
     }
-    take(shown_stack(before, sp), new, k, mem, dev, log)
+    take(shown_stack(before, sp), new, dev, below)
 }
 
 /// Sets the stack, and tells the one that was shown, or what is wrong.
 fn take<I: Source, O: Sink, E: Sink>(
     shown: SigStack,
     new: SigStack,
-    k: &mut NativeKernel,
-    mem: &mut HostMem,
     dev: &mut Devices<I, O, E>,
-    log: &mut Log,
+    below: &mut Below,
 ) -> Result<Result<SigStack, Errno>, Stop>
-    ensures acts { Acts (λ told became. set_taken k.old shown new ≡ did became told) result k.old k.new
-        (contents I.left O.written E.written dev.old) (contents I.left O.written E.written dev.new) log.old log.new }
+    ensures acts { Acts (λ told became. set_taken below.old.kernel.now shown new ≡ did became told) result below.old.kernel.now below.new.kernel.now
+        (contents I.left O.written E.written dev.old) (contents I.left O.written E.written dev.new) below.old.log.now below.new.log.now }
     ensures cause { StopsOnlyIfRose I.faults O.faults E.faults result dev.old dev.new }
     ensures counts { NoCountFell I.faults O.faults E.faults dev.old dev.new }
-    ensures clock { k.new.clock ≡ k.old.clock }
+    ensures clock { below.new.kernel.now.clock ≡ below.old.kernel.now.clock }
+    ensures same { LeadsOn below.old below.new }
 {
-    let taken = set_stack(new, k, mem, dev, log)?;
+    let taken = set_stack(new, dev, below)?;
     Ok(told_if(taken, shown, new))
 }
 

@@ -1,7 +1,6 @@
 //! Waiting for signals: pause(2), rt_sigsuspend(2); and restart_syscall(2), by which a wait goes on.
 ghost use Rattle.std.specs.Prelude.{◌≡◌};
-ghost use Rattle.bridge_signal_state.specs.Passed.{KeepsCall};
-ghost use Rattle.bridge_signal_state.specs.Passed.{LooksFor};
+ghost use Rattle.bridge_signal_state.specs.Passed.{KeepsCall, LeadsOn, LooksFor};
 ghost use Rattle.bridge_signal.specs.inside.Waiting.{asleep, masked, restart_outcome};
 ghost use Rattle.bridge_signal_state.specs.Acts.{Acts};
 ghost use Rattle.kernel_model.specs.SignalRows as rows;
@@ -14,32 +13,31 @@ ghost use Rattle.outside.specs.Streams.{NoCountFell, contents};
 use crate::asked::asked_mask;
 use crate::numbers::{RT_SIGSUSPEND, SIGSETSIZE};
 use crate::sets::put_set;
-use bridge_signal_state::{NativeKernel, look, mask, outcome_of, set_mask};
+use bridge_signal_state::{Below, mask, outcome_of, set_mask};
 use guest_space::Space;
-use host_mem::{FIRST_ADDRESS, HostMem};
+use host_mem::FIRST_ADDRESS;
 use kernel_core::{Errno, Stop};
-use o32_model::{CallWords, Log, Outcome, Wait};
+use o32_model::{CallWords, Outcome, Wait};
 use outside::{Devices, Sink, Source};
 
 /// pause(2), which waits as rt_sigsuspend(2) does with the mask as it is.
 pub(crate) fn pause<I: Source, O: Sink, E: Sink>(
     words: &CallWords,
-    k: &mut NativeKernel,
-    mem: &mut HostMem,
     dev: &mut Devices<I, O, E>,
-    log: &mut Log,
+    below: &mut Below,
 ) -> Result<Outcome, Stop>
     ensures row { (guest : Guest) → guest.words ≡ words.now
-        → IsCall (pause_row k.old guest) result k.new guest.memory guest.processor
+        → IsCall (pause_row below.old.kernel.now guest) result below.new.kernel.now guest.memory guest.processor
         (contents I.left O.written E.written dev.old) (contents I.left O.written E.written dev.new) }
     ensures kept { (guest : Guest) → guest.words ≡ words.now
-        → KeepsCall (pause_row k.old guest) result k.old guest (I.left dev.old.input) log.old log.new }
+        → KeepsCall (pause_row below.old.kernel.now guest) result below.old.kernel.now guest (I.left dev.old.input) below.old.log.now below.new.log.now }
     ensures cause { StopsOnlyIfRose I.faults O.faults E.faults result dev.old dev.new }
     ensures counts { NoCountFell I.faults O.faults E.faults dev.old dev.new }
-    ensures clock { k.new.clock ≡ k.old.clock }
+    ensures clock { below.new.kernel.now.clock ≡ below.old.kernel.now.clock }
+    ensures same { LeadsOn below.old below.new }
 {
-    let set = mask(k, mem, dev, log)?;
-    let outcome = sleep(words, set, k, mem, dev, log)?;
+    let set = mask(dev, below)?;
+    let outcome = sleep(words, set, dev, below)?;
     Ok(outcome)
 }
 
@@ -50,23 +48,22 @@ pub(crate) fn rt_sigsuspend<I: Source, O: Sink, E: Sink>(
     address: u32,
     size: u32,
     space: &Space,
-    k: &mut NativeKernel,
-    mem: &mut HostMem,
     dev: &mut Devices<I, O, E>,
-    log: &mut Log,
+    below: &mut Below,
 ) -> Result<Outcome, Stop>
     ensures row { (guest : Guest) → guest.words ≡ words.now → guest.memory ≡ space.now
-        → IsCall (rt_sigsuspend_row k.old guest address size) result k.new space.now guest.processor
+        → IsCall (rt_sigsuspend_row below.old.kernel.now guest address size) result below.new.kernel.now space.now guest.processor
         (contents I.left O.written E.written dev.old) (contents I.left O.written E.written dev.new) }
     ensures kept { (guest : Guest) → guest.words ≡ words.now → guest.memory ≡ space.now
-        → KeepsCall (rt_sigsuspend_row k.old guest address size) result k.old guest (I.left dev.old.input) log.old log.new }
+        → KeepsCall (rt_sigsuspend_row below.old.kernel.now guest address size) result below.old.kernel.now guest (I.left dev.old.input) below.old.log.now below.new.log.now }
     ensures cause { StopsOnlyIfRose I.faults O.faults E.faults result dev.old dev.new }
     ensures counts { NoCountFell I.faults O.faults E.faults dev.old dev.new }
-    ensures clock { k.new.clock ≡ k.old.clock }
+    ensures clock { below.new.kernel.now.clock ≡ below.old.kernel.now.clock }
+    ensures same { LeadsOn below.old below.new }
 {
     match asked_mask(address, size, space) {
         Err(error) => Ok(Outcome::Error(error)),
-        Ok(set) => suspend(words, set, k, mem, dev, log),
+        Ok(set) => suspend(words, set, dev, below),
     }
 }
 
@@ -74,19 +71,18 @@ pub(crate) fn rt_sigsuspend<I: Source, O: Sink, E: Sink>(
 fn suspend<I: Source, O: Sink, E: Sink>(
     words: &CallWords,
     set: [u32; 4],
-    k: &mut NativeKernel,
-    mem: &mut HostMem,
     dev: &mut Devices<I, O, E>,
-    log: &mut Log,
+    below: &mut Below,
 ) -> Result<Outcome, Stop>
-    ensures acts { Acts (λ outcome became. (outcome ≡ masked (asleep words.now) k.old.signals.mask) × (became ≡ rows.with_mask k.old set)) result k.old k.new
-        (contents I.left O.written E.written dev.old) (contents I.left O.written E.written dev.new) log.old log.new }
+    ensures acts { Acts (λ outcome became. (outcome ≡ masked (asleep words.now) below.old.kernel.now.signals.mask) × (became ≡ rows.with_mask below.old.kernel.now set)) result below.old.kernel.now below.new.kernel.now
+        (contents I.left O.written E.written dev.old) (contents I.left O.written E.written dev.new) below.old.log.now below.new.log.now }
     ensures cause { StopsOnlyIfRose I.faults O.faults E.faults result dev.old dev.new }
     ensures counts { NoCountFell I.faults O.faults E.faults dev.old dev.new }
-    ensures clock { k.new.clock ≡ k.old.clock }
+    ensures clock { below.new.kernel.now.clock ≡ below.old.kernel.now.clock }
+    ensures same { LeadsOn below.old below.new }
 {
-    let before = mask(k, mem, dev, log)?;
-    let outcome = sleep_with(words, set, k, mem, dev, log)?;
+    let before = mask(dev, below)?;
+    let outcome = sleep_with(words, set, dev, below)?;
     Ok(masked(outcome, before))
 }
 
@@ -94,19 +90,18 @@ fn suspend<I: Source, O: Sink, E: Sink>(
 fn sleep_with<I: Source, O: Sink, E: Sink>(
     words: &CallWords,
     set: [u32; 4],
-    k: &mut NativeKernel,
-    mem: &mut HostMem,
     dev: &mut Devices<I, O, E>,
-    log: &mut Log,
+    below: &mut Below,
 ) -> Result<Outcome, Stop>
-    ensures acts { Acts (λ outcome became. (outcome ≡ asleep words.now) × (became ≡ rows.with_mask k.old set)) result k.old k.new
-        (contents I.left O.written E.written dev.old) (contents I.left O.written E.written dev.new) log.old log.new }
+    ensures acts { Acts (λ outcome became. (outcome ≡ asleep words.now) × (became ≡ rows.with_mask below.old.kernel.now set)) result below.old.kernel.now below.new.kernel.now
+        (contents I.left O.written E.written dev.old) (contents I.left O.written E.written dev.new) below.old.log.now below.new.log.now }
     ensures cause { StopsOnlyIfRose I.faults O.faults E.faults result dev.old dev.new }
     ensures counts { NoCountFell I.faults O.faults E.faults dev.old dev.new }
-    ensures clock { k.new.clock ≡ k.old.clock }
+    ensures clock { below.new.kernel.now.clock ≡ below.old.kernel.now.clock }
+    ensures same { LeadsOn below.old below.new }
 {
-    let outcome = sleep(words, set, k, mem, dev, log)?;
-    set_mask(set, k, mem, dev, log)?;
+    let outcome = sleep(words, set, dev, below)?;
+    set_mask(set, dev, below)?;
     Ok(outcome)
 }
 
@@ -114,20 +109,19 @@ fn sleep_with<I: Source, O: Sink, E: Sink>(
 fn sleep<I: Source, O: Sink, E: Sink>(
     words: &CallWords,
     set: [u32; 4],
-    k: &mut NativeKernel,
-    mem: &mut HostMem,
     dev: &mut Devices<I, O, E>,
-    log: &mut Log,
+    below: &mut Below,
 ) -> Result<Outcome, Stop>
-    ensures looks { LooksFor (λ outcome. outcome ≡ asleep words.now) result k.old k.new
-        (contents I.left O.written E.written dev.old) (contents I.left O.written E.written dev.new) log.old log.new }
+    ensures looks { LooksFor (λ outcome. outcome ≡ asleep words.now) result below.old.kernel.now below.new.kernel.now
+        (contents I.left O.written E.written dev.old) (contents I.left O.written E.written dev.new) below.old.log.now below.new.log.now }
     ensures cause { StopsOnlyIfRose I.faults O.faults E.faults result dev.old dev.new }
     ensures counts { NoCountFell I.faults O.faults E.faults dev.old dev.new }
-    ensures clock { k.new.clock ≡ k.old.clock }
+    ensures clock { below.new.kernel.now.clock ≡ below.old.kernel.now.clock }
+    ensures same { LeadsOn below.old below.new }
 {
-    put_set(set, mem)?;
+    put_set(set, below.memory)?;
     let args = [FIRST_ADDRESS, SIGSETSIZE, 0, 0, 0, 0];
-    let reply = look(k, RT_SIGSUSPEND, args, mem, dev, log)?;
+    let reply = below.look(RT_SIGSUSPEND, args, dev)?;
     Ok(outcome_of(words, reply))
 }
 

@@ -1,6 +1,6 @@
 //! What is kept of signals, told and set: rt_sigaction(2), rt_sigprocmask(2), rt_sigpending(2), sigaltstack(2).
 ghost use Rattle.std.specs.Prelude.{◌≡◌};
-ghost use Rattle.bridge_signal_state.specs.Passed.{KeepsCall};
+ghost use Rattle.bridge_signal_state.specs.Passed.{KeepsCall, LeadsOn};
 ghost use Rattle.bridge_signal.specs.inside.Told.{did};
 ghost use Rattle.bridge_signal_state.specs.Acts.{Acts};
 ghost use Rattle.kernel_model.specs.SignalRows as rows;
@@ -17,12 +17,11 @@ use crate::stacks::{asked_stack, change_stack};
 use crate::storing::{
     store_action_unless_null, store_set, store_set_unless_null, store_stack_unless_null,
 };
-use bridge_signal_state::{NativeKernel, pending};
+use bridge_signal_state::{Below, pending};
 use guest_space::Space;
-use host_mem::HostMem;
 use kernel_core::{Errno, Stop};
 use mips_exec::Cpu;
-use o32_model::{Log, Outcome};
+use o32_model::Outcome;
 use outside::{Devices, Sink, Source};
 
 /// The number of the stack pointer among the registers (System V ABI, MIPS supplement).
@@ -37,23 +36,22 @@ pub(crate) fn rt_sigaction<I: Source, O: Sink, E: Sink>(
     old: u32,
     size: u32,
     space: &mut Space,
-    k: &mut NativeKernel,
-    mem: &mut HostMem,
     dev: &mut Devices<I, O, E>,
-    log: &mut Log,
+    below: &mut Below,
 ) -> Result<Outcome, Stop>
     ensures row { (guest : Guest) → guest.memory ≡ space.old
-        → IsCall (rt_sigaction_row k.old guest number new old size) result k.new space.new guest.processor
+        → IsCall (rt_sigaction_row below.old.kernel.now guest number new old size) result below.new.kernel.now space.new guest.processor
         (contents I.left O.written E.written dev.old) (contents I.left O.written E.written dev.new) }
     ensures kept { (guest : Guest) → guest.memory ≡ space.old
-        → KeepsCall (rt_sigaction_row k.old guest number new old size) result k.old guest (I.left dev.old.input) log.old log.new }
+        → KeepsCall (rt_sigaction_row below.old.kernel.now guest number new old size) result below.old.kernel.now guest (I.left dev.old.input) below.old.log.now below.new.log.now }
     ensures cause { StopsOnlyIfRose I.faults O.faults E.faults result dev.old dev.new }
     ensures counts { NoCountFell I.faults O.faults E.faults dev.old dev.new }
-    ensures clock { k.new.clock ≡ k.old.clock }
+    ensures clock { below.new.kernel.now.clock ≡ below.old.kernel.now.clock }
+    ensures same { LeadsOn below.old below.new }
 {
     let asked = asked_action(number, new, size, space);
-    let told = change_action(asked, k, mem, dev, log)?;
-    let outcome = store_action_unless_null(told, old, space, log)?;
+    let told = change_action(asked, dev, below)?;
+    let outcome = store_action_unless_null(told, old, space, below.log)?;
     Ok(outcome)
 }
 
@@ -65,23 +63,22 @@ pub(crate) fn rt_sigprocmask<I: Source, O: Sink, E: Sink>(
     old: u32,
     size: u32,
     space: &mut Space,
-    k: &mut NativeKernel,
-    mem: &mut HostMem,
     dev: &mut Devices<I, O, E>,
-    log: &mut Log,
+    below: &mut Below,
 ) -> Result<Outcome, Stop>
     ensures row { (guest : Guest) → guest.memory ≡ space.old
-        → IsCall (rt_sigprocmask_row k.old guest how new old size) result k.new space.new guest.processor
+        → IsCall (rt_sigprocmask_row below.old.kernel.now guest how new old size) result below.new.kernel.now space.new guest.processor
         (contents I.left O.written E.written dev.old) (contents I.left O.written E.written dev.new) }
     ensures kept { (guest : Guest) → guest.memory ≡ space.old
-        → KeepsCall (rt_sigprocmask_row k.old guest how new old size) result k.old guest (I.left dev.old.input) log.old log.new }
+        → KeepsCall (rt_sigprocmask_row below.old.kernel.now guest how new old size) result below.old.kernel.now guest (I.left dev.old.input) below.old.log.now below.new.log.now }
     ensures cause { StopsOnlyIfRose I.faults O.faults E.faults result dev.old dev.new }
     ensures counts { NoCountFell I.faults O.faults E.faults dev.old dev.new }
-    ensures clock { k.new.clock ≡ k.old.clock }
+    ensures clock { below.new.kernel.now.clock ≡ below.old.kernel.now.clock }
+    ensures same { LeadsOn below.old below.new }
 {
     let asked = asked_change(how, new, size, space);
-    let told = change_mask(asked, k, mem, dev, log)?;
-    let outcome = store_set_unless_null(told, old, space, log)?;
+    let told = change_mask(asked, dev, below)?;
+    let outcome = store_set_unless_null(told, old, space, below.log)?;
     Ok(outcome)
 }
 
@@ -90,43 +87,41 @@ pub(crate) fn rt_sigpending<I: Source, O: Sink, E: Sink>(
     address: u32,
     size: u32,
     space: &mut Space,
-    k: &mut NativeKernel,
-    mem: &mut HostMem,
     dev: &mut Devices<I, O, E>,
-    log: &mut Log,
+    below: &mut Below,
 ) -> Result<Outcome, Stop>
     ensures row { (guest : Guest) → guest.memory ≡ space.old
-        → IsCall (rt_sigpending_row k.old guest address size) result k.new space.new guest.processor
+        → IsCall (rt_sigpending_row below.old.kernel.now guest address size) result below.new.kernel.now space.new guest.processor
         (contents I.left O.written E.written dev.old) (contents I.left O.written E.written dev.new) }
     ensures kept { (guest : Guest) → guest.memory ≡ space.old
-        → KeepsCall (rt_sigpending_row k.old guest address size) result k.old guest (I.left dev.old.input) log.old log.new }
+        → KeepsCall (rt_sigpending_row below.old.kernel.now guest address size) result below.old.kernel.now guest (I.left dev.old.input) below.old.log.now below.new.log.now }
     ensures cause { StopsOnlyIfRose I.faults O.faults E.faults result dev.old dev.new }
     ensures counts { NoCountFell I.faults O.faults E.faults dev.old dev.new }
-    ensures clock { k.new.clock ≡ k.old.clock }
+    ensures clock { below.new.kernel.now.clock ≡ below.old.kernel.now.clock }
+    ensures same { LeadsOn below.old below.new }
 {
-    let told = told_pending(size, k, mem, dev, log)?;
-    let outcome = store_set(told, address, space, log)?;
+    let told = told_pending(size, dev, below)?;
+    let outcome = store_set(told, address, space, below.log)?;
     Ok(outcome)
 }
 
 /// What pends, or EINVAL for another size of a set than 16.
 fn told_pending<I: Source, O: Sink, E: Sink>(
     size: u32,
-    k: &mut NativeKernel,
-    mem: &mut HostMem,
     dev: &mut Devices<I, O, E>,
-    log: &mut Log,
+    below: &mut Below,
 ) -> Result<Result<[u32; 4], Errno>, Stop>
-    ensures acts { Acts (λ told became. rows.pending k.old size ≡ did became told) result k.old k.new
-        (contents I.left O.written E.written dev.old) (contents I.left O.written E.written dev.new) log.old log.new }
+    ensures acts { Acts (λ told became. rows.pending below.old.kernel.now size ≡ did became told) result below.old.kernel.now below.new.kernel.now
+        (contents I.left O.written E.written dev.old) (contents I.left O.written E.written dev.new) below.old.log.now below.new.log.now }
     ensures cause { StopsOnlyIfRose I.faults O.faults E.faults result dev.old dev.new }
     ensures counts { NoCountFell I.faults O.faults E.faults dev.old dev.new }
-    ensures clock { k.new.clock ≡ k.old.clock }
+    ensures clock { below.new.kernel.now.clock ≡ below.old.kernel.now.clock }
+    ensures same { LeadsOn below.old below.new }
 {
     if !is_set_size(size) {
         return Ok(Err(Errno::EINVAL));
     }
-    let set = pending(k, mem, dev, log)?;
+    let set = pending(dev, below)?;
     Ok(Ok(set))
 }
 
@@ -138,23 +133,22 @@ pub(crate) fn sigaltstack<I: Source, O: Sink, E: Sink>(
     new: u32,
     old: u32,
     space: &mut Space,
-    k: &mut NativeKernel,
-    mem: &mut HostMem,
     dev: &mut Devices<I, O, E>,
-    log: &mut Log,
+    below: &mut Below,
 ) -> Result<Outcome, Stop>
     ensures row { (guest : Guest) → guest.memory ≡ space.old → guest.processor ≡ cpu.now
-        → IsCall (sigaltstack_row k.old guest new old) result k.new space.new guest.processor
+        → IsCall (sigaltstack_row below.old.kernel.now guest new old) result below.new.kernel.now space.new guest.processor
         (contents I.left O.written E.written dev.old) (contents I.left O.written E.written dev.new) }
     ensures kept { (guest : Guest) → guest.memory ≡ space.old → guest.processor ≡ cpu.now
-        → KeepsCall (sigaltstack_row k.old guest new old) result k.old guest (I.left dev.old.input) log.old log.new }
+        → KeepsCall (sigaltstack_row below.old.kernel.now guest new old) result below.old.kernel.now guest (I.left dev.old.input) below.old.log.now below.new.log.now }
     ensures cause { StopsOnlyIfRose I.faults O.faults E.faults result dev.old dev.new }
     ensures counts { NoCountFell I.faults O.faults E.faults dev.old dev.new }
-    ensures clock { k.new.clock ≡ k.old.clock }
+    ensures clock { below.new.kernel.now.clock ≡ below.old.kernel.now.clock }
+    ensures same { LeadsOn below.old below.new }
 {
     let asked = asked_stack(space, new);
     let sp = cpu.register(STACK_POINTER);
-    let told = change_stack(asked, sp, k, mem, dev, log)?;
-    let outcome = store_stack_unless_null(told, old, space, log)?;
+    let told = change_stack(asked, sp, dev, below)?;
+    let outcome = store_stack_unless_null(told, old, space, below.log)?;
     Ok(outcome)
 }

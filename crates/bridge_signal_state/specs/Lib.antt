@@ -1,4 +1,5 @@
 pub mod Acts
+pub mod Ends
 pub mod Passed
 pub mod Setting
 pub mod inside

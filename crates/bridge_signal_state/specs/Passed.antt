@@ -2,6 +2,7 @@
 pub use Rattle.bridge_log.specs.Arguments.{AreUnusedZero, IsPlaced}
 pub use Rattle.bridge_log.specs.Built.{built_call}
 pub use Rattle.bridge_log.specs.Keeping.{Keeps, KeepsCall, Logged, reached}
+pub use Rattle.bridge_log.specs.Leading.{LeadsOn}
 pub use Rattle.bridge_log.specs.Looks.{IsLook, LooksFor, Unmoved}
 pub use Rattle.bridge_log.specs.Mirrors.{Mirrors}
 pub use Rattle.bridge_log.specs.Moved.{written}

@@ -1,5 +1,6 @@
 //! Native calls that change the kernel, and neither take input nor send anything.
 ghost use Rattle.std.specs.Prelude.{◌≡◌, ℕ, List};
+ghost use Rattle.bridge_log.specs.Leading.{LeadsOn};
 ghost use Rattle.bridge_log.specs.Arguments.{AreUnusedZero, IsPlaced};
 ghost use Rattle.bridge_signal_state.specs.Acts.{Acts};
 ghost use Rattle.bridge_signal_state.specs.inside.Acting.{Answers, IsAct};
@@ -10,31 +11,28 @@ ghost use Rattle.native_calls.specs.Table.{native_call};
 ghost use Rattle.bridge_log.specs.Built.{built_call};
 ghost use Rattle.outside.specs.Streams.{NoCountFell, contents};
 
-use bridge_log::{NativeKernel, native};
-use host_mem::HostMem;
+use bridge_log::Below;
 use kernel_core::{Reply, Stop};
-use o32_model::Log;
 use outside::{Devices, Sink, Source};
 
 /// Makes a native call that takes and sends nothing, and keeps it as one entry.
 pub(crate) fn act<I: Source, O: Sink, E: Sink>(
-    k: &mut NativeKernel,
     nr: u64,
     args: [u64; 6],
-    mem: &mut HostMem,
     dev: &mut Devices<I, O, E>,
-    log: &mut Log,
+    below: &mut Below,
 ) -> Result<Reply, Stop>
     requires built { built_call nr ≡ native_call nr }
     requires unused { AreUnusedZero nr args }
-    requires placed { IsPlaced nr mem.old }
+    requires placed { IsPlaced nr below.old.memory.now }
     ensures acts { (to : Kernel) (reply : Reply) (memory : List ℕ)
-        → ((left : List ℕ) → IsAct to reply memory left (native_call nr args k.old mem.old left))
-        → Acts (Answers to reply memory mem.new) result k.old k.new
-        (contents I.left O.written E.written dev.old) (contents I.left O.written E.written dev.new) log.old log.new }
+        → ((left : List ℕ) → IsAct to reply memory left (native_call nr args below.old.kernel.now below.old.memory.now left))
+        → Acts (Answers to reply memory below.new.memory.now) result below.old.kernel.now below.new.kernel.now
+        (contents I.left O.written E.written dev.old) (contents I.left O.written E.written dev.new) below.old.log.now below.new.log.now }
     ensures cause { StopsOnlyIfRose I.faults O.faults E.faults result dev.old dev.new }
     ensures counts { NoCountFell I.faults O.faults E.faults dev.old dev.new }
-    ensures clock { k.new.clock ≡ k.old.clock }
+    ensures clock { below.new.kernel.now.clock ≡ below.old.kernel.now.clock }
+    ensures same { LeadsOn below.old below.new }
 {
-    native(k, nr, args, mem, dev, log)
+    below.native(nr, args, dev)
 }

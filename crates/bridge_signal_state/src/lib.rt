@@ -11,9 +11,7 @@ mod showing;
 mod taking;
 mod words;
 
-pub use bridge_log::{
-    NativeKernel, load_structure, look, native, number_call, outcome_of, put, six_words, wrote,
-};
+pub use bridge_log::{Below, NativeKernel, load_structure, outcome_of, put, six_words, wrote};
 pub use reading::{action, mask, pending, stack};
 pub use setting::{set_default, set_mask, set_stack};
 pub use taking::take;

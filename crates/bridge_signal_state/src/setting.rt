@@ -1,5 +1,6 @@
 //! What the native kernel keeps of signals, set by native calls.
 ghost use Rattle.std.specs.Prelude.{◌≡◌, false};
+ghost use Rattle.bridge_log.specs.Leading.{LeadsOn};
 ghost use Rattle.bridge_signal_state.specs.Acts.{Acts};
 ghost use Rattle.bridge_signal_state.specs.Setting.{SetsStack};
 ghost use Rattle.kernel_model.specs.SignalRows.{after_action, is_unblockable, no_action, with_mask, with_signals};
@@ -13,12 +14,11 @@ use crate::numbers::{
 };
 use crate::showing::is_fine;
 use crate::words::{is_set, stack_fits};
-use bridge_log::{NativeKernel, fresh_room};
-use host_mem::{FIRST_ADDRESS, HostMem};
+use bridge_log::{Below, fresh_room};
+use host_mem::FIRST_ADDRESS;
 use kernel_core::{Sig, Stop};
 use kernel_model::SigStack;
 use number_tables::NativeNumber;
-use o32_model::Log;
 use outside::{Devices, Sink, Source};
 
 /// Blocks the signals of a set and no others (sigprocmask(2)): four words of 32 bits, with bit s - 1 for the signal of
@@ -26,21 +26,20 @@ use outside::{Devices, Sink, Source};
 /// call here does.
 pub fn set_mask<I: Source, O: Sink, E: Sink>(
     mask: [u32; 4],
-    k: &mut NativeKernel,
-    mem: &mut HostMem,
     dev: &mut Devices<I, O, E>,
-    log: &mut Log,
+    below: &mut Below,
 ) -> Result<(), Stop>
-    ensures acts { Acts (λ _ became. became ≡ with_mask k.old mask) result k.old k.new
-        (contents I.left O.written E.written dev.old) (contents I.left O.written E.written dev.new) log.old log.new }
+    ensures acts { Acts (λ _ became. became ≡ with_mask below.old.kernel.now mask) result below.old.kernel.now below.new.kernel.now
+        (contents I.left O.written E.written dev.old) (contents I.left O.written E.written dev.new) below.old.log.now below.new.log.now }
     ensures cause { StopsOnlyIfRose I.faults O.faults E.faults result dev.old dev.new }
     ensures counts { NoCountFell I.faults O.faults E.faults dev.old dev.new }
-    ensures clock { k.new.clock ≡ k.old.clock }
+    ensures clock { below.new.kernel.now.clock ≡ below.old.kernel.now.clock }
+    ensures same { LeadsOn below.old below.new }
 {
     is_set(mask);
-    put_set(mask, mem)?;
+    put_set(mask, below.memory)?;
     let args = [SIG_SETMASK, FIRST_ADDRESS, 0, SIGSETSIZE, 0, 0];
-    act(k, RT_SIGPROCMASK, args, mem, dev, log)?;
+    act(RT_SIGPROCMASK, args, dev, below)?;
     Ok(())
 }
 
@@ -48,21 +47,20 @@ pub fn set_mask<I: Source, O: Sink, E: Sink>(
 /// (sigaction(2)). What pends of one that is ignored by default goes.
 pub fn set_default<I: Source, O: Sink, E: Sink>(
     sig: Sig,
-    k: &mut NativeKernel,
-    mem: &mut HostMem,
     dev: &mut Devices<I, O, E>,
-    log: &mut Log,
+    below: &mut Below,
 ) -> Result<(), Stop>
     requires blockable { is_unblockable sig ≡ false }
-    ensures acts { Acts (λ _ became. became ≡ with_signals k.old (after_action k.old.signals sig no_action)) result k.old k.new
-        (contents I.left O.written E.written dev.old) (contents I.left O.written E.written dev.new) log.old log.new }
+    ensures acts { Acts (λ _ became. became ≡ with_signals below.old.kernel.now (after_action below.old.kernel.now.signals sig no_action)) result below.old.kernel.now below.new.kernel.now
+        (contents I.left O.written E.written dev.old) (contents I.left O.written E.written dev.new) below.old.log.now below.new.log.now }
     ensures cause { StopsOnlyIfRose I.faults O.faults E.faults result dev.old dev.new }
     ensures counts { NoCountFell I.faults O.faults E.faults dev.old dev.new }
-    ensures clock { k.new.clock ≡ k.old.clock }
+    ensures clock { below.new.kernel.now.clock ≡ below.old.kernel.now.clock }
+    ensures same { LeadsOn below.old below.new }
 {
-    fresh_room(mem, ACTION_SIZE)?;
+    fresh_room(below.memory, ACTION_SIZE)?;
     let args = [sig.to_native(), FIRST_ADDRESS, 0, SIGSETSIZE, 0, 0];
-    act(k, RT_SIGACTION, args, mem, dev, log)?;
+    act(RT_SIGACTION, args, dev, below)?;
     Ok(())
 }
 
@@ -70,20 +68,19 @@ pub fn set_default<I: Source, O: Sink, E: Sink>(
 /// SS_DISABLE (EINVAL), or it is enabled with fewer than 2048 bytes (ENOMEM). No stack pointer is looked at.
 pub fn set_stack<I: Source, O: Sink, E: Sink>(
     stack: SigStack,
-    k: &mut NativeKernel,
-    mem: &mut HostMem,
     dev: &mut Devices<I, O, E>,
-    log: &mut Log,
+    below: &mut Below,
 ) -> Result<bool, Stop>
-    ensures acts { Acts (SetsStack k.old stack) result k.old k.new
-        (contents I.left O.written E.written dev.old) (contents I.left O.written E.written dev.new) log.old log.new }
+    ensures acts { Acts (SetsStack below.old.kernel.now stack) result below.old.kernel.now below.new.kernel.now
+        (contents I.left O.written E.written dev.old) (contents I.left O.written E.written dev.new) below.old.log.now below.new.log.now }
     ensures cause { StopsOnlyIfRose I.faults O.faults E.faults result dev.old dev.new }
     ensures counts { NoCountFell I.faults O.faults E.faults dev.old dev.new }
-    ensures clock { k.new.clock ≡ k.old.clock }
+    ensures clock { below.new.kernel.now.clock ≡ below.old.kernel.now.clock }
+    ensures same { LeadsOn below.old below.new }
 {
     stack_fits(stack);
-    put_stack(stack, mem)?;
+    put_stack(stack, below.memory)?;
     let args = [FIRST_ADDRESS, 0, 0, 0, 0, 0];
-    let reply = act(k, SIGALTSTACK, args, mem, dev, log)?;
+    let reply = act(SIGALTSTACK, args, dev, below)?;
     Ok(is_fine(reply))
 }

@@ -1,5 +1,6 @@
 //! A signal that pends is taken.
 ghost use Rattle.std.specs.Prelude.{◌≡◌};
+ghost use Rattle.bridge_log.specs.Leading.{LeadsOn};
 ghost use Rattle.bridge_signal_state.specs.Acts.{Acts};
 ghost use Rattle.bridge_signal_state.specs.Setting.{Takes};
 ghost use Rattle.kernel_model.specs.Stops.{StopsOnlyIfRose};
@@ -9,10 +10,9 @@ use crate::acting::act;
 use crate::filling::put_taking;
 use crate::numbers::{INFO_SIZE, RT_SIGTIMEDWAIT, SIGSETSIZE};
 use crate::showing::{INFO_PLACE, info_shown};
-use bridge_log::NativeKernel;
-use host_mem::{FIRST_ADDRESS, HostMem};
+use bridge_log::Below;
+use host_mem::FIRST_ADDRESS;
 use kernel_core::{Info, Sig, Stop};
-use o32_model::Log;
 use outside::{Devices, Sink, Source};
 
 /// Where the time lies, behind what is known of a signal.
@@ -23,20 +23,19 @@ const TIME_PLACE: u64 = INFO_PLACE + INFO_SIZE;
 /// by a device alone.
 pub fn take<I: Source, O: Sink, E: Sink>(
     sig: Sig,
-    k: &mut NativeKernel,
-    mem: &mut HostMem,
     dev: &mut Devices<I, O, E>,
-    log: &mut Log,
+    below: &mut Below,
 ) -> Result<Option<Info>, Stop>
-    ensures acts { Acts (Takes k.old sig) result k.old k.new
-        (contents I.left O.written E.written dev.old) (contents I.left O.written E.written dev.new) log.old log.new }
+    ensures acts { Acts (Takes below.old.kernel.now sig) result below.old.kernel.now below.new.kernel.now
+        (contents I.left O.written E.written dev.old) (contents I.left O.written E.written dev.new) below.old.log.now below.new.log.now }
     ensures cause { StopsOnlyIfRose I.faults O.faults E.faults result dev.old dev.new }
     ensures counts { NoCountFell I.faults O.faults E.faults dev.old dev.new }
-    ensures clock { k.new.clock ≡ k.old.clock }
+    ensures clock { below.new.kernel.now.clock ≡ below.old.kernel.now.clock }
+    ensures same { LeadsOn below.old below.new }
 {
-    k.signals_fit();
-    put_taking(sig, mem)?;
+    below.kernel.signals_fit();
+    put_taking(sig, below.memory)?;
     let args = [FIRST_ADDRESS, INFO_PLACE, TIME_PLACE, SIGSETSIZE, 0, 0];
-    let reply = act(k, RT_SIGTIMEDWAIT, args, mem, dev, log)?;
-    Ok(info_shown(mem, reply))
+    let reply = act(RT_SIGTIMEDWAIT, args, dev, below)?;
+    Ok(info_shown(below.memory, reply))
 }

@@ -1,6 +1,6 @@
 //! A call by its number.
+ghost use Rattle.bridge_paths.specs.Passed.{KeepsCall, LeadsOn};
 ghost use Rattle.std.specs.Prelude.{◌≡◌, IsTrue};
-ghost use Rattle.bridge_paths.specs.Passed.{KeepsCall};
 ghost use Rattle.bridge_paths.specs.Found.{found};
 ghost use Rattle.bridge_status.specs.Numbers.{is_status_call};
 ghost use Rattle.kernel_model.specs.Stops.{StopsOnlyIfRose};
@@ -10,7 +10,7 @@ ghost use Rattle.outside.specs.Streams.{NoCountFell, contents};
 
 use crate::status::{fstat, fstatat};
 use crate::structures::Form;
-use bridge_paths::NativeKernel;
+use bridge_paths::{Below, NativeKernel};
 use guest_space::Space;
 use host_mem::HostMem;
 use kernel_core::Stop;
@@ -48,6 +48,33 @@ pub fn status_call<I: Source, O: Sink, E: Sink>(
     ensures counts { NoCountFell I.faults O.faults E.faults dev.old dev.new }
     ensures clock { k.new.clock ≡ k.old.clock }
 {
+    let below = &mut Below {
+        kernel: k,
+        memory: mem,
+        log,
+    };
+    by_number(alloc, args, cpu, space, dev, below)
+}
+
+/// The same by its number, with the kernel and what its calls are made with as one value.
+fn by_number<I: Source, O: Sink, E: Sink>(
+    alloc: Global,
+    args: &CallWords,
+    cpu: &mut Cpu,
+    space: &mut Space,
+    dev: &mut Devices<I, O, E>,
+    below: &mut Below,
+) -> Result<Outcome, Stop>
+    requires { IsTrue (is_status_call args.now.nr) }
+    ensures row { IsCall (o32_call below.old.kernel.now (found args.now cpu.old space.old)) result below.new.kernel.now space.new cpu.new
+        (contents I.left O.written E.written dev.old) (contents I.left O.written E.written dev.new) }
+    ensures kept { KeepsCall (o32_call below.old.kernel.now (found args.now cpu.old space.old)) result below.old.kernel.now
+        (found args.now cpu.old space.old) (I.left dev.old.input) below.old.log.now below.new.log.now }
+    ensures cause { StopsOnlyIfRose I.faults O.faults E.faults result dev.old dev.new }
+    ensures counts { NoCountFell I.faults O.faults E.faults dev.old dev.new }
+    ensures clock { below.new.kernel.now.clock ≡ below.old.kernel.now.clock }
+    ensures same { LeadsOn below.old below.new }
+{
     let [a0, a1, a2, a3] = args.reg;
     match args.nr {
         4106 => fstatat(
@@ -59,10 +86,8 @@ pub fn status_call<I: Source, O: Sink, E: Sink>(
             0,
             Form::Old,
             space,
-            k,
-            mem,
             dev,
-            log,
+            below,
         ),
         4107 => fstatat(
             alloc,
@@ -73,12 +98,10 @@ pub fn status_call<I: Source, O: Sink, E: Sink>(
             NOFOLLOW,
             Form::Old,
             space,
-            k,
-            mem,
             dev,
-            log,
+            below,
         ),
-        4108 => fstat(args, a0, a1, Form::Old, space, k, mem, dev, log),
+        4108 => fstat(args, a0, a1, Form::Old, space, dev, below),
         4213 => fstatat(
             alloc,
             args,
@@ -88,10 +111,8 @@ pub fn status_call<I: Source, O: Sink, E: Sink>(
             0,
             Form::Wide,
             space,
-            k,
-            mem,
             dev,
-            log,
+            below,
         ),
         4214 => fstatat(
             alloc,
@@ -102,25 +123,10 @@ pub fn status_call<I: Source, O: Sink, E: Sink>(
             NOFOLLOW,
             Form::Wide,
             space,
-            k,
-            mem,
             dev,
-            log,
+            below,
         ),
-        4215 => fstat(args, a0, a1, Form::Wide, space, k, mem, dev, log),
-        _ => fstatat(
-            alloc,
-            args,
-            a0,
-            a1,
-            a2,
-            a3,
-            Form::Wide,
-            space,
-            k,
-            mem,
-            dev,
-            log,
-        ),
+        4215 => fstat(args, a0, a1, Form::Wide, space, dev, below),
+        _ => fstatat(alloc, args, a0, a1, a2, a3, Form::Wide, space, dev, below),
     }
 }

@@ -1,6 +1,6 @@
 //! The calls on status: stat(2), lstat(2), fstat(2), fstatat(2), in the old structure and in that of 64 bits.
 ghost use Rattle.std.specs.Prelude.{◌≡◌, ◌<◌, None, Ok, length, position};
-ghost use Rattle.bridge_paths.specs.Passed.{KeepsCall};
+ghost use Rattle.bridge_paths.specs.Passed.{KeepsCall, LeadsOn};
 ghost use Rattle.bridge_status.specs.inside.StatusCalls.{is_listed, open_status, path_status};
 ghost use Rattle.kernel_model.specs.Stops.{StopsOnlyIfRose};
 ghost use Rattle.o32_model.specs.Answered.{IsCall};
@@ -12,11 +12,11 @@ ghost use Rattle.outside.specs.Streams.{NoCountFell, contents};
 use crate::numbers::{FSTAT, NEWFSTATAT};
 use crate::structures::Form;
 use crate::telling::{STATUS_SIZE, tell_call};
-use bridge_paths::{NativeKernel, fresh_room, put_behind, read_path};
+use bridge_paths::{Below, fresh_room, put_behind, read_path};
 use guest_space::Space;
-use host_mem::{FIRST_ADDRESS, HostMem};
+use host_mem::FIRST_ADDRESS;
 use kernel_core::{Bytes, Errno, Stop};
-use o32_model::{CallWords, Log, Outcome};
+use o32_model::{CallWords, Outcome};
 use outside::{Devices, Sink, Source};
 use std::alloc::Global;
 
@@ -30,24 +30,23 @@ pub(crate) fn fstat<I: Source, O: Sink, E: Sink>(
     buffer: u32,
     form: Form,
     space: &mut Space,
-    k: &mut NativeKernel,
-    mem: &mut HostMem,
     dev: &mut Devices<I, O, E>,
-    log: &mut Log,
+    below: &mut Below,
 ) -> Result<Outcome, Stop>
     ensures row { (guest : Guest) → guest.words ≡ words.now → guest.memory ≡ space.old
-        → IsCall (open_status form k.old guest fd buffer) result k.new space.new guest.processor
+        → IsCall (open_status form below.old.kernel.now guest fd buffer) result below.new.kernel.now space.new guest.processor
         (contents I.left O.written E.written dev.old) (contents I.left O.written E.written dev.new) }
     ensures kept { (guest : Guest) → guest.words ≡ words.now → guest.memory ≡ space.old
-        → KeepsCall (open_status form k.old guest fd buffer) result k.old guest (I.left dev.old.input) log.old log.new }
+        → KeepsCall (open_status form below.old.kernel.now guest fd buffer) result below.old.kernel.now guest (I.left dev.old.input) below.old.log.now below.new.log.now }
     ensures cause { StopsOnlyIfRose I.faults O.faults E.faults result dev.old dev.new }
     ensures counts { NoCountFell I.faults O.faults E.faults dev.old dev.new }
-    ensures clock { k.new.clock ≡ k.old.clock }
+    ensures clock { below.new.kernel.now.clock ≡ below.old.kernel.now.clock }
+    ensures same { LeadsOn below.old below.new }
 {
-    k.files_valid();
-    fresh_room(mem, STATUS_SIZE)?;
+    below.kernel.files_valid();
+    fresh_room(below.memory, STATUS_SIZE)?;
     let args = [u64::from(fd), FIRST_ADDRESS, 0, 0, 0, 0];
-    tell_call(words, buffer, form, space, k, FSTAT, args, mem, dev, log)
+    tell_call(words, buffer, form, space, FSTAT, args, dev, below)
 }
 
 /// fstatat(2), of which stat(2) and lstat(2) are forms: EINVAL for flags other than AT_SYMLINK_NOFOLLOW,
@@ -62,19 +61,18 @@ pub(crate) fn fstatat<I: Source, O: Sink, E: Sink>(
     flags: u32,
     form: Form,
     space: &mut Space,
-    k: &mut NativeKernel,
-    mem: &mut HostMem,
     dev: &mut Devices<I, O, E>,
-    log: &mut Log,
+    below: &mut Below,
 ) -> Result<Outcome, Stop>
     ensures row { (guest : Guest) → guest.words ≡ words.now → guest.memory ≡ space.old
-        → IsCall (path_status form k.old guest (base directory) address buffer flags) result k.new space.new guest.processor
+        → IsCall (path_status form below.old.kernel.now guest (base directory) address buffer flags) result below.new.kernel.now space.new guest.processor
         (contents I.left O.written E.written dev.old) (contents I.left O.written E.written dev.new) }
     ensures kept { (guest : Guest) → guest.words ≡ words.now → guest.memory ≡ space.old
-        → KeepsCall (path_status form k.old guest (base directory) address buffer flags) result k.old guest (I.left dev.old.input) log.old log.new }
+        → KeepsCall (path_status form below.old.kernel.now guest (base directory) address buffer flags) result below.old.kernel.now guest (I.left dev.old.input) below.old.log.now below.new.log.now }
     ensures cause { StopsOnlyIfRose I.faults O.faults E.faults result dev.old dev.new }
     ensures counts { NoCountFell I.faults O.faults E.faults dev.old dev.new }
-    ensures clock { k.new.clock ≡ k.old.clock }
+    ensures clock { below.new.kernel.now.clock ≡ below.old.kernel.now.clock }
+    ensures same { LeadsOn below.old below.new }
 {
     if !is_listed(flags) {
         return Ok(Outcome::Error(Errno::EINVAL));
@@ -82,7 +80,7 @@ pub(crate) fn fstatat<I: Source, O: Sink, E: Sink>(
     match read_path(alloc, space, address)? {
         Err(error) => Ok(Outcome::Error(error)),
         Ok(path) => path_status(
-            words, directory, address, &path, buffer, flags, form, space, k, mem, dev, log,
+            words, directory, address, &path, buffer, flags, form, space, dev, below,
         ),
     }
 }
@@ -104,25 +102,24 @@ fn path_status<I: Source, O: Sink, E: Sink>(
     flags: u32,
     form: Form,
     space: &mut Space,
-    k: &mut NativeKernel,
-    mem: &mut HostMem,
     dev: &mut Devices<I, O, E>,
-    log: &mut Log,
+    below: &mut Below,
 ) -> Result<Outcome, Stop>
     requires found { path_at space.old address ≡ Ok path.now }
     requires short { length path.now < path_limit }
     requires plain { position is_nul path.now ≡ None }
     ensures row { (guest : Guest) → guest.words ≡ words.now → guest.memory ≡ space.old
-        → IsCall (path_status form k.old guest (base directory) address buffer flags) result k.new space.new guest.processor
+        → IsCall (path_status form below.old.kernel.now guest (base directory) address buffer flags) result below.new.kernel.now space.new guest.processor
         (contents I.left O.written E.written dev.old) (contents I.left O.written E.written dev.new) }
     ensures kept { (guest : Guest) → guest.words ≡ words.now → guest.memory ≡ space.old
-        → KeepsCall (path_status form k.old guest (base directory) address buffer flags) result k.old guest (I.left dev.old.input) log.old log.new }
+        → KeepsCall (path_status form below.old.kernel.now guest (base directory) address buffer flags) result below.old.kernel.now guest (I.left dev.old.input) below.old.log.now below.new.log.now }
     ensures cause { StopsOnlyIfRose I.faults O.faults E.faults result dev.old dev.new }
     ensures counts { NoCountFell I.faults O.faults E.faults dev.old dev.new }
-    ensures clock { k.new.clock ≡ k.old.clock }
+    ensures clock { below.new.kernel.now.clock ≡ below.old.kernel.now.clock }
+    ensures same { LeadsOn below.old below.new }
 {
-    k.files_valid();
-    let at = put_behind(mem, STATUS_SIZE, path)?;
+    below.kernel.files_valid();
+    let at = put_behind(below.memory, STATUS_SIZE, path)?;
     let args = [
         u64::from(directory),
         at,
@@ -131,7 +128,5 @@ fn path_status<I: Source, O: Sink, E: Sink>(
         0,
         0,
     ];
-    tell_call(
-        words, buffer, form, space, k, NEWFSTATAT, args, mem, dev, log,
-    )
+    tell_call(words, buffer, form, space, NEWFSTATAT, args, dev, below)
 }

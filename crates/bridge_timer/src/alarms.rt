@@ -1,5 +1,6 @@
 //! alarm(2).
 ghost use Rattle.std.specs.Prelude.{◌≡◌, ◌%◌, ◌^◌};
+ghost use Rattle.bridge_log.specs.Leading.{LeadsOn};
 ghost use Rattle.bridge_log.specs.Keeping.{KeepsCall};
 ghost use Rattle.kernel_model.specs.Clock.{left_until, rounded_seconds};
 ghost use Rattle.kernel_model.specs.Stops.{StopsOnlyIfRose};
@@ -10,10 +11,9 @@ ghost use Rattle.outside.specs.Streams.{NoCountFell, contents};
 
 use crate::setting::set_timer;
 use crate::settings::once_after;
-use bridge_log::NativeKernel;
-use host_mem::HostMem;
+use bridge_log::Below;
 use kernel_core::Stop;
-use o32_model::{Log, Outcome};
+use o32_model::Outcome;
 use outside::{Devices, Sink, Source};
 
 const NANOSECONDS_PER_SECOND: u64 = 1_000_000_000;
@@ -23,42 +23,40 @@ const NANOSECONDS_PER_SECOND: u64 = 1_000_000_000;
 /// kernel itself is asked for it.
 pub(crate) fn alarm<I: Source, O: Sink, E: Sink>(
     seconds: u32,
-    k: &mut NativeKernel,
-    mem: &mut HostMem,
     dev: &mut Devices<I, O, E>,
-    log: &mut Log,
+    below: &mut Below,
 ) -> Result<Outcome, Stop>
-    ensures row { (guest : Guest) → IsCall (alarm_row k.old guest seconds) result k.new guest.memory guest.processor
+    ensures row { (guest : Guest) → IsCall (alarm_row below.old.kernel.now guest seconds) result below.new.kernel.now guest.memory guest.processor
         (contents I.left O.written E.written dev.old) (contents I.left O.written E.written dev.new) }
-    ensures kept { (guest : Guest) → KeepsCall (alarm_row k.old guest seconds) result k.old guest (I.left dev.old.input) log.old log.new }
+    ensures kept { (guest : Guest) → KeepsCall (alarm_row below.old.kernel.now guest seconds) result below.old.kernel.now guest (I.left dev.old.input) below.old.log.now below.new.log.now }
     ensures cause { StopsOnlyIfRose I.faults O.faults E.faults result dev.old dev.new }
     ensures counts { NoCountFell I.faults O.faults E.faults dev.old dev.new }
-    ensures clock { k.new.clock ≡ k.old.clock }
+    ensures clock { below.new.kernel.now.clock ≡ below.old.kernel.now.clock }
+    ensures same { LeadsOn below.old below.new }
 {
-    let before = k.timer_left();
-    alarm_from(before, seconds, k, mem, dev, log)
+    let before = below.kernel.timer_left();
+    alarm_from(before, seconds, dev, below)
 }
 
 /// The same, by how many nanoseconds were left.
 fn alarm_from<I: Source, O: Sink, E: Sink>(
     before: u64,
     seconds: u32,
-    k: &mut NativeKernel,
-    mem: &mut HostMem,
     dev: &mut Devices<I, O, E>,
-    log: &mut Log,
+    below: &mut Below,
 ) -> Result<Outcome, Stop>
-    ensures row { before ≡ left_until k.old.clock k.old.timer.due → (guest : Guest)
-        → IsCall (alarm_row k.old guest seconds) result k.new guest.memory guest.processor
+    ensures row { before ≡ left_until below.old.kernel.now.clock below.old.kernel.now.timer.due → (guest : Guest)
+        → IsCall (alarm_row below.old.kernel.now guest seconds) result below.new.kernel.now guest.memory guest.processor
         (contents I.left O.written E.written dev.old) (contents I.left O.written E.written dev.new) }
-    ensures kept { before ≡ left_until k.old.clock k.old.timer.due → (guest : Guest)
-        → KeepsCall (alarm_row k.old guest seconds) result k.old guest (I.left dev.old.input) log.old log.new }
+    ensures kept { before ≡ left_until below.old.kernel.now.clock below.old.kernel.now.timer.due → (guest : Guest)
+        → KeepsCall (alarm_row below.old.kernel.now guest seconds) result below.old.kernel.now guest (I.left dev.old.input) below.old.log.now below.new.log.now }
     ensures cause { StopsOnlyIfRose I.faults O.faults E.faults result dev.old dev.new }
     ensures counts { NoCountFell I.faults O.faults E.faults dev.old dev.new }
-    ensures clock { k.new.clock ≡ k.old.clock }
+    ensures clock { below.new.kernel.now.clock ≡ below.old.kernel.now.clock }
+    ensures same { LeadsOn below.old below.new }
 {
-    let place = once_after(seconds, mem)?;
-    set_timer(k, place, mem, dev, log)?;
+    let place = once_after(seconds, below.memory)?;
+    set_timer(place, dev, below)?;
     Ok(Outcome::Value(rounded_seconds(before)))
 }
 

@@ -1,5 +1,6 @@
 //! getitimer(2), setitimer(2).
 ghost use Rattle.std.specs.Prelude.{◌≡◌};
+ghost use Rattle.bridge_log.specs.Leading.{LeadsOn};
 ghost use Rattle.bridge_log.specs.Keeping.{KeepsCall};
 ghost use Rattle.bridge_timer.specs.inside.Shown.{shown_of};
 ghost use Rattle.kernel_model.specs.Clock.{timer_value};
@@ -14,11 +15,10 @@ use crate::setting::set_timer;
 use crate::settings::take_setting;
 use crate::shown::Shown;
 use crate::storing::{store_before, store_there};
-use bridge_log::NativeKernel;
+use bridge_log::Below;
 use guest_space::Space;
-use host_mem::HostMem;
 use kernel_core::{Errno, Stop};
-use o32_model::{CallWords, Log, Outcome};
+use o32_model::{CallWords, Outcome};
 use outside::{Devices, Sink, Source};
 
 /// getitimer(2): EINVAL for another timer than that of real time, EFAULT.
@@ -26,22 +26,21 @@ pub(crate) fn getitimer<I: Source, O: Sink, E: Sink>(
     which: u32,
     address: u32,
     space: &mut Space,
-    k: &mut NativeKernel,
-    mem: &mut HostMem,
     dev: &mut Devices<I, O, E>,
-    log: &mut Log,
+    below: &mut Below,
 ) -> Result<Outcome, Stop>
     ensures row { (guest : Guest) → guest.memory ≡ space.old
-        → IsCall (getitimer_row k.old guest which address) result k.new space.new guest.processor
+        → IsCall (getitimer_row below.old.kernel.now guest which address) result below.new.kernel.now space.new guest.processor
         (contents I.left O.written E.written dev.old) (contents I.left O.written E.written dev.new) }
     ensures kept { (guest : Guest) → guest.memory ≡ space.old
-        → KeepsCall (getitimer_row k.old guest which address) result k.old guest (I.left dev.old.input) log.old log.new }
+        → KeepsCall (getitimer_row below.old.kernel.now guest which address) result below.old.kernel.now guest (I.left dev.old.input) below.old.log.now below.new.log.now }
     ensures cause { StopsOnlyIfRose I.faults O.faults E.faults result dev.old dev.new }
     ensures counts { NoCountFell I.faults O.faults E.faults dev.old dev.new }
-    ensures clock { k.new.clock ≡ k.old.clock }
+    ensures clock { below.new.kernel.now.clock ≡ below.old.kernel.now.clock }
+    ensures same { LeadsOn below.old below.new }
 {
-    let shown = timer_shown(k, which, mem, dev, log)?;
-    let outcome = store_there(shown, address, space, log)?;
+    let shown = timer_shown(which, dev, below)?;
+    let outcome = store_there(shown, address, space, below.log)?;
     Ok(outcome)
 }
 
@@ -54,23 +53,22 @@ pub(crate) fn setitimer<I: Source, O: Sink, E: Sink>(
     setting: u32,
     before: u32,
     space: &mut Space,
-    k: &mut NativeKernel,
-    mem: &mut HostMem,
     dev: &mut Devices<I, O, E>,
-    log: &mut Log,
+    below: &mut Below,
 ) -> Result<Outcome, Stop>
     ensures row { (guest : Guest) → guest.words ≡ words.now → guest.memory ≡ space.old
-        → IsCall (setitimer_row k.old guest which setting before) result k.new space.new guest.processor
+        → IsCall (setitimer_row below.old.kernel.now guest which setting before) result below.new.kernel.now space.new guest.processor
         (contents I.left O.written E.written dev.old) (contents I.left O.written E.written dev.new) }
     ensures kept { (guest : Guest) → guest.words ≡ words.now → guest.memory ≡ space.old
-        → KeepsCall (setitimer_row k.old guest which setting before) result k.old guest (I.left dev.old.input) log.old log.new }
+        → KeepsCall (setitimer_row below.old.kernel.now guest which setting before) result below.old.kernel.now guest (I.left dev.old.input) below.old.log.now below.new.log.now }
     ensures cause { StopsOnlyIfRose I.faults O.faults E.faults result dev.old dev.new }
     ensures counts { NoCountFell I.faults O.faults E.faults dev.old dev.new }
-    ensures clock { k.new.clock ≡ k.old.clock }
+    ensures clock { below.new.kernel.now.clock ≡ below.old.kernel.now.clock }
+    ensures same { LeadsOn below.old below.new }
 {
-    match timer_shown(k, which, mem, dev, log)? {
+    match timer_shown(which, dev, below)? {
         None => Ok(Outcome::Error(Errno::EINVAL)),
-        Some(shown) => exchange(words, shown, setting, before, space, k, mem, dev, log),
+        Some(shown) => exchange(words, shown, setting, before, space, dev, below),
     }
 }
 
@@ -81,22 +79,21 @@ fn exchange<I: Source, O: Sink, E: Sink>(
     setting: u32,
     before: u32,
     space: &mut Space,
-    k: &mut NativeKernel,
-    mem: &mut HostMem,
     dev: &mut Devices<I, O, E>,
-    log: &mut Log,
+    below: &mut Below,
 ) -> Result<Outcome, Stop>
-    ensures row { (guest : Guest) → guest.words ≡ words.now → guest.memory ≡ space.old → shown ≡ shown_of (timer_value k.old)
-        → IsCall (setitimer_row k.old guest 0 setting before) result k.new space.new guest.processor
+    ensures row { (guest : Guest) → guest.words ≡ words.now → guest.memory ≡ space.old → shown ≡ shown_of (timer_value below.old.kernel.now)
+        → IsCall (setitimer_row below.old.kernel.now guest 0 setting before) result below.new.kernel.now space.new guest.processor
         (contents I.left O.written E.written dev.old) (contents I.left O.written E.written dev.new) }
-    ensures kept { (guest : Guest) → guest.words ≡ words.now → guest.memory ≡ space.old → shown ≡ shown_of (timer_value k.old)
-        → KeepsCall (setitimer_row k.old guest 0 setting before) result k.old guest (I.left dev.old.input) log.old log.new }
+    ensures kept { (guest : Guest) → guest.words ≡ words.now → guest.memory ≡ space.old → shown ≡ shown_of (timer_value below.old.kernel.now)
+        → KeepsCall (setitimer_row below.old.kernel.now guest 0 setting before) result below.old.kernel.now guest (I.left dev.old.input) below.old.log.now below.new.log.now }
     ensures cause { StopsOnlyIfRose I.faults O.faults E.faults result dev.old dev.new }
     ensures counts { NoCountFell I.faults O.faults E.faults dev.old dev.new }
-    ensures clock { k.new.clock ≡ k.old.clock }
+    ensures clock { below.new.kernel.now.clock ≡ below.old.kernel.now.clock }
+    ensures same { LeadsOn below.old below.new }
 {
-    let place = take_setting(space, setting, mem)?;
-    let reply = set_timer(k, place, mem, dev, log)?;
-    let outcome = store_before(words, shown, reply, before, space, log)?;
+    let place = take_setting(space, setting, below.memory)?;
+    let reply = set_timer(place, dev, below)?;
+    let outcome = store_before(words, shown, reply, before, space, below.log)?;
     Ok(outcome)
 }

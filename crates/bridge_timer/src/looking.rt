@@ -1,5 +1,6 @@
 //! What a call finds out about the native timer, by a native call that changes nothing.
 ghost use Rattle.std.specs.Prelude.{◌≡◌, ◌+◌, ◌≤◌};
+ghost use Rattle.bridge_log.specs.Leading.{LeadsOn};
 ghost use Rattle.bridge_log.specs.Looks.{LooksFor};
 ghost use Rattle.bridge_timer.specs.inside.Shown.{shown_at, shown_in, time_in, word_in};
 ghost use Rattle.kernel_model.specs.Stops.{StopsOnlyIfRose};
@@ -7,11 +8,10 @@ ghost use Rattle.outside.specs.Streams.{NoCountFell, contents};
 
 use crate::numbers::GETITIMER;
 use crate::shown::{MicroTime, Shown};
-use bridge_log::{NativeKernel, fresh_room, look};
+use bridge_log::{Below, fresh_room};
 use byteorder::{ByteOrder, LittleEndian};
 use host_mem::{FIRST_ADDRESS, HostMem};
 use kernel_core::{Reply, Stop};
-use o32_model::Log;
 use outside::{Devices, Sink, Source};
 
 /// How many bytes a value of the timer has in host memory (struct itimerval).
@@ -19,22 +19,21 @@ const NATIVE_SIZE: u32 = 32;
 
 /// What the native timer with a number shows; None where there is none.
 pub(crate) fn timer_shown<I: Source, O: Sink, E: Sink>(
-    k: &mut NativeKernel,
     which: u32,
-    mem: &mut HostMem,
     dev: &mut Devices<I, O, E>,
-    log: &mut Log,
+    below: &mut Below,
 ) -> Result<Option<Shown>, Stop>
-    ensures looks { LooksFor (λ shown. shown ≡ shown_at k.old which) result k.old k.new
-        (contents I.left O.written E.written dev.old) (contents I.left O.written E.written dev.new) log.old log.new }
+    ensures looks { LooksFor (λ shown. shown ≡ shown_at below.old.kernel.now which) result below.old.kernel.now below.new.kernel.now
+        (contents I.left O.written E.written dev.old) (contents I.left O.written E.written dev.new) below.old.log.now below.new.log.now }
     ensures cause { StopsOnlyIfRose I.faults O.faults E.faults result dev.old dev.new }
     ensures counts { NoCountFell I.faults O.faults E.faults dev.old dev.new }
-    ensures clock { k.new.clock ≡ k.old.clock }
+    ensures clock { below.new.kernel.now.clock ≡ below.old.kernel.now.clock }
+    ensures same { LeadsOn below.old below.new }
 {
-    fresh_room(mem, NATIVE_SIZE)?;
+    fresh_room(below.memory, NATIVE_SIZE)?;
     let args = [u64::from(which), FIRST_ADDRESS, 0, 0, 0, 0];
-    let reply = look(k, GETITIMER, args, mem, dev, log)?;
-    Ok(shown_in(mem, reply))
+    let reply = below.look(GETITIMER, args, dev)?;
+    Ok(shown_in(below.memory, reply))
 }
 
 /// What a call with this reply put at the beginning of host memory; None after an error.

@@ -1,5 +1,6 @@
 //! The native call that sets the timer.
 ghost use Rattle.std.specs.Prelude.{◌≡◌};
+ghost use Rattle.bridge_log.specs.Leading.{LeadsOn};
 ghost use Rattle.bridge_timer.specs.inside.Acts.{Acts};
 ghost use Rattle.bridge_timer.specs.inside.Shown.{IsSet};
 ghost use Rattle.kernel_model.specs.Stops.{StopsOnlyIfRose};
@@ -8,27 +9,24 @@ ghost use Rattle.native_calls.specs.HostBytes.{unless_null};
 ghost use Rattle.outside.specs.Streams.{NoCountFell, contents};
 
 use crate::numbers::{ITIMER_REAL, SETITIMER};
-use bridge_log::{NativeKernel, native};
-use host_mem::HostMem;
+use bridge_log::Below;
 use kernel_core::{Reply, Stop};
-use o32_model::Log;
 use outside::{Devices, Sink, Source};
 
 /// Sets the timer to the setting at a place in host memory, or disarms it where that is 0 (setitimer(2)): EFAULT
 /// where no setting is there, EINVAL for one that is none. What the timer showed is not asked for.
 pub(crate) fn set_timer<I: Source, O: Sink, E: Sink>(
-    k: &mut NativeKernel,
     place: u64,
-    mem: &mut HostMem,
     dev: &mut Devices<I, O, E>,
-    log: &mut Log,
+    below: &mut Below,
 ) -> Result<Reply, Stop>
-    ensures acts { Acts (IsSet k.old (unless_null place (setting_at mem.old place))) result k.old k.new
-        (contents I.left O.written E.written dev.old) (contents I.left O.written E.written dev.new) log.old log.new }
+    ensures acts { Acts (IsSet below.old.kernel.now (unless_null place (setting_at below.old.memory.now place))) result below.old.kernel.now below.new.kernel.now
+        (contents I.left O.written E.written dev.old) (contents I.left O.written E.written dev.new) below.old.log.now below.new.log.now }
     ensures cause { StopsOnlyIfRose I.faults O.faults E.faults result dev.old dev.new }
     ensures counts { NoCountFell I.faults O.faults E.faults dev.old dev.new }
-    ensures clock { k.new.clock ≡ k.old.clock }
+    ensures clock { below.new.kernel.now.clock ≡ below.old.kernel.now.clock }
+    ensures same { LeadsOn below.old below.new }
 {
     let args = [u64::from(ITIMER_REAL), place, 0, 0, 0, 0];
-    native(k, SETITIMER, args, mem, dev, log)
+    below.native(SETITIMER, args, dev)
 }

@@ -17,7 +17,7 @@ use Rattle.native_calls.specs.Table.{native_call}
 use Rattle.native_calls.specs.Times.{time_at, time_bytes}
 use Rattle.o32_model.specs.Clocks.{is_late}
 use Rattle.bridge_wait.specs.declared.clock_times.ClockTime.{ClockTime}
-use Rattle.bridge_wait.specs.inside.Looks.{IsLook}
+use Rattle.bridge_log.specs.Looks.{IsLook}
 use Rattle.bridge_wait.specs.inside.Shown.{clock_of, is_cpu_clock, is_over, is_real_clock, resolution_of, shown_of, time_in, time_of}
 
 -- A time at the beginning of host memory, by what there is to show

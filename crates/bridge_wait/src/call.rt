@@ -1,4 +1,5 @@
 //! A call on time by its number.
+ghost use Rattle.bridge_log.specs.Leading.{LeadsOn};
 ghost use Rattle.std.specs.Prelude.{◌≡◌, IsTrue};
 ghost use Rattle.bridge_log.specs.Keeping.{KeepsCall};
 ghost use Rattle.bridge_wait.specs.Found.{found};
@@ -10,7 +11,7 @@ ghost use Rattle.outside.specs.Streams.{NoCountFell, contents};
 
 use crate::clocks::{clock_getres, clock_gettime, gettimeofday, time};
 use crate::sleeping::{clock_nanosleep, nanosleep};
-use bridge_log::NativeKernel;
+use bridge_log::{Below, NativeKernel};
 use guest_space::Space;
 use host_mem::HostMem;
 use kernel_core::Stop;
@@ -41,13 +42,40 @@ pub fn wait_call<I: Source, O: Sink, E: Sink>(
     ensures counts { NoCountFell I.faults O.faults E.faults dev.old dev.new }
     ensures clock { k.new.clock ≡ k.old.clock }
 {
+    let below = &mut Below {
+        kernel: k,
+        memory: mem,
+        log,
+    };
+    by_number(args, cpu, space, dev, seen, below)
+}
+
+/// The same by its number, with the kernel and what its calls are made with as one value.
+fn by_number<I: Source, O: Sink, E: Sink>(
+    args: &CallWords,
+    cpu: &mut Cpu,
+    space: &mut Space,
+    dev: &mut Devices<I, O, E>,
+    seen: &Seen,
+    below: &mut Below,
+) -> Result<Outcome, Stop>
+    requires { IsTrue (is_call_there args.now.nr) }
+    ensures row { IsCall (machine_call seen.now below.old.kernel.now (found args.now cpu.old space.old)) result below.new.kernel.now space.new cpu.new
+        (contents I.left O.written E.written dev.old) (contents I.left O.written E.written dev.new) }
+    ensures kept { KeepsCall (machine_call seen.now below.old.kernel.now (found args.now cpu.old space.old)) result below.old.kernel.now
+        (found args.now cpu.old space.old) (I.left dev.old.input) below.old.log.now below.new.log.now }
+    ensures cause { StopsOnlyIfRose I.faults O.faults E.faults result dev.old dev.new }
+    ensures counts { NoCountFell I.faults O.faults E.faults dev.old dev.new }
+    ensures clock { below.new.kernel.now.clock ≡ below.old.kernel.now.clock }
+    ensures same { LeadsOn below.old below.new }
+{
     let [a0, a1, a2, _] = args.reg;
     match args.nr {
-        4013 => time(a0, space, k, mem, dev, log),
-        4078 => gettimeofday(a0, a1, space, k, mem, dev, log),
-        4166 => nanosleep(args, a0, space, k, mem, dev, log),
-        4263 => clock_gettime(a0, a1, seen.quanta, space, k, mem, dev, log),
-        4264 => clock_getres(a0, a1, space, k, mem, dev, log),
-        _ => clock_nanosleep(args, a0, a1, a2, space, k, mem, dev, log),
+        4013 => time(a0, space, dev, below),
+        4078 => gettimeofday(a0, a1, space, dev, below),
+        4166 => nanosleep(args, a0, space, dev, below),
+        4263 => clock_gettime(a0, a1, seen.quanta, space, dev, below),
+        4264 => clock_getres(a0, a1, space, dev, below),
+        _ => clock_nanosleep(args, a0, a1, a2, space, dev, below),
     }
 }

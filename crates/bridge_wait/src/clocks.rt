@@ -1,5 +1,6 @@
 //! The clocks: time(2), gettimeofday(2), clock_gettime(2), clock_getres(2).
 ghost use Rattle.std.specs.Prelude.{◌≡◌};
+ghost use Rattle.bridge_log.specs.Leading.{LeadsOn};
 ghost use Rattle.bridge_log.specs.Keeping.{KeepsCall};
 ghost use Rattle.kernel_model.specs.Stops.{StopsOnlyIfRose};
 ghost use Rattle.o32_model.specs.Answered.{IsCall};
@@ -11,11 +12,10 @@ use crate::looking::clock_resolution;
 use crate::numbers::CLOCK_REALTIME;
 use crate::showing::shown_time;
 use crate::storing::{store_day, store_resolution, store_seconds, store_time};
-use bridge_log::NativeKernel;
+use bridge_log::Below;
 use guest_space::Space;
-use host_mem::HostMem;
 use kernel_core::Stop;
-use o32_model::{Log, Outcome};
+use o32_model::Outcome;
 use outside::{Devices, Sink, Source};
 
 /// clock_gettime(2): EINVAL for a clock that there is none of, EOVERFLOW past second 2^31 - 1, EFAULT. The clocks
@@ -25,22 +25,21 @@ pub(crate) fn clock_gettime<I: Source, O: Sink, E: Sink>(
     address: u32,
     quanta: u64,
     space: &mut Space,
-    k: &mut NativeKernel,
-    mem: &mut HostMem,
     dev: &mut Devices<I, O, E>,
-    log: &mut Log,
+    below: &mut Below,
 ) -> Result<Outcome, Stop>
     ensures row { (guest : Guest) → guest.memory ≡ space.old
-        → IsCall (clock_gettime_row quanta k.old guest clock address) result k.new space.new guest.processor
+        → IsCall (clock_gettime_row quanta below.old.kernel.now guest clock address) result below.new.kernel.now space.new guest.processor
         (contents I.left O.written E.written dev.old) (contents I.left O.written E.written dev.new) }
     ensures kept { (guest : Guest) → guest.memory ≡ space.old
-        → KeepsCall (clock_gettime_row quanta k.old guest clock address) result k.old guest (I.left dev.old.input) log.old log.new }
+        → KeepsCall (clock_gettime_row quanta below.old.kernel.now guest clock address) result below.old.kernel.now guest (I.left dev.old.input) below.old.log.now below.new.log.now }
     ensures cause { StopsOnlyIfRose I.faults O.faults E.faults result dev.old dev.new }
     ensures counts { NoCountFell I.faults O.faults E.faults dev.old dev.new }
-    ensures clock { k.new.clock ≡ k.old.clock }
+    ensures clock { below.new.kernel.now.clock ≡ below.old.kernel.now.clock }
+    ensures same { LeadsOn below.old below.new }
 {
-    let shown = shown_time(k, clock, quanta, mem, dev, log)?;
-    let outcome = store_time(shown, address, space, log)?;
+    let shown = shown_time(clock, quanta, dev, below)?;
+    let outcome = store_time(shown, address, space, below.log)?;
     Ok(outcome)
 }
 
@@ -49,22 +48,21 @@ pub(crate) fn clock_getres<I: Source, O: Sink, E: Sink>(
     clock: u32,
     address: u32,
     space: &mut Space,
-    k: &mut NativeKernel,
-    mem: &mut HostMem,
     dev: &mut Devices<I, O, E>,
-    log: &mut Log,
+    below: &mut Below,
 ) -> Result<Outcome, Stop>
     ensures row { (guest : Guest) → guest.memory ≡ space.old
-        → IsCall (clock_getres_row k.old guest clock address) result k.new space.new guest.processor
+        → IsCall (clock_getres_row below.old.kernel.now guest clock address) result below.new.kernel.now space.new guest.processor
         (contents I.left O.written E.written dev.old) (contents I.left O.written E.written dev.new) }
     ensures kept { (guest : Guest) → guest.memory ≡ space.old
-        → KeepsCall (clock_getres_row k.old guest clock address) result k.old guest (I.left dev.old.input) log.old log.new }
+        → KeepsCall (clock_getres_row below.old.kernel.now guest clock address) result below.old.kernel.now guest (I.left dev.old.input) below.old.log.now below.new.log.now }
     ensures cause { StopsOnlyIfRose I.faults O.faults E.faults result dev.old dev.new }
     ensures counts { NoCountFell I.faults O.faults E.faults dev.old dev.new }
-    ensures clock { k.new.clock ≡ k.old.clock }
+    ensures clock { below.new.kernel.now.clock ≡ below.old.kernel.now.clock }
+    ensures same { LeadsOn below.old below.new }
 {
-    let shown = clock_resolution(k, clock, mem, dev, log)?;
-    let outcome = store_resolution(shown, address, space, log)?;
+    let shown = clock_resolution(clock, dev, below)?;
+    let outcome = store_resolution(shown, address, space, below.log)?;
     Ok(outcome)
 }
 
@@ -72,22 +70,21 @@ pub(crate) fn clock_getres<I: Source, O: Sink, E: Sink>(
 pub(crate) fn time<I: Source, O: Sink, E: Sink>(
     address: u32,
     space: &mut Space,
-    k: &mut NativeKernel,
-    mem: &mut HostMem,
     dev: &mut Devices<I, O, E>,
-    log: &mut Log,
+    below: &mut Below,
 ) -> Result<Outcome, Stop>
     ensures row { (guest : Guest) → guest.memory ≡ space.old
-        → IsCall (time_row k.old guest address) result k.new space.new guest.processor
+        → IsCall (time_row below.old.kernel.now guest address) result below.new.kernel.now space.new guest.processor
         (contents I.left O.written E.written dev.old) (contents I.left O.written E.written dev.new) }
     ensures kept { (guest : Guest) → guest.memory ≡ space.old
-        → KeepsCall (time_row k.old guest address) result k.old guest (I.left dev.old.input) log.old log.new }
+        → KeepsCall (time_row below.old.kernel.now guest address) result below.old.kernel.now guest (I.left dev.old.input) below.old.log.now below.new.log.now }
     ensures cause { StopsOnlyIfRose I.faults O.faults E.faults result dev.old dev.new }
     ensures counts { NoCountFell I.faults O.faults E.faults dev.old dev.new }
-    ensures clock { k.new.clock ≡ k.old.clock }
+    ensures clock { below.new.kernel.now.clock ≡ below.old.kernel.now.clock }
+    ensures same { LeadsOn below.old below.new }
 {
-    let shown = shown_time(k, CLOCK_REALTIME, 0, mem, dev, log)?;
-    let outcome = store_seconds(shown, address, space, log)?;
+    let shown = shown_time(CLOCK_REALTIME, 0, dev, below)?;
+    let outcome = store_seconds(shown, address, space, below.log)?;
     Ok(outcome)
 }
 
@@ -96,21 +93,20 @@ pub(crate) fn gettimeofday<I: Source, O: Sink, E: Sink>(
     value: u32,
     zone: u32,
     space: &mut Space,
-    k: &mut NativeKernel,
-    mem: &mut HostMem,
     dev: &mut Devices<I, O, E>,
-    log: &mut Log,
+    below: &mut Below,
 ) -> Result<Outcome, Stop>
     ensures row { (guest : Guest) → guest.memory ≡ space.old
-        → IsCall (gettimeofday_row k.old guest value zone) result k.new space.new guest.processor
+        → IsCall (gettimeofday_row below.old.kernel.now guest value zone) result below.new.kernel.now space.new guest.processor
         (contents I.left O.written E.written dev.old) (contents I.left O.written E.written dev.new) }
     ensures kept { (guest : Guest) → guest.memory ≡ space.old
-        → KeepsCall (gettimeofday_row k.old guest value zone) result k.old guest (I.left dev.old.input) log.old log.new }
+        → KeepsCall (gettimeofday_row below.old.kernel.now guest value zone) result below.old.kernel.now guest (I.left dev.old.input) below.old.log.now below.new.log.now }
     ensures cause { StopsOnlyIfRose I.faults O.faults E.faults result dev.old dev.new }
     ensures counts { NoCountFell I.faults O.faults E.faults dev.old dev.new }
-    ensures clock { k.new.clock ≡ k.old.clock }
+    ensures clock { below.new.kernel.now.clock ≡ below.old.kernel.now.clock }
+    ensures same { LeadsOn below.old below.new }
 {
-    let shown = shown_time(k, CLOCK_REALTIME, 0, mem, dev, log)?;
-    let outcome = store_day(shown, value, zone, space, log)?;
+    let shown = shown_time(CLOCK_REALTIME, 0, dev, below)?;
+    let outcome = store_day(shown, value, zone, space, below.log)?;
     Ok(outcome)
 }

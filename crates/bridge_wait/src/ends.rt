@@ -1,5 +1,6 @@
 //! How the waits of sleeps end.
 ghost use Rattle.std.specs.Prelude.{◌≡◌, IfErr, IfOk, IsTrue, OnOk};
+ghost use Rattle.bridge_log.specs.Leading.{LeadsOn};
 ghost use Rattle.bridge_log.specs.Keeping.{reached};
 ghost use Rattle.bridge_wait.specs.Numbers.{is_sleep};
 ghost use Rattle.bridge_wait.specs.inside.Endings.{interrupted_if};
@@ -11,9 +12,8 @@ ghost use Rattle.o32_model.specs.Effects.{Effected};
 ghost use Rattle.o32_model.specs.WaitEnds.{ends_with, sleep_ended, sleep_interrupted, wait_ended};
 
 use crate::clock_times::ClockTime;
-use bridge_log::{NativeKernel, put};
+use bridge_log::{Below, put};
 use guest_space::Space;
-use host_mem::HostMem;
 use kernel_core::{Errno, NoMemory, Stop};
 use o32_model::{Cause, Close, Log, Wait};
 
@@ -27,20 +27,19 @@ pub fn wait_end(
     cause: Cause,
     clock: u64,
     space: &mut Space,
-    k: &mut NativeKernel,
-    mem: &mut HostMem,
-    log: &mut Log,
+    below: &mut Below,
 ) -> Result<Close, Stop>
     requires { IsTrue (is_sleep wait.now.nr) }
-    ensures ends { IfOk result (λ close. wait_ended wait.now cause clock k.old space.old ≡ ends_with close k.new space.new) }
-    ensures host { mem.new ≡ mem.old }
+    ensures ends { IfOk result (λ close. wait_ended wait.now cause clock below.old.kernel.now space.old ≡ ends_with close below.new.kernel.now space.new) }
+    ensures host { below.new.memory.now ≡ below.old.memory.now }
     ensures effects { OnOk result ((processor : Processor) (sent : Sent)
-        → Effected log.old.effects log.new.effects (reached processor space.old.pages sent) (reached processor space.new.pages sent)) }
-    ensures native { log.new.native ≡ log.old.native }
+        → Effected below.old.log.now.effects below.new.log.now.effects (reached processor space.old.pages sent) (reached processor space.new.pages sent)) }
+    ensures native { below.new.log.now.native ≡ below.old.log.now.native }
     ensures cause { IfErr result (λ stop. stop ≡ Stop.NoMemory) }
-    ensures clock { k.new.clock ≡ k.old.clock }
+    ensures clock { below.new.kernel.now.clock ≡ below.old.kernel.now.clock }
+    ensures same { LeadsOn below.old below.new }
 {
-    let close = closed(wait, cause, clock, space, log)?;
+    let close = closed(wait, cause, clock, space, below.log)?;
     Ok(close)
 }
 

@@ -1,13 +1,11 @@
 //! What a call finds out about the native clocks, by native calls that change nothing.
-ghost use Rattle.std.specs.Prelude.{◌≡◌, ◌<◌, ℕ, List, option_map, if◌then◌else◌};
-ghost use Rattle.bridge_log.specs.Arguments.{AreUnusedZero, IsPlaced};
-ghost use Rattle.bridge_wait.specs.inside.Looks.{IsLook, LooksFor, Replied};
+ghost use Rattle.std.specs.Prelude.{◌≡◌, ◌<◌, option_map, if◌then◌else◌};
+ghost use Rattle.bridge_log.specs.Leading.{LeadsOn};
+ghost use Rattle.bridge_log.specs.Looks.{LooksFor};
 ghost use Rattle.bridge_wait.specs.inside.Shown.{clock_of, is_over, resolution_of, time_in, time_of, word_in};
 ghost use Rattle.kernel_core.specs.declared.reply.Reply.{Reply};
 ghost use Rattle.kernel_model.specs.Clock.{clock_time};
 ghost use Rattle.kernel_model.specs.Stops.{StopsOnlyIfRose};
-ghost use Rattle.native_calls.specs.Table.{native_call};
-ghost use Rattle.bridge_log.specs.Built.{built_call};
 ghost use Rattle.o32_model.specs.Clocks.{is_late};
 ghost use Rattle.outside.specs.Streams.{NoCountFell, contents};
 
@@ -16,11 +14,10 @@ use crate::numbers::{
     CLOCK_GETRES, CLOCK_GETTIME, CLOCK_MONOTONIC, CLOCK_NANOSLEEP, CLOCK_REALTIME, TIMER_ABSTIME,
 };
 use crate::times::push_time;
-use bridge_log::{NativeKernel, fresh_room, native};
+use bridge_log::{Below, fresh_room};
 use byteorder::{ByteOrder, LittleEndian};
 use host_mem::{FIRST_ADDRESS, HostMem};
 use kernel_core::{Reply, Stop};
-use o32_model::Log;
 use outside::{Devices, Sink, Source};
 
 /// How many bytes a time has in host memory (struct timespec).
@@ -29,88 +26,62 @@ const NATIVE_SIZE: u32 = 16;
 /// The first second that no time_t of 32 bits holds.
 const FIRST_LATE_SECOND: i64 = 0x8000_0000;
 
-/// Makes a native call that changes nothing.
-fn look<I: Source, O: Sink, E: Sink>(
-    k: &mut NativeKernel,
-    nr: u64,
-    args: [u64; 6],
-    mem: &mut HostMem,
-    dev: &mut Devices<I, O, E>,
-    log: &mut Log,
-) -> Result<Reply, Stop>
-    requires built { built_call nr ≡ native_call nr }
-    requires unused { AreUnusedZero nr args }
-    requires placed { IsPlaced nr mem.old }
-    ensures looks { (reply : Reply) (memory : List ℕ)
-        → ((left : List ℕ) → IsLook k.old reply memory left (native_call nr args k.old mem.old left))
-        → LooksFor (Replied reply memory mem.new) result k.old k.new
-        (contents I.left O.written E.written dev.old) (contents I.left O.written E.written dev.new) log.old log.new }
-    ensures cause { StopsOnlyIfRose I.faults O.faults E.faults result dev.old dev.new }
-    ensures counts { NoCountFell I.faults O.faults E.faults dev.old dev.new }
-    ensures clock { k.new.clock ≡ k.old.clock }
-{
-    native(k, nr, args, mem, dev, log)
-}
-
 /// What the native clock with an id shows; None where there is none.
 pub(crate) fn clock_shown<I: Source, O: Sink, E: Sink>(
-    k: &mut NativeKernel,
     clock: u32,
-    mem: &mut HostMem,
     dev: &mut Devices<I, O, E>,
-    log: &mut Log,
+    below: &mut Below,
 ) -> Result<Option<ClockTime>, Stop>
-    ensures looks { LooksFor (λ shown. shown ≡ option_map time_of (clock_time k.old k.old.clock clock)) result k.old k.new
-        (contents I.left O.written E.written dev.old) (contents I.left O.written E.written dev.new) log.old log.new }
+    ensures looks { LooksFor (λ shown. shown ≡ option_map time_of (clock_time below.old.kernel.now below.old.kernel.now.clock clock)) result below.old.kernel.now below.new.kernel.now
+        (contents I.left O.written E.written dev.old) (contents I.left O.written E.written dev.new) below.old.log.now below.new.log.now }
     ensures cause { StopsOnlyIfRose I.faults O.faults E.faults result dev.old dev.new }
     ensures counts { NoCountFell I.faults O.faults E.faults dev.old dev.new }
-    ensures clock { k.new.clock ≡ k.old.clock }
+    ensures clock { below.new.kernel.now.clock ≡ below.old.kernel.now.clock }
+    ensures same { LeadsOn below.old below.new }
 {
-    fresh_room(mem, NATIVE_SIZE)?;
+    fresh_room(below.memory, NATIVE_SIZE)?;
     let args = [u64::from(clock), FIRST_ADDRESS, 0, 0, 0, 0];
-    let reply = look(k, CLOCK_GETTIME, args, mem, dev, log)?;
-    Ok(time_in(mem, reply))
+    let reply = below.look(CLOCK_GETTIME, args, dev)?;
+    Ok(time_in(below.memory, reply))
 }
 
 /// The resolution of the native clock with an id; None where there is none.
 pub(crate) fn clock_resolution<I: Source, O: Sink, E: Sink>(
-    k: &mut NativeKernel,
     clock: u32,
-    mem: &mut HostMem,
     dev: &mut Devices<I, O, E>,
-    log: &mut Log,
+    below: &mut Below,
 ) -> Result<Option<ClockTime>, Stop>
-    ensures looks { LooksFor (λ shown. shown ≡ option_map time_of (resolution_of clock)) result k.old k.new
-        (contents I.left O.written E.written dev.old) (contents I.left O.written E.written dev.new) log.old log.new }
+    ensures looks { LooksFor (λ shown. shown ≡ option_map time_of (resolution_of clock)) result below.old.kernel.now below.new.kernel.now
+        (contents I.left O.written E.written dev.old) (contents I.left O.written E.written dev.new) below.old.log.now below.new.log.now }
     ensures cause { StopsOnlyIfRose I.faults O.faults E.faults result dev.old dev.new }
     ensures counts { NoCountFell I.faults O.faults E.faults dev.old dev.new }
-    ensures clock { k.new.clock ≡ k.old.clock }
+    ensures clock { below.new.kernel.now.clock ≡ below.old.kernel.now.clock }
+    ensures same { LeadsOn below.old below.new }
 {
-    fresh_room(mem, NATIVE_SIZE)?;
+    fresh_room(below.memory, NATIVE_SIZE)?;
     let args = [u64::from(clock), FIRST_ADDRESS, 0, 0, 0, 0];
-    let reply = look(k, CLOCK_GETRES, args, mem, dev, log)?;
-    Ok(time_in(mem, reply))
+    let reply = below.look(CLOCK_GETRES, args, dev)?;
+    Ok(time_in(below.memory, reply))
 }
 
 /// Whether second 2^31 has come by CLOCK_REALTIME, or else by CLOCK_MONOTONIC: a sleep until then ends at once, and
 /// else it would wait. The numbers of a time need not be told for this.
 pub(crate) fn is_late<I: Source, O: Sink, E: Sink>(
-    k: &mut NativeKernel,
     real: bool,
-    mem: &mut HostMem,
     dev: &mut Devices<I, O, E>,
-    log: &mut Log,
+    below: &mut Below,
 ) -> Result<bool, Stop>
-    ensures looks { LooksFor (λ late. late ≡ is_late (clock_of k.old real)) result k.old k.new
-        (contents I.left O.written E.written dev.old) (contents I.left O.written E.written dev.new) log.old log.new }
+    ensures looks { LooksFor (λ late. late ≡ is_late (clock_of below.old.kernel.now real)) result below.old.kernel.now below.new.kernel.now
+        (contents I.left O.written E.written dev.old) (contents I.left O.written E.written dev.new) below.old.log.now below.new.log.now }
     ensures cause { StopsOnlyIfRose I.faults O.faults E.faults result dev.old dev.new }
     ensures counts { NoCountFell I.faults O.faults E.faults dev.old dev.new }
-    ensures clock { k.new.clock ≡ k.old.clock }
+    ensures clock { below.new.kernel.now.clock ≡ below.old.kernel.now.clock }
+    ensures same { LeadsOn below.old below.new }
 {
-    mem.clear();
-    let place = push_time(FIRST_LATE_SECOND, 0, mem)?;
+    below.memory.clear();
+    let place = push_time(FIRST_LATE_SECOND, 0, below.memory)?;
     let args = [sleep_clock(real), TIMER_ABSTIME, place, 0, 0, 0];
-    let reply = look(k, CLOCK_NANOSLEEP, args, mem, dev, log)?;
+    let reply = below.look(CLOCK_NANOSLEEP, args, dev)?;
     Ok(is_over(reply))
 }
 

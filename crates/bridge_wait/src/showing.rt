@@ -1,6 +1,7 @@
 //! What a clock shows the program.
 ghost use Rattle.std.specs.Prelude.{◌≡◌, Ok, Err, if◌then◌else◌};
-ghost use Rattle.bridge_wait.specs.inside.Looks.{LooksFor};
+ghost use Rattle.bridge_log.specs.Leading.{LeadsOn};
+ghost use Rattle.bridge_log.specs.Looks.{LooksFor};
 ghost use Rattle.bridge_wait.specs.inside.Shown.{clock_of, is_cpu_clock, is_real_clock, shown_of};
 ghost use Rattle.kernel_model.specs.Clock.{clock_time};
 ghost use Rattle.kernel_model.specs.Stops.{StopsOnlyIfRose};
@@ -12,53 +13,49 @@ use crate::looking::{clock_shown, is_late};
 use crate::numbers::{
     CLOCK_PROCESS_CPUTIME_ID, CLOCK_REALTIME, CLOCK_REALTIME_COARSE, CLOCK_THREAD_CPUTIME_ID,
 };
-use bridge_log::NativeKernel;
-use host_mem::HostMem;
+use bridge_log::Below;
 use kernel_core::{Errno, Stop};
-use o32_model::Log;
 use outside::{Devices, Sink, Source};
 
 /// What a clock shows: EINVAL where there is none with this id, EOVERFLOW past second 2^31 - 1. The clocks of CPU
 /// time show `quanta`, in nanoseconds, which no native clock tells.
 pub(crate) fn shown_time<I: Source, O: Sink, E: Sink>(
-    k: &mut NativeKernel,
     clock: u32,
     quanta: u64,
-    mem: &mut HostMem,
     dev: &mut Devices<I, O, E>,
-    log: &mut Log,
+    below: &mut Below,
 ) -> Result<Result<ClockTime, Errno>, Stop>
-    ensures looks { LooksFor (λ shown. shown ≡ shown_of (clock_time k.old quanta clock)) result k.old k.new
-        (contents I.left O.written E.written dev.old) (contents I.left O.written E.written dev.new) log.old log.new }
+    ensures looks { LooksFor (λ shown. shown ≡ shown_of (clock_time below.old.kernel.now quanta clock)) result below.old.kernel.now below.new.kernel.now
+        (contents I.left O.written E.written dev.old) (contents I.left O.written E.written dev.new) below.old.log.now below.new.log.now }
     ensures cause { StopsOnlyIfRose I.faults O.faults E.faults result dev.old dev.new }
     ensures counts { NoCountFell I.faults O.faults E.faults dev.old dev.new }
-    ensures clock { k.new.clock ≡ k.old.clock }
+    ensures clock { below.new.kernel.now.clock ≡ below.old.kernel.now.clock }
+    ensures same { LeadsOn below.old below.new }
 {
     if is_cpu_clock(clock) {
         return Ok(shown_of(quanta));
     }
-    match clock_shown(k, clock, mem, dev, log)? {
+    match clock_shown(clock, dev, below)? {
         None => Ok(Err(Errno::EINVAL)),
-        Some(time) => unless_late(time, k, is_real_clock(clock), mem, dev, log),
+        Some(time) => unless_late(time, is_real_clock(clock), dev, below),
     }
 }
 
 /// The time, or EOVERFLOW where second 2^31 has come by the native clock.
 fn unless_late<I: Source, O: Sink, E: Sink>(
     time: ClockTime,
-    k: &mut NativeKernel,
     real: bool,
-    mem: &mut HostMem,
     dev: &mut Devices<I, O, E>,
-    log: &mut Log,
+    below: &mut Below,
 ) -> Result<Result<ClockTime, Errno>, Stop>
-    ensures looks { LooksFor (λ shown. shown ≡ (if is_late (clock_of k.old real) then Err Errno.EOVERFLOW else Ok time)) result k.old k.new
-        (contents I.left O.written E.written dev.old) (contents I.left O.written E.written dev.new) log.old log.new }
+    ensures looks { LooksFor (λ shown. shown ≡ (if is_late (clock_of below.old.kernel.now real) then Err Errno.EOVERFLOW else Ok time)) result below.old.kernel.now below.new.kernel.now
+        (contents I.left O.written E.written dev.old) (contents I.left O.written E.written dev.new) below.old.log.now below.new.log.now }
     ensures cause { StopsOnlyIfRose I.faults O.faults E.faults result dev.old dev.new }
     ensures counts { NoCountFell I.faults O.faults E.faults dev.old dev.new }
-    ensures clock { k.new.clock ≡ k.old.clock }
+    ensures clock { below.new.kernel.now.clock ≡ below.old.kernel.now.clock }
+    ensures same { LeadsOn below.old below.new }
 {
-    let late = is_late(k, real, mem, dev, log)?;
+    let late = is_late(real, dev, below)?;
     Ok(time_unless(late, time))
 }
 

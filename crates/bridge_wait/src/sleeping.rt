@@ -1,5 +1,6 @@
 //! Sleeping: nanosleep(2), clock_nanosleep(2).
 ghost use Rattle.std.specs.Prelude.{◌≡◌};
+ghost use Rattle.bridge_log.specs.Leading.{LeadsOn};
 ghost use Rattle.bridge_log.specs.Keeping.{KeepsCall};
 ghost use Rattle.kernel_model.specs.Stops.{StopsOnlyIfRose};
 ghost use Rattle.o32_model.specs.Answered.{IsCall};
@@ -9,11 +10,10 @@ ghost use Rattle.outside.specs.Streams.{NoCountFell, contents};
 
 use crate::numbers::{CLOCK_NANOSLEEP, NANOSLEEP};
 use crate::times::take_time;
-use bridge_log::{NativeKernel, number_call};
+use bridge_log::Below;
 use guest_space::Space;
-use host_mem::HostMem;
 use kernel_core::Stop;
-use o32_model::{CallWords, Log, Outcome};
+use o32_model::{CallWords, Outcome};
 use outside::{Devices, Sink, Source};
 
 /// nanosleep(2): EFAULT where the time can't be loaded, EINVAL where it is none. What is left of the time is
@@ -22,22 +22,21 @@ pub(crate) fn nanosleep<I: Source, O: Sink, E: Sink>(
     words: &CallWords,
     address: u32,
     space: &Space,
-    k: &mut NativeKernel,
-    mem: &mut HostMem,
     dev: &mut Devices<I, O, E>,
-    log: &mut Log,
+    below: &mut Below,
 ) -> Result<Outcome, Stop>
     ensures row { (guest : Guest) → guest.words ≡ words.now → guest.memory ≡ space.now
-        → IsCall (nanosleep_row k.old guest address) result k.new space.now guest.processor
+        → IsCall (nanosleep_row below.old.kernel.now guest address) result below.new.kernel.now space.now guest.processor
         (contents I.left O.written E.written dev.old) (contents I.left O.written E.written dev.new) }
     ensures kept { (guest : Guest) → guest.words ≡ words.now → guest.memory ≡ space.now
-        → KeepsCall (nanosleep_row k.old guest address) result k.old guest (I.left dev.old.input) log.old log.new }
+        → KeepsCall (nanosleep_row below.old.kernel.now guest address) result below.old.kernel.now guest (I.left dev.old.input) below.old.log.now below.new.log.now }
     ensures cause { StopsOnlyIfRose I.faults O.faults E.faults result dev.old dev.new }
     ensures counts { NoCountFell I.faults O.faults E.faults dev.old dev.new }
-    ensures clock { k.new.clock ≡ k.old.clock }
+    ensures clock { below.new.kernel.now.clock ≡ below.old.kernel.now.clock }
+    ensures same { LeadsOn below.old below.new }
 {
-    let place = take_time(space, address, mem)?;
-    number_call(words, k, NANOSLEEP, [place, 0, 0, 0, 0, 0], mem, dev, log)
+    let place = take_time(space, address, below.memory)?;
+    below.number_call(words, NANOSLEEP, [place, 0, 0, 0, 0, 0], dev)
 }
 
 /// clock_nanosleep(2): EINVAL for another clock than CLOCK_REALTIME, CLOCK_MONOTONIC and CLOCK_BOOTTIME and for
@@ -48,21 +47,20 @@ pub(crate) fn clock_nanosleep<I: Source, O: Sink, E: Sink>(
     flags: u32,
     address: u32,
     space: &Space,
-    k: &mut NativeKernel,
-    mem: &mut HostMem,
     dev: &mut Devices<I, O, E>,
-    log: &mut Log,
+    below: &mut Below,
 ) -> Result<Outcome, Stop>
     ensures row { (guest : Guest) → guest.words ≡ words.now → guest.memory ≡ space.now
-        → IsCall (clock_nanosleep_row k.old guest clock flags address) result k.new space.now guest.processor
+        → IsCall (clock_nanosleep_row below.old.kernel.now guest clock flags address) result below.new.kernel.now space.now guest.processor
         (contents I.left O.written E.written dev.old) (contents I.left O.written E.written dev.new) }
     ensures kept { (guest : Guest) → guest.words ≡ words.now → guest.memory ≡ space.now
-        → KeepsCall (clock_nanosleep_row k.old guest clock flags address) result k.old guest (I.left dev.old.input) log.old log.new }
+        → KeepsCall (clock_nanosleep_row below.old.kernel.now guest clock flags address) result below.old.kernel.now guest (I.left dev.old.input) below.old.log.now below.new.log.now }
     ensures cause { StopsOnlyIfRose I.faults O.faults E.faults result dev.old dev.new }
     ensures counts { NoCountFell I.faults O.faults E.faults dev.old dev.new }
-    ensures clock { k.new.clock ≡ k.old.clock }
+    ensures clock { below.new.kernel.now.clock ≡ below.old.kernel.now.clock }
+    ensures same { LeadsOn below.old below.new }
 {
-    let place = take_time(space, address, mem)?;
+    let place = take_time(space, address, below.memory)?;
     let args = [u64::from(clock), u64::from(flags), place, 0, 0, 0];
-    number_call(words, k, CLOCK_NANOSLEEP, args, mem, dev, log)
+    below.number_call(words, CLOCK_NANOSLEEP, args, dev)
 }

@@ -11,8 +11,8 @@ returns-clause-ends g c = λ left told.
     let wait = c.args.wait.now in
     let seen = c.in_ok-came.ensures.acts left told in (
       seen.1.rest,
-      end_closed c.args.k.now c.accept.new.k wait c.args.space.now c.tell.new.space (wait_word wait 0) (wait_word wait 1) (wait_word wait 2) (wait_word wait 3) c.in_ok-came.came c.in_ok-told.told seen.0 c.in_ok-told.ensures.ends
-          ∙ ap (λ (close : Close). ends_with close c.accept.new.k c.tell.new.space) (sym c.close_of.ensures),
+      end_closed c.args.below.now.kernel.now c.accept.new.below.kernel.now wait c.args.space.now c.tell.new.space (wait_word wait 0) (wait_word wait 1) (wait_word wait 2) (wait_word wait 3) c.in_ok-came.came c.in_ok-told.told seen.0 c.in_ok-told.ensures.ends
+          ∙ ap (λ (close : Close). ends_with close c.accept.new.below.kernel.now c.tell.new.space) (sym c.close_of.ensures),
     )
 
 pub returns-clause-kept : goal.returns-clause-kept

@@ -13,7 +13,7 @@ use Rattle.bridge_delivery.proofs.delivering.next.Goals as goal
 
 pub returns-clause-looks : goal.returns-clause-looks
 returns-clause-looks g c = λ left told.
-    let signals = c.args.k.now.signals in
+    let signals = c.args.below.now.kernel.now.signals in
     let first = c.in_ok-pending.ensures.looks left told in
     let second = c.in_ok-blocked.ensures.looks left (ap (λ (at : Contents). at.left) first.1.rest ∙ told) in
     let mask : c.in_ok-blocked.blocked ≡ signals.mask = second.0 ∙ ap (λ (k : Kernel). k.signals.mask) first.1.same in (

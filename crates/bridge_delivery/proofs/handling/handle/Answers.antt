@@ -20,16 +20,16 @@ returns-clause-handled g c = λ left told.
     (λ (w : Within). happens (wait_left_by whole_end c.args.action.now w.machine.wait w) (events.Signal info.sig deliveries.Handler))
     (λ (w : Within). begun w info c.args.action.now)
     (λ (w : Within). handled whole_end w info c.args.action.now)
-    (within_of c.args.going.now c.args.cpu.now c.args.space.now c.args.k.now)
-    (within_of c.tell.new.going c.leave_wait.new.cpu c.leave_wait.new.space c.leave_wait.new.k)
-    (within_of c.begin.new.going c.begin.new.cpu c.begin.new.space c.begin.new.k)
+    (within_of c.args.going.now c.args.cpu.now c.args.space.now c.args.below.now.kernel.now)
+    (within_of c.tell.new.going c.leave_wait.new.cpu c.leave_wait.new.space c.leave_wait.new.below.kernel.now)
+    (within_of c.begin.new.going c.begin.new.cpu c.begin.new.space c.begin.new.below.kernel.now)
     (contents g.I.Source.left g.O.Sink.written g.E.Sink.written c.args.dev.now)
     (contents g.I.Source.left g.O.Sink.written g.E.Sink.written c.leave_wait.new.dev)
     (contents g.I.Source.left g.O.Sink.written g.E.Sink.written c.begin.new.dev)
     left (λ w. refl) told (
       ended.0,
       λ (coming : List Due) (idle : ℕ).
-          ap (λ (s : Standing). within_of s c.leave_wait.new.cpu c.leave_wait.new.space c.leave_wait.new.k coming idle) c.in_ok-tell.ensures
+          ap (λ (s : Standing). within_of s c.leave_wait.new.cpu c.leave_wait.new.space c.leave_wait.new.below.kernel.now coming idle) c.in_ok-tell.ensures
           ∙ ap (λ (w : Within). happens w (events.Signal info.sig deliveries.Handler)) (ended.1 coming idle),
     )
     c.begin.ensures.begun
@@ -37,4 +37,4 @@ returns-clause-handled g c = λ left told.
 pub returns-clause-kept : goal.returns-clause-kept
 returns-clause-kept g c = λ left told.
     let ended = c.in_ok-leave_wait.ensures.left left told in
-    kept_then c.begin.result c.begin.new.k c.begin.new.space.pages c.begin.new.log (c.in_ok-leave_wait.ensures.kept left told) (c.begin.ensures.kept left (told_then ended.0 told))
+    kept_then c.begin.result c.begin.new.below.kernel.now c.begin.new.space.pages c.begin.new.below.log.now (c.in_ok-leave_wait.ensures.kept left told) (c.begin.ensures.kept left (told_then ended.0 told))

@@ -11,17 +11,17 @@ use Rattle.bridge_delivery.proofs.handling.reset.Goals as goal
 
 pub returns-clause-reset : goal.returns-clause-reset
 returns-clause-reset g c = λ left told.
-    let k = c.args.k.now in
+    let k = c.args.below.now.kernel.now in
     let set = λ (kernel : Kernel). with_signals kernel (after_action kernel.signals c.args.sig no_action) in
-    let done = acted_becomes set c.set_default.result k c.set_default.new.k
+    let done = acted_becomes set c.set_default.result k c.set_default.new.below.kernel.now
     (contents g.I.Source.left g.O.Sink.written g.E.Sink.written c.args.dev.now) (contents g.I.Source.left g.O.Sink.written g.E.Sink.written c.set_default.new.dev)
-    left c.args.log.now c.set_default.new.log (c.set_default.ensures.acts left told) in
+    left c.args.below.now.log.now c.set_default.new.below.log.now (c.set_default.ensures.acts left told) in
     let apart : set k ≡ without_action c.args.sig k = ap (λ (b : Bool). if b then k else set k) (sym c.if-is_unblockable.false ∙ c.is_unblockable.ensures) in
-    (done.0, on_ok c.set_default.result _ _ (λ (is : c.set_default.new.k ≡ set k). is ∙ apart) done.1)
+    (done.0, on_ok c.set_default.result _ _ (λ (is : c.set_default.new.below.kernel.now ≡ set k). is ∙ apart) done.1)
 
 pub returns-clause-kept : goal.returns-clause-kept
 returns-clause-kept g c = λ pages left told.
     let set = λ (kernel : Kernel). with_signals kernel (after_action kernel.signals c.args.sig no_action) in
-    kept_act (λ _ became. became ≡ set c.args.k.now) c.set_default.result c.args.k.now c.set_default.new.k
+    kept_act (λ _ became. became ≡ set c.args.below.now.kernel.now) c.set_default.result c.args.below.now.kernel.now c.set_default.new.below.kernel.now
     (contents g.I.Source.left g.O.Sink.written g.E.Sink.written c.args.dev.now) (contents g.I.Source.left g.O.Sink.written g.E.Sink.written c.set_default.new.dev)
-    pages left c.args.log.now c.set_default.new.log (c.set_default.ensures.acts left told)
+    pages left c.args.below.now.log.now c.set_default.new.below.log.now (c.set_default.ensures.acts left told)

@@ -10,9 +10,9 @@ use Rattle.bridge_ends.proofs.ends.suspension_close.Goals as goal
 pub returns-clause-ends : goal.returns-clause-ends
 returns-clause-ends g c = λ memory.
     let wait = c.args.wait.now in
-    let same : ends_with c.suspension_end.result (with_old_mask c.old_mask.result c.args.k.now) memory
-    ≡ ends_with (suspension_end c.args.cause) (with_old_mask (old_mask wait c.args.cause) c.args.k.now) memory =
-    λ i. ends_with (c.suspension_end.ensures i) (with_old_mask (c.old_mask.ensures i) c.args.k.now) memory in
-    closes_as (ends_with c.suspension_end.result (with_old_mask c.old_mask.result c.args.k.now) memory) (suspension_ended wait c.args.cause c.args.k.now memory)
-    c.with_old_mask.result c.with_old_mask.new.k memory (contents g.I.Source.left g.O.Sink.written g.E.Sink.written c.args.dev.now) (contents g.I.Source.left g.O.Sink.written g.E.Sink.written c.with_old_mask.new.dev)
-    (suspended wait c.args.cause c.args.k.now memory ∙ sym same) (c.with_old_mask.ensures.ends memory)
+    let same : ends_with c.suspension_end.result (with_old_mask c.old_mask.result c.args.below.now.kernel.now) memory
+    ≡ ends_with (suspension_end c.args.cause) (with_old_mask (old_mask wait c.args.cause) c.args.below.now.kernel.now) memory =
+    λ i. ends_with (c.suspension_end.ensures i) (with_old_mask (c.old_mask.ensures i) c.args.below.now.kernel.now) memory in
+    closes_as (ends_with c.suspension_end.result (with_old_mask c.old_mask.result c.args.below.now.kernel.now) memory) (suspension_ended wait c.args.cause c.args.below.now.kernel.now memory)
+    c.with_old_mask.result c.with_old_mask.new.below.kernel.now memory (contents g.I.Source.left g.O.Sink.written g.E.Sink.written c.args.dev.now) (contents g.I.Source.left g.O.Sink.written g.E.Sink.written c.with_old_mask.new.dev)
+    (suspended wait c.args.cause c.args.below.now.kernel.now memory ∙ sym same) (c.with_old_mask.ensures.ends memory)

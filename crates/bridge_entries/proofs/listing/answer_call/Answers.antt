@@ -18,23 +18,23 @@ returns-in_err-before-clause-goes g c = λ left told.
 pub returns-in_err-reply-clause-goes : goal.returns-in_err-reply-clause-goes
 returns-in_err-reply-clause-goes g c = λ left told.
     let seen = c.in_ok-before.ensures.goes left told in
-    let valid : IsFileSystem c.position.new.k.files.nodes = subst (λ (k : Kernel). IsFileSystem k.files.nodes) (sym seen.1.same) c.files_valid.ensures.nodes in
+    let valid : IsFileSystem c.position.new.below.kernel.now.files.nodes = subst (λ (k : Kernel). IsFileSystem k.files.nodes) (sym seen.1.same) c.files_valid.ensures.nodes in
     went_stop _ c.from_residual-in_err-reply.result _ _ _ _ _ _ _ _ c.from_residual-in_err-reply.ensures.0 (c.in_err-reply.ensures.goes valid left (still_told seen.1 told) ∙ seen.1.rest)
 
 pub returns-in_err-answer-clause-goes : goal.returns-in_err-answer-clause-goes
 returns-in_err-answer-clause-goes g c = λ left told.
     let seen = c.in_ok-before.ensures.goes left told in
-    let valid : IsFileSystem c.position.new.k.files.nodes = subst (λ (k : Kernel). IsFileSystem k.files.nodes) (sym seen.1.same) c.files_valid.ensures.nodes in
+    let valid : IsFileSystem c.position.new.below.kernel.now.files.nodes = subst (λ (k : Kernel). IsFileSystem k.files.nodes) (sym seen.1.same) c.files_valid.ensures.nodes in
     let listed = c.in_ok-reply.ensures.goes valid left (still_told seen.1 told) in
     went_stop _ c.from_residual-in_err-answer.result _ _ _ _ _ _ _ _ c.from_residual-in_err-answer.ensures.0 (listed.1.rest ∙ seen.1.rest)
 
 pub returns-in-None-clause-goes : goal.returns-in-None-clause-goes
 returns-in-None-clause-goes g c = λ left told.
     let seen = c.in_ok-before.ensures.goes left told in
-    let valid : IsFileSystem c.position.new.k.files.nodes = subst (λ (k : Kernel). IsFileSystem k.files.nodes) (sym seen.1.same) c.files_valid.ensures.nodes in
-    let listed = listed_then c.args.fd (2 * c.min-asked.result) c.list.new.mem c.in_ok-reply.reply seen.1 (c.in_ok-reply.ensures.goes valid left (still_told seen.1 told)) in
-    let settled : Stays c.args.k.now c.args.fd c.args.size c.min-asked.result c.args.room c.args.words.now c.in_ok-answer.answer ⊎ Moves c.args.k.now c.args.fd c.args.size c.min-asked.result c.args.room c.args.words.now c.in_ok-answer.answer =
-    settle c.args.k.now c.args.fd c.args.size c.min-asked.result c.args.room c.args.words.now c.in_ok-answer.answer c.unwrap_or.result c.in_ok-reply.reply c.list.new.mem listed.0
+    let valid : IsFileSystem c.position.new.below.kernel.now.files.nodes = subst (λ (k : Kernel). IsFileSystem k.files.nodes) (sym seen.1.same) c.files_valid.ensures.nodes in
+    let listed = listed_then c.args.fd (2 * c.min-asked.result) c.list.new.below.memory.now c.in_ok-reply.reply seen.1 (c.in_ok-reply.ensures.goes valid left (still_told seen.1 told)) in
+    let settled : Stays c.args.below.now.kernel.now c.args.fd c.args.size c.min-asked.result c.args.room c.args.words.now c.in_ok-answer.answer ⊎ Moves c.args.below.now.kernel.now c.args.fd c.args.size c.min-asked.result c.args.room c.args.words.now c.in_ok-answer.answer =
+    settle c.args.below.now.kernel.now c.args.fd c.args.size c.min-asked.result c.args.room c.args.words.now c.in_ok-answer.answer c.unwrap_or.result c.in_ok-reply.reply c.list.new.below.memory.now listed.0
     (λ none. c.in_ok-answer.ensures.none (c.given.ensures ∙ none)) (λ first rest all back. c.in_ok-answer.ensures.some first rest all (c.given.ensures ∙ back))
     c.files_valid.ensures.nodes (asked_is c.args.size c.args.room c.min-asked.result c.min-asked.ensures) c.in_ok-before.before seen.0 c.unwrap_or.ensures in
     elim settled [ inl stays ↦ (stays.given, passed_to stays.same listed.1) | inr moves ↦ absurd (let bad : Some moves.to ≡ None = sym moves.place ∙ c.in-None.is in cc) ]
@@ -42,10 +42,10 @@ returns-in-None-clause-goes g c = λ left told.
 pub returns-in_err-put_position-in-Some-clause-goes : goal.returns-in_err-put_position-in-Some-clause-goes
 returns-in_err-put_position-in-Some-clause-goes g c = λ left told.
     let seen = c.in_ok-before.ensures.goes left told in
-    let valid : IsFileSystem c.position.new.k.files.nodes = subst (λ (k : Kernel). IsFileSystem k.files.nodes) (sym seen.1.same) c.files_valid.ensures.nodes in
-    let listed = listed_then c.args.fd (2 * c.min-asked.result) c.list.new.mem c.in_ok-reply.reply seen.1 (c.in_ok-reply.ensures.goes valid left (still_told seen.1 told)) in
-    let settled : Stays c.args.k.now c.args.fd c.args.size c.min-asked.result c.args.room c.args.words.now c.in_ok-answer.answer ⊎ Moves c.args.k.now c.args.fd c.args.size c.min-asked.result c.args.room c.args.words.now c.in_ok-answer.answer =
-    settle c.args.k.now c.args.fd c.args.size c.min-asked.result c.args.room c.args.words.now c.in_ok-answer.answer c.unwrap_or.result c.in_ok-reply.reply c.list.new.mem listed.0
+    let valid : IsFileSystem c.position.new.below.kernel.now.files.nodes = subst (λ (k : Kernel). IsFileSystem k.files.nodes) (sym seen.1.same) c.files_valid.ensures.nodes in
+    let listed = listed_then c.args.fd (2 * c.min-asked.result) c.list.new.below.memory.now c.in_ok-reply.reply seen.1 (c.in_ok-reply.ensures.goes valid left (still_told seen.1 told)) in
+    let settled : Stays c.args.below.now.kernel.now c.args.fd c.args.size c.min-asked.result c.args.room c.args.words.now c.in_ok-answer.answer ⊎ Moves c.args.below.now.kernel.now c.args.fd c.args.size c.min-asked.result c.args.room c.args.words.now c.in_ok-answer.answer =
+    settle c.args.below.now.kernel.now c.args.fd c.args.size c.min-asked.result c.args.room c.args.words.now c.in_ok-answer.answer c.unwrap_or.result c.in_ok-reply.reply c.list.new.below.memory.now listed.0
     (λ none. c.in_ok-answer.ensures.none (c.given.ensures ∙ none)) (λ first rest all back. c.in_ok-answer.ensures.some first rest all (c.given.ensures ∙ back))
     c.files_valid.ensures.nodes (asked_is c.args.size c.args.room c.min-asked.result c.min-asked.ensures) c.in_ok-before.before seen.0 c.unwrap_or.ensures in
     elim settled [
@@ -58,10 +58,10 @@ returns-in_err-put_position-in-Some-clause-goes g c = λ left told.
 pub returns-in_ok-put_position-in-Some-clause-goes : goal.returns-in_ok-put_position-in-Some-clause-goes
 returns-in_ok-put_position-in-Some-clause-goes g c = λ left told.
     let seen = c.in_ok-before.ensures.goes left told in
-    let valid : IsFileSystem c.position.new.k.files.nodes = subst (λ (k : Kernel). IsFileSystem k.files.nodes) (sym seen.1.same) c.files_valid.ensures.nodes in
-    let listed = listed_then c.args.fd (2 * c.min-asked.result) c.list.new.mem c.in_ok-reply.reply seen.1 (c.in_ok-reply.ensures.goes valid left (still_told seen.1 told)) in
-    let settled : Stays c.args.k.now c.args.fd c.args.size c.min-asked.result c.args.room c.args.words.now c.in_ok-answer.answer ⊎ Moves c.args.k.now c.args.fd c.args.size c.min-asked.result c.args.room c.args.words.now c.in_ok-answer.answer =
-    settle c.args.k.now c.args.fd c.args.size c.min-asked.result c.args.room c.args.words.now c.in_ok-answer.answer c.unwrap_or.result c.in_ok-reply.reply c.list.new.mem listed.0
+    let valid : IsFileSystem c.position.new.below.kernel.now.files.nodes = subst (λ (k : Kernel). IsFileSystem k.files.nodes) (sym seen.1.same) c.files_valid.ensures.nodes in
+    let listed = listed_then c.args.fd (2 * c.min-asked.result) c.list.new.below.memory.now c.in_ok-reply.reply seen.1 (c.in_ok-reply.ensures.goes valid left (still_told seen.1 told)) in
+    let settled : Stays c.args.below.now.kernel.now c.args.fd c.args.size c.min-asked.result c.args.room c.args.words.now c.in_ok-answer.answer ⊎ Moves c.args.below.now.kernel.now c.args.fd c.args.size c.min-asked.result c.args.room c.args.words.now c.in_ok-answer.answer =
+    settle c.args.below.now.kernel.now c.args.fd c.args.size c.min-asked.result c.args.room c.args.words.now c.in_ok-answer.answer c.unwrap_or.result c.in_ok-reply.reply c.list.new.below.memory.now listed.0
     (λ none. c.in_ok-answer.ensures.none (c.given.ensures ∙ none)) (λ first rest all back. c.in_ok-answer.ensures.some first rest all (c.given.ensures ∙ back))
     c.files_valid.ensures.nodes (asked_is c.args.size c.args.room c.min-asked.result c.min-asked.ensures) c.in_ok-before.before seen.0 c.unwrap_or.ensures in
     elim settled [

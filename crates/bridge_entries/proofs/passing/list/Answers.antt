@@ -14,13 +14,13 @@ use Rattle.bridge_entries.proofs.passing.list.Goals as goal
 
 pub returns-clause-goes : goal.returns-clause-goes
 returns-clause-goes g c = λ valid left told.
-    let did = did_of c.args.k.now c.args.fd c.args.size c.args.size in
+    let did = did_of c.args.below.now.kernel.now c.args.fd c.args.size c.args.size in
     let reply : Reply = reply_to (λ (bytes : List ℕ). value (length bytes)) (came_as (flat_map entry_bytes) did.came) in
     let memory : List ℕ = memory_after (written (replicate c.args.size 0) first_address) (replicate c.args.size 0) (came_as (flat_map entry_bytes) did.came) in
-    went_weaker (Replied reply memory c.quiet.new.mem) (IsListedBy did c.quiet.new.mem) c.quiet.result _ _ _ _ _ _ _ _
-    (λ found replied. list_told c.args.k.now c.args.fd c.args.size c.quiet.new.mem found valid replied)
+    went_weaker (Replied reply memory c.quiet.new.below.memory.now) (IsListedBy did c.quiet.new.below.memory.now) c.quiet.result _ _ _ _ _ _ _ _
+    (λ found replied. list_told c.args.below.now.kernel.now c.args.fd c.args.size c.quiet.new.below.memory.now found valid replied)
     (c.quiet.ensures.goes did.state reply memory
-    (λ left. list_quiet c.args.k.now left c.fresh_room.new.mem c.from.result c.from-2.result c.args.fd c.args.size c.from.ensures c.from-2.ensures c.ranges.fd.fits c.ranges.size.fits c.in_ok-fresh_room.ensures) left told)
+    (λ left. list_quiet c.args.below.now.kernel.now left c.fresh_room.new.mem c.from.result c.from-2.result c.args.fd c.args.size c.from.ensures c.from-2.ensures c.ranges.fd.fits c.ranges.size.fits c.in_ok-fresh_room.ensures) left told)
 
 pub returns-in_err-fresh_room-clause-goes : goal.returns-in_err-fresh_room-clause-goes
 returns-in_err-fresh_room-clause-goes g c = λ valid left told. went_stop _ c.from_residual.result _ _ _ _ _ _ _ _ c.from_residual.ensures.0 refl

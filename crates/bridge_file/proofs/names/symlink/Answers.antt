@@ -6,10 +6,10 @@ use Rattle.bridge_file.proofs.names.symlink.Goals as goal
 
 pub returns-clause-row : goal.returns-clause-row
 returns-clause-row g c = λ guest same memory.
-    c.paths_call.ensures.row guest (symlink_row c.args.k.now guest c.args.target (base c.args.directory) c.args.address) same memory
-    (symlink_mirrors guest c.args.k.now c.args.target c.args.address _ c.args.directory c.from.ensures c.ranges.directory.fits)
+    c.paths_call.ensures.row guest (symlink_row c.args.below.now.kernel.now guest c.args.target (base c.args.directory) c.args.address) same memory
+    (symlink_mirrors guest c.args.below.now.kernel.now c.args.target c.args.address _ c.args.directory c.from.ensures c.ranges.directory.fits)
 
 pub returns-clause-kept : goal.returns-clause-kept
 returns-clause-kept g c = λ guest same memory.
-    c.paths_call.ensures.kept guest (symlink_row c.args.k.now guest c.args.target (base c.args.directory) c.args.address) same memory
-    (symlink_mirrors guest c.args.k.now c.args.target c.args.address _ c.args.directory c.from.ensures c.ranges.directory.fits)
+    c.paths_call.ensures.kept guest (symlink_row c.args.below.now.kernel.now guest c.args.target (base c.args.directory) c.args.address) same memory
+    (symlink_mirrors guest c.args.below.now.kernel.now c.args.target c.args.address _ c.args.directory c.from.ensures c.ranges.directory.fits)

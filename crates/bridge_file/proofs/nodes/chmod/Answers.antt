@@ -6,10 +6,10 @@ use Rattle.bridge_file.proofs.nodes.chmod.Goals as goal
 
 pub returns-clause-row : goal.returns-clause-row
 returns-clause-row g c = λ guest same memory.
-    c.path_call.ensures.row guest (chmod_row c.args.k.now guest (base c.args.directory) c.args.address c.args.mode) same memory
-    (chmod_mirrors guest c.args.k.now c.args.address _ _ c.args.directory c.args.mode c.from.ensures c.from-2.ensures c.ranges.directory.fits c.ranges.mode.fits)
+    c.path_call.ensures.row guest (chmod_row c.args.below.now.kernel.now guest (base c.args.directory) c.args.address c.args.mode) same memory
+    (chmod_mirrors guest c.args.below.now.kernel.now c.args.address _ _ c.args.directory c.args.mode c.from.ensures c.from-2.ensures c.ranges.directory.fits c.ranges.mode.fits)
 
 pub returns-clause-kept : goal.returns-clause-kept
 returns-clause-kept g c = λ guest same memory.
-    c.path_call.ensures.kept guest (chmod_row c.args.k.now guest (base c.args.directory) c.args.address c.args.mode) same memory
-    (chmod_mirrors guest c.args.k.now c.args.address _ _ c.args.directory c.args.mode c.from.ensures c.from-2.ensures c.ranges.directory.fits c.ranges.mode.fits)
+    c.path_call.ensures.kept guest (chmod_row c.args.below.now.kernel.now guest (base c.args.directory) c.args.address c.args.mode) same memory
+    (chmod_mirrors guest c.args.below.now.kernel.now c.args.address _ _ c.args.directory c.args.mode c.from.ensures c.from-2.ensures c.ranges.directory.fits c.ranges.mode.fits)

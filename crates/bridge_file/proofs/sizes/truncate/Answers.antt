@@ -6,10 +6,10 @@ use Rattle.bridge_file.proofs.sizes.truncate.Goals as goal
 
 pub returns-clause-row : goal.returns-clause-row
 returns-clause-row g c = λ guest same memory.
-    c.path_call.ensures.row guest (truncate_row c.args.k.now guest c.args.address (cast_signed w64 c.args.size)) same memory
-    (truncate_mirrors guest c.args.k.now c.args.address c.args.size)
+    c.path_call.ensures.row guest (truncate_row c.args.below.now.kernel.now guest c.args.address (cast_signed w64 c.args.size)) same memory
+    (truncate_mirrors guest c.args.below.now.kernel.now c.args.address c.args.size)
 
 pub returns-clause-kept : goal.returns-clause-kept
 returns-clause-kept g c = λ guest same memory.
-    c.path_call.ensures.kept guest (truncate_row c.args.k.now guest c.args.address (cast_signed w64 c.args.size)) same memory
-    (truncate_mirrors guest c.args.k.now c.args.address c.args.size)
+    c.path_call.ensures.kept guest (truncate_row c.args.below.now.kernel.now guest c.args.address (cast_signed w64 c.args.size)) same memory
+    (truncate_mirrors guest c.args.below.now.kernel.now c.args.address c.args.size)

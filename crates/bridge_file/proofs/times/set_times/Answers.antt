@@ -16,35 +16,35 @@ use Rattle.bridge_file.proofs.times.set_times.Goals as goal
 pub returns-in-Err-clause-row : goal.returns-in-Err-clause-row
 returns-in-Err-clause-row g c = λ guest same memory left told.
     let at = contents g.I.Source.left g.O.Sink.written g.E.Sink.written c.args.dev.now in
-    let step = utimensat_row c.args.k.now guest (base c.args.directory) c.args.address c.args.times c.args.flags left in
+    let step = utimensat_row c.args.below.now.kernel.now guest (base c.args.directory) c.args.address c.args.times c.args.flags left in
     let there = ap (λ (m : Memory). path_or_none m c.args.address) memory ∙ c.requires.found in
     let given = ap (λ (m : Memory). given_or_none (times_at m c.args.times)) memory ∙ sym c.read_times.ensures ∙ ap times_read c.in-Err.is in
-    still_called guest c.args.k.now left (Error c.in-Err.error) step at told
-    (still_of guest c.args.k.now c.in-Err.error left step (times_lost guest c.args.k.now c.args.directory c.args.address c.args.times c.args.flags c.args.path.now c.in-Err.error left there given))
+    still_called guest c.args.below.now.kernel.now left (Error c.in-Err.error) step at told
+    (still_of guest c.args.below.now.kernel.now c.in-Err.error left step (times_lost guest c.args.below.now.kernel.now c.args.directory c.args.address c.args.times c.args.flags c.args.path.now c.in-Err.error left there given))
 
 pub returns-in-Err-clause-kept : goal.returns-in-Err-clause-kept
 returns-in-Err-clause-kept g c = λ guest same memory left told.
-    let step = utimensat_row c.args.k.now guest (base c.args.directory) c.args.address c.args.times c.args.flags left in
+    let step = utimensat_row c.args.below.now.kernel.now guest (base c.args.directory) c.args.address c.args.times c.args.flags left in
     let there = ap (λ (m : Memory). path_or_none m c.args.address) memory ∙ c.requires.found in
     let given = ap (λ (m : Memory). given_or_none (times_at m c.args.times)) memory ∙ sym c.read_times.ensures ∙ ap times_read c.in-Err.is in
-    still_keeps guest c.args.k.now left (Error c.in-Err.error) step c.args.log.now
-    (still_of guest c.args.k.now c.in-Err.error left step (times_lost guest c.args.k.now c.args.directory c.args.address c.args.times c.args.flags c.args.path.now c.in-Err.error left there given))
+    still_keeps guest c.args.below.now.kernel.now left (Error c.in-Err.error) step c.args.below.now.log.now
+    (still_of guest c.args.below.now.kernel.now c.in-Err.error left step (times_lost guest c.args.below.now.kernel.now c.args.directory c.args.address c.args.times c.args.flags c.args.path.now c.in-Err.error left there given))
 
 pub returns-in_err-at-in-Ok-clause-row : goal.returns-in_err-at-in-Ok-clause-row
 returns-in_err-at-in-Ok-clause-row g c = λ guest same memory left told.
-    fails_before (utimensat_row c.args.k.now guest (base c.args.directory) c.args.address c.args.times c.args.flags left) c.from_residual.result _ _ _ _ c.from_residual.ensures.0
+    fails_before (utimensat_row c.args.below.now.kernel.now guest (base c.args.directory) c.args.address c.args.times c.args.flags left) c.from_residual.result _ _ _ _ c.from_residual.ensures.0
 
 pub returns-in_err-times_at-in-Ok-clause-row : goal.returns-in_err-times_at-in-Ok-clause-row
 returns-in_err-times_at-in-Ok-clause-row g c = λ guest same memory left told.
-    fails_before (utimensat_row c.args.k.now guest (base c.args.directory) c.args.address c.args.times c.args.flags left) c.from_residual-in_err-times_at-in-Ok.result _ _ _ _ c.from_residual-in_err-times_at-in-Ok.ensures.0
+    fails_before (utimensat_row c.args.below.now.kernel.now guest (base c.args.directory) c.args.address c.args.times c.args.flags left) c.from_residual-in_err-times_at-in-Ok.result _ _ _ _ c.from_residual-in_err-times_at-in-Ok.ensures.0
 
 pub returns-in_ok-times_at-in-Ok-clause-row : goal.returns-in_ok-times_at-in-Ok-clause-row
 returns-in_ok-times_at-in-Ok-clause-row g c = λ guest same memory.
     let there = ap (λ (m : Memory). path_or_none m c.args.address) memory ∙ c.requires.found in
     let given = ap (λ (m : Memory). given_or_none (times_at m c.args.times)) memory ∙ sym c.read_times.ensures ∙ ap times_read c.in-Ok.is in
     let here = optional_path c.put_times_or_none.new.mem c.in_ok-at-in-Ok.at c.args.path.now c.requires.short c.requires.plain (c.in_ok-times_at-in-Ok.ensures.path c.in_ok-at-in-Ok.at c.args.path.now c.in_ok-at-in-Ok.ensures) in
-    c.number_call.ensures.row guest (utimensat_row c.args.k.now guest (base c.args.directory) c.args.address c.args.times c.args.flags) same
-    (λ left. utimensat_mirrors guest c.args.k.now c.args.address c.args.times _ c.in_ok-at-in-Ok.at c.in_ok-times_at-in-Ok.times_at _ c.args.directory c.args.flags c.args.path.now (option_map times_of c.in-Ok.given) c.put_times_or_none.new.mem left
+    c.number_call.ensures.row guest (utimensat_row c.args.below.now.kernel.now guest (base c.args.directory) c.args.address c.args.times c.args.flags) same
+    (λ left. utimensat_mirrors guest c.args.below.now.kernel.now c.args.address c.args.times _ c.in_ok-at-in-Ok.at c.in_ok-times_at-in-Ok.times_at _ c.args.directory c.args.flags c.args.path.now (option_map times_of c.in-Ok.given) c.put_times_or_none.new.mem left
     c.from.ensures c.from-in-Ok.ensures c.ranges.directory.fits c.ranges.flags.fits there here given c.in_ok-times_at-in-Ok.ensures.times)
 
 pub returns-in_ok-times_at-in-Ok-clause-kept : goal.returns-in_ok-times_at-in-Ok-clause-kept
@@ -52,6 +52,6 @@ returns-in_ok-times_at-in-Ok-clause-kept g c = λ guest same memory.
     let there = ap (λ (m : Memory). path_or_none m c.args.address) memory ∙ c.requires.found in
     let given = ap (λ (m : Memory). given_or_none (times_at m c.args.times)) memory ∙ sym c.read_times.ensures ∙ ap times_read c.in-Ok.is in
     let here = optional_path c.put_times_or_none.new.mem c.in_ok-at-in-Ok.at c.args.path.now c.requires.short c.requires.plain (c.in_ok-times_at-in-Ok.ensures.path c.in_ok-at-in-Ok.at c.args.path.now c.in_ok-at-in-Ok.ensures) in
-    c.number_call.ensures.kept guest (utimensat_row c.args.k.now guest (base c.args.directory) c.args.address c.args.times c.args.flags) same
-    (λ left. utimensat_mirrors guest c.args.k.now c.args.address c.args.times _ c.in_ok-at-in-Ok.at c.in_ok-times_at-in-Ok.times_at _ c.args.directory c.args.flags c.args.path.now (option_map times_of c.in-Ok.given) c.put_times_or_none.new.mem left
+    c.number_call.ensures.kept guest (utimensat_row c.args.below.now.kernel.now guest (base c.args.directory) c.args.address c.args.times c.args.flags) same
+    (λ left. utimensat_mirrors guest c.args.below.now.kernel.now c.args.address c.args.times _ c.in_ok-at-in-Ok.at c.in_ok-times_at-in-Ok.times_at _ c.args.directory c.args.flags c.args.path.now (option_map times_of c.in-Ok.given) c.put_times_or_none.new.mem left
     c.from.ensures c.from-in-Ok.ensures c.ranges.directory.fits c.ranges.flags.fits there here given c.in_ok-times_at-in-Ok.ensures.times)

@@ -16,25 +16,25 @@ use Rattle.bridge_io.proofs.gathering.write_buffers.Goals as goal
 
 pub returns-in_ok-load-in-Some-clause-row : goal.returns-in_ok-load-in-Some-clause-row
 returns-in_ok-load-in-Some-clause-row g c = λ guest address count same memory right left told.
-    subst (λ (s : O32Step). Answers s c.send_loaded.result c.send_loaded.new.k guest.memory guest.processor
+    subst (λ (s : O32Step). Answers s c.send_loaded.result c.send_loaded.new.below.kernel.now guest.memory guest.processor
     (contents g.I.Source.left g.O.Sink.written g.E.Sink.written c.args.dev.now) (contents g.I.Source.left g.O.Sink.written g.E.Sink.written c.send_loaded.new.dev))
-    (writev_is c.args.k.now guest c.args.space.now c.args.buffers.now c.args.fd address count c.total-total.result c.load.new.mem left memory right c.total-total.ensures.value c.in_ok-load-in-Some.ensures)
+    (writev_is c.args.below.now.kernel.now guest c.args.space.now c.args.buffers.now c.args.fd address count c.total-total.result c.load.new.mem left memory right c.total-total.ensures.value c.in_ok-load-in-Some.ensures)
     (c.send_loaded.ensures.row guest same (sym c.in-Some.ensures) left told)
 
 pub returns-in_ok-load-in-Some-clause-kept : goal.returns-in_ok-load-in-Some-clause-kept
 returns-in_ok-load-in-Some-clause-kept g c = λ guest address count same memory right left told.
-    subst (λ (s : O32Step). OnOk c.send_loaded.result (Keeps s c.args.k.now left guest c.args.log.now c.send_loaded.new.log))
-    (writev_is c.args.k.now guest c.args.space.now c.args.buffers.now c.args.fd address count c.total-total.result c.load.new.mem left memory right c.total-total.ensures.value c.in_ok-load-in-Some.ensures)
+    subst (λ (s : O32Step). OnOk c.send_loaded.result (Keeps s c.args.below.now.kernel.now left guest c.args.below.now.log.now c.send_loaded.new.below.log.now))
+    (writev_is c.args.below.now.kernel.now guest c.args.space.now c.args.buffers.now c.args.fd address count c.total-total.result c.load.new.mem left memory right c.total-total.ensures.value c.in_ok-load-in-Some.ensures)
     (c.send_loaded.ensures.kept guest same (sym c.in-Some.ensures) (all_short c.args.space.now c.args.buffers.now c.total-total.result c.load.new.mem c.total-total.ensures.value c.total-total.ensures.bound c.in_ok-load-in-Some.ensures) left told)
 
 pub returns-in_ok-load-in-None-clause-row : goal.returns-in_ok-load-in-None-clause-row
 returns-in_ok-load-in-None-clause-row g c = λ guest address count same memory right left told.
     let seen = c.in_ok-room-in-None.ensures.looks left told in
     let bytes = c.load-in-None.new.mem in
-    subst (λ (s : O32Step). Answers s c.write_loaded.result c.write_loaded.new.k guest.memory guest.processor
+    subst (λ (s : O32Step). Answers s c.write_loaded.result c.write_loaded.new.below.kernel.now guest.memory guest.processor
     (contents g.I.Source.left g.O.Sink.written g.E.Sink.written c.args.dev.now) (contents g.I.Source.left g.O.Sink.written g.E.Sink.written c.write_loaded.new.dev))
-    (writev_is c.args.k.now guest c.args.space.now c.args.buffers.now c.args.fd address count c.total-total.result bytes left memory right c.total-total.ensures.value c.in_ok-load-in-None.ensures)
-    (row_then (λ (k : Kernel). write_of k guest c.args.fd c.total-total.result bytes left) c.write_loaded.result c.args.k.now c.room.new.k c.write_loaded.new.k guest.memory guest.processor
+    (writev_is c.args.below.now.kernel.now guest c.args.space.now c.args.buffers.now c.args.fd address count c.total-total.result bytes left memory right c.total-total.ensures.value c.in_ok-load-in-None.ensures)
+    (row_then (λ (k : Kernel). write_of k guest c.args.fd c.total-total.result bytes left) c.write_loaded.result c.args.below.now.kernel.now c.room.new.below.kernel.now c.write_loaded.new.below.kernel.now guest.memory guest.processor
     (contents g.I.Source.left g.O.Sink.written g.E.Sink.written c.args.dev.now) (contents g.I.Source.left g.O.Sink.written g.E.Sink.written c.room.new.dev) (contents g.I.Source.left g.O.Sink.written g.E.Sink.written c.write_loaded.new.dev)
     seen.1
     (c.write_loaded.ensures.row guest same (ap (λ (k : Kernel). output_of k.files c.args.fd) seen.1.same ∙ sym c.in-None.ensures)
@@ -44,10 +44,10 @@ pub returns-in_ok-load-in-None-clause-kept : goal.returns-in_ok-load-in-None-cla
 returns-in_ok-load-in-None-clause-kept g c = λ guest address count same memory right left told.
     let seen = c.in_ok-room-in-None.ensures.looks left told in
     let bytes = c.load-in-None.new.mem in
-    subst (λ (s : O32Step). OnOk c.write_loaded.result (Keeps s c.args.k.now left guest c.args.log.now c.write_loaded.new.log))
-    (writev_is c.args.k.now guest c.args.space.now c.args.buffers.now c.args.fd address count c.total-total.result bytes left memory right c.total-total.ensures.value c.in_ok-load-in-None.ensures)
-    (kept_then (λ (k : Kernel). write_of k guest c.args.fd c.total-total.result bytes left) c.write_loaded.result c.args.k.now c.room.new.k guest
+    subst (λ (s : O32Step). OnOk c.write_loaded.result (Keeps s c.args.below.now.kernel.now left guest c.args.below.now.log.now c.write_loaded.new.below.log.now))
+    (writev_is c.args.below.now.kernel.now guest c.args.space.now c.args.buffers.now c.args.fd address count c.total-total.result bytes left memory right c.total-total.ensures.value c.in_ok-load-in-None.ensures)
+    (kept_then (λ (k : Kernel). write_of k guest c.args.fd c.total-total.result bytes left) c.write_loaded.result c.args.below.now.kernel.now c.room.new.below.kernel.now guest
     (contents g.I.Source.left g.O.Sink.written g.E.Sink.written c.args.dev.now) (contents g.I.Source.left g.O.Sink.written g.E.Sink.written c.room.new.dev)
-    left c.args.log.now c.room.new.log c.write_loaded.new.log seen.1
+    left c.args.below.now.log.now c.room.new.below.log.now c.write_loaded.new.below.log.now seen.1
     (c.write_loaded.ensures.kept guest same (ap (λ (k : Kernel). output_of k.files c.args.fd) seen.1.same ∙ sym c.in-None.ensures)
     (subst (λ (k : Kernel). IsRoom k.files small_file_limit (λ d. d.position) (opened k.files c.args.fd) c.in_ok-room-in-None.room) (sym seen.1.same) seen.0) left (still_told seen.1 told)))

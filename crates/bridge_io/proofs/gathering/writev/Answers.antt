@@ -18,12 +18,12 @@ returns-in-Ok-clause-kept g c = λ guest same memory.
 
 pub returns-in-Err-clause-row : goal.returns-in-Err-clause-row
 returns-in-Err-clause-row g c = λ guest same memory.
-    c.number_call.ensures.row guest (writev_row c.args.k.now guest c.args.fd c.args.address c.args.count) same
-    (λ left. writev_wrong guest c.args.k.now c.args.mem.now left _ _ c.args.fd c.args.address c.args.count c.in-Err.error
+    c.number_call.ensures.row guest (writev_row c.args.below.now.kernel.now guest c.args.fd c.args.address c.args.count) same
+    (λ left. writev_wrong guest c.args.below.now.kernel.now c.args.below.now.memory.now left _ _ c.args.fd c.args.address c.args.count c.in-Err.error
     (ap (λ (m : Memory). vector m c.args.address c.args.count) memory ∙ sym c.read.ensures ∙ c.in-Err.is) c.from.ensures c.wrong_count.ensures c.ranges.fd.fits)
 
 pub returns-in-Err-clause-kept : goal.returns-in-Err-clause-kept
 returns-in-Err-clause-kept g c = λ guest same memory.
-    c.number_call.ensures.kept guest (writev_row c.args.k.now guest c.args.fd c.args.address c.args.count) same
-    (λ left. writev_wrong guest c.args.k.now c.args.mem.now left _ _ c.args.fd c.args.address c.args.count c.in-Err.error
+    c.number_call.ensures.kept guest (writev_row c.args.below.now.kernel.now guest c.args.fd c.args.address c.args.count) same
+    (λ left. writev_wrong guest c.args.below.now.kernel.now c.args.below.now.memory.now left _ _ c.args.fd c.args.address c.args.count c.in-Err.error
     (ap (λ (m : Memory). vector m c.args.address c.args.count) memory ∙ sym c.read.ensures ∙ c.in-Err.is) c.from.ensures c.wrong_count.ensures c.ranges.fd.fits)

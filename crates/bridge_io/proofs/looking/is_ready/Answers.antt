@@ -8,11 +8,11 @@ use Rattle.bridge_io.proofs.looking.is_ready.Goals as goal
 
 pub returns-clause-looks : goal.returns-clause-looks
 returns-clause-looks g c = λ left told.
-    let there = opened c.args.k.now.files c.args.fd in
-    let seen = c.in_ok-reply.ensures.looks (ready_reply c.args.k.now.files there) c.clear.new.self (λ left. ready_look c.args.k.now c.clear.new.self left c.from.result c.args.fd c.from.ensures c.ranges.fd.fits) left told in
-    (c.is_fault.ensures ∙ ap is_fault seen.0.answered ∙ ready_told c.args.k.now.files there, seen.1)
+    let there = opened c.args.below.now.kernel.now.files c.args.fd in
+    let seen = c.in_ok-reply.ensures.looks (ready_reply c.args.below.now.kernel.now.files there) c.clear.new.self (λ left. ready_look c.args.below.now.kernel.now c.clear.new.self left c.from.result c.args.fd c.from.ensures c.ranges.fd.fits) left told in
+    (c.is_fault.ensures ∙ ap is_fault seen.0.answered ∙ ready_told c.args.below.now.kernel.now.files there, seen.1)
 
 pub returns-in_err-reply-clause-looks : goal.returns-in_err-reply-clause-looks
 returns-in_err-reply-clause-looks g c = λ left told.
     looked_stop _ c.from_residual.result _ _ _ _ _ _ _ c.from_residual.ensures.0
-    (c.in_err-reply.ensures.looks (ready_reply c.args.k.now.files (opened c.args.k.now.files c.args.fd)) c.clear.new.self (λ left. ready_look c.args.k.now c.clear.new.self left c.from.result c.args.fd c.from.ensures c.ranges.fd.fits) left told)
+    (c.in_err-reply.ensures.looks (ready_reply c.args.below.now.kernel.now.files (opened c.args.below.now.kernel.now.files c.args.fd)) c.clear.new.self (λ left. ready_look c.args.below.now.kernel.now c.clear.new.self left c.from.result c.args.fd c.from.ensures c.ranges.fd.fits) left told)

@@ -11,7 +11,7 @@ use Rattle.bridge_io.proofs.looking.room.Goals as goal
 pub returns-in-Some-clause-looks : goal.returns-in-Some-clause-looks
 returns-in-Some-clause-looks g c = λ left told.
     let seen = c.in_ok-write_flags.ensures.looks left told in
-    looked_then (λ (k : Kernel). IsRoom k.files small_file_limit (λ d. d.position) (opened k.files c.args.fd)) c.room_under.result c.args.k.now c.write_flags.new.k c.room_under.new.k
+    looked_then (λ (k : Kernel). IsRoom k.files small_file_limit (λ d. d.position) (opened k.files c.args.fd)) c.room_under.result c.args.below.now.kernel.now c.write_flags.new.below.kernel.now c.room_under.new.below.kernel.now
     (contents g.I.Source.left g.O.Sink.written g.E.Sink.written c.args.dev.now) (contents g.I.Source.left g.O.Sink.written g.E.Sink.written c.write_flags.new.dev) (contents g.I.Source.left g.O.Sink.written g.E.Sink.written c.room_under.new.dev)
-    left c.args.log.now c.write_flags.new.log c.room_under.new.log seen.1
+    left c.args.below.now.log.now c.write_flags.new.below.log.now c.room_under.new.below.log.now seen.1
     (c.room_under.ensures.looks (ap (λ (k : Kernel). flags_there (opened k.files c.args.fd)) seen.1.same ∙ sym seen.0 ∙ c.in-Some.is) left (still_told seen.1 told))

@@ -11,8 +11,8 @@ use Rattle.bridge_io.proofs.looking.room_under.Goals as goal
 pub returns-in-Some-clause-looks : goal.returns-in-Some-clause-looks
 returns-in-Some-clause-looks g c = λ found left told.
     let seen = c.in_ok-begin.ensures.looks left told in
-    looked_then (λ (k : Kernel). IsRoom k.files small_file_limit (λ d. d.position) (opened k.files c.args.fd)) c.room_from.result c.args.k.now c.begin.new.k c.room_from.new.k
+    looked_then (λ (k : Kernel). IsRoom k.files small_file_limit (λ d. d.position) (opened k.files c.args.fd)) c.room_from.result c.args.below.now.kernel.now c.begin.new.below.kernel.now c.room_from.new.below.kernel.now
     (contents g.I.Source.left g.O.Sink.written g.E.Sink.written c.args.dev.now) (contents g.I.Source.left g.O.Sink.written g.E.Sink.written c.begin.new.dev) (contents g.I.Source.left g.O.Sink.written g.E.Sink.written c.room_from.new.dev)
-    left c.args.log.now c.begin.new.log c.room_from.new.log seen.1
+    left c.args.below.now.log.now c.begin.new.below.log.now c.room_from.new.below.log.now seen.1
     (c.room_from.ensures.looks (ap (λ (k : Kernel). flags_there (opened k.files c.args.fd)) seen.1.same ∙ found) c.if-flags.false
     (ap (λ (k : Kernel). begin_there c.args.flags.append k.files (opened k.files c.args.fd)) seen.1.same ∙ sym seen.0 ∙ c.in-Some.is) left (still_told seen.1 told))

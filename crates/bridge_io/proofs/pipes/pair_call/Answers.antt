@@ -16,12 +16,12 @@ returns-in_err-fresh_room-clause-row g c = λ guest step same mirrors left told.
 pub returns-clause-row : goal.returns-clause-row
 returns-clause-row g c = λ guest step same mirrors left told.
     mirrors_called c.outcome_pair.result
-    (c.outcome_pair.ensures ∙ ap (λ (w : CallWords). outcome_pair w c.native.new.mem c.in_ok-reply.reply) (sym same))
-    (subst (λ (m : List ℕ). Mirrors guest (told_pair guest.words) (native_call c.args.nr c.args.args c.args.k.now m left) (step left)) (sym c.in_ok-fresh_room.ensures) (mirrors left))
+    (c.outcome_pair.ensures ∙ ap (λ (w : CallWords). outcome_pair w c.native.new.self.memory.now c.in_ok-reply.reply) (sym same))
+    (subst (λ (m : List ℕ). Mirrors guest (told_pair guest.words) (native_call c.args.nr c.args.args c.args.below.now.kernel.now m left) (step left)) (sym c.in_ok-fresh_room.ensures) (mirrors left))
     (c.in_ok-reply.ensures.row left told)
 
 pub returns-clause-kept : goal.returns-clause-kept
 returns-clause-kept g c = λ guest step same mirrors left told.
     mirrors_keeps
-    (subst (λ (m : List ℕ). Mirrors guest (told_pair guest.words) (native_call c.args.nr c.args.args c.args.k.now m left) (step left)) (sym c.in_ok-fresh_room.ensures) (mirrors left))
+    (subst (λ (m : List ℕ). Mirrors guest (told_pair guest.words) (native_call c.args.nr c.args.args c.args.below.now.kernel.now m left) (step left)) (sym c.in_ok-fresh_room.ensures) (mirrors left))
     (c.in_ok-reply.ensures.kept left told nothing) c.native.ensures.effects

@@ -14,13 +14,13 @@ use Rattle.bridge_io.proofs.placing.plan_at_end.Goals as goal
 pub returns-in-None-clause-looks : goal.returns-in-None-clause-looks
 returns-in-None-clause-looks g c = λ found small append left told.
     let seen = c.in_ok-size.ensures.looks left told in
-    (size_none_plan c.args.k.now.files c.args.fd c.args.place 18446744073709551615 c.args.flags c.requires (lit≤ tt) found small append (sym seen.0 ∙ c.in-None.is), seen.1)
+    (size_none_plan c.args.below.now.kernel.now.files c.args.fd c.args.place 18446744073709551615 c.args.flags c.requires (lit≤ tt) found small append (sym seen.0 ∙ c.in-None.is), seen.1)
 
 pub returns-in-Some-clause-looks : goal.returns-in-Some-clause-looks
 returns-in-Some-clause-looks g c = λ found small append left told.
     let seen = c.in_ok-size.ensures.looks left told in
-    looked_then (λ (k : Kernel). IsPlan k.files small_file_limit c.args.fd (cast_signed w64 c.args.place)) c.plan_behind.result c.args.k.now c.size.new.k c.plan_behind.new.k
+    looked_then (λ (k : Kernel). IsPlan k.files small_file_limit c.args.fd (cast_signed w64 c.args.place)) c.plan_behind.result c.args.below.now.kernel.now c.size.new.below.kernel.now c.plan_behind.new.below.kernel.now
     (contents g.I.Source.left g.O.Sink.written g.E.Sink.written c.args.dev.now) (contents g.I.Source.left g.O.Sink.written g.E.Sink.written c.size.new.dev) (contents g.I.Source.left g.O.Sink.written g.E.Sink.written c.plan_behind.new.dev)
-    left c.args.log.now c.size.new.log c.plan_behind.new.log seen.1
+    left c.args.below.now.log.now c.size.new.below.log.now c.plan_behind.new.below.log.now seen.1
     (c.plan_behind.ensures.looks (ap (λ (k : Kernel). flags_there (opened k.files c.args.fd)) seen.1.same ∙ found) small append
     (ap (λ (k : Kernel). size_there k.files (opened k.files c.args.fd)) seen.1.same ∙ sym seen.0 ∙ c.in-Some.is) left (still_told seen.1 told))

@@ -18,10 +18,10 @@ pub returns-clause-row : goal.returns-clause-row
 returns-clause-row g c = λ guest same memory left told.
     let seen = c.in_ok-plan.ensures.looks left told in
     let bytes = c.load_buffer.new.mem in
-    subst (λ (s : O32Step). Answers s c.write_planned.result c.write_planned.new.k guest.memory guest.processor
+    subst (λ (s : O32Step). Answers s c.write_planned.result c.write_planned.new.below.kernel.now guest.memory guest.processor
     (contents g.I.Source.left g.O.Sink.written g.E.Sink.written c.args.dev.now) (contents g.I.Source.left g.O.Sink.written g.E.Sink.written c.write_planned.new.dev))
-    (pwrite_is c.args.k.now guest c.args.space.now c.args.fd c.args.buffer c.args.count c.args.place bytes left memory c.in_ok-load_buffer.ensures)
-    (row_then (λ (k : Kernel). place_write_of k guest c.args.fd (cast_signed w64 c.args.place) c.args.count bytes left) c.write_planned.result c.args.k.now c.plan.new.k c.write_planned.new.k guest.memory guest.processor
+    (pwrite_is c.args.below.now.kernel.now guest c.args.space.now c.args.fd c.args.buffer c.args.count c.args.place bytes left memory c.in_ok-load_buffer.ensures)
+    (row_then (λ (k : Kernel). place_write_of k guest c.args.fd (cast_signed w64 c.args.place) c.args.count bytes left) c.write_planned.result c.args.below.now.kernel.now c.plan.new.below.kernel.now c.write_planned.new.below.kernel.now guest.memory guest.processor
     (contents g.I.Source.left g.O.Sink.written g.E.Sink.written c.args.dev.now) (contents g.I.Source.left g.O.Sink.written g.E.Sink.written c.plan.new.dev) (contents g.I.Source.left g.O.Sink.written g.E.Sink.written c.write_planned.new.dev)
     seen.1
     (c.write_planned.ensures.row guest (cast_signed w64 c.args.place) same
@@ -31,10 +31,10 @@ pub returns-clause-kept : goal.returns-clause-kept
 returns-clause-kept g c = λ guest same memory left told.
     let seen = c.in_ok-plan.ensures.looks left told in
     let bytes = c.load_buffer.new.mem in
-    subst (λ (s : O32Step). OnOk c.write_planned.result (Keeps s c.args.k.now left guest c.args.log.now c.write_planned.new.log))
-    (pwrite_is c.args.k.now guest c.args.space.now c.args.fd c.args.buffer c.args.count c.args.place bytes left memory c.in_ok-load_buffer.ensures)
-    (kept_then (λ (k : Kernel). place_write_of k guest c.args.fd (cast_signed w64 c.args.place) c.args.count bytes left) c.write_planned.result c.args.k.now c.plan.new.k guest
+    subst (λ (s : O32Step). OnOk c.write_planned.result (Keeps s c.args.below.now.kernel.now left guest c.args.below.now.log.now c.write_planned.new.below.log.now))
+    (pwrite_is c.args.below.now.kernel.now guest c.args.space.now c.args.fd c.args.buffer c.args.count c.args.place bytes left memory c.in_ok-load_buffer.ensures)
+    (kept_then (λ (k : Kernel). place_write_of k guest c.args.fd (cast_signed w64 c.args.place) c.args.count bytes left) c.write_planned.result c.args.below.now.kernel.now c.plan.new.below.kernel.now guest
     (contents g.I.Source.left g.O.Sink.written g.E.Sink.written c.args.dev.now) (contents g.I.Source.left g.O.Sink.written g.E.Sink.written c.plan.new.dev)
-    left c.args.log.now c.plan.new.log c.write_planned.new.log seen.1
+    left c.args.below.now.log.now c.plan.new.below.log.now c.write_planned.new.below.log.now seen.1
     (c.write_planned.ensures.kept guest (cast_signed w64 c.args.place) same
     (subst (λ (k : Kernel). IsPlan k.files small_file_limit c.args.fd (cast_signed w64 c.args.place) c.in_ok-plan.plan) (sym seen.1.same) seen.0) left (still_told seen.1 told)))

@@ -15,12 +15,12 @@ returns-in-Some-clause-kept g c = λ guest same memory. c.listed.ensures.kept gu
 
 pub returns-in-None-clause-row : goal.returns-in-None-clause-row
 returns-in-None-clause-row g c = λ guest same memory left told.
-    let row = ioctl_row c.args.k.now guest c.args.fd c.args.request c.args.address in
-    subst (λ (m : Memory). Answers (row left) c.plain.result c.plain.new.k m guest.processor (contents g.I.Source.left g.O.Sink.written g.E.Sink.written c.args.dev.now) (contents g.I.Source.left g.O.Sink.written g.E.Sink.written c.plain.new.dev)) memory
+    let row = ioctl_row c.args.below.now.kernel.now guest c.args.fd c.args.request c.args.address in
+    subst (λ (m : Memory). Answers (row left) c.plain.result c.plain.new.below.kernel.now m guest.processor (contents g.I.Source.left g.O.Sink.written g.E.Sink.written c.args.dev.now) (contents g.I.Source.left g.O.Sink.written g.E.Sink.written c.plain.new.dev)) memory
     (c.plain.ensures.row guest row same
-    (λ left. ioctl_unlisted guest c.args.k.now left [] c.args.fd c.args.request c.args.address c.ranges.fd.fits (sym c.of_o32.ensures ∙ c.in-None.is)) left told)
+    (λ left. ioctl_unlisted guest c.args.below.now.kernel.now left [] c.args.fd c.args.request c.args.address c.ranges.fd.fits (sym c.of_o32.ensures ∙ c.in-None.is)) left told)
 
 pub returns-in-None-clause-kept : goal.returns-in-None-clause-kept
 returns-in-None-clause-kept g c = λ guest same memory.
-    c.plain.ensures.kept guest (ioctl_row c.args.k.now guest c.args.fd c.args.request c.args.address) same
-    (λ left. ioctl_unlisted guest c.args.k.now left [] c.args.fd c.args.request c.args.address c.ranges.fd.fits (sym c.of_o32.ensures ∙ c.in-None.is))
+    c.plain.ensures.kept guest (ioctl_row c.args.below.now.kernel.now guest c.args.fd c.args.request c.args.address) same
+    (λ left. ioctl_unlisted guest c.args.below.now.kernel.now left [] c.args.fd c.args.request c.args.address c.ranges.fd.fits (sym c.of_o32.ensures ∙ c.in-None.is))

@@ -20,14 +20,14 @@ returns-in-Ok-clause-kept g c = λ guest same memory.
 
 pub returns-in-Err-clause-row : goal.returns-in-Err-clause-row
 returns-in-Err-clause-row g c = λ guest same memory left told.
-    let row = readv_row c.args.k.now guest c.args.fd c.args.address c.args.count in
-    subst (λ (m : Memory). Answers (row left) c.number_call.result c.number_call.new.k m guest.processor (contents g.I.Source.left g.O.Sink.written g.E.Sink.written c.args.dev.now) (contents g.I.Source.left g.O.Sink.written g.E.Sink.written c.number_call.new.dev)) memory
+    let row = readv_row c.args.below.now.kernel.now guest c.args.fd c.args.address c.args.count in
+    subst (λ (m : Memory). Answers (row left) c.number_call.result c.number_call.new.self.kernel.now m guest.processor (contents g.I.Source.left g.O.Sink.written g.E.Sink.written c.args.dev.now) (contents g.I.Source.left g.O.Sink.written g.E.Sink.written c.number_call.new.dev)) memory
     (c.number_call.ensures.row guest row same
-    (λ left. readv_wrong guest c.args.k.now c.args.mem.now left _ _ c.args.fd c.args.address c.args.count c.in-Err.error
+    (λ left. readv_wrong guest c.args.below.now.kernel.now c.args.below.now.memory.now left _ _ c.args.fd c.args.address c.args.count c.in-Err.error
     (ap (λ (m : Memory). vector m c.args.address c.args.count) memory ∙ sym c.read.ensures ∙ c.in-Err.is) c.from.ensures c.wrong_count.ensures c.ranges.fd.fits) left told)
 
 pub returns-in-Err-clause-kept : goal.returns-in-Err-clause-kept
 returns-in-Err-clause-kept g c = λ guest same memory.
-    c.number_call.ensures.kept guest (readv_row c.args.k.now guest c.args.fd c.args.address c.args.count) same
-    (λ left. readv_wrong guest c.args.k.now c.args.mem.now left _ _ c.args.fd c.args.address c.args.count c.in-Err.error
+    c.number_call.ensures.kept guest (readv_row c.args.below.now.kernel.now guest c.args.fd c.args.address c.args.count) same
+    (λ left. readv_wrong guest c.args.below.now.kernel.now c.args.below.now.memory.now left _ _ c.args.fd c.args.address c.args.count c.in-Err.error
     (ap (λ (m : Memory). vector m c.args.address c.args.count) memory ∙ sym c.read.ensures ∙ c.in-Err.is) c.from.ensures c.wrong_count.ensures c.ranges.fd.fits)

@@ -7,8 +7,8 @@ use Rattle.o32_model.specs.declared.outcome.Outcome.{Outcome}
 use Rattle.o32_model.specs.declared.outcome.Outcome.TheVariants.{Sleep}
 use Rattle.o32_model.specs.declared.wait.Wait.{Wait}
 use Rattle.outside.specs.Streams.{contents}
-use Rattle.bridge_acceptance.proofs.Passed.{still_told}
-use Rattle.bridge_acceptance.proofs.Passed.{acted_stop, moves_look, moves_then}
+use Rattle.bridge_signal_state.proofs.Passed.{still_told}
+use Rattle.bridge_signal_state.proofs.Moving.{acted_stop, moves_look, moves_then}
 use Rattle.bridge_limits.specs.inside.Waiting.{sleeping}
 use Rattle.bridge_limits.proofs.sleeping.sleep_masked.Goals as goal
 
@@ -23,14 +23,14 @@ pub returns-in_err-before-clause-acts : goal.returns-in_err-before-clause-acts
 returns-in_err-before-clause-acts g c = λ left told.
     let before = contents g.I.Source.left g.O.Sink.written g.E.Sink.written c.args.dev.now in
     let after = contents g.I.Source.left g.O.Sink.written g.E.Sink.written c.mask.new.dev in
-    acted_stop (λ (outcome : Outcome) (became : Kernel). (outcome ≡ sleeping c.args.words.now c.args.until (Some c.args.k.now.signals.mask)) × (became ≡ with_mask c.args.k.now c.args.set))
-    c.from_residual.result c.args.k.now c.mask.new.k before after left c.args.log.now c.mask.new.log c.from_residual.ensures.0 (c.in_err-before.ensures.looks left told)
+    acted_stop (λ (outcome : Outcome) (became : Kernel). (outcome ≡ sleeping c.args.words.now c.args.until (Some c.args.below.now.kernel.now.signals.mask)) × (became ≡ with_mask c.args.below.now.kernel.now c.args.set))
+    c.from_residual.result c.args.below.now.kernel.now c.mask.new.below.kernel.now before after left c.args.below.now.log.now c.mask.new.below.log.now c.from_residual.ensures.0 (c.in_err-before.ensures.looks left told)
 
 pub returns-in_err-set_mask-clause-acts : goal.returns-in_err-set_mask-clause-acts
 returns-in_err-set_mask-clause-acts g c = λ left told.
     let seen = c.in_ok-before.ensures.looks left told in
     let before = contents g.I.Source.left g.O.Sink.written g.E.Sink.written c.args.dev.now in
     let after = contents g.I.Source.left g.O.Sink.written g.E.Sink.written c.set_mask.new.dev in
-    acted_stop (λ (outcome : Outcome) (became : Kernel). (outcome ≡ sleeping c.args.words.now c.args.until (Some c.args.k.now.signals.mask)) × (became ≡ with_mask c.args.k.now c.args.set))
-    c.from_residual-in_err-set_mask.result c.args.k.now c.set_mask.new.k before after left c.args.log.now c.set_mask.new.log c.from_residual-in_err-set_mask.ensures.0
+    acted_stop (λ (outcome : Outcome) (became : Kernel). (outcome ≡ sleeping c.args.words.now c.args.until (Some c.args.below.now.kernel.now.signals.mask)) × (became ≡ with_mask c.args.below.now.kernel.now c.args.set))
+    c.from_residual-in_err-set_mask.result c.args.below.now.kernel.now c.set_mask.new.below.kernel.now before after left c.args.below.now.log.now c.set_mask.new.below.log.now c.from_residual-in_err-set_mask.ensures.0
     (c.in_err-set_mask.ensures.acts left (still_told seen.1 told) ∙ seen.1.rest)

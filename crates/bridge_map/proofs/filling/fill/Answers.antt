@@ -12,7 +12,8 @@ loop-piece-init g c = record {
   counts = search rules;
   no_fault = NoCountRose-refl _ _ _ _;
   clock = refl;
-  so_far = λ left told content shows free. so_far_none content c.args.k.now left _ c.args.space.now c.args.log.now c.args.address c.args.offset _ (omega arith);
+  same = record { kernel = refl; memory = refl; log = refl };
+  so_far = λ left told content shows free. so_far_none content c.args.below.now.kernel.now left _ c.args.space.now c.args.below.now.log.now c.args.address c.args.offset _ (omega arith);
 }
 
 pub returns-in_err-got-clause-filled : goal.returns-in_err-got-clause-filled
@@ -46,6 +47,11 @@ loop-piece-preserved g c = record {
   counts = search (rules, c.in_ok-got.ensures.counts, c.loop-piece.invariant.counts);
   no_fault = NoCountRose-trans c.loop-piece.invariant.no_fault c.in_ok-got.ensures.cause;
   clock = c.in_ok-got.ensures.clock ∙ c.loop-piece.invariant.clock;
+  same = record {
+    kernel = c.in_ok-got.ensures.same.kernel ∙ c.loop-piece.invariant.same.kernel;
+    memory = c.in_ok-got.ensures.same.memory ∙ c.loop-piece.invariant.same.memory;
+    log = c.in_ok-got.ensures.same.log ∙ c.loop-piece.invariant.same.log;
+  };
   so_far = λ left told content shows free.
       let place : ℕ = c.loop-piece.piece * 65536 in
       let want : ℕ = c.min-want.result in

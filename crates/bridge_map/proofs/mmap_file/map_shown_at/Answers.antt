@@ -32,6 +32,6 @@ returns-clause-row g c = λ left told content shows.
     let answer = subst (λ (b : Bool). MapsPages b c.args.space.now.pages c.map.new.space.pages c.args.first asked.count 3) c.if-not-branch.false c.in_ok-map.ensures.answer in
     let blank = blank_is c.args.space.now c.map.new.space c.args.first asked.count answer c.in_ok-map.ensures.others in
     let filled = (c.in_ok-fill.ensures.filled left told content shows (new_storable c.args.space.now c.args.first asked.count asked.protection bytes c.requires.ends c.map.new.space blank)).1 in
-    made_mapped c.args.space.now c.map.new.space c.fill.new.space c.protect.new.space c.args.first asked.count asked.protection c.in_ok-protect.field-0 bytes c.args.args.now c.args.k.now c.fill.new.k left _ _
-    c.args.log.now c.map.new.log c.fill.new.log c.protect.new.log c.requires.ends answer c.in_ok-map.ensures.others c.map.ensures.native c.in_ok-map.ensures.effects
+    made_mapped c.args.space.now c.map.new.space c.fill.new.space c.protect.new.space c.args.first asked.count asked.protection c.in_ok-protect.field-0 bytes c.args.args.now c.args.below.now.kernel.now c.fill.new.below.kernel.now left _ _
+    c.args.below.now.log.now c.map.new.log c.fill.new.below.log.now c.protect.new.log c.requires.ends answer c.in_ok-map.ensures.others c.map.ensures.native c.in_ok-map.ensures.effects
     filled c.in_ok-protect.ensures.run c.in_ok-protect.ensures.memory c.protect.ensures.native c.in_ok-protect.ensures.effects

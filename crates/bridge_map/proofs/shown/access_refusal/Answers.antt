@@ -9,12 +9,12 @@ use Rattle.bridge_map.proofs.shown.access_refusal.Goals as goal
 pub returns-in_err-reply-clause-looked : goal.returns-in_err-reply-clause-looked
 returns-in_err-reply-clause-looked g c = λ left told.
     looked_stop _ c.from_residual.result _ _ _ _ _ _ _ c.from_residual.ensures.0
-    (silent_stopped (getfl_quiet c.args.k.now c.clear.new.self left c.from.result c.args.fd c.from.ensures c.ranges.fd.fits) told (c.in_err-reply.ensures.row left told))
+    (silent_stopped (getfl_quiet c.args.below.now.kernel.now c.clear.new.self left c.from.result c.args.fd c.from.ensures c.ranges.fd.fits) told (c.in_err-reply.ensures.row left told))
 
 pub returns-clause-looked : goal.returns-clause-looked
 returns-clause-looked g c = λ left told.
     let called = c.in_ok-reply.ensures.row left told in (
       c.access_error_told.ensures ∙ ap access_error_told called.answered
-          ∙ getfl_tells c.args.k.now c.clear.new.self left c.from.result c.args.fd c.from.ensures c.ranges.fd.fits,
-      quiet_called (getfl_quiet c.args.k.now c.clear.new.self left c.from.result c.args.fd c.from.ensures c.ranges.fd.fits) _ _ told called (c.in_ok-reply.ensures.kept left told nothing),
+          ∙ getfl_tells c.args.below.now.kernel.now c.clear.new.self left c.from.result c.args.fd c.from.ensures c.ranges.fd.fits,
+      quiet_called (getfl_quiet c.args.below.now.kernel.now c.clear.new.self left c.from.result c.args.fd c.from.ensures c.ranges.fd.fits) _ _ told called (c.in_ok-reply.ensures.kept left told nothing),
     )

@@ -11,13 +11,13 @@ pub returns-in_err-reply-clause-looked : goal.returns-in_err-reply-clause-looked
 returns-in_err-reply-clause-looked g c = λ left told description there may_read.
     let one = ap length c.in_ok-fresh_room.ensures ∙ length-replicate {A = ℕ} 1 0 in
     looked_stop _ c.from_residual-in_err-reply.result _ _ _ _ _ _ _ c.from_residual-in_err-reply.ensures.0
-    (silent_stopped (pread_quiet c.args.k.now left c.fresh_room.new.mem c.from.result c.args.fd c.args.offset description c.from.ensures c.ranges.fd.fits c.requires one there may_read) told (c.in_err-reply.ensures.row left told))
+    (silent_stopped (pread_quiet c.args.below.now.kernel.now left c.fresh_room.new.mem c.from.result c.args.fd c.args.offset description c.from.ensures c.ranges.fd.fits c.requires one there may_read) told (c.in_err-reply.ensures.row left told))
 
 pub returns-clause-looked : goal.returns-clause-looked
 returns-clause-looked g c = λ left told description there may_read.
     let one = ap length c.in_ok-fresh_room.ensures ∙ length-replicate {A = ℕ} 1 0 in
     let called = c.in_ok-reply.ensures.row left told in (
       c.file_error_told.ensures ∙ ap file_error_told called.answered
-          ∙ pread_tells c.args.k.now left c.fresh_room.new.mem c.from.result c.args.fd c.args.offset description c.from.ensures c.ranges.fd.fits c.requires one there may_read,
-      quiet_called (pread_quiet c.args.k.now left c.fresh_room.new.mem c.from.result c.args.fd c.args.offset description c.from.ensures c.ranges.fd.fits c.requires one there may_read) _ _ told called (c.in_ok-reply.ensures.kept left told nothing),
+          ∙ pread_tells c.args.below.now.kernel.now left c.fresh_room.new.mem c.from.result c.args.fd c.args.offset description c.from.ensures c.ranges.fd.fits c.requires one there may_read,
+      quiet_called (pread_quiet c.args.below.now.kernel.now left c.fresh_room.new.mem c.from.result c.args.fd c.args.offset description c.from.ensures c.ranges.fd.fits c.requires one there may_read) _ _ told called (c.in_ok-reply.ensures.kept left told nothing),
     )

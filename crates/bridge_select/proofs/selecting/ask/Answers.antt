@@ -12,7 +12,7 @@ use Rattle.bridge_select.proofs.selecting.ask.Goals as goal
 
 pub returns-clause-looks : goal.returns-clause-looks
 returns-clause-looks g c = λ left told.
-    let kernel = c.args.k.now in
+    let kernel = c.args.below.now.kernel.now in
     let program = c.args.space.now in
     let asked = requested c.args.request.now in
     let places = c.in_ok-places.places in
@@ -21,13 +21,13 @@ returns-clause-looks g c = λ left told.
     let same : to_z w32 (of_z w32 c.args.request.now.asked.count) ≡ c.args.request.now.asked.count = omega (arith, ints) in
     let look = λ (left : List ℕ). looks kernel program asked places room hands c.extended.result left (c.extended.ensures ∙ same) in
     let seen = c.in_ok-reply.ensures.looks (native_reply kernel program asked places room hands) (native_room kernel program asked places room hands) look left told in (
-      answered kernel program asked places room hands (record { reply = c.in_ok-reply.reply; places = places }) c.look.new.mem refl seen.0.answered seen.0.stored,
+      answered kernel program asked places room hands (record { reply = c.in_ok-reply.reply; places = places }) c.look.new.self.memory.now refl seen.0.answered seen.0.stored,
       seen.1,
     )
 
 pub returns-in_err-reply-clause-looks : goal.returns-in_err-reply-clause-looks
 returns-in_err-reply-clause-looks g c = λ left told.
-    let kernel = c.args.k.now in
+    let kernel = c.args.below.now.kernel.now in
     let program = c.args.space.now in
     let asked = requested c.args.request.now in
     let places = c.in_ok-places.places in
@@ -37,6 +37,6 @@ returns-in_err-reply-clause-looks g c = λ left told.
     let look = λ (left : List ℕ). looks kernel program asked places room hands c.extended.result left (c.extended.ensures ∙ same) in
     let before = contents g.I.Source.left g.O.Sink.written g.E.Sink.written c.args.dev.now in
     let after = contents g.I.Source.left g.O.Sink.written g.E.Sink.written c.look.new.dev in
-    looked_stop (λ (answer : Answer). Answered kernel program asked answer c.look.new.mem) c.from_residual-in_err-reply.result kernel c.look.new.k before after left c.args.log.now c.look.new.log
+    looked_stop (λ (answer : Answer). Answered kernel program asked answer c.look.new.self.memory.now) c.from_residual-in_err-reply.result kernel c.look.new.self.kernel.now before after left c.args.below.now.log.now c.look.new.self.log.now
     c.from_residual-in_err-reply.ensures.0
     (c.in_err-reply.ensures.looks (native_reply kernel program asked places room hands) (native_room kernel program asked places room hands) look left told)

@@ -11,7 +11,7 @@ pub returns-clause-acts : goal.returns-clause-acts
 returns-clause-acts g c = λ left told.
     let seen = c.in_ok-before.ensures.looks left told in
     let done = c.in_ok-set_from.ensures.acts left (still_told seen.1 told) in
-    ((seen.0, done.0 ∙ ap (λ (k : Kernel). mask_from k c.in_ok-before.before c.args.change) seen.1.same ∙ ap (λ (s : SignalSet). mask_from c.args.k.now s c.args.change) seen.0), moves_then (moves_look seen.1) done.1)
+    ((seen.0, done.0 ∙ ap (λ (k : Kernel). mask_from k c.in_ok-before.before c.args.change) seen.1.same ∙ ap (λ (s : SignalSet). mask_from c.args.below.now.kernel.now s c.args.change) seen.0), moves_then (moves_look seen.1) done.1)
 
 pub returns-in_err-set_from-clause-acts : goal.returns-in_err-set_from-clause-acts
 returns-in_err-set_from-clause-acts g c = λ left told.

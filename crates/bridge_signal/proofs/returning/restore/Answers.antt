@@ -13,9 +13,9 @@ pub returns-clause-acts : goal.returns-clause-acts
 returns-clause-acts g c = λ left told.
     let masks = c.in_ok-set_mask.ensures.acts left told in
     let stacks = c.in_ok-replace_stack.ensures.acts left (told_after masks.1 told) in (
-      sym (did_state c.replace_stack.new.k _) ∙ sym (ap (λ (d : Did Kernel SigStack). d.state) stacks.0)
+      sym (did_state c.replace_stack.new.below.kernel.now _) ∙ sym (ap (λ (d : Did Kernel SigStack). d.state) stacks.0)
           ∙ ap (λ (k : Kernel). (set_stack_to k (Some c.args.sp) (Some c.sig_stack.result)).state) masks.0
-          ∙ ap (λ (s : SigStack). (set_stack_to (with_mask c.args.k.now c.args.back.mask) (Some c.args.sp) (Some s)).state) c.sig_stack.ensures,
+          ∙ ap (λ (s : SigStack). (set_stack_to (with_mask c.args.below.now.kernel.now c.args.back.mask) (Some c.args.sp) (Some s)).state) c.sig_stack.ensures,
       moves_then masks.1 stacks.1,
     )
 

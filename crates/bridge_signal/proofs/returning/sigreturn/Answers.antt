@@ -11,22 +11,22 @@ use Rattle.bridge_signal.proofs.returning.sigreturn.Goals as goal
 
 pub returns-in-Err-clause-row : goal.returns-in-Err-clause-row
 returns-in-Err-clause-row g c = λ guest memory processor left told.
-    ends_called outcomes.BadFrame c.args.space.now c.read_frame.new.cpu (ending outcomes.BadFrame guest.memory) (sigreturn_row c.args.k.now guest left)
-    (moves_none c.args.k.now (contents g.I.Source.left g.O.Sink.written g.E.Sink.written c.args.dev.now) left c.args.log.now) told (frame_fails c.args.k.now guest left c.args.space.now c.args.cpu.now c.read_frame.new.cpu _ memory processor c.in-Err.ensures.denied c.in-Err.ensures.answer) (ap (ending outcomes.BadFrame) memory)
+    ends_called outcomes.BadFrame c.args.space.now c.read_frame.new.cpu (ending outcomes.BadFrame guest.memory) (sigreturn_row c.args.below.now.kernel.now guest left)
+    (moves_none c.args.below.now.kernel.now (contents g.I.Source.left g.O.Sink.written g.E.Sink.written c.args.dev.now) left c.args.below.now.log.now) told (frame_fails c.args.below.now.kernel.now guest left c.args.space.now c.args.cpu.now c.read_frame.new.cpu _ memory processor c.in-Err.ensures.denied c.in-Err.ensures.answer) (ap (ending outcomes.BadFrame) memory)
 
 pub returns-in-Err-clause-kept : goal.returns-in-Err-clause-kept
 returns-in-Err-clause-kept g c = λ guest memory processor left told.
-    ends_quietly guest outcomes.BadFrame c.read_frame.new.cpu (sigreturn_row c.args.k.now guest left)
-    (moves_none c.args.k.now (contents g.I.Source.left g.O.Sink.written g.E.Sink.written c.args.dev.now) left c.args.log.now) (frame_fails c.args.k.now guest left c.args.space.now c.args.cpu.now c.read_frame.new.cpu _ memory processor c.in-Err.ensures.denied c.in-Err.ensures.answer)
+    ends_quietly guest outcomes.BadFrame c.read_frame.new.cpu (sigreturn_row c.args.below.now.kernel.now guest left)
+    (moves_none c.args.below.now.kernel.now (contents g.I.Source.left g.O.Sink.written g.E.Sink.written c.args.dev.now) left c.args.below.now.log.now) (frame_fails c.args.below.now.kernel.now guest left c.args.space.now c.args.cpu.now c.read_frame.new.cpu _ memory processor c.in-Err.ensures.denied c.in-Err.ensures.answer)
 
 pub returns-in_ok-set_mask-in-Ok-clause-row : goal.returns-in_ok-set_mask-in-Ok-clause-row
 returns-in_ok-set_mask-in-Ok-clause-row g c = λ guest memory processor left told.
     let done = c.in_ok-set_mask-in-Ok.ensures.acts left told in
-    ends_called outcomes.Frame c.args.space.now c.read_frame.new.cpu (ending outcomes.Frame guest.memory) (sigreturn_row c.args.k.now guest left) done.1 told
-    (frame_ended c.args.k.now c.set_mask.new.k guest left c.args.space.now c.args.cpu.now c.read_frame.new.cpu c.in-Ok.mask memory processor c.in-Ok.ensures.answer c.in-Ok.ensures.returned done.0) (ap (ending outcomes.Frame) memory)
+    ends_called outcomes.Frame c.args.space.now c.read_frame.new.cpu (ending outcomes.Frame guest.memory) (sigreturn_row c.args.below.now.kernel.now guest left) done.1 told
+    (frame_ended c.args.below.now.kernel.now c.set_mask.new.below.kernel.now guest left c.args.space.now c.args.cpu.now c.read_frame.new.cpu c.in-Ok.mask memory processor c.in-Ok.ensures.answer c.in-Ok.ensures.returned done.0) (ap (ending outcomes.Frame) memory)
 
 pub returns-in_ok-set_mask-in-Ok-clause-kept : goal.returns-in_ok-set_mask-in-Ok-clause-kept
 returns-in_ok-set_mask-in-Ok-clause-kept g c = λ guest memory processor left told.
     let done = c.in_ok-set_mask-in-Ok.ensures.acts left told in
-    ends_quietly guest outcomes.Frame c.read_frame.new.cpu (sigreturn_row c.args.k.now guest left) done.1
-    (frame_ended c.args.k.now c.set_mask.new.k guest left c.args.space.now c.args.cpu.now c.read_frame.new.cpu c.in-Ok.mask memory processor c.in-Ok.ensures.answer c.in-Ok.ensures.returned done.0)
+    ends_quietly guest outcomes.Frame c.read_frame.new.cpu (sigreturn_row c.args.below.now.kernel.now guest left) done.1
+    (frame_ended c.args.below.now.kernel.now c.set_mask.new.below.kernel.now guest left c.args.space.now c.args.cpu.now c.read_frame.new.cpu c.in-Ok.mask memory processor c.in-Ok.ensures.answer c.in-Ok.ensures.returned done.0)

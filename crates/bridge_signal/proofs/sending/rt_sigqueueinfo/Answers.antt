@@ -12,13 +12,13 @@ use Rattle.bridge_signal.proofs.sending.rt_sigqueueinfo.Goals as goal
 
 pub returns-clause-row : goal.returns-clause-row
 returns-clause-row g c = λ guest same memory left told.
-    let row = rt_sigqueueinfo_row c.args.k.now guest (cast_signed w32 c.args.pid) c.args.number c.args.address in
+    let row = rt_sigqueueinfo_row c.args.below.now.kernel.now guest (cast_signed w32 c.args.pid) c.args.number c.args.address in
     let taken = c.in_ok-place.ensures ∙ ap (λ (m : Memory). read_as sent_in (structure m c.args.address siginfo.size)) (sym memory) in
-    subst (λ (m : Memory). Answers (row left) c.number_call.result c.number_call.new.k m guest.processor (contents g.I.Source.left g.O.Sink.written g.E.Sink.written c.args.dev.now) (contents g.I.Source.left g.O.Sink.written g.E.Sink.written c.number_call.new.dev)) memory
-    (c.number_call.ensures.row guest row same (λ left. queue_mirrors guest c.args.k.now c.take_info.new.mem left _ _ c.in_ok-place.place c.args.pid c.args.number c.args.address c.from.ensures c.ranges.pid.fits c.native_number.ensures taken) left told)
+    subst (λ (m : Memory). Answers (row left) c.number_call.result c.number_call.new.self.kernel.now m guest.processor (contents g.I.Source.left g.O.Sink.written g.E.Sink.written c.args.dev.now) (contents g.I.Source.left g.O.Sink.written g.E.Sink.written c.number_call.new.dev)) memory
+    (c.number_call.ensures.row guest row same (λ left. queue_mirrors guest c.args.below.now.kernel.now c.take_info.new.mem left _ _ c.in_ok-place.place c.args.pid c.args.number c.args.address c.from.ensures c.ranges.pid.fits c.native_number.ensures taken) left told)
 
 pub returns-clause-kept : goal.returns-clause-kept
 returns-clause-kept g c = λ guest same memory.
-    let row = rt_sigqueueinfo_row c.args.k.now guest (cast_signed w32 c.args.pid) c.args.number c.args.address in
+    let row = rt_sigqueueinfo_row c.args.below.now.kernel.now guest (cast_signed w32 c.args.pid) c.args.number c.args.address in
     let taken = c.in_ok-place.ensures ∙ ap (λ (m : Memory). read_as sent_in (structure m c.args.address siginfo.size)) (sym memory) in
-    c.number_call.ensures.kept guest row same (λ left. queue_mirrors guest c.args.k.now c.take_info.new.mem left _ _ c.in_ok-place.place c.args.pid c.args.number c.args.address c.from.ensures c.ranges.pid.fits c.native_number.ensures taken)
+    c.number_call.ensures.kept guest row same (λ left. queue_mirrors guest c.args.below.now.kernel.now c.take_info.new.mem left _ _ c.in_ok-place.place c.args.pid c.args.number c.args.address c.from.ensures c.ranges.pid.fits c.native_number.ensures taken)

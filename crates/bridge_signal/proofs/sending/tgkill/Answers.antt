@@ -6,10 +6,10 @@ use Rattle.bridge_signal.proofs.sending.tgkill.Goals as goal
 
 pub returns-clause-row : goal.returns-clause-row
 returns-clause-row g c = λ guest same.
-    c.number_call.ensures.row guest (tgkill_row c.args.k.now guest (cast_signed w32 c.args.pid) (cast_signed w32 c.args.tid) c.args.number) same
-    (λ left. tgkill_mirrors guest c.args.k.now c.clear.new.self left _ _ _ c.args.pid c.args.tid c.args.number c.from.ensures c.ranges.pid.fits c.from-2.ensures c.ranges.tid.fits c.native_number.ensures)
+    c.number_call.ensures.row guest (tgkill_row c.args.below.now.kernel.now guest (cast_signed w32 c.args.pid) (cast_signed w32 c.args.tid) c.args.number) same
+    (λ left. tgkill_mirrors guest c.args.below.now.kernel.now c.clear.new.self left _ _ _ c.args.pid c.args.tid c.args.number c.from.ensures c.ranges.pid.fits c.from-2.ensures c.ranges.tid.fits c.native_number.ensures)
 
 pub returns-clause-kept : goal.returns-clause-kept
 returns-clause-kept g c = λ guest same.
-    c.number_call.ensures.kept guest (tgkill_row c.args.k.now guest (cast_signed w32 c.args.pid) (cast_signed w32 c.args.tid) c.args.number) same
-    (λ left. tgkill_mirrors guest c.args.k.now c.clear.new.self left _ _ _ c.args.pid c.args.tid c.args.number c.from.ensures c.ranges.pid.fits c.from-2.ensures c.ranges.tid.fits c.native_number.ensures)
+    c.number_call.ensures.kept guest (tgkill_row c.args.below.now.kernel.now guest (cast_signed w32 c.args.pid) (cast_signed w32 c.args.tid) c.args.number) same
+    (λ left. tgkill_mirrors guest c.args.below.now.kernel.now c.clear.new.self left _ _ _ c.args.pid c.args.tid c.args.number c.from.ensures c.ranges.pid.fits c.from-2.ensures c.ranges.tid.fits c.native_number.ensures)

@@ -12,7 +12,7 @@ pub returns-clause-acts : goal.returns-clause-acts
 returns-clause-acts g c = λ left told.
     let seen = c.in_ok-before.ensures.looks left told in
     let done = c.in_ok-told.ensures.acts left (still_told seen.1 told) in
-    (sym (stack_from c.args.k.now c.args.sp c.args.new) ∙ ap (λ (s : SigStack). set_from c.args.k.now s c.args.sp c.args.new) (sym seen.0) ∙ ap (λ (k : Kernel). set_from k c.in_ok-before.before c.args.sp c.args.new) (sym seen.1.same) ∙ done.0, moves_then (moves_look seen.1) done.1)
+    (sym (stack_from c.args.below.now.kernel.now c.args.sp c.args.new) ∙ ap (λ (s : SigStack). set_from c.args.below.now.kernel.now s c.args.sp c.args.new) (sym seen.0) ∙ ap (λ (k : Kernel). set_from k c.in_ok-before.before c.args.sp c.args.new) (sym seen.1.same) ∙ done.0, moves_then (moves_look seen.1) done.1)
 
 pub returns-in_err-told-clause-acts : goal.returns-in_err-told-clause-acts
 returns-in_err-told-clause-acts g c = λ left told.

@@ -8,4 +8,4 @@ use Rattle.bridge_signal.proofs.stacks.take.Goals as goal
 pub returns-clause-acts : goal.returns-clause-acts
 returns-clause-acts g c = λ left told.
     let done = c.in_ok-taken.ensures.acts left told in
-    (stack_taken c.args.k.now c.set_stack.new.k c.args.shown c.args.new c.in_ok-taken.taken done.0 ∙ ap (λ (t : Given SigStack). did c.set_stack.new.k t) (sym c.told_if.ensures), done.1)
+    (stack_taken c.args.below.now.kernel.now c.set_stack.new.below.kernel.now c.args.shown c.args.new c.in_ok-taken.taken done.0 ∙ ap (λ (t : Given SigStack). did c.set_stack.new.below.kernel.now t) (sym c.told_if.ensures), done.1)

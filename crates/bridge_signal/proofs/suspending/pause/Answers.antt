@@ -16,13 +16,13 @@ returns-clause-row g c = λ guest same left told.
     let done = c.in_ok-outcome.ensures.looks left (still_told seen.1 told) in
     let moves = moves_then (moves_look seen.1) (moves_look done.1) in
     let came = ap asleep same ∙ sym done.0 in
-    ends_called c.in_ok-outcome.outcome guest.memory guest.processor (ending (asleep guest.words) guest.memory) (pause_row c.args.k.now guest left) moves told
-    (pause_ended c.args.k.now c.sleep.new.k guest left (done.1.same ∙ seen.1.same)) (ap (λ (o : Outcome). ending o guest.memory) came)
+    ends_called c.in_ok-outcome.outcome guest.memory guest.processor (ending (asleep guest.words) guest.memory) (pause_row c.args.below.now.kernel.now guest left) moves told
+    (pause_ended c.args.below.now.kernel.now c.sleep.new.below.kernel.now guest left (done.1.same ∙ seen.1.same)) (ap (λ (o : Outcome). ending o guest.memory) came)
 
 pub returns-clause-kept : goal.returns-clause-kept
 returns-clause-kept g c = λ guest same left told.
     let seen = c.in_ok-set.ensures.looks left told in
     let done = c.in_ok-outcome.ensures.looks left (still_told seen.1 told) in
     let moves = moves_then (moves_look seen.1) (moves_look done.1) in
-    ends_quietly guest (asleep guest.words) guest.processor (pause_row c.args.k.now guest left) moves
-    (pause_ended c.args.k.now c.sleep.new.k guest left (done.1.same ∙ seen.1.same))
+    ends_quietly guest (asleep guest.words) guest.processor (pause_row c.args.below.now.kernel.now guest left) moves
+    (pause_ended c.args.below.now.kernel.now c.sleep.new.below.kernel.now guest left (done.1.same ∙ seen.1.same))

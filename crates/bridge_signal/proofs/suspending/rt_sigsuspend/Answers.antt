@@ -19,27 +19,27 @@ use Rattle.bridge_signal.proofs.suspending.rt_sigsuspend.Goals as goal
 pub returns-in-Err-clause-row : goal.returns-in-Err-clause-row
 returns-in-Err-clause-row g c = λ guest words memory left told.
     let asked = c.in-Err.ensures ∙ ap (λ (m : Memory). if_sized c.args.size (set_at m c.args.address)) (sym memory) in
-    ends_called (failure c.in-Err.error) c.args.space.now guest.processor (fails guest.memory c.in-Err.error) (rt_sigsuspend_row c.args.k.now guest c.args.address c.args.size left)
-    (moves_none c.args.k.now (contents g.I.Source.left g.O.Sink.written g.E.Sink.written c.args.dev.now) left c.args.log.now) told (suspend_fails c.args.k.now guest c.args.address c.args.size left c.in-Err.error asked) (ap (λ (m : Memory). fails m c.in-Err.error) memory)
+    ends_called (failure c.in-Err.error) c.args.space.now guest.processor (fails guest.memory c.in-Err.error) (rt_sigsuspend_row c.args.below.now.kernel.now guest c.args.address c.args.size left)
+    (moves_none c.args.below.now.kernel.now (contents g.I.Source.left g.O.Sink.written g.E.Sink.written c.args.dev.now) left c.args.below.now.log.now) told (suspend_fails c.args.below.now.kernel.now guest c.args.address c.args.size left c.in-Err.error asked) (ap (λ (m : Memory). fails m c.in-Err.error) memory)
 
 pub returns-in-Err-clause-kept : goal.returns-in-Err-clause-kept
 returns-in-Err-clause-kept g c = λ guest words memory left told.
     let asked = c.in-Err.ensures ∙ ap (λ (m : Memory). if_sized c.args.size (set_at m c.args.address)) (sym memory) in
-    ends_quietly guest (failure c.in-Err.error) guest.processor (rt_sigsuspend_row c.args.k.now guest c.args.address c.args.size left)
-    (moves_none c.args.k.now (contents g.I.Source.left g.O.Sink.written g.E.Sink.written c.args.dev.now) left c.args.log.now) (suspend_fails c.args.k.now guest c.args.address c.args.size left c.in-Err.error asked)
+    ends_quietly guest (failure c.in-Err.error) guest.processor (rt_sigsuspend_row c.args.below.now.kernel.now guest c.args.address c.args.size left)
+    (moves_none c.args.below.now.kernel.now (contents g.I.Source.left g.O.Sink.written g.E.Sink.written c.args.dev.now) left c.args.below.now.log.now) (suspend_fails c.args.below.now.kernel.now guest c.args.address c.args.size left c.in-Err.error asked)
 
 pub returns-in-Ok-clause-row : goal.returns-in-Ok-clause-row
 returns-in-Ok-clause-row g c = λ guest words memory left told.
     let asked = c.in-Ok.ensures ∙ ap (λ (m : Memory). if_sized c.args.size (set_at m c.args.address)) (sym memory) in
-    acts_row (λ outcome became. (outcome ≡ masked (asleep c.args.words.now) c.args.k.now.signals.mask) × (became ≡ with_mask c.args.k.now c.in-Ok.set)) guest (rt_sigsuspend_row c.args.k.now guest c.args.address c.args.size left) c.suspend.result c.args.k.now c.suspend.new.k c.args.space.now guest.processor (contents g.I.Source.left g.O.Sink.written g.E.Sink.written c.args.dev.now) (contents g.I.Source.left g.O.Sink.written g.E.Sink.written c.suspend.new.dev) left c.args.log.now c.suspend.new.log memory told
-    (λ outcome does. suspend_ended c.args.k.now c.suspend.new.k guest c.args.address c.args.size left c.in-Ok.set asked does.1
-    ∙ ap (λ (o : Outcome). ended c.suspend.new.k guest.processor left (ending o guest.memory)) (ap (λ (w : CallWords). masked (asleep w) c.args.k.now.signals.mask) words ∙ sym does.0))
+    acts_row (λ outcome became. (outcome ≡ masked (asleep c.args.words.now) c.args.below.now.kernel.now.signals.mask) × (became ≡ with_mask c.args.below.now.kernel.now c.in-Ok.set)) guest (rt_sigsuspend_row c.args.below.now.kernel.now guest c.args.address c.args.size left) c.suspend.result c.args.below.now.kernel.now c.suspend.new.below.kernel.now c.args.space.now guest.processor (contents g.I.Source.left g.O.Sink.written g.E.Sink.written c.args.dev.now) (contents g.I.Source.left g.O.Sink.written g.E.Sink.written c.suspend.new.dev) left c.args.below.now.log.now c.suspend.new.below.log.now memory told
+    (λ outcome does. suspend_ended c.args.below.now.kernel.now c.suspend.new.below.kernel.now guest c.args.address c.args.size left c.in-Ok.set asked does.1
+    ∙ ap (λ (o : Outcome). ended c.suspend.new.below.kernel.now guest.processor left (ending o guest.memory)) (ap (λ (w : CallWords). masked (asleep w) c.args.below.now.kernel.now.signals.mask) words ∙ sym does.0))
     (c.suspend.ensures.acts left told)
 
 pub returns-in-Ok-clause-kept : goal.returns-in-Ok-clause-kept
 returns-in-Ok-clause-kept g c = λ guest words memory left told.
     let asked = c.in-Ok.ensures ∙ ap (λ (m : Memory). if_sized c.args.size (set_at m c.args.address)) (sym memory) in
-    acts_keeps (λ outcome became. (outcome ≡ masked (asleep c.args.words.now) c.args.k.now.signals.mask) × (became ≡ with_mask c.args.k.now c.in-Ok.set)) guest (rt_sigsuspend_row c.args.k.now guest c.args.address c.args.size left) c.suspend.result c.args.k.now c.suspend.new.k guest.processor (contents g.I.Source.left g.O.Sink.written g.E.Sink.written c.args.dev.now) (contents g.I.Source.left g.O.Sink.written g.E.Sink.written c.suspend.new.dev) left c.args.log.now c.suspend.new.log
-    (λ outcome does. suspend_ended c.args.k.now c.suspend.new.k guest c.args.address c.args.size left c.in-Ok.set asked does.1
-    ∙ ap (λ (o : Outcome). ended c.suspend.new.k guest.processor left (ending o guest.memory)) (ap (λ (w : CallWords). masked (asleep w) c.args.k.now.signals.mask) words ∙ sym does.0))
+    acts_keeps (λ outcome became. (outcome ≡ masked (asleep c.args.words.now) c.args.below.now.kernel.now.signals.mask) × (became ≡ with_mask c.args.below.now.kernel.now c.in-Ok.set)) guest (rt_sigsuspend_row c.args.below.now.kernel.now guest c.args.address c.args.size left) c.suspend.result c.args.below.now.kernel.now c.suspend.new.below.kernel.now guest.processor (contents g.I.Source.left g.O.Sink.written g.E.Sink.written c.args.dev.now) (contents g.I.Source.left g.O.Sink.written g.E.Sink.written c.suspend.new.dev) left c.args.below.now.log.now c.suspend.new.below.log.now
+    (λ outcome does. suspend_ended c.args.below.now.kernel.now c.suspend.new.below.kernel.now guest c.args.address c.args.size left c.in-Ok.set asked does.1
+    ∙ ap (λ (o : Outcome). ended c.suspend.new.below.kernel.now guest.processor left (ending o guest.memory)) (ap (λ (w : CallWords). masked (asleep w) c.args.below.now.kernel.now.signals.mask) words ∙ sym does.0))
     (c.suspend.ensures.acts left told)

@@ -12,15 +12,15 @@ use Rattle.bridge_signal_state.proofs.reading.pending.Goals as goal
 
 pub returns-clause-looks : goal.returns-clause-looks
 returns-clause-looks g c = λ left told.
-    let look = λ (left : List ℕ). subst (λ (m : List ℕ). IsLook c.args.k.now (told_at 16 (set_bytes (pending_set c.args.k.now.signals))) (filled_with 16 (set_bytes (pending_set c.args.k.now.signals))) left (native_call 136 (65536 ∷ 16 ∷ 0 ∷ 0 ∷ 0 ∷ 0 ∷ []) c.args.k.now m left)) (sym c.in_ok-fresh_room.ensures) (pending_look c.args.k.now left) in
-    let seen = c.in_ok-look.ensures.looks (told_at 16 (set_bytes (pending_set c.args.k.now.signals))) (filled_with 16 (set_bytes (pending_set c.args.k.now.signals))) look left told in
-    (c.set_shown.ensures ∙ ap set_shown seen.0.stored ∙ set_told (pending_set c.args.k.now.signals) (pending_is_set c.args.k.now.signals), seen.1)
+    let look = λ (left : List ℕ). subst (λ (m : List ℕ). IsLook c.args.below.now.kernel.now (told_at 16 (set_bytes (pending_set c.args.below.now.kernel.now.signals))) (filled_with 16 (set_bytes (pending_set c.args.below.now.kernel.now.signals))) left (native_call 136 (65536 ∷ 16 ∷ 0 ∷ 0 ∷ 0 ∷ 0 ∷ []) c.args.below.now.kernel.now m left)) (sym c.in_ok-fresh_room.ensures) (pending_look c.args.below.now.kernel.now left) in
+    let seen = c.in_ok-look.ensures.looks (told_at 16 (set_bytes (pending_set c.args.below.now.kernel.now.signals))) (filled_with 16 (set_bytes (pending_set c.args.below.now.kernel.now.signals))) look left told in
+    (c.set_shown.ensures ∙ ap set_shown seen.0.stored ∙ set_told (pending_set c.args.below.now.kernel.now.signals) (pending_is_set c.args.below.now.kernel.now.signals), seen.1)
 
 pub returns-in_err-fresh_room-clause-looks : goal.returns-in_err-fresh_room-clause-looks
 returns-in_err-fresh_room-clause-looks g c = λ left told. looked_stop _ c.from_residual.result _ _ _ _ _ _ _ c.from_residual.ensures.0 refl
 
 pub returns-in_err-look-clause-looks : goal.returns-in_err-look-clause-looks
 returns-in_err-look-clause-looks g c = λ left told.
-    let look = λ (left : List ℕ). subst (λ (m : List ℕ). IsLook c.args.k.now (told_at 16 (set_bytes (pending_set c.args.k.now.signals))) (filled_with 16 (set_bytes (pending_set c.args.k.now.signals))) left (native_call 136 (65536 ∷ 16 ∷ 0 ∷ 0 ∷ 0 ∷ 0 ∷ []) c.args.k.now m left)) (sym c.in_ok-fresh_room.ensures) (pending_look c.args.k.now left) in
+    let look = λ (left : List ℕ). subst (λ (m : List ℕ). IsLook c.args.below.now.kernel.now (told_at 16 (set_bytes (pending_set c.args.below.now.kernel.now.signals))) (filled_with 16 (set_bytes (pending_set c.args.below.now.kernel.now.signals))) left (native_call 136 (65536 ∷ 16 ∷ 0 ∷ 0 ∷ 0 ∷ 0 ∷ []) c.args.below.now.kernel.now m left)) (sym c.in_ok-fresh_room.ensures) (pending_look c.args.below.now.kernel.now left) in
     looked_stop _ c.from_residual-in_err-look.result _ _ _ _ _ _ _ c.from_residual-in_err-look.ensures.0
-    (c.in_err-look.ensures.looks (told_at 16 (set_bytes (pending_set c.args.k.now.signals))) (filled_with 16 (set_bytes (pending_set c.args.k.now.signals))) look left told)
+    (c.in_err-look.ensures.looks (told_at 16 (set_bytes (pending_set c.args.below.now.kernel.now.signals))) (filled_with 16 (set_bytes (pending_set c.args.below.now.kernel.now.signals))) look left told)

@@ -11,15 +11,15 @@ use Rattle.bridge_signal_state.proofs.reading.stack.Goals as goal
 
 pub returns-clause-looks : goal.returns-clause-looks
 returns-clause-looks g c = λ left told.
-    let look = λ (left : List ℕ). subst (λ (m : List ℕ). IsLook c.args.k.now (told_at 24 (stack_bytes c.args.k.now.signals.stack)) (filled_with 24 (stack_bytes c.args.k.now.signals.stack)) left (native_call 132 (0 ∷ 65536 ∷ 0 ∷ 0 ∷ 0 ∷ 0 ∷ []) c.args.k.now m left)) (sym c.in_ok-fresh_room.ensures) (stack_look c.args.k.now left) in
-    let seen = c.in_ok-look.ensures.looks (told_at 24 (stack_bytes c.args.k.now.signals.stack)) (filled_with 24 (stack_bytes c.args.k.now.signals.stack)) look left told in
-    (c.stack_shown.ensures ∙ ap stack_shown seen.0.stored ∙ stack_told c.args.k.now.signals.stack c.signals_fit.ensures.stack, seen.1)
+    let look = λ (left : List ℕ). subst (λ (m : List ℕ). IsLook c.args.below.now.kernel.now (told_at 24 (stack_bytes c.args.below.now.kernel.now.signals.stack)) (filled_with 24 (stack_bytes c.args.below.now.kernel.now.signals.stack)) left (native_call 132 (0 ∷ 65536 ∷ 0 ∷ 0 ∷ 0 ∷ 0 ∷ []) c.args.below.now.kernel.now m left)) (sym c.in_ok-fresh_room.ensures) (stack_look c.args.below.now.kernel.now left) in
+    let seen = c.in_ok-look.ensures.looks (told_at 24 (stack_bytes c.args.below.now.kernel.now.signals.stack)) (filled_with 24 (stack_bytes c.args.below.now.kernel.now.signals.stack)) look left told in
+    (c.stack_shown.ensures ∙ ap stack_shown seen.0.stored ∙ stack_told c.args.below.now.kernel.now.signals.stack c.signals_fit.ensures.stack, seen.1)
 
 pub returns-in_err-fresh_room-clause-looks : goal.returns-in_err-fresh_room-clause-looks
 returns-in_err-fresh_room-clause-looks g c = λ left told. looked_stop _ c.from_residual.result _ _ _ _ _ _ _ c.from_residual.ensures.0 refl
 
 pub returns-in_err-look-clause-looks : goal.returns-in_err-look-clause-looks
 returns-in_err-look-clause-looks g c = λ left told.
-    let look = λ (left : List ℕ). subst (λ (m : List ℕ). IsLook c.args.k.now (told_at 24 (stack_bytes c.args.k.now.signals.stack)) (filled_with 24 (stack_bytes c.args.k.now.signals.stack)) left (native_call 132 (0 ∷ 65536 ∷ 0 ∷ 0 ∷ 0 ∷ 0 ∷ []) c.args.k.now m left)) (sym c.in_ok-fresh_room.ensures) (stack_look c.args.k.now left) in
+    let look = λ (left : List ℕ). subst (λ (m : List ℕ). IsLook c.args.below.now.kernel.now (told_at 24 (stack_bytes c.args.below.now.kernel.now.signals.stack)) (filled_with 24 (stack_bytes c.args.below.now.kernel.now.signals.stack)) left (native_call 132 (0 ∷ 65536 ∷ 0 ∷ 0 ∷ 0 ∷ 0 ∷ []) c.args.below.now.kernel.now m left)) (sym c.in_ok-fresh_room.ensures) (stack_look c.args.below.now.kernel.now left) in
     looked_stop _ c.from_residual-in_err-look.result _ _ _ _ _ _ _ c.from_residual-in_err-look.ensures.0
-    (c.in_err-look.ensures.looks (told_at 24 (stack_bytes c.args.k.now.signals.stack)) (filled_with 24 (stack_bytes c.args.k.now.signals.stack)) look left told)
+    (c.in_err-look.ensures.looks (told_at 24 (stack_bytes c.args.below.now.kernel.now.signals.stack)) (filled_with 24 (stack_bytes c.args.below.now.kernel.now.signals.stack)) look left told)

@@ -10,11 +10,11 @@ use Rattle.bridge_signal_state.proofs.taking.take.Goals as goal
 
 pub returns-clause-acts : goal.returns-clause-acts
 returns-clause-acts g c = λ left told.
-    let act = λ (left : List ℕ). subst (λ (m : List ℕ). IsAct ((taken c.args.k.now c.args.sig (pending_at c.args.k.now.signals c.args.sig)).state) (taken_reply (taking_room c.args.sig) (taken c.args.k.now c.args.sig (pending_at c.args.k.now.signals c.args.sig)).came) (taken_memory (taking_room c.args.sig) (taken c.args.k.now c.args.sig (pending_at c.args.k.now.signals c.args.sig)).came) left (native_call 137 (65536 ∷ 65552 ∷ 65680 ∷ 16 ∷ 0 ∷ 0 ∷ []) c.args.k.now m left)) (sym c.in_ok-put_taking.ensures) (take_act c.args.k.now left c.args.sig) in
-    let done = c.in_ok-reply.ensures.acts ((taken c.args.k.now c.args.sig (pending_at c.args.k.now.signals c.args.sig)).state) (taken_reply (taking_room c.args.sig) (taken c.args.k.now c.args.sig (pending_at c.args.k.now.signals c.args.sig)).came) (taken_memory (taking_room c.args.sig) (taken c.args.k.now c.args.sig (pending_at c.args.k.now.signals c.args.sig)).came) act left told in (
+    let act = λ (left : List ℕ). subst (λ (m : List ℕ). IsAct ((taken c.args.below.now.kernel.now c.args.sig (pending_at c.args.below.now.kernel.now.signals c.args.sig)).state) (taken_reply (taking_room c.args.sig) (taken c.args.below.now.kernel.now c.args.sig (pending_at c.args.below.now.kernel.now.signals c.args.sig)).came) (taken_memory (taking_room c.args.sig) (taken c.args.below.now.kernel.now c.args.sig (pending_at c.args.below.now.kernel.now.signals c.args.sig)).came) left (native_call 137 (65536 ∷ 65552 ∷ 65680 ∷ 16 ∷ 0 ∷ 0 ∷ []) c.args.below.now.kernel.now m left)) (sym c.in_ok-put_taking.ensures) (take_act c.args.below.now.kernel.now left c.args.sig) in
+    let done = c.in_ok-reply.ensures.acts ((taken c.args.below.now.kernel.now c.args.sig (pending_at c.args.below.now.kernel.now.signals c.args.sig)).state) (taken_reply (taking_room c.args.sig) (taken c.args.below.now.kernel.now c.args.sig (pending_at c.args.below.now.kernel.now.signals c.args.sig)).came) (taken_memory (taking_room c.args.sig) (taken c.args.below.now.kernel.now c.args.sig (pending_at c.args.below.now.kernel.now.signals c.args.sig)).came) act left told in (
       (
-        c.info_shown.ensures ∙ ap (λ (m : List ℕ). info_shown m c.in_ok-reply.reply) done.0.0.stored ∙ ap (info_shown (taken_memory (taking_room c.args.sig) (taken c.args.k.now c.args.sig (pending_at c.args.k.now.signals c.args.sig)).came)) done.0.0.answered ∙ taken_told c.args.k.now c.args.sig c.signals_fit.ensures.sound.pending,
-        done.0.1 ∙ taken_state c.args.k.now c.args.sig (pending_at c.args.k.now.signals c.args.sig) refl,
+        c.info_shown.ensures ∙ ap (λ (m : List ℕ). info_shown m c.in_ok-reply.reply) done.0.0.stored ∙ ap (info_shown (taken_memory (taking_room c.args.sig) (taken c.args.below.now.kernel.now c.args.sig (pending_at c.args.below.now.kernel.now.signals c.args.sig)).came)) done.0.0.answered ∙ taken_told c.args.below.now.kernel.now c.args.sig c.signals_fit.ensures.sound.pending,
+        done.0.1 ∙ taken_state c.args.below.now.kernel.now c.args.sig (pending_at c.args.below.now.kernel.now.signals c.args.sig) refl,
       ),
       done.1,
     )
@@ -24,6 +24,6 @@ returns-in_err-put_taking-clause-acts g c = λ left told. acted_stop _ c.from_re
 
 pub returns-in_err-reply-clause-acts : goal.returns-in_err-reply-clause-acts
 returns-in_err-reply-clause-acts g c = λ left told.
-    let act = λ (left : List ℕ). subst (λ (m : List ℕ). IsAct ((taken c.args.k.now c.args.sig (pending_at c.args.k.now.signals c.args.sig)).state) (taken_reply (taking_room c.args.sig) (taken c.args.k.now c.args.sig (pending_at c.args.k.now.signals c.args.sig)).came) (taken_memory (taking_room c.args.sig) (taken c.args.k.now c.args.sig (pending_at c.args.k.now.signals c.args.sig)).came) left (native_call 137 (65536 ∷ 65552 ∷ 65680 ∷ 16 ∷ 0 ∷ 0 ∷ []) c.args.k.now m left)) (sym c.in_ok-put_taking.ensures) (take_act c.args.k.now left c.args.sig) in
+    let act = λ (left : List ℕ). subst (λ (m : List ℕ). IsAct ((taken c.args.below.now.kernel.now c.args.sig (pending_at c.args.below.now.kernel.now.signals c.args.sig)).state) (taken_reply (taking_room c.args.sig) (taken c.args.below.now.kernel.now c.args.sig (pending_at c.args.below.now.kernel.now.signals c.args.sig)).came) (taken_memory (taking_room c.args.sig) (taken c.args.below.now.kernel.now c.args.sig (pending_at c.args.below.now.kernel.now.signals c.args.sig)).came) left (native_call 137 (65536 ∷ 65552 ∷ 65680 ∷ 16 ∷ 0 ∷ 0 ∷ []) c.args.below.now.kernel.now m left)) (sym c.in_ok-put_taking.ensures) (take_act c.args.below.now.kernel.now left c.args.sig) in
     acted_stop _ c.from_residual-in_err-reply.result _ _ _ _ _ _ _ c.from_residual-in_err-reply.ensures.0
-    (c.in_err-reply.ensures.acts ((taken c.args.k.now c.args.sig (pending_at c.args.k.now.signals c.args.sig)).state) (taken_reply (taking_room c.args.sig) (taken c.args.k.now c.args.sig (pending_at c.args.k.now.signals c.args.sig)).came) (taken_memory (taking_room c.args.sig) (taken c.args.k.now c.args.sig (pending_at c.args.k.now.signals c.args.sig)).came) act left told)
+    (c.in_err-reply.ensures.acts ((taken c.args.below.now.kernel.now c.args.sig (pending_at c.args.below.now.kernel.now.signals c.args.sig)).state) (taken_reply (taking_room c.args.sig) (taken c.args.below.now.kernel.now c.args.sig (pending_at c.args.below.now.kernel.now.signals c.args.sig)).came) (taken_memory (taking_room c.args.sig) (taken c.args.below.now.kernel.now c.args.sig (pending_at c.args.below.now.kernel.now.signals c.args.sig)).came) act left told)

@@ -11,14 +11,14 @@ use Rattle.bridge_timer.proofs.intervals.getitimer.Goals as goal
 pub returns-clause-row : goal.returns-clause-row
 returns-clause-row g c = λ guest memory left told.
     let seen = c.in_ok-shown.ensures.looks left told in
-    ended_called c.args.k.now guest c.in_ok-outcome.outcome c.store_there.new.space (shown_ending guest.memory c.args.address c.in_ok-shown.shown) (getitimer_row c.args.k.now guest c.args.which c.args.address left) (unmoved_moves seen.1) told seen.1.same
-    (getitimer_ended c.args.k.now guest c.args.which c.args.address left ∙ ap (λ (s : Option Shown). ended c.args.k.now guest left (shown_ending guest.memory c.args.address s)) (sym seen.0))
+    ended_called c.args.below.now.kernel.now guest c.in_ok-outcome.outcome c.store_there.new.space (shown_ending guest.memory c.args.address c.in_ok-shown.shown) (getitimer_row c.args.below.now.kernel.now guest c.args.which c.args.address left) (unmoved_moves seen.1) told seen.1.same
+    (getitimer_ended c.args.below.now.kernel.now guest c.args.which c.args.address left ∙ ap (λ (s : Option Shown). ended c.args.below.now.kernel.now guest left (shown_ending guest.memory c.args.address s)) (sym seen.0))
     (ap (λ (m : Memory). shown_ending m c.args.address c.in_ok-shown.shown) memory ∙ c.in_ok-outcome.ensures.ends)
 
 pub returns-clause-kept : goal.returns-clause-kept
 returns-clause-kept g c = λ guest memory left told.
     let seen = c.in_ok-shown.ensures.looks left told in
-    ended_keeps c.args.k.now guest c.in_ok-outcome.outcome c.args.space.now c.store_there.new.space (shown_ending guest.memory c.args.address c.in_ok-shown.shown) (getitimer_row c.args.k.now guest c.args.which c.args.address left) c.store_there.new.log (unmoved_moves seen.1) seen.1.same memory
-    (getitimer_ended c.args.k.now guest c.args.which c.args.address left ∙ ap (λ (s : Option Shown). ended c.args.k.now guest left (shown_ending guest.memory c.args.address s)) (sym seen.0))
+    ended_keeps c.args.below.now.kernel.now guest c.in_ok-outcome.outcome c.args.space.now c.store_there.new.space (shown_ending guest.memory c.args.address c.in_ok-shown.shown) (getitimer_row c.args.below.now.kernel.now guest c.args.which c.args.address left) c.store_there.new.log (unmoved_moves seen.1) seen.1.same memory
+    (getitimer_ended c.args.below.now.kernel.now guest c.args.which c.args.address left ∙ ap (λ (s : Option Shown). ended c.args.below.now.kernel.now guest left (shown_ending guest.memory c.args.address s)) (sym seen.0))
     (ap (λ (m : Memory). shown_ending m c.args.address c.in_ok-shown.shown) memory ∙ c.in_ok-outcome.ensures.ends)
     c.store_there.ensures.native c.in_ok-outcome.ensures.effects

@@ -9,15 +9,15 @@ use Rattle.bridge_timer.proofs.looking.timer_shown.Goals as goal
 
 pub returns-clause-looks : goal.returns-clause-looks
 returns-clause-looks g c = λ left told.
-    let look = λ (left : List ℕ). subst (λ (m : List ℕ). IsLook c.args.k.now (shown_reply c.args.which) (shown_room c.args.k.now c.args.which) left (native_call 102 (c.from.result ∷ 65536 ∷ 0 ∷ 0 ∷ 0 ∷ 0 ∷ []) c.args.k.now m left)) (sym c.in_ok-fresh_room.ensures) (timer_look c.args.k.now left c.from.result c.args.which c.from.ensures c.ranges.which.fits) in
-    let seen = c.in_ok-reply.ensures.looks (shown_reply c.args.which) (shown_room c.args.k.now c.args.which) look left told in
-    (c.shown_in.ensures ∙ ap (λ (m : List ℕ). shown_in m c.in_ok-reply.reply) seen.0.stored ∙ ap (shown_in (shown_room c.args.k.now c.args.which)) seen.0.answered ∙ shown_told c.args.k.now c.args.which, seen.1)
+    let look = λ (left : List ℕ). subst (λ (m : List ℕ). IsLook c.args.below.now.kernel.now (shown_reply c.args.which) (shown_room c.args.below.now.kernel.now c.args.which) left (native_call 102 (c.from.result ∷ 65536 ∷ 0 ∷ 0 ∷ 0 ∷ 0 ∷ []) c.args.below.now.kernel.now m left)) (sym c.in_ok-fresh_room.ensures) (timer_look c.args.below.now.kernel.now left c.from.result c.args.which c.from.ensures c.ranges.which.fits) in
+    let seen = c.in_ok-reply.ensures.looks (shown_reply c.args.which) (shown_room c.args.below.now.kernel.now c.args.which) look left told in
+    (c.shown_in.ensures ∙ ap (λ (m : List ℕ). shown_in m c.in_ok-reply.reply) seen.0.stored ∙ ap (shown_in (shown_room c.args.below.now.kernel.now c.args.which)) seen.0.answered ∙ shown_told c.args.below.now.kernel.now c.args.which, seen.1)
 
 pub returns-in_err-fresh_room-clause-looks : goal.returns-in_err-fresh_room-clause-looks
 returns-in_err-fresh_room-clause-looks g c = λ left told. looked_stop _ c.from_residual.result _ _ _ _ _ _ _ c.from_residual.ensures.0 refl
 
 pub returns-in_err-reply-clause-looks : goal.returns-in_err-reply-clause-looks
 returns-in_err-reply-clause-looks g c = λ left told.
-    let look = λ (left : List ℕ). subst (λ (m : List ℕ). IsLook c.args.k.now (shown_reply c.args.which) (shown_room c.args.k.now c.args.which) left (native_call 102 (c.from.result ∷ 65536 ∷ 0 ∷ 0 ∷ 0 ∷ 0 ∷ []) c.args.k.now m left)) (sym c.in_ok-fresh_room.ensures) (timer_look c.args.k.now left c.from.result c.args.which c.from.ensures c.ranges.which.fits) in
+    let look = λ (left : List ℕ). subst (λ (m : List ℕ). IsLook c.args.below.now.kernel.now (shown_reply c.args.which) (shown_room c.args.below.now.kernel.now c.args.which) left (native_call 102 (c.from.result ∷ 65536 ∷ 0 ∷ 0 ∷ 0 ∷ 0 ∷ []) c.args.below.now.kernel.now m left)) (sym c.in_ok-fresh_room.ensures) (timer_look c.args.below.now.kernel.now left c.from.result c.args.which c.from.ensures c.ranges.which.fits) in
     looked_stop _ c.from_residual-in_err-reply.result _ _ _ _ _ _ _ c.from_residual-in_err-reply.ensures.0
-    (c.in_err-reply.ensures.looks (shown_reply c.args.which) (shown_room c.args.k.now c.args.which) look left told)
+    (c.in_err-reply.ensures.looks (shown_reply c.args.which) (shown_room c.args.below.now.kernel.now c.args.which) look left told)

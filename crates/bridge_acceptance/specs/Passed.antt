@@ -1,3 +1,0 @@
--- Definitions of the crates below that are passed on, so that a crate above names one crate and not each.
-pub use Rattle.bridge_signal_state.specs.Acts.{Acted, Acts, Moves}
-pub use Rattle.bridge_signal_state.specs.Passed.{IsLook, Keeps, KeepsCall, Logged, LooksFor, Unmoved, error_of, outcome_of, reached, written}
