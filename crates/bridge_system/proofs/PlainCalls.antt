@@ -10,7 +10,7 @@ use Rattle.bridge_io.proofs.Passed.{logged_none}
 use Rattle.bridge_io.proofs.Passed.{effected_none}
 use Rattle.bridge_io.specs.Passed.{Keeps, reached}
 use Rattle.bridge_system.specs.System.{small_call}
-use Rattle.bridge_system.specs.inside.Plain.{leaves}
+use Rattle.bridge_system.specs.Plain.{leaves}
 use Rattle.o32_model.specs.Answered as o32
 use Rattle.o32_model.specs.Effects.{Effected}
 use Rattle.o32_model.specs.Logs.{Kept}

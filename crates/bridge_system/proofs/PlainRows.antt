@@ -2,7 +2,7 @@
 use Rattle.std.proofs.Common.{◌≡◌, ℕ, List, None, sym, subst}
 use Rattle.bridge_system.specs.Found.{found}
 use Rattle.bridge_system.specs.System.{small_call}
-use Rattle.bridge_system.specs.inside.Plain.{leaves}
+use Rattle.bridge_system.specs.Plain.{leaves}
 use Rattle.guest_space.specs.Memory.{Memory}
 use Rattle.kernel_model.specs.State.{Kernel}
 use Rattle.mips_exec.specs.Processor.{Processor}

@@ -1,3 +1,4 @@
 pub mod Found
+pub mod Plain
 pub mod System
 pub mod inside

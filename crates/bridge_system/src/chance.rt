@@ -1,6 +1,6 @@
 //! Chance: getrandom(2).
 ghost use Rattle.std.specs.Prelude.{◌≡◌};
-ghost use Rattle.bridge_io.specs.Passed.{KeepsCall};
+ghost use Rattle.bridge_io.specs.Passed.{KeepsCall, LeadsOn};
 ghost use Rattle.kernel_model.specs.Stops.{StopsOnlyIfRose};
 ghost use Rattle.o32_model.specs.Answered.{IsCall};
 ghost use Rattle.o32_model.specs.Small.{getrandom_row};
@@ -8,11 +8,11 @@ ghost use Rattle.o32_model.specs.Step.{Guest};
 ghost use Rattle.outside.specs.Streams.{NoCountFell, contents};
 
 use crate::numbers::GETRANDOM;
-use bridge_io::{NativeKernel, fill_call};
+use bridge_io::Below;
 use guest_space::Space;
-use host_mem::{FIRST_ADDRESS, HostMem};
+use host_mem::FIRST_ADDRESS;
 use kernel_core::Stop;
-use o32_model::{CallWords, Log, Outcome};
+use o32_model::{CallWords, Outcome};
 use outside::{Devices, Sink, Source};
 
 /// getrandom(2): EINVAL for flags that are none or not both, EFAULT. The longest prefix of the buffer that may be
@@ -23,22 +23,19 @@ pub(crate) fn getrandom<I: Source, O: Sink, E: Sink>(
     count: u32,
     flags: u32,
     space: &mut Space,
-    k: &mut NativeKernel,
-    mem: &mut HostMem,
     dev: &mut Devices<I, O, E>,
-    log: &mut Log,
+    below: &mut Below,
 ) -> Result<Outcome, Stop>
     ensures row { (guest : Guest) → guest.words ≡ words.now → guest.memory ≡ space.old
-        → IsCall (getrandom_row k.old guest buffer count flags) result k.new space.new guest.processor
+        → IsCall (getrandom_row below.old.kernel.now guest buffer count flags) result below.new.kernel.now space.new guest.processor
         (contents I.left O.written E.written dev.old) (contents I.left O.written E.written dev.new) }
     ensures kept { (guest : Guest) → guest.words ≡ words.now → guest.memory ≡ space.old
-        → KeepsCall (getrandom_row k.old guest buffer count flags) result k.old guest (I.left dev.old.input) log.old log.new }
-    ensures clock { k.new.clock ≡ k.old.clock }
+        → KeepsCall (getrandom_row below.old.kernel.now guest buffer count flags) result below.old.kernel.now guest (I.left dev.old.input) below.old.log.now below.new.log.now }
+    ensures clock { below.new.kernel.now.clock ≡ below.old.kernel.now.clock }
     ensures cause { StopsOnlyIfRose I.faults O.faults E.faults result dev.old dev.new }
     ensures counts { NoCountFell I.faults O.faults E.faults dev.old dev.new }
+    ensures same { LeadsOn below.old below.new }
 {
     let args = [FIRST_ADDRESS, u64::from(count), u64::from(flags), 0, 0, 0];
-    fill_call(
-        words, buffer, count, space, k, GETRANDOM, args, mem, dev, log,
-    )
+    below.fill_call(words, buffer, count, space, GETRANDOM, args, dev)
 }

@@ -11,4 +11,5 @@ mod small;
 mod telling;
 
 pub use bridge_io::io_call;
+pub use plain::plain_call;
 pub use small::system_call;

@@ -1,6 +1,6 @@
 //! Limits: getrlimit(2), prlimit(2).
 ghost use Rattle.std.specs.Prelude.{◌≡◌, IfOk, OnOk, length};
-ghost use Rattle.bridge_io.specs.Passed.{KeepsCall};
+ghost use Rattle.bridge_io.specs.Passed.{KeepsCall, LeadsOn};
 ghost use Rattle.kernel_model.specs.Stops.{StopsOnlyIfRose};
 ghost use Rattle.bridge_system.specs.inside.Tells.{IsTaken};
 ghost use Rattle.o32_model.specs.Answered.{IsCall};
@@ -12,11 +12,11 @@ ghost use Rattle.outside.specs.Streams.{NoCountFell, contents};
 use crate::numbers::PRLIMIT64;
 use crate::rlimit::{limit_in, native_limit_bytes, native_number};
 use crate::telling::{Told, tell_call};
-use bridge_io::{NativeKernel, fresh_room, load_structure, number_call};
+use bridge_io::{Below, fresh_room, load_structure};
 use guest_space::Space;
 use host_mem::{FIRST_ADDRESS, HostMem};
 use kernel_core::{NoMemory, Stop};
-use o32_model::{CallWords, Log, Outcome};
+use o32_model::{CallWords, Outcome};
 use outside::{Devices, Sink, Source};
 
 /// The size of a limit in host memory, and of one of prlimit(2) in the program's, in bytes (struct rlimit64).
@@ -31,34 +31,31 @@ pub(crate) fn getrlimit<I: Source, O: Sink, E: Sink>(
     resource: u32,
     address: u32,
     space: &mut Space,
-    k: &mut NativeKernel,
-    mem: &mut HostMem,
     dev: &mut Devices<I, O, E>,
-    log: &mut Log,
+    below: &mut Below,
 ) -> Result<Outcome, Stop>
     ensures row { (guest : Guest) → guest.words ≡ words.now → guest.memory ≡ space.old
-        → IsCall (getrlimit_row k.old guest resource address) result k.new space.new guest.processor
+        → IsCall (getrlimit_row below.old.kernel.now guest resource address) result below.new.kernel.now space.new guest.processor
         (contents I.left O.written E.written dev.old) (contents I.left O.written E.written dev.new) }
     ensures kept { (guest : Guest) → guest.words ≡ words.now → guest.memory ≡ space.old
-        → KeepsCall (getrlimit_row k.old guest resource address) result k.old guest (I.left dev.old.input) log.old log.new }
-    ensures clock { k.new.clock ≡ k.old.clock }
+        → KeepsCall (getrlimit_row below.old.kernel.now guest resource address) result below.old.kernel.now guest (I.left dev.old.input) below.old.log.now below.new.log.now }
+    ensures clock { below.new.kernel.now.clock ≡ below.old.kernel.now.clock }
     ensures cause { StopsOnlyIfRose I.faults O.faults E.faults result dev.old dev.new }
     ensures counts { NoCountFell I.faults O.faults E.faults dev.old dev.new }
+    ensures same { LeadsOn below.old below.new }
 {
-    k.limits_fit();
-    fresh_room(mem, LIMIT_SIZE)?;
+    below.kernel.limits_fit();
+    fresh_room(below.memory, LIMIT_SIZE)?;
     let args = [0, native_number(resource), 0, FIRST_ADDRESS, 0, 0];
     tell_call(
         words,
         address,
         Told::Limits,
         space,
-        k,
         PRLIMIT64,
         args,
-        mem,
         dev,
-        log,
+        below,
     )
 }
 
@@ -72,25 +69,24 @@ pub(crate) fn prlimit<I: Source, O: Sink, E: Sink>(
     new: u32,
     old: u32,
     space: &mut Space,
-    k: &mut NativeKernel,
-    mem: &mut HostMem,
     dev: &mut Devices<I, O, E>,
-    log: &mut Log,
+    below: &mut Below,
 ) -> Result<Outcome, Stop>
     ensures row { (guest : Guest) → guest.words ≡ words.now → guest.memory ≡ space.old
-        → IsCall (prlimit_row k.old guest (cast_signed w32 pid) resource new old) result k.new space.new guest.processor
+        → IsCall (prlimit_row below.old.kernel.now guest (cast_signed w32 pid) resource new old) result below.new.kernel.now space.new guest.processor
         (contents I.left O.written E.written dev.old) (contents I.left O.written E.written dev.new) }
     ensures kept { (guest : Guest) → guest.words ≡ words.now → guest.memory ≡ space.old
-        → KeepsCall (prlimit_row k.old guest (cast_signed w32 pid) resource new old) result k.old guest (I.left dev.old.input) log.old log.new }
-    ensures clock { k.new.clock ≡ k.old.clock }
+        → KeepsCall (prlimit_row below.old.kernel.now guest (cast_signed w32 pid) resource new old) result below.old.kernel.now guest (I.left dev.old.input) below.old.log.now below.new.log.now }
+    ensures clock { below.new.kernel.now.clock ≡ below.old.kernel.now.clock }
     ensures cause { StopsOnlyIfRose I.faults O.faults E.faults result dev.old dev.new }
     ensures counts { NoCountFell I.faults O.faults E.faults dev.old dev.new }
+    ensures same { LeadsOn below.old below.new }
 {
-    k.limits_fit();
-    let place = take_limit(space, new, mem)?;
+    below.kernel.limits_fit();
+    let place = take_limit(space, new, below.memory)?;
     if old == 0 {
         let args = [u64::from(pid), native_number(resource), place, 0, 0, 0];
-        return number_call(words, k, PRLIMIT64, args, mem, dev, log);
+        return below.number_call(words, PRLIMIT64, args, dev);
     }
     let args = [
         u64::from(pid),
@@ -105,12 +101,10 @@ pub(crate) fn prlimit<I: Source, O: Sink, E: Sink>(
         old,
         Told::WideLimits,
         space,
-        k,
         PRLIMIT64,
         args,
-        mem,
         dev,
-        log,
+        below,
     )
 }
 

@@ -1,6 +1,6 @@
 //! The names of the system: uname(2).
 ghost use Rattle.std.specs.Prelude.{◌≡◌};
-ghost use Rattle.bridge_io.specs.Passed.{KeepsCall};
+ghost use Rattle.bridge_io.specs.Passed.{KeepsCall, LeadsOn};
 ghost use Rattle.kernel_model.specs.Stops.{StopsOnlyIfRose};
 ghost use Rattle.o32_model.specs.Answered.{IsCall};
 ghost use Rattle.o32_model.specs.Small.{uname_row};
@@ -9,11 +9,11 @@ ghost use Rattle.outside.specs.Streams.{NoCountFell, contents};
 
 use crate::numbers::UNAME;
 use crate::telling::{Told, tell_call};
-use bridge_io::{NativeKernel, fresh_room};
+use bridge_io::{Below, fresh_room};
 use guest_space::Space;
-use host_mem::{FIRST_ADDRESS, HostMem};
+use host_mem::FIRST_ADDRESS;
 use kernel_core::Stop;
-use o32_model::{CallWords, Log, Outcome};
+use o32_model::{CallWords, Outcome};
 use outside::{Devices, Sink, Source};
 
 /// Six texts of 65 bytes, each with NULs behind it (struct new_utsname of Linux `include/uapi/linux/utsname.h`).
@@ -24,32 +24,20 @@ pub(crate) fn uname<I: Source, O: Sink, E: Sink>(
     words: &CallWords,
     address: u32,
     space: &mut Space,
-    k: &mut NativeKernel,
-    mem: &mut HostMem,
     dev: &mut Devices<I, O, E>,
-    log: &mut Log,
+    below: &mut Below,
 ) -> Result<Outcome, Stop>
     ensures row { (guest : Guest) → guest.words ≡ words.now → guest.memory ≡ space.old
-        → IsCall (uname_row k.old guest address) result k.new space.new guest.processor
+        → IsCall (uname_row below.old.kernel.now guest address) result below.new.kernel.now space.new guest.processor
         (contents I.left O.written E.written dev.old) (contents I.left O.written E.written dev.new) }
     ensures kept { (guest : Guest) → guest.words ≡ words.now → guest.memory ≡ space.old
-        → KeepsCall (uname_row k.old guest address) result k.old guest (I.left dev.old.input) log.old log.new }
-    ensures clock { k.new.clock ≡ k.old.clock }
+        → KeepsCall (uname_row below.old.kernel.now guest address) result below.old.kernel.now guest (I.left dev.old.input) below.old.log.now below.new.log.now }
+    ensures clock { below.new.kernel.now.clock ≡ below.old.kernel.now.clock }
     ensures cause { StopsOnlyIfRose I.faults O.faults E.faults result dev.old dev.new }
     ensures counts { NoCountFell I.faults O.faults E.faults dev.old dev.new }
+    ensures same { LeadsOn below.old below.new }
 {
-    fresh_room(mem, NAMES_SIZE)?;
+    fresh_room(below.memory, NAMES_SIZE)?;
     let args = [FIRST_ADDRESS, 0, 0, 0, 0, 0];
-    tell_call(
-        words,
-        address,
-        Told::Names,
-        space,
-        k,
-        UNAME,
-        args,
-        mem,
-        dev,
-        log,
-    )
+    tell_call(words, address, Told::Names, space, UNAME, args, dev, below)
 }

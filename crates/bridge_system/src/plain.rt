@@ -2,7 +2,7 @@
 ghost use Rattle.std.specs.Prelude.{◌≡◌, false};
 ghost use Rattle.bridge_system.specs.Found.{found};
 ghost use Rattle.bridge_system.specs.System.{small_call};
-ghost use Rattle.bridge_system.specs.inside.Plain.{IsPlain, asks};
+ghost use Rattle.bridge_system.specs.Plain.{IsPlain, asks};
 ghost use Rattle.guest_space.specs.Memory.{Memory};
 ghost use Rattle.kernel_model.specs.SignalRows as signals;
 ghost use Rattle.kernel_model.specs.System as system;
@@ -27,8 +27,11 @@ const USER_ID: u32 = 0;
 /// `include/uapi/linux/futex.h`).
 const ROBUST_LIST_SIZE: u32 = 12;
 
-/// Makes a small call that asks the kernel for nothing. Any other number is ENOSYS.
-pub(crate) fn plain_call(args: &CallWords, cpu: &mut Cpu) -> Outcome
+/// Makes a small call that asks the kernel for nothing, by its words: exit(2), exit_group(2), the ids, cacheflush(2),
+/// sched_yield(2), set_tid_address(2), set_thread_area(2), set_robust_list(2). Any other number is ENOSYS. It takes no
+/// memory.
+#[inline(always)]
+pub fn plain_call(args: &CallWords, cpu: &mut Cpu) -> Outcome
     requires { asks args.now.nr ≡ false }
     ensures { (memory : Memory) → IsPlain (small_call (found args.now cpu.old memory)) result memory cpu.new }
 {

@@ -1,12 +1,10 @@
 //! Calls that are one native call which gives names or a limit.
 ghost use Rattle.std.specs.Prelude.{◌≡◌, ℕ, List, IfOk, OnOk};
-ghost use Rattle.bridge_io.specs.Passed.{AreUnusedZero, IsPlaced};
-ghost use Rattle.bridge_io.specs.Passed.{KeepsCall, reached};
+ghost use Rattle.bridge_io.specs.Passed.{AreUnusedZero, IsPlaced, KeepsCall, LeadsOn, built_call, reached};
 ghost use Rattle.kernel_model.specs.Pipes.{Sent};
 ghost use Rattle.kernel_model.specs.Stops.{StopsOnlyIfRose};
 ghost use Rattle.mips_exec.specs.Processor.{Processor};
 ghost use Rattle.native_calls.specs.Table.{native_call};
-ghost use Rattle.bridge_io.specs.Passed.{built_call};
 ghost use Rattle.bridge_system.specs.inside.Tells.{Tells, bytes_told, memory_told, outcome_told};
 ghost use Rattle.o32_model.specs.Answered.{IsCall};
 ghost use Rattle.o32_model.specs.Effects.{Effected};
@@ -15,7 +13,7 @@ ghost use Rattle.o32_model.specs.Step.{Guest, O32Step, stored};
 ghost use Rattle.outside.specs.Streams.{NoCountFell, contents};
 
 use crate::rlimit::{limit_bytes, limit_there, shown_bytes};
-use bridge_io::{NativeKernel, native, outcome_of, put};
+use bridge_io::{Below, outcome_of, put};
 use guest_space::Space;
 use host_mem::HostMem;
 use kernel_core::{Errno, NoMemory, Reply, Stop};
@@ -41,29 +39,28 @@ pub(crate) fn tell_call<I: Source, O: Sink, E: Sink>(
     address: u32,
     told: Told,
     space: &mut Space,
-    k: &mut NativeKernel,
     nr: u64,
     args: [u64; 6],
-    mem: &mut HostMem,
     dev: &mut Devices<I, O, E>,
-    log: &mut Log,
+    below: &mut Below,
 ) -> Result<Outcome, Stop>
     requires built { built_call nr ≡ native_call nr }
     requires unused { AreUnusedZero nr args }
-    requires placed { IsPlaced nr mem.old }
+    requires placed { IsPlaced nr below.old.memory.now }
     ensures row { (guest : Guest) (step : List ℕ → O32Step) → guest.words ≡ words.now → guest.memory ≡ space.old
-        → ((left : List ℕ) → Tells guest address told (native_call nr args k.old mem.old left) (step left))
-        → IsCall step result k.new space.new guest.processor
+        → ((left : List ℕ) → Tells guest address told (native_call nr args below.old.kernel.now below.old.memory.now left) (step left))
+        → IsCall step result below.new.kernel.now space.new guest.processor
         (contents I.left O.written E.written dev.old) (contents I.left O.written E.written dev.new) }
     ensures kept { (guest : Guest) (step : List ℕ → O32Step) → guest.words ≡ words.now → guest.memory ≡ space.old
-        → ((left : List ℕ) → Tells guest address told (native_call nr args k.old mem.old left) (step left))
-        → KeepsCall step result k.old guest (I.left dev.old.input) log.old log.new }
-    ensures clock { k.new.clock ≡ k.old.clock }
+        → ((left : List ℕ) → Tells guest address told (native_call nr args below.old.kernel.now below.old.memory.now left) (step left))
+        → KeepsCall step result below.old.kernel.now guest (I.left dev.old.input) below.old.log.now below.new.log.now }
+    ensures clock { below.new.kernel.now.clock ≡ below.old.kernel.now.clock }
     ensures cause { StopsOnlyIfRose I.faults O.faults E.faults result dev.old dev.new }
     ensures counts { NoCountFell I.faults O.faults E.faults dev.old dev.new }
+    ensures same { LeadsOn below.old below.new }
 {
-    let reply = native(k, nr, args, mem, dev, log)?;
-    let outcome = tell(words, address, told, mem, reply, space, log)?;
+    let reply = below.native(nr, args, dev)?;
+    let outcome = tell(words, address, told, below.memory, reply, space, below.log)?;
     Ok(outcome)
 }
 

@@ -3,6 +3,7 @@ pub mod EventPosts
 pub mod Logging
 pub mod Numbering
 pub mod Passed
+pub mod Plainly
 pub mod Quieting
 pub mod Recording
 pub mod Steps

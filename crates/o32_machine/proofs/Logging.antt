@@ -21,7 +21,7 @@ use Rattle.native_calls.specs.History.{FollowsPost, moment, opening}
 use Rattle.native_log.specs.NativeLog.{IsReady, NativeLog, as_told, at_time, emptied}
 use Rattle.o32_machine.specs.Emulator.{Emulated, ProcessState, at_clock, machine_at, machine_of}
 use Rattle.o32_machine.specs.Answered.{turns_done}
-use Rattle.o32_machine.specs.Native.{LogsTurn, LogsTurns, TurnLogged, TurnsLogged}
+use Rattle.o32_machine.specs.Native.{LogsTurn, LogsTurns, TurnLogged}
 use Rattle.o32_machine.specs.declared.turn.Turn as code
 use Rattle.o32_machine.specs.inside.Logging.{KeepsNative, LastLogged, LogsLast, PostsLogged, SettledLogged}
 use Rattle.o32_model.specs.Logs.{Kept}

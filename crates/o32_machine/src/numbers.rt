@@ -6,6 +6,7 @@ ghost use Rattle.bridge_signal.specs.Numbers as signal;
 ghost use Rattle.bridge_status.specs.Numbers as status;
 ghost use Rattle.bridge_timer.specs.Numbers as timer;
 ghost use Rattle.bridge_delivery.specs.Passed.{is_call_there as is_wait_there};
+ghost use Rattle.o32_machine.specs.inside.Plainly as plainly;
 ghost use Rattle.o32_model.specs.Table as table;
 
 /// Whether a number is that of a call on descriptors and what they have open.
@@ -122,6 +123,31 @@ pub(crate) fn is_entries_call(nr: u32) -> bool
     ensures { result ≡ entries.is_entries_call nr }
 {
     nr == 4141 || nr == 4219
+}
+
+/// Whether a number is that of a small call that asks the kernel for nothing: exit, the ids, cacheflush, sched_yield,
+/// exit_group, set_tid_address, set_thread_area, set_robust_list.
+#[inline(always)]
+pub(crate) fn is_plain_call(nr: u32) -> bool
+    ensures { result ≡ plainly.is_plain_call nr }
+{
+    match nr {
+        4001 => true,
+        4020 => true,
+        4024 => true,
+        4047 => true,
+        4049 => true,
+        4050 => true,
+        4064 => true,
+        4147 => true,
+        4162 => true,
+        4222 => true,
+        4246 => true,
+        4252 => true,
+        4283 => true,
+        4309 => true,
+        _ => false,
+    }
 }
 
 /// Whether a number is that of a call on clocks or a sleep.

@@ -1,5 +1,5 @@
 //! The process of an o32 program: its processor and memory, the kernel that it calls, and the steps of its turns.
-ghost use Rattle.std.specs.Prelude.{◌≡◌, ◌+◌, ◌-◌, ◌*◌, ◌%◌, ◌<◌, ◌^◌, ◌≤◌, ◌↔◌, ◌++◌, ◌||◌, [], ◌∷◌, max, ℕ, Contains, false, if◌then◌else◌, IfErr, IfOk, IfSome, None, OnOk, is_some, option_map};
+ghost use Rattle.std.specs.Prelude.{◌≡◌, ◌+◌, List, true, ◌-◌, ◌*◌, ◌%◌, ◌<◌, ◌^◌, ◌≤◌, ◌↔◌, ◌++◌, ◌||◌, [], ◌∷◌, max, ℕ, Contains, false, if◌then◌else◌, IfErr, IfOk, IfSome, None, OnOk, is_some, option_map};
 ghost use Rattle.bridge_delivery.specs.Ended.{ended_wait};
 ghost use Rattle.kernel_core.specs.LoadedTree.{saved};
 ghost use Rattle.kernel_core.specs.ValidTree.{IsReached, IsValidTree, numbers};
@@ -8,11 +8,12 @@ ghost use Rattle.kernel_model.specs.Clock.{gone_off};
 ghost use Rattle.kernel_model.specs.Stops.{StopsOnlyIfRose};
 ghost use Rattle.mips_exec.specs.Processor.{register};
 ghost use Rattle.mips_exec.specs.Going.{GoesThen};
-ghost use Rattle.o32_machine.specs.Answered.{IsTurn, over_of, turns_of};
+ghost use Rattle.o32_machine.specs.Answered.{IsTurn, Turned, over_of, turns_of};
 ghost use Rattle.o32_machine.specs.Emulator.{at_clock, coming_of, first_process, first_standing, machine_at, machine_of, within_at, within_now};
-ghost use Rattle.native_log.specs.NativeLog.{IsReady, emptied};
+ghost use Rattle.native_log.specs.NativeLog.{IsReady, NativeLog as KeptLog, emptied};
 ghost use Rattle.o32_machine.specs.inside.Finishing.{finished};
-ghost use Rattle.o32_machine.specs.inside.Logging.{KeepsNative, LogsLast, LogsSettled, PostsLogged};
+ghost use Rattle.o32_machine.specs.inside.Logging.{KeepsNative, LastLogged, LogsLast, LogsSettled, PostsLogged};
+ghost use Rattle.o32_machine.specs.inside.Plainly.{called_of, is_plain_call};
 ghost use Rattle.o32_machine.specs.Records.{RecordsCall};
 ghost use Rattle.o32_machine.specs.inside.Quieting.{goes, next_due};
 ghost use Rattle.o32_machine.specs.inside.Recording.{KeepsEffects, RecordsBefore, RecordsBehind, RecordsStep};
@@ -24,16 +25,20 @@ ghost use Rattle.o32_turns.specs.Posting.{posted};
 ghost use Rattle.o32_turns.specs.Turn.{after_events, next_event, next_for, second_step, sixth_step, third_step, whole};
 ghost use Rattle.o32_model.specs.Words.{a3, v0, with_result};
 ghost use Rattle.o32_model.specs.declared.call_words.CallWords.{CallWords};
-ghost use Rattle.turn_records.specs.Keeping.{no_effects};
-ghost use Rattle.outside.specs.Streams.{NoCountFell, contents};
+ghost use Rattle.turn_records.specs.Entry.{IsOne};
+ghost use Rattle.turn_records.specs.Keeping.{Gains, no_effects};
+ghost use Rattle.turn_records.specs.Turn.{IsCallEntry};
+ghost use Rattle.outside.specs.Streams.{Contents, NoCountFell, contents};
 ghost use Rattle.schedule.specs.Ranges.{IsGivenSchedule};
 
 use crate::calls::make_call;
+use crate::numbers::is_plain_call;
 use crate::posting::post_due;
 use crate::times::{deadline_in, if_comes, is_over_at, later, sooner};
 use crate::turn::Turn;
 use bridge_delivery::{accepts, deliver, end_wait, is_quiet, post_timer};
 use bridge_mem::args;
+use bridge_system::plain_call;
 use guest_space::Space;
 use host_mem::HostMem;
 use kernel_core::{Effect, Event, Finish, Info, NoMemory, Sig, Stop, Tree};
@@ -668,7 +673,7 @@ impl Process {
     }
 
     /// Makes the call of the SYSCALL that was just executed, at the kernel's time `clock`, in nanoseconds; `turn` is the turn's
-    /// number. It stands apart from the path of the other instructions, which keeps its buffers off their stack.
+    /// number. It stands apart from the path of the other instructions.
     #[cold]
     #[inline(never)]
     pub(crate) fn call<I: Source, O: Sink, E: Sink>(
@@ -696,6 +701,10 @@ impl Process {
         ensures cause { StopsOnlyIfRose I.faults O.faults E.faults result dev.old dev.new }
         ensures counts { NoCountFell I.faults O.faults E.faults dev.old dev.new }
     {
+        if self.asks_nothing() {
+            let plain = self.call_plainly(turn, records, was)?;
+            return Ok(plain);
+        }
         let words = args(&self.space, &self.cpu);
         let seen = self.seen(clock);
         records.look(&self.cpu, was);
@@ -713,6 +722,42 @@ impl Process {
         )?;
         let (calls, effects) = halves(log);
         native.add(calls, clock)?;
+        let ended = self.finish(&words, outcome)?;
+        records.add_call(turn, was, &self.cpu, effects)?;
+        Ok(ended)
+    }
+
+    /// Whether the SYSCALL that was just executed makes a call that asks the kernel for nothing.
+    #[inline(always)]
+    fn asks_nothing(&self) -> bool
+        ensures { result ≡ is_plain_call (register self.now.processor v0) }
+    {
+        is_plain_call(self.cpu.register(V0))
+    }
+
+    /// Makes such a call. It stands apart from the others since it wants no buffer, no log and nothing that they see of the
+    /// machine.
+    #[inline(always)]
+    fn call_plainly(
+        &mut self,
+        turn: u64,
+        records: &mut TurnRecords,
+        was: &mut Registers,
+    ) -> Result<Turn, NoMemory>
+        requires { is_plain_call (register self.old.processor v0) ≡ true }
+        ensures turn { IfOk result (λ turn. (left : List ℕ) (at : Contents) → at.left ≡ Some left
+            → Turned (called_of self.old left) turn (machine_of self.new) self.new.going.events at at) }
+        ensures native { OnOk result ((left : List ℕ) (log : KeptLog) → LastLogged self.old.kernel self.new.kernel left (called_of self.old left) log log) }
+        ensures records { OnOk result ((left : List ℕ)
+            → Gains records.old records.new (IsOne (IsCallEntry turn ((self.old.processor.pc + (2 ^ 32 - 4)) % 2 ^ 32) (machine_of self.old) (called whole (machine_of self.old) left)))) }
+        ensures counted { IfOk result (λ turn. turns_of turn ≡ 1) }
+        ensures clock { self.new.kernel.clock ≡ self.old.kernel.clock }
+        ensures idle { self.new.idle ≡ self.old.idle }
+    {
+        let words = args(&self.space, &self.cpu);
+        records.look(&self.cpu, was);
+        let effects = records.part();
+        let outcome = plain_call(&words, &mut self.cpu);
         let ended = self.finish(&words, outcome)?;
         records.add_call(turn, was, &self.cpu, effects)?;
         Ok(ended)

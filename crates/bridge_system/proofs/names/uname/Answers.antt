@@ -9,12 +9,12 @@ use Rattle.bridge_system.proofs.names.uname.Goals as goal
 
 pub returns-clause-row : goal.returns-clause-row
 returns-clause-row g c = λ guest same memory.
-    c.tell_call.ensures.row guest (uname_row c.args.k.now guest c.args.address) same memory
-    (λ left. subst (λ (m : List ℕ). Tells guest c.args.address Names (native_call 160 (65536 ∷ 0 ∷ 0 ∷ 0 ∷ 0 ∷ 0 ∷ []) c.args.k.now m left) (uname_row c.args.k.now guest c.args.address left)) (sym c.in_ok-fresh_room.ensures)
-    (uname_tells guest c.args.k.now left c.args.address))
+    c.tell_call.ensures.row guest (uname_row c.args.below.now.kernel.now guest c.args.address) same memory
+    (λ left. subst (λ (m : List ℕ). Tells guest c.args.address Names (native_call 160 (65536 ∷ 0 ∷ 0 ∷ 0 ∷ 0 ∷ 0 ∷ []) c.args.below.now.kernel.now m left) (uname_row c.args.below.now.kernel.now guest c.args.address left)) (sym c.in_ok-fresh_room.ensures)
+    (uname_tells guest c.args.below.now.kernel.now left c.args.address))
 
 pub returns-clause-kept : goal.returns-clause-kept
 returns-clause-kept g c = λ guest same memory.
-    c.tell_call.ensures.kept guest (uname_row c.args.k.now guest c.args.address) same memory
-    (λ left. subst (λ (m : List ℕ). Tells guest c.args.address Names (native_call 160 (65536 ∷ 0 ∷ 0 ∷ 0 ∷ 0 ∷ 0 ∷ []) c.args.k.now m left) (uname_row c.args.k.now guest c.args.address left)) (sym c.in_ok-fresh_room.ensures)
-    (uname_tells guest c.args.k.now left c.args.address))
+    c.tell_call.ensures.kept guest (uname_row c.args.below.now.kernel.now guest c.args.address) same memory
+    (λ left. subst (λ (m : List ℕ). Tells guest c.args.address Names (native_call 160 (65536 ∷ 0 ∷ 0 ∷ 0 ∷ 0 ∷ 0 ∷ []) c.args.below.now.kernel.now m left) (uname_row c.args.below.now.kernel.now guest c.args.address left)) (sym c.in_ok-fresh_room.ensures)
+    (uname_tells guest c.args.below.now.kernel.now left c.args.address))

@@ -4,21 +4,23 @@ use Rattle.bridge_log.specs.Keeping.{Logged}
 use Rattle.kernel_core.specs.declared.log_entry.LogEntry.{LogEntry}
 use Rattle.native_calls.specs.History.{moment, opening}
 use Rattle.o32_machine.proofs.Recording.{call_recorded, looked}
-use Rattle.o32_machine.proofs.Turning.{call_goes, call_lacks, call_stops, its_turn}
+use Rattle.o32_machine.proofs.Turning.{call_goes, call_lacks, call_stops, fails_before, its_turn}
 use Rattle.o32_machine.specs.Emulator.{ProcessState, coming_of, machine_of}
 use Rattle.o32_machine.specs.inside.Logging.{LastLogged}
+use Rattle.o32_machine.specs.inside.Plainly.{called_of}
 use Rattle.o32_turns.specs.Instruction.{seen_of}
 use Rattle.o32_turns.specs.Machine.{Turn}
 use Rattle.o32_machine.proofs.Logging.{call_logged}
 use Rattle.o32_model.specs.Table.{machine_call}
 use Rattle.bridge_system.specs.Found.{found}
+use Rattle.outside.specs.Streams.{contents}
 use Rattle.o32_machine.proofs.process.Process.call.Goals as goal
 
 pub returns-in_err-outcome-clause-turn : goal.returns-in_err-outcome-clause-turn
 returns-in_err-outcome-clause-turn g c = λ left told.
     let process : ProcessState = record { processor = c.self.inside.cpu; memory = c.self.inside.space; kernel = c.self.inside.kernel; going = c.self.inside.going; coming = coming_of c.self.inside.schedule; idle = c.self.inside.idle } in
     let sees : c.seen-seen.result ≡ seen_of (machine_of process) = c.seen-seen.ensures ∙ ap (λ (p : ProcessState). seen_of (machine_of p)) (sym c.self.view_is) in
-    call_stops c.args.self.now process c.seen-seen.result c.args-words.result left c.self.view_is sees c.args-words.ensures c.from_residual.result _ _ _ _ c.from_residual.ensures.0 (c.in_err-outcome.ensures.row left told)
+    call_stops c.args.self.now process c.seen-seen.result c.args-words.result left c.self.view_is sees c.args-words.ensures c.from_residual-in_err-outcome.result _ _ _ _ c.from_residual-in_err-outcome.ensures.0 (c.in_err-outcome.ensures.row left told)
 
 pub returns-in_err-ended-clause-turn : goal.returns-in_err-ended-clause-turn
 returns-in_err-ended-clause-turn g c = λ left told.
@@ -72,3 +74,19 @@ returns-clause-native g c = λ left told ready.
     (c.in_ok-outcome.ensures.kept left told).native) ready
     (λ first logged. c.in_ok-add.ensures.leads c.self.inside.kernel c.make_call.new.k left _ _ _ (ap (λ (p : ProcessState). p.kernel.clock) c.self.view_is ∙ c.requires.clock)
     (c.make_call.ensures.clock ∙ ap (λ (p : ProcessState). p.kernel.clock) c.self.view_is ∙ c.requires.clock) first logged))
+
+-- a call that asks the kernel for nothing
+
+pub returns-then-asks_nothing-clause-turn : goal.returns-then-asks_nothing-clause-turn
+returns-then-asks_nothing-clause-turn g c = λ left told.
+    c.in_ok-plain.ensures.turn left (contents g.I.Source.left g.O.Sink.written g.E.Sink.written c.args.dev.now) told
+
+pub returns-in_err-plain-clause-turn : goal.returns-in_err-plain-clause-turn
+returns-in_err-plain-clause-turn g c = λ left told.
+    fails_before (called_of c.args.self.now left) c.from_residual.result _ _ (contents g.I.Source.left g.O.Sink.written g.E.Sink.written c.args.dev.now) c.from_residual.ensures.0
+
+pub returns-then-asks_nothing-clause-native : goal.returns-then-asks_nothing-clause-native
+returns-then-asks_nothing-clause-native g c = λ left told ready. c.in_ok-plain.ensures.native left c.args.native.now
+
+pub returns-then-asks_nothing-clause-records : goal.returns-then-asks_nothing-clause-records
+returns-then-asks_nothing-clause-records g c = λ left told. c.in_ok-plain.ensures.records left
