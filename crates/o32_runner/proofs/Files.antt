@@ -8,7 +8,7 @@ use Rattle.outside.specs.Output.{IsPrefix, with_text}
 use Rattle.outside.proofs.FileLemmas.{bytes_eq-differ, bytes_eq-same}
 use Rattle.outside.proofs.OutputLemmas.{IsPrefix-empty, IsPrefix-refl}
 use Rattle.o32_runner.specs.Making.{Makes, MakesBoth, MakesNone, MakesNotAll, MakesNotBoth}
-use Rattle.o32_runner.specs.Stored.{HasText, IfNamed, SavesText, Stored}
+use Rattle.stored_files.specs.Stored.{HasText, IfNamed, SavesText, Stored}
 use Rattle.o32_runner.specs.Texts.{Differ}
 use Rattle.o32_runner.specs.inside.Told.{Adds, AddsBoth, AddsPart, AddsPartOfAll, AddsPartOfBoth, AddsText}
 

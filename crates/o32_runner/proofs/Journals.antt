@@ -21,7 +21,7 @@ use Rattle.outside.specs.Output.{IsPrefix}
 use Rattle.o32_runner.specs.JournalText.{HasCutJournal, HasJournal, IsCutJournal, IsWholeJournal, KeepsAs, front_to_come}
 use Rattle.o32_runner.specs.Making.{IsByStore, IsUnbegun, MakesAll, MakesNotAll, StopsBehind}
 use Rattle.o32_runner.specs.Runs.{GoesSo, IsOver, RunsTo, WithinBudget}
-use Rattle.o32_runner.specs.Stored.{IfNamed, Stored}
+use Rattle.stored_files.specs.Stored.{IfNamed, Stored}
 use Rattle.o32_runner.specs.Texts.{AllDiffer, BeginsJournal, BeginsLog, WritesEach, WritesTexts}
 use Rattle.o32_runner.specs.declared.told.Cut.{Cut}
 use Rattle.o32_runner.specs.inside.Told.{EndsBudget, TakesAll, WritesOnlyIfRose, budget_record, journal_of, native_of, stop_of, trace_of}

@@ -2,7 +2,7 @@
 -- follows.
 use Rattle.std.proofs.Common.{◌≡◌, ◌∙◌, ◌+◌, ℕ, Bool, true, List, [], Option, Some, None, IfOk, Ok, Err, Result, ap, refl, sym}
 use Rattle.std.specs.Prelude.{is_some}
-use Rattle.o32_machine.specs.Passed.{Logged}
+use Rattle.o32_machine.specs.Passed.{Logged, emptied as emptied_log}
 use Rattle.kernel_core.specs.declared.core_error.Stop.{Stop}
 use Rattle.kernel_core.specs.declared.event.Event.{Event}
 use Rattle.kernel_core.specs.declared.finish.Finish.{Finish}
@@ -10,7 +10,6 @@ use Rattle.kernel_core.specs.declared.finish.Finish.TheVariants.{Exited, Killed,
 use Rattle.kernel_core.specs.declared.log_entry.LogEntry.{LogEntry}
 use Rattle.kernel_core.specs.declared.record.Record.{Record}
 use Rattle.native_calls.specs.History.{Moment}
-use Rattle.o32_machine.specs.Passed.{emptied as emptied_log}
 use Rattle.o32_machine.specs.Answered.{is_end, over_of}
 use Rattle.o32_machine.specs.Emulator.{Emulated}
 use Rattle.o32_machine.specs.Native.{LogsTurns}

@@ -16,7 +16,7 @@ use Rattle.outside.specs.Streams.{Contents}
 use Rattle.trace_text.specs.Trace.{trace_line}
 use Rattle.o32_runner.specs.NativeText.{HasCutLog, HasLog, IsCutLog, IsWholeLog, LogsAs}
 use Rattle.o32_runner.specs.Runs.{GoesSo, IsOver, RunsTo, WithinBudget}
-use Rattle.o32_runner.specs.Stored.{IfNamed, Stored}
+use Rattle.stored_files.specs.Stored.{IfNamed, Stored}
 use Rattle.o32_runner.specs.Texts.{BeginsLog, Differ}
 use Rattle.o32_runner.specs.Traced.{IsTrace, TracesAs}
 use Rattle.o32_runner.specs.declared.told.Cut.{Cut}

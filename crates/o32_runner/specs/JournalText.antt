@@ -10,7 +10,7 @@ use Rattle.o32_turns.specs.Machine.{Machine}
 use Rattle.o32_turns.specs.Runs.{attempt, reached}
 use Rattle.turn_records.specs.Run.{AreRecordsOfRun, AreRecordsUpTo, end_of}
 use Rattle.turn_records.specs.Turn.{AreRecordsOf}
-use Rattle.o32_runner.specs.Stored.{IsPartly, Stored, WritesText}
+use Rattle.stored_files.specs.Stored.{IsPartly, Stored, WritesText}
 
 -- The text
 

@@ -4,7 +4,6 @@ pub mod Making
 pub mod NativeText
 pub mod Passed
 pub mod Runs
-pub mod Stored
 pub mod Texts
 pub mod Trace
 pub mod Traced

@@ -6,7 +6,7 @@ use Rattle.outside.specs.Streams.{Contents}
 use Rattle.kernel_core.specs.declared.core_error.Stop.{Stop}
 use Rattle.kernel_core.specs.declared.core_error.Stop.TheVariants.{NoMemory, ReadFault, WriteFault}
 use Rattle.kernel_core.specs.declared.finish.Finish.{Finish}
-use Rattle.o32_runner.specs.Stored.{IfNamed, IsUnmade, SavesText, Stored}
+use Rattle.stored_files.specs.Stored.{IfNamed, IsUnmade, SavesText, Stored}
 
 -- the file was made and is empty, where one is named
 abbrev pub Makes : Option (List ℕ) → Stored → Stored → Type 0

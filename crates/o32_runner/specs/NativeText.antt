@@ -11,7 +11,7 @@ use Rattle.native_calls.specs.History.{Leads, moment, opening}
 use Rattle.o32_machine.specs.Passed.{at_time}
 use Rattle.o32_turns.specs.Machine.{Machine}
 use Rattle.o32_turns.specs.Runs.{attempt, more_sent, reached}
-use Rattle.o32_runner.specs.Stored.{IsPartly, Stored, WritesText}
+use Rattle.stored_files.specs.Stored.{IsPartly, Stored, WritesText}
 use Rattle.trace_text.specs.NativeLog.{native_line}
 
 -- Entries turn by turn are a function: at k it gives those of the attempt at the turn after k turns.

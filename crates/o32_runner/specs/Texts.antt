@@ -8,7 +8,7 @@ use Rattle.o32_turns.specs.Machine.{Machine}
 use Rattle.o32_runner.specs.JournalText.{KeepsAs}
 use Rattle.o32_runner.specs.Making.{IsUnbegun}
 use Rattle.o32_runner.specs.NativeText.{LogsAs}
-use Rattle.o32_runner.specs.Stored.{IfNamed, Stored}
+use Rattle.stored_files.specs.Stored.{IfNamed, Stored}
 use Rattle.o32_runner.specs.Traced.{TracesAs}
 use Rattle.turn_records.specs.Keeping.{Records, first_records}
 

@@ -7,7 +7,7 @@ use Rattle.kernel_core.specs.declared.core_error.Stop.{Stop}
 use Rattle.kernel_core.specs.declared.core_error.Stop.TheVariants.{NoMemory, ReadFault, WriteFault}
 use Rattle.kernel_core.specs.declared.finish.Finish.{Finish}
 use Rattle.o32_turns.specs.Machine.{Machine}
-use Rattle.o32_runner.specs.Stored.{IsPartly, Stored, WritesText}
+use Rattle.stored_files.specs.Stored.{IsPartly, Stored, WritesText}
 use Rattle.o32_runner.specs.Trace.{next_lines, traced, whole_trace}
 
 -- The text of the trace of a run that is over so after these turns, and of one that stopped after them: the lines of these turns with a part of what is

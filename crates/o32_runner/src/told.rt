@@ -7,7 +7,7 @@ ghost use Rattle.o32_runner.specs.JournalText.{front_to_come, records_text};
 ghost use Rattle.o32_runner.specs.Making.{Makes, MakesAll, MakesBoth, MakesNone, MakesNotAll, MakesNotBoth, StopsBehind};
 ghost use Rattle.o32_runner.specs.NativeText.{entry_lines};
 ghost use Rattle.o32_runner.specs.Runs.{IsFresh, KeepsTexts, RunsAs, WithinBudget, no_turn_follows};
-ghost use Rattle.o32_runner.specs.Stored.{Stored, stored_of};
+ghost use Rattle.stored_files.specs.Stored.{Stored, stored_of};
 ghost use Rattle.o32_runner.specs.Texts.{AllDiffer, BeginsJournal, BeginsLog, WritesTexts};
 ghost use Rattle.o32_runner.specs.Traced.{StopsOnlyIfAnyRose};
 ghost use Rattle.o32_runner.specs.inside.Told.{Adds, AddsAll, AddsBoth, AddsPart, AddsPartOfAll, AddsPartOfBoth, EndsBudget, IsMade, TakesAll, WritesOnlyIfRose, budget_record, journal_of, native_of, number_of, stop_in, stop_of, told_lines, told_records, trace_of};

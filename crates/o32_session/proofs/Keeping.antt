@@ -4,10 +4,10 @@ use Rattle.std.specs.Prelude.{is_some}
 use Rattle.o32_runner.specs.Passed.{NativeLog, first_log}
 use Rattle.o32_runner.specs.Emulators.{Emulated}
 use Rattle.o32_runner.specs.Runs.{KeepsTexts}
-use Rattle.o32_session.specs.Asked.{Names}
-use Rattle.o32_session.specs.Session.{KeepsNamed, no_names}
+use Rattle.session_files.specs.Inputs.{Names, no_names}
+use Rattle.o32_session.specs.Session.{KeepsNamed}
 use Rattle.o32_session.specs.Words.{word_at}
-use Rattle.turn_records.specs.Keeping.{Records, first_records}
+use Rattle.turn_records.specs.Keeping.{first_records}
 
 log_is : (kept : Bool) → is_some (first_log kept).entries ≡ kept
 log_is true = refl

@@ -15,23 +15,25 @@ use Rattle.native_kernel.proofs.Rounds.{length-round}
 use Rattle.o32_runner.specs.Emulators.{Emulated}
 use Rattle.o32_turns.specs.Machine.{Machine}
 use Rattle.o32_runner.specs.JournalText.{HasJournal, IsWholeJournal, KeepsAs, records_text}
-use Rattle.o32_runner.specs.Stored.{HasText, IfNamed, Stored, WritesText}
+use Rattle.stored_files.specs.Stored.{HasText, IfNamed, Stored, WritesText}
 use Rattle.o32_runner.specs.Texts.{Differ}
 use Rattle.o32_runner.proofs.RecordForms.{are_records}
-use Rattle.o32_session.specs.Answers.{finish_of}
-use Rattle.o32_session.specs.Asked.{Asked, AsksFor, Names, Run, IsOpened, arguments_of, first_machine, journal_front, names_of, stack_chance}
+use Rattle.session_files.specs.Answers.{finish_of}
+use Rattle.o32_session.specs.Asked.{Asked, AsksFor, Run, arguments_of, first_machine, journal_front, stack_chance}
+use Rattle.session_files.specs.Inputs.{Names, IsOpened, names_of}
 use Rattle.o32_session.specs.LeftJournal.{LeavesJournal}
 use Rattle.o32_session.specs.Soaked.{AnswersCommand}
-use Rattle.o32_session.specs.Saved.{SavesTree}
-use Rattle.o32_session.specs.Session.{Answers, AnswersReading, AsksForRun, Finishes, Seen, final_tree, once_loaded}
+use Rattle.session_files.specs.Saved.{SavesTree}
+use Rattle.o32_session.specs.Session.{Answers, AnswersReading, AsksForRun, Finishes, final_tree, once_loaded}
+use Rattle.session_files.specs.Seen.{Seen}
 use Rattle.o32_session.specs.Words.{Asks, Command, ReplayCommand, RunCommand, SoakCommand, command_of, read_words}
-use Rattle.o32_session.specs.declared.answer.End.{End}
-use Rattle.o32_session.specs.declared.answer.End.TheVariants.{Exited, Killed, Budget, Blocked, Soaked, Replayed, Refused, Diverged, ReadFault, WriteFault, NoMemory}
+use Rattle.session_files.specs.declared.end.End.{End}
+use Rattle.session_files.specs.declared.end.End.TheVariants.{Exited, Killed, Budget, Blocked, Soaked, Replayed, Refused, Diverged, ReadFault, WriteFault, NoMemory}
 use Rattle.session_words.proofs.Budgets.{budget_within}
 use Rattle.o32_session.proofs.Naming.{saved_apart}
-use Rattle.o32_session.proofs.Plain.{are_texts, asked_plain}
-use Rattle.o32_session.proofs.ReadWords.{IsUtf8Word, asked_of_words}
-use Rattle.o32_session.proofs.Repeating.{no_run, no_run_of_soak}
+use Rattle.session_files.proofs.Plain.{are_texts, asked_plain}
+use Rattle.session_files.proofs.ReadWords.{IsUtf8Word, asked_of_words}
+use Rattle.o32_session.proofs.Commands.{no_run, no_run_of_soak}
 use Rattle.o32_session.proofs.Sessions.{asks_run}
 
 -- The file

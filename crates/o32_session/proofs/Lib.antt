@@ -2,14 +2,10 @@ pub mod Naming
 pub mod Preparing
 pub mod Loading
 pub mod Faults
-pub mod Trees
 pub mod Keeping
 pub mod Sessions
 pub mod SavedFiles
-pub mod Plain
 pub mod Saves
-pub mod Chance
 pub mod Soaking
-pub mod Repeating
-pub mod ReadWords
+pub mod Commands
 pub mod LeftJournals

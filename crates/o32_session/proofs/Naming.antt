@@ -10,9 +10,9 @@ use Rattle.kernel_core.specs.declared.core_error.Stop.{Stop}
 use Rattle.kernel_core.specs.declared.finish.Finish.{Finish}
 use Rattle.o32_turns.specs.Machine.{Machine}
 use Rattle.o32_runner.specs.Runs.{WithinBudget}
-use Rattle.o32_runner.specs.Stored.{Stored}
+use Rattle.stored_files.specs.Stored.{Stored}
 use Rattle.o32_runner.specs.Texts.{AllDiffer, BeginsJournal, BeginsLog, Differ, WritesTexts}
-use Rattle.o32_session.specs.Asked.{names_of}
+use Rattle.session_files.specs.Inputs.{names_of}
 use Rattle.o32_session.specs.Words.{Line, Reading, Asks, WrongAt, compare_names, equal_name, equal_to_journal, equal_to_native, equal_to_saved, equal_to_written, first_of, later_of_equal, read_line, read_words, with_names, word_at}
 use Rattle.o32_session.specs.inside.Prepared.{IsPrepared}
 use Rattle.o32_session.specs.declared.prepare.Ready.{Ready}

@@ -1,5 +1,5 @@
 -- What the steps before a run come to.
-use Rattle.std.proofs.Common.{◌≡◌, ◌<◌, ◌≤◌, ℕ, Bool, cond, List, Option, None, Result, Ok, Err, IfOk, IfErr, ap, ◌∙◌, sym, subst, refl, arith}
+use Rattle.std.proofs.Common.{◌≡◌, ◌<◌, ◌≤◌, ℕ, Bool, cond, List, Option, Result, Ok, Err, IfOk, IfErr, ap, ◌∙◌, sym, subst, refl, arith}
 use Rattle.std.proofs.lemmas.Bool.{le-ltb}
 use Rattle.guest_space.specs.Memory.{Memory}
 use Rattle.kernel_model.specs.Begin.{first_state}
@@ -12,52 +12,19 @@ use Rattle.start_stack.specs.Stack.{start_size, start_limit}
 use Rattle.start_stack.specs.Start.{start_memory, start_processor}
 use Rattle.outside.specs.Files.{Files}
 use Rattle.kernel_core.specs.declared.tree.Tree.{Tree}
-use Rattle.elf_image.specs.Rules.{first_failure}
-use Rattle.elf_image.specs.Loading.{plan_of, IsValidPlan}
 use Rattle.elf_image.specs.declared.load_plan.Plan.{Plan}
 use Rattle.o32_session.specs.Words.{Line}
-use Rattle.o32_session.specs.Asked.{Asked, Refuse, Run, names_of, Absent, Long, Bytes, IsFound, IsOpened, IsScheduled, asked_of_schedule, AsksOfPlan, AsksUnless, AsksFor, arguments_of, first_machine, journal_front, program_limit, stack_chance}
-use Rattle.o32_session.specs.inside.Prepared.{IsLoaded, IsElfReason, IsRefusedFor, is_absent, is_long, is_broken, IsPlanOf, IsPlanned, IsTree, IsScheduledAs, IsStartReason, IsPreparedLine}
-use Rattle.o32_session.specs.declared.answer.Refusal.{Refusal}
-use Rattle.o32_session.specs.declared.answer.Refusal.TheVariants.{Usage, Missing, TooLong, Elf, Image, Start, Journal}
-use Rattle.o32_session.specs.declared.answer.Refusal.TheVariants as refusals
-use Rattle.o32_session.specs.declared.load.SessionFile.TheVariants as which
-use Rattle.o32_session.specs.declared.not_run.NotRun.{NotRun}
-use Rattle.o32_session.specs.declared.not_run.NotRun.TheVariants.{Refused, ReadFault, NoMemory}
+use Rattle.o32_session.specs.Asked.{Asked, Refuse, Run, asked_of_schedule, AsksOfPlan, AsksUnless, AsksFor, arguments_of, first_machine, journal_front, stack_chance}
+use Rattle.session_files.specs.Inputs.{names_of, Absent, Long, Bytes, IsOpened, IsScheduled}
+use Rattle.session_files.specs.Steps.{AreInputs, AreLoaded, AreRefusedFor, at_program, at_image, at_schedule, IsRefusedFor, is_absent, is_long, is_broken, IsPlanOf}
+use Rattle.o32_session.specs.inside.Prepared.{IsStartReason, IsPreparedLine}
+use Rattle.session_files.specs.declared.refusal.Refusal.{Refusal}
+use Rattle.session_files.specs.declared.refusal.Refusal.TheVariants.{Usage, Missing, TooLong, Elf, Image, Start, Journal}
+use Rattle.session_files.specs.declared.refusal.Refusal.TheVariants as refusals
+use Rattle.session_files.specs.declared.inputs.Inputs.{Inputs}
+use Rattle.session_files.specs.declared.not_run.NotRun.{NotRun}
+use Rattle.session_files.specs.declared.not_run.NotRun.TheVariants.{Refused, ReadFault, NoMemory}
 use Rattle.o32_session.specs.declared.prepare.Ready.{Ready}
-
--- The program
-
--- what the bytes of a program come to
-pub planned : (told : Option Files) (name bytes : List ℕ) → IsFound told program_limit name (Bytes bytes) → (result : Result Plan NotRun) →
-    IfOk result (λ plan. (first_failure bytes ≡ None) × ((plan ≡ plan_of bytes) × IsValidPlan plan)) →
-    IfErr result (IsElfReason (first_failure bytes)) → IsPlanned told name result
-planned told name bytes found (Ok plan) is reason =
-    record { bytes = bytes; found = found; formed = is.0; same = is.1.0; valid = is.1.1 }
-planned told name bytes found (Err (Refused (Elf rule))) is reason = is_broken bytes rule found reason
-planned told name bytes found (Err (Refused (Usage word))) is reason = absurd reason
-planned told name bytes found (Err (Refused (Missing file))) is reason = absurd reason
-planned told name bytes found (Err (Refused (TooLong file))) is reason = absurd reason
-planned told name bytes found (Err (Refused (Image broken))) is reason = absurd reason
-planned told name bytes found (Err (Refused (refusals.Schedule broken))) is reason = absurd reason
-planned told name bytes found (Err (Refused Start)) is reason = absurd reason
-planned told name bytes found (Err (Refused (Journal at))) is reason = absurd reason
-planned told name bytes found (Err ReadFault) is reason = tt
-planned told name bytes found (Err NoMemory) is reason = tt
-
--- no program was loaded
-pub unplanned : (told : Option Files) (name : List ℕ) (reason : NotRun) → IsLoaded {A = ℕ} told which.Program name (Err reason) →
-    IsPlanned told name (Err reason)
-unplanned told name (Refused (Missing file)) is = subst (λ n. IsRefusedFor told name (Missing n)) (sym is.0) (is_absent is.1)
-unplanned told name (Refused (TooLong file)) is = subst (λ n. IsRefusedFor told name (TooLong n)) (sym is.0) (is_long is.1)
-unplanned told name (Refused (Usage word)) is = absurd is
-unplanned told name (Refused (Elf rule)) is = absurd is
-unplanned told name (Refused (Image broken)) is = absurd is
-unplanned told name (Refused (refusals.Schedule broken)) is = absurd is
-unplanned told name (Refused Start) is = absurd is
-unplanned told name (Refused (Journal at)) is = absurd is
-unplanned told name ReadFault is = tt
-unplanned told name NoMemory is = tt
 
 -- A line
 
@@ -71,22 +38,6 @@ asks_planned words line told plan found asked is image asks = (
   subst (λ f. AsksUnless (arguments_of words line) line (names_of words line) told is.bytes f asked) (sym is.formed)
       (found, image, subst (λ p. AsksOfPlan (arguments_of words line) line (names_of words line) told p found asked) is.same asks),
 )
-
--- there is no tree
-pub unopened_line : (words : List (List ℕ)) (line : Line) (told : Option Files) (plan : Plan) (reason : NotRun) →
-    IsPlanOf told (names_of words line).program plan → IsTree told (names_of words line).image (Err reason) → IsPreparedLine words line told (Err reason)
-unopened_line words line told plan (Refused refusal) is image = asks_planned words line told plan (Err refusal) (Refuse refusal) is image refl
-unopened_line words line told plan ReadFault is image = tt
-unopened_line words line told plan NoMemory is image = tt
-
--- there is no schedule
-pub unscheduled_line : (words : List (List ℕ)) (line : Line) (told : Option Files) (plan : Plan) (tree : Tree) (reason : NotRun) →
-    IsPlanOf told (names_of words line).program plan → IsTree told (names_of words line).image (Ok tree) →
-    IsScheduledAs told (names_of words line).schedule (Err reason) → IsPreparedLine words line told (Err reason)
-unscheduled_line words line told plan tree (Refused refusal) is image scheduled =
-    asks_planned words line told plan (Ok tree) (Refuse refusal) is image.0 (Err refusal, scheduled, refl)
-unscheduled_line words line told plan tree ReadFault is image scheduled = tt
-unscheduled_line words line told plan tree NoMemory is image scheduled = tt
 
 start_prepared : (words : List (List ℕ)) (line : Line) (told : Option Files) (plan : Plan) (tree : Tree) (schedule : Schedule) (reason : NotRun) →
     IsPlanOf told (names_of words line).program plan → IsOpened told (names_of words line).image (Ok tree) →
@@ -105,37 +56,43 @@ start_prepared words line told plan tree schedule ReadFault is image scheduled r
 start_prepared words line told plan tree schedule NoMemory is image scheduled reason = tt
 
 -- the machine of a plan beside its tree, under its schedule
-pub prepared : (words : List (List ℕ)) (line : Line) (told : Option Files) (plan : Plan) (tree : Tree) (schedule : Schedule) (args : List (List ℕ)) →
-    args ≡ arguments_of words line → IsPlanOf told (names_of words line).program plan →
-    IsTree told (names_of words line).image (Ok tree) → IsScheduledAs told (names_of words line).schedule (Ok schedule) → (result : Result Ready NotRun) →
-    IfOk result (λ ready. asked_of_schedule args line plan tree schedule ≡ Run ready.emulator.quantum ready.emulator.machine ready.budget ready.front.items) →
+pub prepared : (words : List (List ℕ)) (line : Line) (told : Option Files) (inputs : Inputs) (args : List (List ℕ)) → args ≡ arguments_of words line →
+    AreLoaded told (names_of words line) inputs → (result : Result Ready NotRun) →
+    IfOk result (λ ready. asked_of_schedule args line inputs.plan inputs.tree inputs.schedule ≡ Run ready.emulator.quantum ready.emulator.machine ready.budget ready.front.items) →
     IfOk result (λ ready. ready.save ≡ line.save) → IfOk result (λ ready. ready.trace ≡ line.trace) → IfOk result (λ ready. ready.native ≡ line.native) → IfOk result (λ ready. ready.journal ≡ line.journal) →
-    IfErr result (IsStartReason (asked_of_schedule args line plan tree schedule)) → IsPreparedLine words line told result
-prepared words line told plan tree schedule args same is image scheduled (Ok ready) runs save trace native journal reason = (
-  asks_planned words line told plan (Ok tree) (Run ready.emulator.quantum ready.emulator.machine ready.budget ready.front.items) is image.0
-      (Ok schedule, scheduled, sym (ap (λ a. asked_of_schedule a line plan tree schedule) (sym same) ∙ runs)),
+    IfErr result (IsStartReason (asked_of_schedule args line inputs.plan inputs.tree inputs.schedule)) → IsPreparedLine words line told result
+prepared words line told inputs args same is (Ok ready) runs save trace native journal reason = (
+  asks_planned words line told inputs.plan (Ok inputs.tree) (Run ready.emulator.quantum ready.emulator.machine ready.budget ready.front.items) is.plan is.tree
+      (Ok inputs.schedule, is.schedule, sym (ap (λ a. asked_of_schedule a line inputs.plan inputs.tree inputs.schedule) (sym same) ∙ runs)),
   (save, (trace, (native, journal))),
 )
-prepared words line told plan tree schedule args same is image scheduled (Err reason) runs save trace native journal why =
-    start_prepared words line told plan tree schedule reason is image.0 scheduled
-    (subst (λ a. IsStartReason (asked_of_schedule a line plan tree schedule) reason) same why)
+prepared words line told inputs args same is (Err reason) runs save trace native journal why =
+    start_prepared words line told inputs.plan inputs.tree inputs.schedule reason is.plan is.tree is.schedule
+    (subst (λ a. IsStartReason (asked_of_schedule a line inputs.plan inputs.tree inputs.schedule) reason) same why)
 
--- there is no plan
-refused_prepared : (words : List (List ℕ)) (line : Line) (told : Option Files) (refusal : Refusal) →
+-- a file is refused
+refused_program : (words : List (List ℕ)) (line : Line) (told : Option Files) (refusal : Refusal) →
     IsRefusedFor told (names_of words line).program refusal → AsksFor words line told (Refuse refusal)
-refused_prepared words line told _ (is_absent found) = (Absent, found, refl)
-refused_prepared words line told _ (is_long found) = (Long, found, refl)
-refused_prepared words line told _ (is_broken bytes rule found broken) = (
+refused_program words line told _ (is_absent found) = (Absent, found, refl)
+refused_program words line told _ (is_long found) = (Long, found, refl)
+refused_program words line told _ (is_broken bytes rule found broken) = (
   Bytes bytes,
   found,
   subst (λ f. AsksUnless (arguments_of words line) line (names_of words line) told bytes f (Refuse (Elf rule))) (sym broken) refl,
 )
 
-pub unplanned_line : (words : List (List ℕ)) (line : Line) (told : Option Files) (reason : NotRun) →
-    IsPlanned told (names_of words line).program (Err reason) → IsPreparedLine words line told (Err reason)
-unplanned_line words line told (Refused refusal) is = refused_prepared words line told refusal is
-unplanned_line words line told ReadFault is = tt
-unplanned_line words line told NoMemory is = tt
+refused_inputs : (words : List (List ℕ)) (line : Line) (told : Option Files) (refusal : Refusal) →
+    AreRefusedFor told (names_of words line) refusal → AsksFor words line told (Refuse refusal)
+refused_inputs words line told refusal (at_program is) = refused_program words line told refusal is
+refused_inputs words line told refusal (at_image plan is image) = asks_planned words line told plan (Err refusal) (Refuse refusal) is image refl
+refused_inputs words line told refusal (at_schedule plan tree is image scheduled) =
+    asks_planned words line told plan (Ok tree) (Refuse refusal) is image (Err refusal, scheduled, refl)
+
+pub unready_line : (words : List (List ℕ)) (line : Line) (told : Option Files) (reason : NotRun) →
+    AreInputs told (names_of words line) (Err reason) → IsPreparedLine words line told (Err reason)
+unready_line words line told (Refused refusal) is = refused_inputs words line told refusal is
+unready_line words line told ReadFault is = tt
+unready_line words line told NoMemory is = tt
 
 -- The machine
 

@@ -9,21 +9,24 @@ use Rattle.kernel_core.specs.declared.tree.Tree.{Tree}
 use Rattle.fs_image.specs.Text.{text_of}
 use Rattle.o32_runner.specs.Emulators.{Emulated}
 use Rattle.o32_turns.specs.Machine.{Machine}
-use Rattle.o32_session.specs.Asked.{Asked, Refuse, Run, Names, names_of}
-use Rattle.o32_session.specs.Saved.{SavesPart, SavesTree, SavesTreeInPart, StandsOrBegins}
+use Rattle.o32_session.specs.Asked.{Asked, Refuse, Run}
+use Rattle.session_files.specs.Inputs.{Names, names_of, no_names}
+use Rattle.session_files.specs.Saved.{SavesPart, SavesTree, SavesTreeInPart, StandsOrBegins}
 use Rattle.o32_runner.specs.JournalText.{IsCutJournal, IsWholeJournal, KeepsAs}
 use Rattle.o32_runner.specs.Making.{Makes, MakesNone, MakesNotAll}
 use Rattle.o32_runner.specs.NativeText.{IsCutLog, IsWholeLog, LogsAs}
-use Rattle.o32_runner.specs.Stored.{HasText, IfNamed, IsUnmade, Stored, WritesText}
+use Rattle.stored_files.specs.Stored.{HasText, IfNamed, IsUnmade, Stored, WritesText}
 use Rattle.o32_runner.specs.Texts.{WritesTexts}
 use Rattle.o32_runner.specs.Traced.{IsCutTrace, IsWholeTrace, TracesAs}
 use Rattle.o32_session.specs.SavedFile.{HasTreeText, IsFileAfter, IsTextAfter, SavesReading, SavesTo, StandsOrHasPart, StandsOrIsThere, TextsTo, WritesFiles}
-use Rattle.o32_session.specs.Session.{Answers, AnswersReading, Finishes, Seen, StopsAtSave, StopsAtStage, StopsInRun, contents_of, final_tree, no_names, once_loaded}
+use Rattle.o32_session.specs.Session.{Answers, AnswersReading, Finishes, StopsAtSave, StopsInRun, final_tree, once_loaded}
+use Rattle.session_files.specs.Seen.{Seen, contents_of}
+use Rattle.session_files.specs.Unrun.{StopsAtStage}
 use Rattle.o32_session.specs.Words.{Reading, Asks, WrongAt}
-use Rattle.o32_session.specs.declared.answer.Refusal.{Refusal}
-use Rattle.o32_session.specs.declared.answer.Refusal.TheVariants.{Usage}
-use Rattle.o32_session.specs.declared.answer.End.{End}
-use Rattle.o32_session.specs.declared.answer.End.TheVariants.{Exited, Killed, Budget, Blocked, Soaked, Replayed, Refused, Diverged, ReadFault, WriteFault, NoMemory}
+use Rattle.session_files.specs.declared.refusal.Refusal.{Refusal}
+use Rattle.session_files.specs.declared.refusal.Refusal.TheVariants.{Usage}
+use Rattle.session_files.specs.declared.end.End.{End}
+use Rattle.session_files.specs.declared.end.End.TheVariants.{Exited, Killed, Budget, Blocked, Soaked, Replayed, Refused, Diverged, ReadFault, WriteFault, NoMemory}
 
 -- One file
 

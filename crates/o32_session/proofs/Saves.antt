@@ -4,14 +4,15 @@ use Rattle.kernel_core.specs.ValidTree.{IsValidTree}
 use Rattle.kernel_core.specs.declared.tree.Tree.{Tree}
 use Rattle.fs_image.specs.Text.{text_of}
 use Rattle.o32_runner.specs.Emulators.{Emulated}
-use Rattle.o32_session.specs.Saved.{SavesPart}
-use Rattle.o32_runner.specs.Stored.{SavesText, Stored}
+use Rattle.session_files.specs.Saved.{SavesPart}
+use Rattle.stored_files.specs.Stored.{SavesText, Stored}
 use Rattle.o32_session.specs.Session.{final_tree}
-use Rattle.o32_session.specs.inside.Ends.{end_of_error}
-use Rattle.o32_session.specs.inside.Runs.{HasFailed, SaveFailsOnlyIfRose, SavesOrStops}
+use Rattle.session_files.specs.Ends.{end_of_error}
+use Rattle.o32_session.specs.inside.Runs.{HasFailed, SavesOrStops}
+use Rattle.session_files.specs.Steps.{SaveFailsOnlyIfRose}
 use Rattle.o32_session.specs.declared.answer.Answer.{Answer}
-use Rattle.o32_session.specs.declared.save.SaveError.{SaveError}
-use Rattle.o32_session.specs.declared.save.SaveError.TheVariants.{NoImage, Failed, NoMemory}
+use Rattle.session_files.specs.declared.save.SaveError.{SaveError}
+use Rattle.session_files.specs.declared.save.SaveError.TheVariants.{NoImage, Failed, NoMemory}
 
 saves_it : (name : List ℕ) (tree : Tree) (result : Result (Unit {0}) SaveError) (old new : Stored) → IsValidTree tree → OnOk result (SavesText name (text_of tree) old new) → OnErr result (SavesPart name (text_of tree) old new)
     → SavesOrStops (Some name) tree result old new

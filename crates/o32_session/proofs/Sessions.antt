@@ -1,12 +1,10 @@
 -- What a session answers: where nothing is run, and where there is a run.
-use Rattle.std.proofs.Common.{◌≡◌, ℕ, ◌≤◌, ◌<◌, Bool, cond, List, [], Option, Some, None, Result, Ok, Err, ◌⊎◌, inl, inr, refl, sym, ap, ◌∙◌, subst, option_map}
+use Rattle.std.proofs.Common.{◌≡◌, ℕ, ◌≤◌, ◌<◌, Bool, cond, List, Option, Some, None, Result, Ok, Err, ◌⊎◌, inl, inr, refl, sym, ap, ◌∙◌, subst, option_map}
 use Rattle.std.proofs.lemmas.Bool.{le-ltb}
 use Rattle.outside.specs.Count.{Rose}
 use Rattle.outside.specs.Files.{Files}
-use Rattle.outside.specs.Output.{GainsText}
 use Rattle.outside.specs.Streams.{Contents}
 use Rattle.outside.specs.declared.devices.Devices.{Devices}
-use Rattle.outside.proofs.OutputLemmas.{GainsText-nothing}
 use Rattle.kernel_core.specs.declared.core_error.Stop.{Stop}
 use Rattle.kernel_core.specs.declared.core_error.Stop.TheVariants as stops
 use Rattle.journal.specs.Form.{IsFinish}
@@ -22,77 +20,33 @@ use Rattle.schedule.specs.declared.Schedule.{Schedule}
 use Rattle.start_stack.specs.Stack.{start_size, start_limit}
 use Rattle.o32_runner.specs.Emulators.{Emulated}
 use Rattle.o32_turns.specs.Machine.{Machine}
-use Rattle.o32_session.specs.Answers.{IsRefusal}
-use Rattle.o32_session.specs.Asked.{Asked, Refuse, Run, Names, names_of, Found, Bytes, found_at, IsOpened, IsOpenedBy, AsksOf, AsksOfPlan, AsksUnless, AsksFor, IsScheduled, arguments_of, asked_of_schedule, asked_of_tree, first_machine, empty_tree, image_limit, schedule_of_found, journal_front}
-use Rattle.o32_session.specs.Saved.{SavesTree, SavesTreeInPart}
-use Rattle.o32_runner.specs.Stored.{Stored}
-use Rattle.o32_session.specs.Session.{KeepsNamed, Seen, contents_of, DoesNothing, Answers, final_tree, StopsAtStage, StopsEarly, once_loaded, Finishes, IsRun, IsPartOfRun, StopsAtSave, no_names, AnswersReading, AsksForRun, EndsAsRun, HasImage, HasSchedule, IsRunEnd}
+use Rattle.session_files.specs.Answers.{IsRefusal}
+use Rattle.o32_session.specs.Asked.{Asked, Refuse, Run, AsksOf, AsksOfPlan, AsksUnless, AsksFor, arguments_of, asked_of_schedule, asked_of_tree, first_machine, journal_front}
+use Rattle.session_files.specs.Inputs.{Names, names_of, Found, Bytes, found_at, IsOpened, IsOpenedBy, IsScheduled, empty_tree, image_limit, schedule_of_found}
+use Rattle.session_files.specs.Saved.{SavesTree, SavesTreeInPart}
+use Rattle.stored_files.specs.Stored.{Stored}
+use Rattle.o32_session.specs.Session.{KeepsNamed, Answers, final_tree, once_loaded, Finishes, IsRun, IsPartOfRun, StopsAtSave, AnswersReading, AsksForRun, EndsAsRun, HasImage, HasSchedule, IsRunEnd}
+use Rattle.session_files.specs.Seen.{Seen, contents_of}
+use Rattle.session_files.specs.Unrun.{StopsAtStage}
 use Rattle.o32_session.specs.Words.{Line, Reading, Asks, WrongAt, read_words, word_at}
-use Rattle.o32_session.specs.inside.Ends.{end_of, end_of_stop}
-use Rattle.o32_session.specs.inside.Prepared.{EndsRefused, EndsWithoutRun, IsPrepared, LineFailsOnlyIfRose, LoadsReading, ReasonOnlyIfRose}
+use Rattle.session_files.specs.Ends.{end_of, end_of_stop}
+use Rattle.session_files.specs.Steps.{EndsRefused, EndsWithoutRun, LineFailsOnlyIfRose, LoadsReading, ReasonOnlyIfRose}
+use Rattle.o32_session.specs.inside.Prepared.{IsPrepared}
 use Rattle.o32_runner.specs.Making.{IsByStore}
 use Rattle.o32_runner.specs.Runs.{RunsAs, no_turn_follows}
 use Rattle.o32_runner.specs.Texts.{WritesTexts}
 use Rattle.o32_session.specs.inside.Runs.{AnswersRun}
 use Rattle.o32_session.specs.declared.answer.Answer.{Answer}
-use Rattle.o32_session.specs.declared.answer.End.{End}
-use Rattle.o32_session.specs.declared.answer.End.TheVariants.{Exited, Killed, Budget, Blocked, Soaked, Replayed, Refused, Diverged, ReadFault, WriteFault, NoMemory}
-use Rattle.o32_session.specs.declared.answer.Refusal.{Refusal}
-use Rattle.o32_session.specs.declared.answer.Refusal.TheVariants.{Usage, Start}
-use Rattle.o32_session.specs.declared.not_run.NotRun.{NotRun}
-use Rattle.o32_session.specs.declared.not_run.NotRun.TheVariants as reasons
+use Rattle.session_files.specs.declared.end.End.{End}
+use Rattle.session_files.specs.declared.end.End.TheVariants.{Exited, Killed, Budget, Blocked, Soaked, Replayed, Refused, Diverged, ReadFault, WriteFault, NoMemory}
+use Rattle.session_files.specs.declared.refusal.Refusal.{Refusal}
+use Rattle.session_files.specs.declared.refusal.Refusal.TheVariants.{Usage, Start}
+use Rattle.session_files.specs.declared.not_run.NotRun.{NotRun}
+use Rattle.session_files.specs.declared.not_run.NotRun.TheVariants as reasons
 use Rattle.o32_session.specs.declared.prepare.Ready.{Ready}
+use Rattle.session_files.proofs.Unrun.{beside, no_fault, nothing_done, refused, stopped}
 
 -- Nothing is run
-
--- the input and standard output with their counts stay as they are
-abbrev beside : Seen → Option (List ℕ) → ℕ → ℕ → Stored → Seen
-beside old err err_faults load_faults store = record old { err = err; err_faults = err_faults; load_faults = load_faults; store = store }
-
-pub unchanged : (old new : Option (List ℕ)) → new ≡ old → GainsText old new []
-unchanged old new same = subst (λ n. GainsText old n []) (sym same) (GainsText-nothing old)
-
-nothing_done : (old : Seen) (err : Option (List ℕ)) (faults loads : ℕ) (store : Stored) → err ≡ old.err → store ≡ old.store → DoesNothing old (beside old err faults loads store) 0
-nothing_done old err faults loads store same stands = record {
-  no_turn = refl;
-  untaken = refl;
-  wrote = record { to_out = GainsText-nothing old.out; to_err = unchanged old.err err same };
-  stands = stands;
-}
-
--- a refusal with its line
-pub refused : (refusal : Refusal) (names : Names) (end : End) (old : Seen) (err : Option (List ℕ)) (faults loads : ℕ)
-    (store : Stored) (host : Option Emulated) → EndsRefused refusal end old.err err → LineFailsOnlyIfRose end old.err_faults faults →
-    store ≡ old.store → Answers (Refuse refusal) names old (beside old err faults loads store) 0 end host
-refused refusal names (Refused given) old err faults loads store host so cause stands = record {
-  same = so.0;
-  no_turn = refl;
-  untaken = refl;
-  wrote = record { to_out = GainsText-nothing old.out; to_err = so.1 };
-  stands = stands;
-}
-refused refusal names WriteFault old err faults loads store host so cause stands =
-    (record { no_turn = refl; untaken = refl; to_out = GainsText-nothing old.out; to_err = so; stands = stands }, cause)
-refused refusal names NoMemory old err faults loads store host so cause stands =
-    record { no_turn = refl; untaken = refl; to_out = GainsText-nothing old.out; to_err = so; stands = stands }
-refused refusal names ReadFault old err faults loads store host so cause stands = absurd so
-refused refusal names (Exited status) old err faults loads store host so cause stands = absurd so
-refused refusal names (Killed signal) old err faults loads store host so cause stands = absurd so
-refused refusal names Budget old err faults loads store host so cause stands = absurd so
-refused refusal names Blocked old err faults loads store host so cause stands = absurd so
-refused refusal names (Soaked over) old err faults loads store host so cause stands = absurd so
-refused refusal names (Replayed over) old err faults loads store host so cause stands = absurd so
-refused refusal names (Diverged turn wanted found) old err faults loads store host so cause stands = absurd so
-
--- a load failed, or memory ran out, at a stage
-stopped : (names : Names) (end : End) (old : Seen) (err : Option (List ℕ)) (faults loads : ℕ) (store : Stored) → StopsAtStage names end old.store store → (end ≡ ReadFault → Rose old.load_faults loads) → err ≡ old.err →
-    StopsEarly names old (beside old err faults loads store) 0 end
-stopped names end old err faults loads store at_stage cause same =
-    record { at_stage = at_stage; cause = cause; nothing = nothing_done (record old { store = store }) err faults loads store same refl }
-
--- want of memory is no fault
-no_fault : {P : Type 0} (end : End) → end ≡ NoMemory → end ≡ ReadFault → P
-no_fault end memory fault = absurd cc
 
 -- Nothing is run, and the answer says so.
 pub unrun : (words : List (List ℕ)) (reading : Reading) (reason : NotRun) (end : End) (old : Seen)
@@ -101,12 +55,12 @@ pub unrun : (words : List (List ℕ)) (reading : Reading) (reason : NotRun) (end
     LoadsReading {T = Ready} words reading (Err reason) old.store store → ReasonOnlyIfRose {T = Ready} (Err reason) old.load_faults loads →
     AnswersReading words reading old (beside old err faults loads store) 0 end host
 unrun words (WrongAt word) (reasons.Refused refusal) end old err faults loads store host is so cause loaded rose =
-    inr (refused (Usage word) no_names end old err faults loads store host (subst (λ r. EndsRefused r end old.err err) is so) cause loaded)
+    inr (refused (Usage word) end old err faults loads store (subst (λ r. EndsRefused r end old.err err) is so) cause loaded)
 unrun words (WrongAt word) reasons.ReadFault end old err faults loads store host is so cause loaded rose = absurd is
 unrun words (WrongAt word) reasons.NoMemory end old err faults loads store host is so cause loaded rose =
     inl (so.0, nothing_done old err faults loads store so.1 loaded)
 unrun words (Asks line) (reasons.Refused refusal) end old err faults loads store host is so cause loaded rose =
-    inr (Refuse refusal, is, refused refusal (names_of words line) end (once_loaded (Refuse refusal) (names_of words line) old) err faults loads store host so cause loaded)
+    inr (Refuse refusal, is, refused refusal end (once_loaded (Refuse refusal) (names_of words line) old) err faults loads store so cause loaded)
 unrun words (Asks line) reasons.ReadFault end old err faults loads store host is so cause loaded rose =
     inl (stopped (names_of words line) end old err faults loads store (inl (so.0, loaded)) (λ fault. rose) so.1)
 unrun words (Asks line) reasons.NoMemory end old err faults loads store host is so cause loaded rose =

@@ -13,23 +13,24 @@ use Rattle.kernel_core.specs.declared.tree.Tree.{Tree}
 use Rattle.o32_runner.specs.Emulators.{Emulated}
 use Rattle.kernel_core.specs.declared.core_error.Stop.{Stop}
 use Rattle.o32_runner.specs.Runs.{IsCut, IsOver, RunsAs, turns_begun}
-use Rattle.o32_runner.specs.Stored.{Stored}
+use Rattle.stored_files.specs.Stored.{Stored}
 use Rattle.o32_turns.specs.Machine.{Machine}
 use Rattle.schedule.specs.declared.Schedule.{Schedule}
 use Rattle.start_stack.specs.Stack.{start_size, start_limit}
 use Rattle.soak_ends.specs.Line.{soak_plan}
-use Rattle.o32_session.specs.Answers.{finish_of}
-use Rattle.o32_session.specs.Asked.{Asked, Refuse, Run, asked_of_schedule, empty_schedule, empty_tree, first_machine, journal_front}
-use Rattle.o32_session.specs.Faults.{TellsFaults}
-use Rattle.o32_session.specs.Session.{Seen, no_names}
+use Rattle.session_files.specs.Answers.{finish_of}
+use Rattle.o32_session.specs.Asked.{Asked, Refuse, Run, asked_of_schedule, first_machine, journal_front}
+use Rattle.session_files.specs.Inputs.{empty_schedule, empty_tree, no_names}
+use Rattle.session_files.specs.Faults.{TellsFaults}
+use Rattle.session_files.specs.Seen.{Seen}
 use Rattle.o32_session.specs.Soaked.{AnswersCommand, AnswersSoak, AnswersSoakReading, AsksForSoak, EndsAsSoak, EndsSo, GoesSoFar, IsSoaked, StopsAtSoakLine, StopsSoak, soak_arguments, soak_machine, text_on}
 use Rattle.o32_session.specs.Words.{IsPlain, Line, SoakReading, AsksSoak, WrongSoakAt, command_of, default_budget}
-use Rattle.o32_session.specs.inside.Prepared.{LineFailsOnlyIfRose}
+use Rattle.session_files.specs.Steps.{LineFailsOnlyIfRose}
 use Rattle.o32_session.specs.inside.Soaking.{IsSoakOf, TellsSoak}
 use Rattle.o32_session.specs.declared.soak.SoakRun.{SoakRun}
-use Rattle.o32_session.specs.declared.answer.End.{End}
-use Rattle.o32_session.specs.declared.answer.End.TheVariants.{Exited, Killed, Budget, Blocked, Soaked, Replayed, Refused, Diverged, ReadFault, WriteFault, NoMemory}
-use Rattle.o32_session.specs.declared.answer.Refusal.TheVariants.{Usage, Start}
+use Rattle.session_files.specs.declared.end.End.{End}
+use Rattle.session_files.specs.declared.end.End.TheVariants.{Exited, Killed, Budget, Blocked, Soaked, Replayed, Refused, Diverged, ReadFault, WriteFault, NoMemory}
+use Rattle.session_files.specs.declared.refusal.Refusal.TheVariants.{Usage, Start}
 use Rattle.o32_session.proofs.SavedFiles.{refused_stands}
 
 -- The first machine

@@ -1,12 +1,13 @@
 -- The journal that a run leaves in the file that is named for it. This project's own.
-use Rattle.std.specs.Prelude.{ℕ, ◌≡◌, List, Option, Some, Ok}
+use Rattle.std.specs.Prelude.{ℕ, List, Option, Some, Ok}
 use Rattle.outside.specs.Files.{Files, HasFile}
 use Rattle.elf_image.specs.Loading.{plan_of}
 use Rattle.journal.specs.Text.{Kept, text_of}
 use Rattle.kernel_core.specs.declared.finish.Finish.{Finish}
 use Rattle.kernel_core.specs.declared.tree.Tree.{Tree}
 use Rattle.turn_records.specs.Run.{IsJournalOfRun}
-use Rattle.o32_session.specs.Asked.{IsOpened, arguments_of, first_machine, names_of, stack_chance}
+use Rattle.session_files.specs.Inputs.{IsOpened, names_of}
+use Rattle.o32_session.specs.Asked.{arguments_of, first_machine, stack_chance}
 use Rattle.o32_session.specs.Session.{AsksForRun}
 
 -- The file has the text of a journal, in the form that is asked of one: the journal of the run that the words ask for, beside the image's tree, over

@@ -1,12 +1,7 @@
 pub mod Words
-pub mod Lines
-pub mod Answers
 pub mod Asked
-pub mod Saved
 pub mod Session
-pub mod Replayed
 pub mod Soaked
-pub mod Faults
 pub mod SavedFile
 pub mod LeftJournal
 pub mod inside

@@ -6,9 +6,9 @@ use Rattle.kernel_core.specs.ValidTree.{IsValidTree}
 use Rattle.kernel_core.specs.declared.tree.Tree.{Tree}
 use Rattle.fs_image.specs.Text.{text_of}
 use Rattle.o32_session.specs.Words.{Command, Reading, Asks, ReplayCommand, RunCommand, SoakCommand, WrongAt, command_of, read_words}
-use Rattle.o32_session.specs.Asked.{Names, names_of}
-use Rattle.o32_session.specs.declared.answer.End.{End}
-use Rattle.o32_session.specs.declared.answer.End.TheVariants.{Exited, Killed, Budget, Blocked, Soaked, Replayed, Refused, Diverged, ReadFault, WriteFault, NoMemory}
+use Rattle.session_files.specs.Inputs.{Names, names_of}
+use Rattle.session_files.specs.declared.end.End.{End}
+use Rattle.session_files.specs.declared.end.End.TheVariants.{Exited, Killed, Budget, Blocked, Soaked, Replayed, Refused, Diverged, ReadFault, WriteFault, NoMemory}
 
 -- the file has the text of a valid tree
 abbrev pub HasTreeText : Option (List ℕ) → Type 0

@@ -1,12 +1,10 @@
 -- What an answer says where a refusal or a run is asked for. This project's own.
 pub use Rattle.o32_runner.specs.Emulators.{Emulated}
-pub use Rattle.o32_runner.specs.Stored.{Stored, stored_of}
-use Rattle.std.specs.Prelude.{ℕ, ◌≡◌, ◌<◌, ◌≤◌, ⊤, ◌⊎◌, true, List, [], ◌++◌, Option, Some, None, is_some, Ok, Err}
+pub use Rattle.stored_files.specs.Stored.{Stored, stored_of}
+use Rattle.std.specs.Prelude.{ℕ, ◌≡◌, ◌<◌, ◌≤◌, ⊤, ◌⊎◌, List, [], Option, Some, None, is_some, Ok, Err}
 use Rattle.outside.specs.Files.{Files}
 use Rattle.outside.specs.Count.{Rose}
-use Rattle.outside.specs.Output.{GainsText, GainsBetween}
-use Rattle.outside.specs.Streams.{Contents}
-use Rattle.outside.specs.declared.devices.Devices.{Devices}
+use Rattle.outside.specs.Output.{GainsBetween}
 use Rattle.journal.specs.Form.{IsFinish}
 use Rattle.kernel_core.specs.LoadedTree.{saved}
 use Rattle.kernel_core.specs.declared.tree.Tree.{Tree}
@@ -16,79 +14,23 @@ use Rattle.elf_image.specs.Loading.{plan_of}
 use Rattle.start_stack.specs.Stack.{start_size, start_limit}
 use Rattle.schedule.specs.declared.Schedule.{Schedule}
 use Rattle.o32_session.specs.Words.{Line, Reading, Asks, WrongAt, read_words}
-use Rattle.o32_session.specs.Asked.{Asked, Refuse, Run, Names, names_of, Bytes, found_at, program_limit, image_limit, AsksFor, IsOpened, arguments_of, first_machine, schedule_limit, schedule_of_text, empty_schedule, HasProgram, HasTree, HasSettings}
-use Rattle.o32_session.specs.Saved.{Stage, AtProgram, AtImage, AtSchedule, AtMachine, after_loads, loaded_before, loaded_by, loaded_names, name_at, named, turned_by, SavesTree, SavesTreeInPart}
+use Rattle.o32_session.specs.Asked.{Asked, Refuse, Run, AsksFor, arguments_of, first_machine}
+use Rattle.session_files.specs.Inputs.{no_names, Names, names_of, Bytes, found_at, program_limit, image_limit, IsOpened, schedule_limit, schedule_of_text, empty_schedule}
+use Rattle.session_files.specs.Saved.{after_loads, loaded_by, loaded_names, turned_by, SavesTree, SavesTreeInPart}
 use Rattle.o32_runner.specs.Making.{IsByStore}
 use Rattle.o32_runner.specs.Runs.{no_turn_follows, turns_begun}
 use Rattle.o32_turns.specs.Runs.{IsOverAt, IsRunningAt, last_machine, reached}
 use Rattle.o32_turns.specs.Machine.{Machine}
 use Rattle.o32_runner.specs.Texts.{WritesTexts}
-use Rattle.o32_session.specs.Lines.{line_of}
-use Rattle.o32_session.specs.declared.answer.Refusal.{Refusal}
-use Rattle.o32_session.specs.declared.answer.Refusal.TheVariants.{Usage}
+use Rattle.session_files.specs.declared.refusal.Refusal.TheVariants.{Usage}
 use Rattle.kernel_core.specs.declared.finish.Finish.{Finish}
 use Rattle.kernel_core.specs.declared.finish.Finish.TheVariants as finishes
 use Rattle.kernel_core.specs.declared.core_error.Stop.{Stop}
 use Rattle.kernel_core.specs.declared.core_error.Stop.TheVariants as stops
-use Rattle.o32_session.specs.declared.answer.End.{End}
-use Rattle.o32_session.specs.declared.answer.End.TheVariants.{Exited, Killed, Budget, Blocked, Soaked, Replayed, Refused, Diverged, ReadFault, WriteFault, NoMemory}
-
--- what is seen of the devices, the counts of faults, and the store: what is left of the input, and what the outputs have
-pub record Seen : Type 0 where
-  pub left : Option (List ℕ)
-  pub out : Option (List ℕ)
-  pub err : Option (List ℕ)
-  pub read_faults : ℕ
-  pub out_faults : ℕ
-  pub err_faults : ℕ
-  pub load_faults : ℕ
-  pub store : Stored
-
--- what is seen of devices, by the members of their traits, beside this count of faulty loads and this store
-abbrev pub seen_of : {I O E : Type 0} → (I → Option (List ℕ)) → (O → Option (List ℕ)) → (E → Option (List ℕ)) → (I → ℕ) → (O → ℕ) → (E → ℕ) →
-    Devices I O E → ℕ → Stored → Seen
-seen_of left out err read_faults out_faults err_faults dev load_faults store = record {
-  left = left dev.input;
-  out = out dev.out;
-  err = err dev.err;
-  read_faults = read_faults dev.input;
-  out_faults = out_faults dev.out;
-  err_faults = err_faults dev.err;
-  load_faults = load_faults;
-  store = store;
-}
-
--- what the devices hold
-abbrev pub contents_of : Seen → Contents
-contents_of seen = record { left = seen.left; out = seen.out; err = seen.err }
-
--- exactly these texts were written to `out` and `err`
-pub record Writes (old new : Seen) (out err : List ℕ) : Type 0 where
-  pub to_out : GainsText old.out new.out out
-  pub to_err : GainsText old.err new.err err
-
--- nothing was run, taken, written or saved
-pub record DoesNothing (old new : Seen) (turns : ℕ) : Type 0 where
-  pub no_turn : turns ≡ 0
-  pub untaken : new.left ≡ old.left
-  pub wrote : Writes old new [] []
-  pub stands : new.store ≡ old.store
-
--- the refusal was answered, its one line was written, and nothing else was done
-pub record Refuses (refusal : Refusal) (old new : Seen) (turns : ℕ) (given : Refusal) : Type 0 where
-  pub same : given ≡ refusal
-  pub no_turn : turns ≡ 0
-  pub untaken : new.left ≡ old.left
-  pub wrote : Writes old new [] (line_of refusal)
-  pub stands : new.store ≡ old.store
-
--- the same with at most a part of the line
-pub record StopsAtLine (refusal : Refusal) (old new : Seen) (turns : ℕ) : Type 0 where
-  pub no_turn : turns ≡ 0
-  pub untaken : new.left ≡ old.left
-  pub to_out : GainsText old.out new.out []
-  pub to_err : GainsBetween old.err new.err [] (line_of refusal)
-  pub stands : new.store ≡ old.store
+use Rattle.session_files.specs.declared.end.End.{End}
+use Rattle.session_files.specs.declared.end.End.TheVariants.{Exited, Killed, Budget, Blocked, Soaked, Replayed, Refused, Diverged, ReadFault, WriteFault, NoMemory}
+use Rattle.session_files.specs.Unrun.{AnswersRefusal, DoesNothing, StopsEarly}
+use Rattle.session_files.specs.Seen.{Seen, Writes, contents_of}
 
 -- The run over this input is over so after these turns. What it sends was written, what it leaves of the input is left, and this is the machine
 -- that it leaves.
@@ -157,18 +99,7 @@ pub record StopsAtSave (quantum : ℕ) (machine : Machine) (budget : ℕ) (front
 -- What an end with its turns says where this was asked for, with these names of files, once they are loaded: each refusal writes its line and
 -- nothing else, and each run is the machine's. A fault has its cause in the device or the file that it came from.
 abbrev pub Answers : Asked → Names → Seen → Seen → ℕ → End → Option Emulated → Type 0
-Answers (Refuse refusal) names old new turns (Refused given) host = Refuses refusal old new turns given
-Answers (Refuse refusal) names old new turns ReadFault host = ⊥
-Answers (Refuse refusal) names old new turns WriteFault host =
-    StopsAtLine refusal old new turns × Rose old.err_faults new.err_faults
-Answers (Refuse refusal) names old new turns NoMemory host = StopsAtLine refusal old new turns
-Answers (Refuse refusal) names old new turns (Exited status) host = ⊥
-Answers (Refuse refusal) names old new turns (Killed signal) host = ⊥
-Answers (Refuse refusal) names old new turns Budget host = ⊥
-Answers (Refuse refusal) names old new turns Blocked host = ⊥
-Answers (Refuse refusal) names old new turns (Soaked finish) host = ⊥
-Answers (Refuse refusal) names old new turns (Replayed finish) host = ⊥
-Answers (Refuse refusal) names old new turns (Diverged turn wanted found) host = ⊥
+Answers (Refuse refusal) names old new turns end host = AnswersRefusal refusal old new turns end
 Answers (Run quantum machine budget front) names old new turns (Exited status) host =
     Finishes quantum machine budget front names old new turns (finishes.Exited status) host
 Answers (Run quantum machine budget front) names old new turns (Killed signal) host =
@@ -192,39 +123,6 @@ Answers (Run quantum machine budget front) names old new turns NoMemory host =
 abbrev pub once_loaded : Asked → Names → Seen → Seen
 once_loaded (Refuse refusal) names seen = record seen { store = after_loads seen.store (loaded_by names refusal) (turned_by names refusal) }
 once_loaded (Run quantum machine budget front) names seen = record seen { store = after_loads seen.store (loaded_names names) [] }
-
--- Before a stage of the steps before a run all files are in order
-abbrev pub AreInOrder : Stage → Names → Option Files → Type 0
-AreInOrder AtProgram names files = ⊤
-AreInOrder AtImage names files = HasProgram files names.program
-AreInOrder AtSchedule names files = HasProgram files names.program × HasTree files names.image
-AreInOrder AtMachine names files = HasProgram files names.program × HasTree files names.image × HasSettings files names.schedule
-
--- A load failed at a stage: the files before it were loaded and are in order.
-pub record FailsToLoad (names : Names) (old new : Stored) : Type 0 where
-  pub stage : Stage
-  pub some : is_some (name_at stage names) ≡ true
-  pub in_order : AreInOrder stage names old.files
-  pub stands : new ≡ after_loads old (loaded_before stage names) []
-
--- Memory ran out at a stage, before or behind its load: the files before it were loaded and are in order.
-pub record WantsMemory (names : Names) (old new : Stored) : Type 0 where
-  pub stage : Stage
-  pub in_order : AreInOrder stage names old.files
-  pub stands : (new ≡ after_loads old (loaded_before stage names) []) ⊎ (new ≡ after_loads old (loaded_before stage names ++ named (name_at stage names)) [])
-
-abbrev pub StopsAtStage : Names → End → Stored → Stored → Type 0
-StopsAtStage names end old new = ((end ≡ ReadFault) × FailsToLoad names old new) ⊎ ((end ≡ NoMemory) × WantsMemory names old new)
-
--- Nothing is done but that files are loaded: a load failed, whose count rose, or memory ran out.
-pub record StopsEarly (names : Names) (old new : Seen) (turns : ℕ) (end : End) : Type 0 where
-  pub at_stage : StopsAtStage names end old.store new.store
-  pub cause : end ≡ ReadFault → Rose old.load_faults new.load_faults
-  pub nothing : DoesNothing (record old { store = new.store }) new turns
-
--- a line that names no file
-abbrev pub no_names : Names
-no_names = record { program = []; image = None; schedule = None; trace = None; native = None; journal = None; save = None }
 
 -- The same by the reading of the words. Wrong words are refused before any load, so that want of memory alone may come
 -- first. Else a fault of a load or want of memory may come before all is loaded; or the answer is that of what the line

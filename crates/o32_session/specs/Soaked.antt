@@ -12,12 +12,14 @@ use Rattle.o32_turns.specs.Runs.{IsOverAt, IsRunningAt, last_machine, reached}
 use Rattle.soak_ends.specs.Line as lines
 use Rattle.soak_ends.specs.Line.{soak_plan}
 use Rattle.o32_session.specs.Words.{Command, RunCommand, ReplayCommand, SoakCommand, SoakReading, AsksSoak, WrongSoakAt, command_of, default_budget, read_soak}
-use Rattle.o32_session.specs.Asked.{Refuse, empty_schedule, empty_tree, first_machine}
-use Rattle.o32_session.specs.Session.{Seen, Answers, AnswersWords, KeepsNamed, Writes, final_tree, no_names}
-use Rattle.o32_session.specs.Replayed.{AnswersReplayWords, RestStands}
-use Rattle.o32_session.specs.declared.answer.Refusal.TheVariants.{Usage}
-use Rattle.o32_session.specs.declared.answer.End.{End}
-use Rattle.o32_session.specs.declared.answer.End.TheVariants.{Exited, Killed, Budget, Blocked, Soaked, Replayed, Refused, Diverged, ReadFault, WriteFault, NoMemory}
+use Rattle.o32_session.specs.Asked.{Refuse, first_machine}
+use Rattle.session_files.specs.Inputs.{empty_schedule, empty_tree, no_names}
+use Rattle.session_files.specs.Seen.{Seen, Writes}
+use Rattle.o32_session.specs.Session.{Answers, AnswersWords, KeepsNamed, final_tree}
+use Rattle.session_replay.specs.Replayed.{AnswersReplayWords, RestStands}
+use Rattle.session_files.specs.declared.refusal.Refusal.TheVariants.{Usage}
+use Rattle.session_files.specs.declared.end.End.{End}
+use Rattle.session_files.specs.declared.end.End.TheVariants.{Exited, Killed, Budget, Blocked, Soaked, Replayed, Refused, Diverged, ReadFault, WriteFault, NoMemory}
 
 -- The run
 

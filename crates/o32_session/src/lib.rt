@@ -2,18 +2,13 @@
 #![tactic(auto)]
 
 mod answer;
-mod image;
-mod lines;
-mod load;
-mod not_run;
 mod prepare;
-mod replay;
 mod run;
 mod save;
-mod settings;
 mod soak;
 mod top_call;
 
-pub use answer::{Answer, End, Refusal};
+pub use answer::Answer;
 pub use kernel_core::Finish;
+pub use session_files::{End, Refusal};
 pub use top_call::session;

@@ -1,7 +1,5 @@
-//! The steps before a run: words, the program's plan, the tree of files, the schedule, and the first machine.
-ghost use Rattle.std.specs.Prelude.{All, ◌≡◌, ◌≤◌, ◌<◌, length, drop, is_some, IfOk, IfErr, None, Some};
-ghost use Rattle.elf_image.specs.Rules.{first_failure};
-ghost use Rattle.elf_image.specs.Loading.{plan_of};
+//! The steps before a run: words, the files that they name, and the first machine.
+ghost use Rattle.std.specs.Prelude.{All, ◌≡◌, ◌≤◌, ◌<◌, length, drop, is_some, IfOk, IfErr};
 ghost use Rattle.elf_image.specs.Loading as plans;
 ghost use Rattle.kernel_core.specs.ValidTree as trees;
 ghost use Rattle.journal.specs.Form.{AreTexts};
@@ -10,24 +8,22 @@ ghost use Rattle.o32_runner.specs.Passed.{first_log};
 ghost use Rattle.o32_session.specs.Words.{IsPlain, texts, read_words};
 ghost use Rattle.session_words.specs.Read.{line_seen};
 ghost use Rattle.schedule.specs.Ranges.{IsGivenSchedule};
-ghost use Rattle.o32_session.specs.Asked.{asked_of_schedule, names_of, Run};
+ghost use Rattle.o32_session.specs.Asked.{asked_of_schedule, Run};
+ghost use Rattle.session_files.specs.Inputs.{names_of};
 ghost use Rattle.o32_runner.specs.Runs.{IsFresh};
-ghost use Rattle.o32_session.specs.inside.Prepared.{IsElfReason, IsPlanned, IsStartReason, IsPrepared, IsPreparedLine, LoadsFile, LoadsFiles, LoadsReading, ReasonOnlyIfRose};
-ghost use Rattle.o32_runner.specs.Stored.{stored_of};
-ghost use Rattle.o32_session.specs.declared.load.SessionFile.TheVariants as which;
+ghost use Rattle.o32_session.specs.inside.Prepared.{IsStartReason, IsPrepared, IsPreparedLine};
+ghost use Rattle.session_files.specs.Steps.{LoadsFiles, LoadsReading, ReasonOnlyIfRose};
+ghost use Rattle.stored_files.specs.Stored.{stored_of};
 ghost use Rattle.turn_records.specs.Keeping.{first_records};
 
-use crate::image::first_tree;
-use crate::load::{SessionFile, load_file};
-use crate::not_run::NotRun;
-use crate::settings::{run_schedule, stack_chance};
-use elf_image::{Plan, parse};
+use elf_image::Plan;
 use journal::head;
 use kernel_core::{NoMemory, Tree};
 use o32_runner::Emulator;
 use outside::Store;
 use schedule::Schedule;
-use session_words::{RunLine, read, word_at};
+use session_files::{Inputs, NotRun, load_inputs, stack_chance};
+use session_words::{RunLine, read};
 use start_stack::build;
 use std::alloc::Global;
 
@@ -48,27 +44,6 @@ pub(crate) struct Ready {
     pub front: Vec<u8>,
     /// The index of the name of the file that the final tree is saved to, where it is saved.
     pub save: Option<usize>,
-}
-
-/// The plan of the program whose file has these bytes.
-fn plan_of_file(alloc: Global, bytes: &[u8]) -> Result<Plan, NotRun>
-    ensures plan { IfOk result (λ plan. (first_failure bytes.now ≡ None) × ((plan ≡ plan_of bytes.now) × plans.IsValidPlan plan)) }
-    ensures reason { IfErr result (IsElfReason (first_failure bytes.now)) }
-{
-    Ok(parse(alloc, bytes)?)
-}
-
-/// The plan of the program of this name.
-pub(crate) fn load_plan<F: Store>(alloc: Global, name: &str, files: &mut F) -> Result<Plan, NotRun>
-    ensures plan { IsPlanned (F.files files.old) name.now result }
-    ensures loads { LoadsFile which.Program (Some name.now) result
-        (stored_of F.files F.created F.loads F.turned_away F.write_faults files.old)
-        (stored_of F.files F.created F.loads F.turned_away F.write_faults files.new) }
-    ensures cause { ReasonOnlyIfRose result (F.load_faults files.old) (F.load_faults files.new) }
-    ensures later { F.load_faults files.old ≤ F.load_faults files.new }
-{
-    let bytes = load_file(alloc, SessionFile::Program, name, files)?;
-    plan_of_file(alloc, &bytes)
 }
 
 /// What the journal of a run with these arguments, this environment and these bytes of chance begins with.
@@ -177,9 +152,12 @@ fn prepare_line<F: Store>(
     ensures cause { ReasonOnlyIfRose result (F.load_faults files.old) (F.load_faults files.new) }
     ensures later { F.load_faults files.old ≤ F.load_faults files.new }
 {
-    let plan = load_plan(alloc, word_at(words, line.program), files)?;
-    let tree = first_tree(alloc, words, line.image, files)?;
-    let schedule = run_schedule(alloc, words, line.schedule, files)?;
+    let inputs = load_inputs(alloc, words, &line, files)?;
+    let Inputs {
+        plan,
+        tree,
+        schedule,
+    } = inputs;
     machine_of_plan(
         alloc,
         arguments(words, line.program),

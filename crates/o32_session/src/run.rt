@@ -4,7 +4,7 @@ ghost use Rattle.std.specs.Option.{option_copied};
 ghost use Rattle.outside.specs.Streams.{NoCountFell, contents};
 ghost use Rattle.o32_runner.specs.Making.{StopsBehind};
 ghost use Rattle.o32_runner.specs.Runs.{IsFresh, KeepsTexts, RunsAs, WithinBudget, no_turn_follows};
-ghost use Rattle.o32_runner.specs.Stored.{stored_of};
+ghost use Rattle.stored_files.specs.Stored.{stored_of};
 ghost use Rattle.o32_runner.specs.Texts.{AllDiffer, BeginsJournal, BeginsLog, WritesTexts};
 ghost use Rattle.o32_runner.specs.Traced.{StopsOnlyIfAnyRose};
 

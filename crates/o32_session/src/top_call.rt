@@ -4,57 +4,35 @@ ghost use Rattle.outside.specs.Count.{Rose};
 ghost use Rattle.outside.specs.Streams.{NoCountFell};
 ghost use Rattle.journal.specs.Form.{IsFinish};
 ghost use Rattle.o32_runner.specs.Passed.{first_log};
-ghost use Rattle.o32_session.specs.Answers.{IsRefusal, finish_of, status_of};
-ghost use Rattle.o32_session.specs.Asked.{Names, Run, names_of};
-ghost use Rattle.o32_session.specs.inside.Ends.{end_of_error, end_of_stop};
-ghost use Rattle.o32_session.specs.Faults.{TellsFaults};
+ghost use Rattle.session_files.specs.Answers.{IsRefusal, finish_of, status_of};
+ghost use Rattle.session_files.specs.Inputs.{Names, names_of};
+ghost use Rattle.o32_session.specs.Asked.{Run};
+ghost use Rattle.session_files.specs.Faults.{TellsFaults};
 ghost use Rattle.o32_session.specs.LeftJournal.{LeavesJournal};
 ghost use Rattle.o32_runner.specs.Runs.{IsFresh};
 ghost use Rattle.o32_session.specs.inside.Runs.{AnswersRun};
-ghost use Rattle.o32_session.specs.Replayed.{AnswersReplayWords, AsksForReplay, EndsAsReplay};
+ghost use Rattle.session_replay.specs.Replayed.{AnswersReplayWords, AsksForReplay, EndsAsReplay};
 ghost use Rattle.o32_session.specs.Soaked.{AnswersSession, AnswersSoakReading, AsksForSoak, EndsAsSoak};
-ghost use Rattle.o32_session.specs.Session.{Answers, AnswersWords, AsksForRun, EndsAsRun, seen_of};
-ghost use Rattle.o32_runner.specs.Stored.{Stored, stored_of};
+ghost use Rattle.o32_session.specs.Session.{Answers, AnswersWords, AsksForRun, EndsAsRun};
+ghost use Rattle.session_files.specs.Seen.{seen_of};
+ghost use Rattle.stored_files.specs.Stored.{Stored, stored_of};
 ghost use Rattle.o32_runner.specs.Texts.{AllDiffer};
 ghost use Rattle.o32_session.specs.SavedFile.{SavesWords};
 ghost use Rattle.turn_records.specs.Keeping.{first_records};
 ghost use Rattle.o32_session.specs.Words.{ReplayCommand, SoakCommand, command_of, read_soak, texts, word_at};
 
-use crate::answer::{Answer, End};
-use crate::lines::end_without_run;
+use crate::answer::Answer;
 use crate::prepare::{Ready, prepare};
-use crate::replay::replay_words;
 use crate::run::run_named;
-use crate::save::{SaveError, save_final};
+use crate::save::save_final;
 use crate::soak::soak_words;
-use kernel_core::{Finish, Stop};
+use kernel_core::Finish;
 use o32_runner::{Emulator, Names as TextNames};
 use outside::{Devices, Sink, Source, Store};
+use session_files::{End, end_without_run};
+use session_replay::replay_words;
 use session_words::{Command, command_of, word_of};
 use std::alloc::Global;
-
-impl From<Stop> for End {
-    ghost from_gives = { λ stop end. end ≡ end_of_stop stop };
-
-    fn from(stop: Stop) -> End {
-        match stop {
-            Stop::WriteFault => End::WriteFault,
-            Stop::ReadFault => End::ReadFault,
-            Stop::NoMemory => End::NoMemory,
-        }
-    }
-}
-
-impl From<SaveError> for End {
-    ghost from_gives = { λ error end. end ≡ end_of_error error };
-
-    fn from(error: SaveError) -> End {
-        match error {
-            SaveError::Failed => End::WriteFault,
-            SaveError::NoImage | SaveError::NoMemory => End::NoMemory,
-        }
-    }
-}
 
 /// The answer of a session that ends so after these turns, and hands this emulator out.
 fn answer_of(end: End, turns: u64, host: Option<Emulator>) -> Answer

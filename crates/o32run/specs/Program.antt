@@ -1,10 +1,11 @@
 -- How the program ends. This project's own.
 use Rattle.std.specs.Prelude.{ℕ, ◌≡◌, List, Option}
-use Rattle.o32_session.specs.Answers.{status_of}
-use Rattle.o32_session.specs.Faults.{TellsFaults}
+use Rattle.session_files.specs.Answers.{status_of}
+use Rattle.session_files.specs.Faults.{TellsFaults}
 use Rattle.o32_session.specs.Soaked.{AnswersSession}
-use Rattle.o32_session.specs.Session.{Emulated, Seen}
-use Rattle.o32_session.specs.declared.answer.End.{End}
+use Rattle.o32_session.specs.Session.{Emulated}
+use Rattle.session_files.specs.Seen.{Seen}
+use Rattle.session_files.specs.declared.end.End.{End}
 
 -- A session of these words was carried out, with what its answer says of the input, outputs and files and of the counts of faults, and the
 -- status is that of its end.

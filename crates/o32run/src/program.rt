@@ -1,7 +1,8 @@
 //! What the program does between its arguments and its end, over any files and streams.
 ghost use Rattle.std.specs.Prelude.{◌≡◌};
 ghost use Rattle.std.specs.Process.{exit_status};
-ghost use Rattle.o32_session.specs.Session.{seen_of, stored_of};
+ghost use Rattle.session_files.specs.Seen.{seen_of};
+ghost use Rattle.o32_session.specs.Session.{stored_of};
 ghost use Rattle.o32_session.specs.Words.{texts};
 ghost use Rattle.o32run.specs.Program.{EndsAs};
 

@@ -9,10 +9,11 @@ use Rattle.start_stack.specs.Stack.{start_size, start_limit}
 use Rattle.journal.specs.Form.{IsJournal}
 use Rattle.journal.specs.Text.{Kept, text_of}
 use Rattle.journal.specs.Reading.{reading_of}
-use Rattle.o32_session.specs.Asked.{Found, Long, Bytes, arguments_of, found_at, journal_file, journal_limit, names_of, program_limit}
-use Rattle.o32_session.specs.Replayed.{RefuseReplay, Repeat, ReplayAsked, ReplayAsksFor, ReplayAsksOf, ReplayAsksUnless, asked_of_found, asked_of_reading}
+use Rattle.session_files.specs.Inputs.{Found, Long, Bytes, found_at, journal_file, journal_limit, names_of, program_limit}
+use Rattle.o32_session.specs.Asked.{arguments_of}
+use Rattle.session_replay.specs.Replayed.{RefuseReplay, Repeat, ReplayAsked, ReplayAsksFor, ReplayAsksOf, ReplayAsksUnless, asked_of_found, asked_of_reading}
 use Rattle.o32_session.specs.Words.{ReplayLine}
-use Rattle.o32_session.specs.declared.answer.Refusal.TheVariants as refusals
+use Rattle.session_files.specs.declared.refusal.Refusal.TheVariants as refusals
 use Rattle.session_laws.specs.Later.{HasBoth, LeftRun, text_left}
 
 -- the text of a journal is read as that journal

@@ -5,16 +5,18 @@ use Rattle.elf_image.specs.Loading.{plan_of}
 use Rattle.fs_image.proofs.MeaningLaws.{one_tree}
 use Rattle.kernel_core.specs.declared.finish.Finish.{Finish}
 use Rattle.kernel_core.specs.declared.tree.Tree.{Tree}
-use Rattle.o32_session.proofs.Repeating.{no_run, no_run_of_soak}
+use Rattle.o32_session.proofs.Commands.{no_run, no_run_of_soak}
 use Rattle.o32_session.proofs.Sessions.{asks_run}
-use Rattle.o32_session.specs.Answers.{finish_of}
-use Rattle.o32_session.specs.Asked.{Asked, AsksFor, Found, Absent, Long, Bytes, IsOpened, IsOpenedBy, Names, Run, arguments_of, first_machine, journal_front, names_of}
-use Rattle.o32_session.specs.Session.{Answers, AnswersReading, Emulated, Seen, Writes, once_loaded}
+use Rattle.session_files.specs.Answers.{finish_of}
+use Rattle.o32_session.specs.Asked.{Asked, AsksFor, Run, arguments_of, first_machine, journal_front}
+use Rattle.session_files.specs.Inputs.{Found, Absent, Long, Bytes, IsOpened, IsOpenedBy, Names, names_of}
+use Rattle.o32_session.specs.Session.{Answers, AnswersReading, Emulated, once_loaded}
+use Rattle.session_files.specs.Seen.{Seen, Writes}
 use Rattle.o32_session.specs.Soaked.{AnswersCommand, AnswersSession}
 use Rattle.o32_session.specs.Words.{Asks, Command, ReplayCommand, RunCommand, SoakCommand, command_of}
-use Rattle.o32_session.specs.declared.answer.End.{End}
-use Rattle.o32_session.specs.declared.answer.End.TheVariants.{Exited, Killed, Budget, Blocked, Soaked, Replayed, Refused, Diverged, ReadFault, WriteFault, NoMemory}
-use Rattle.o32_session.specs.declared.answer.Refusal.{Refusal}
+use Rattle.session_files.specs.declared.end.End.{End}
+use Rattle.session_files.specs.declared.end.End.TheVariants.{Exited, Killed, Budget, Blocked, Soaked, Replayed, Refused, Diverged, ReadFault, WriteFault, NoMemory}
+use Rattle.session_files.specs.declared.refusal.Refusal.{Refusal}
 use Rattle.o32_turns.specs.Machine.{Machine}
 use Rattle.o32_turns.specs.Runs.{reached}
 use Rattle.session_laws.specs.Later.{LeftRun, run_left}

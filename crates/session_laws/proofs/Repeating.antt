@@ -17,13 +17,15 @@ use Rattle.start_stack.specs.Start.{start_memory, start_processor}
 use Rattle.journal_laws.specs.Replaying.{IsStartOf, replay_from}
 use Rattle.journal_laws.proofs.Records.{standing}
 use Rattle.journal_laws.proofs.Runs.{journal_ends, journal_sent}
-use Rattle.o32_session.specs.Asked.{arguments_of, journal_limit, stack_chance}
-use Rattle.o32_session.specs.Replayed.{AnswersReplay, AnswersReplayReading, AsksForReplay, EndsAsReplay, IsReplayEnd, Repeat, ReplayAsked, StopsInReplay, StopsUnbegun, once_replay_loaded}
-use Rattle.o32_session.specs.Session.{Emulated, Seen, Writes}
+use Rattle.o32_session.specs.Asked.{arguments_of, stack_chance}
+use Rattle.session_files.specs.Inputs.{journal_limit}
+use Rattle.session_replay.specs.Replayed.{AnswersReplay, AnswersReplayReading, AsksForReplay, EndsAsReplay, IsReplayEnd, Repeat, ReplayAsked, StopsInReplay, StopsUnbegun, once_replay_loaded}
+use Rattle.o32_session.specs.Session.{Emulated}
+use Rattle.session_files.specs.Seen.{Seen, Writes}
 use Rattle.o32_session.specs.Soaked.{AnswersCommand, AnswersSession}
 use Rattle.o32_session.specs.Words.{AsksReplay, Command, ReplayLine, ReplayReading}
-use Rattle.o32_session.specs.declared.answer.End.{End}
-use Rattle.o32_session.specs.declared.answer.End.TheVariants.{Exited, Killed, Budget, Blocked, Soaked, Replayed, Refused, Diverged, ReadFault, WriteFault, NoMemory}
+use Rattle.session_files.specs.declared.end.End.{End}
+use Rattle.session_files.specs.declared.end.End.TheVariants.{Exited, Killed, Budget, Blocked, Soaked, Replayed, Refused, Diverged, ReadFault, WriteFault, NoMemory}
 use Rattle.session_laws.specs.Later.{AreReplayWords, HasBoth, IsPartAgain, LeftRun, RepeatsRun, machine_left, run_at, run_left, text_left}
 use Rattle.session_laws.proofs.Asking.{Accepted, asked_is, journal_fits, journal_found, journal_read, program_found}
 use Rattle.session_laws.proofs.Prefixes.{turns_repeated}

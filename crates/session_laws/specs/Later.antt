@@ -5,11 +5,12 @@ use Rattle.journal.specs.Text.{text_of}
 use Rattle.kernel_core.specs.declared.finish.Finish.{Finish}
 use Rattle.o32_session.specs.Asked.{arguments_of, first_machine}
 use Rattle.o32_session.specs.LeftJournal.{LeavesJournal}
-use Rattle.o32_session.specs.Replayed.{RestStands}
-use Rattle.o32_session.specs.Session.{AsksForRun, Seen, Writes}
+use Rattle.session_replay.specs.Replayed.{RestStands}
+use Rattle.o32_session.specs.Session.{AsksForRun}
+use Rattle.session_files.specs.Seen.{Seen, Writes}
 use Rattle.o32_session.specs.Words.{AsksReplay, ReplayCommand, ReplayLine, command_of, read_replay}
-use Rattle.o32_session.specs.declared.answer.End.{End}
-use Rattle.o32_session.specs.declared.answer.End.TheVariants.{Exited, Killed, Budget, Blocked, Soaked, Replayed, Refused, Diverged, ReadFault, WriteFault, NoMemory}
+use Rattle.session_files.specs.declared.end.End.{End}
+use Rattle.session_files.specs.declared.end.End.TheVariants.{Exited, Killed, Budget, Blocked, Soaked, Replayed, Refused, Diverged, ReadFault, WriteFault, NoMemory}
 use Rattle.o32_turns.specs.Machine.{Machine}
 use Rattle.o32_turns.specs.Runs.{Reached, reached}
 use Rattle.outside.specs.Count.{Rose}

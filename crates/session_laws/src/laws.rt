@@ -1,15 +1,16 @@
 //! A run is repeated from the journal that it left.
 ghost use Rattle.std.specs.Prelude.{◌≡◌, ◌≤◌, ◌<◌, ◌⊎◌, ℕ, List, Option, Some, length};
 ghost use Rattle.elf_image.specs.Loading.{plan_of};
-ghost use Rattle.o32_session.specs.Answers.{finish_of};
-ghost use Rattle.o32_session.specs.Asked.{journal_file, journal_limit};
-ghost use Rattle.o32_session.specs.Replayed.{AsksForReplay, EndsAsReplay, Repeat, RefuseReplay, ReplayAsked, ReplayAsksFor, StopsUnbegun, once_replay_loaded};
-ghost use Rattle.o32_session.specs.Session.{Emulated, Seen, Writes};
+ghost use Rattle.session_files.specs.Answers.{finish_of};
+ghost use Rattle.session_files.specs.Inputs.{journal_file, journal_limit};
+ghost use Rattle.session_replay.specs.Replayed.{AsksForReplay, EndsAsReplay, Repeat, RefuseReplay, ReplayAsked, ReplayAsksFor, StopsUnbegun, once_replay_loaded};
+ghost use Rattle.o32_session.specs.Session.{Emulated};
+ghost use Rattle.session_files.specs.Seen.{Seen, Writes};
 ghost use Rattle.o32_session.specs.Soaked.{AnswersSession};
 ghost use Rattle.o32_session.specs.Words.{ReplayLine};
-ghost use Rattle.o32_session.specs.declared.answer.End.{End};
-ghost use Rattle.o32_session.specs.declared.answer.End.TheVariants as ends;
-ghost use Rattle.o32_session.specs.declared.answer.Refusal.TheVariants as refusals;
+ghost use Rattle.session_files.specs.declared.end.End.{End};
+ghost use Rattle.session_files.specs.declared.end.End.TheVariants as ends;
+ghost use Rattle.session_files.specs.declared.refusal.Refusal.TheVariants as refusals;
 ghost use Rattle.outside.specs.Files.{Files};
 ghost use Rattle.session_laws.specs.Later.{AreReplayWords, HasBoth, LeftRun, RepeatsRun, run_left, text_left};
 

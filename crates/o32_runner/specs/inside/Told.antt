@@ -22,7 +22,7 @@ use Rattle.o32_machine.specs.Native.{LogsTurns}
 use Rattle.o32_machine.specs.Records.{RecordsTurns}
 use Rattle.o32_runner.specs.JournalText.{records_text}
 use Rattle.o32_runner.specs.NativeText.{entry_lines}
-use Rattle.o32_runner.specs.Stored.{IfNamed, Stored}
+use Rattle.stored_files.specs.Stored.{IfNamed, Stored}
 use Rattle.o32_runner.specs.Trace.{turn_lines}
 use Rattle.o32_runner.specs.declared.told.Cut.{Cut}
 use Rattle.trace_text.specs.Trace.{trace_line}

@@ -3,12 +3,12 @@ use Rattle.std.specs.Prelude.{ℕ, ◌≡◌, List, [], unwrap_or, Option, Some,
 use Rattle.outside.specs.Output.{GainsText, GainsBetween}
 use Rattle.o32_runner.specs.Emulators.{Emulated}
 use Rattle.o32_runner.specs.Runs.{no_turn_follows}
-use Rattle.o32_session.specs.Asked.{empty_schedule}
-use Rattle.o32_session.specs.Session.{KeepsNamed, final_tree, no_names}
+use Rattle.session_files.specs.Inputs.{empty_schedule, no_names}
+use Rattle.o32_session.specs.Session.{KeepsNamed, final_tree}
 use Rattle.o32_session.specs.Soaked.{IsSoak, line_on}
 use Rattle.o32_session.specs.declared.soak.SoakRun.{SoakRun}
-use Rattle.o32_session.specs.declared.answer.End.{End}
-use Rattle.o32_session.specs.declared.answer.End.TheVariants as ends
+use Rattle.session_files.specs.declared.end.End.{End}
+use Rattle.session_files.specs.declared.end.End.TheVariants as ends
 
 -- this is a run of the program for so many numbers, with its line
 pub record IsSoakOf (count : ℕ) (soaked : SoakRun) : Type 0 where

@@ -1,5 +1,5 @@
 use Rattle.std.specs.Option.{option_copied}
-use Rattle.o32_runner.specs.Stored.{stored_of}
+use Rattle.stored_files.specs.Stored.{stored_of}
 use Rattle.o32_runner.proofs.Files.{third_unmade}
 use Rattle.o32_runner.proofs.told.make_all.Goals as goal
 

@@ -9,7 +9,7 @@ use Rattle.kernel_core.specs.declared.core_error.Stop.{Stop}
 use Rattle.kernel_core.specs.declared.finish.Finish.{Finish}
 use Rattle.kernel_core.specs.declared.finish.Finish.TheVariants.{Budget}
 use Rattle.o32_runner.specs.Runs.{IsOver, IsSoFar, no_turn_follows}
-use Rattle.o32_runner.specs.Stored.{stored_of}
+use Rattle.stored_files.specs.Stored.{stored_of}
 use Rattle.o32_runner.specs.inside.Told.{EndsBudget, IsMade}
 use Rattle.o32_runner.proofs.Journals.{AllAs, all_below, all_cut, all_done, all_end, all_ended, all_first, all_go_on, all_on, all_partly, all_whole, all_written, behind_end}
 use Rattle.o32_runner.proofs.KeptTexts.{keeps_behind, keeps_first, keeps_however, over_behind, over_however}

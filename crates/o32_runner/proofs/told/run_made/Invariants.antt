@@ -2,7 +2,7 @@ use Rattle.std.proofs.Common.{◌≡◌, ◌≤◌, ◌-◌, ℕ, List, Some, fa
 use Rattle.std.specs.Option.{option_copied}
 use Rattle.outside.specs.Streams.{NoCountFell, NoCountRose, contents}
 use Rattle.o32_runner.specs.Runs.{GoesSo, KeepsTexts}
-use Rattle.o32_runner.specs.Stored.{Stored, stored_of}
+use Rattle.stored_files.specs.Stored.{Stored, stored_of}
 use Rattle.o32_runner.specs.Making.{MakesAll}
 use Rattle.o32_runner.specs.inside.Told.{IsMade}
 use Rattle.o32_runner.proofs.Journals.{AllSo}

@@ -1,7 +1,7 @@
 use Rattle.std.proofs.Common.{◌≤◌, arith, inr, subst, sym}
 use Rattle.std.specs.Option.{option_copied}
 use Rattle.outside.specs.Streams.{contents}
-use Rattle.o32_runner.specs.Stored.{stored_of}
+use Rattle.stored_files.specs.Stored.{stored_of}
 use Rattle.o32_runner.proofs.RunLemmas.{at_start}
 use Rattle.o32_runner.proofs.Telling.{cut_here}
 use Rattle.kernel_core.specs.declared.core_error.Stop.{Stop}

@@ -4,7 +4,7 @@ use Rattle.kernel_core.specs.declared.event.Event.{Event}
 use Rattle.kernel_core.specs.declared.log_entry.LogEntry.{LogEntry}
 use Rattle.o32_machine.specs.Answered.{turns_of}
 use Rattle.o32_runner.specs.NativeText.{entry_lines}
-use Rattle.o32_runner.specs.Stored.{stored_of}
+use Rattle.stored_files.specs.Stored.{stored_of}
 use Rattle.o32_runner.specs.inside.Told.{native_of, told_lines, trace_of}
 use Rattle.o32_runner.proofs.Files.{first_in_part, second_in_part}
 use Rattle.o32_runner.proofs.told.tell.Goals as goal

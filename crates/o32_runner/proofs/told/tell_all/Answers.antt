@@ -2,7 +2,7 @@ use Rattle.std.proofs.Common.{◌≡◌, ◌++◌, ℕ, List, ap, ◌∙◌}
 use Rattle.std.specs.Option.{option_copied}
 use Rattle.kernel_core.specs.declared.record.Record.{Record}
 use Rattle.o32_runner.specs.JournalText.{records_text}
-use Rattle.o32_runner.specs.Stored.{stored_of}
+use Rattle.stored_files.specs.Stored.{stored_of}
 use Rattle.o32_runner.specs.inside.Told.{journal_of, native_of, told_records, trace_of}
 use Rattle.o32_runner.proofs.Files.{lines_in_part, records_in_part}
 use Rattle.o32_runner.proofs.told.tell_all.Goals as goal

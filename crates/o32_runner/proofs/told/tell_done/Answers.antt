@@ -2,7 +2,7 @@ use Rattle.std.proofs.Common.{refl}
 use Rattle.std.specs.Option.{option_copied}
 use Rattle.kernel_core.specs.declared.event.Event.TheVariants as event
 use Rattle.trace_text.specs.Trace.{trace_line}
-use Rattle.o32_runner.specs.Stored.{stored_of}
+use Rattle.stored_files.specs.Stored.{stored_of}
 use Rattle.o32_runner.specs.inside.Told.{budget_record}
 use Rattle.o32_runner.proofs.Files.{first_in_part, second_in_part}
 use Rattle.o32_runner.proofs.told.tell_done.Goals as goal

@@ -1,19 +1,17 @@
-use Rattle.std.proofs.Common.{◌≡◌, ◌<◌, ℕ, List, ap, subst, ◌∙◌}
+use Rattle.std.proofs.Common.{◌≡◌, ◌<◌, ℕ, List, ap, subst, ◌∙◌, ◌≤◌, arith, length, string_bytes, sym}
 use Rattle.kernel_model.specs.System.{round}
 use Rattle.o32_runner.specs.Emulators.{Emulated}
 use Rattle.start_stack.specs.Stack.{start_size, start_limit}
 use Rattle.start_stack.specs.Start.{start_memory, start_processor}
-use Rattle.o32_session.specs.Asked.{journal_front, stack_chance}
-use Rattle.o32_session.specs.Words.{texts}
+use Rattle.o32_session.specs.Asked.{stack_chance}
+use Rattle.o32_session.specs.Words.{texts, IsPlain}
 use Rattle.session_words.specs.Read.{line_seen}
 use Rattle.o32_session.proofs.Preparing.{machine_ready}
 use Rattle.journal.specs.Text.{head_text}
 use Rattle.o32_runner.specs.Passed.{first_log}
 use Rattle.turn_records.specs.Keeping.{first_records}
-use Rattle.o32_session.specs.Words.{IsPlain}
-use Rattle.o32_session.proofs.Plain.{are_texts}
+use Rattle.session_files.proofs.Plain.{are_texts}
 use Rattle.std.specs.Prelude.{All}
-use Rattle.std.proofs.Common.{◌≤◌, arith, length, string_bytes, sym}
 use Rattle.std.proofs.lemmas.List.{length-map}
 use Rattle.o32_session.proofs.prepare.machine_of_plan.Goals as goal
 

@@ -1,7 +1,7 @@
 use Rattle.o32_session.specs.Words.{texts}
 use Rattle.session_words.specs.Read.{line_seen}
 use Rattle.session_words.proofs.Budgets.{budget_within}
-use Rattle.o32_session.proofs.Plain.{asked_plain}
+use Rattle.session_files.proofs.Plain.{asked_plain}
 use Rattle.o32_session.proofs.prepare.prepare.Goals as goal
 
 pub prepare_line-requires-clause-bounded : goal.prepare_line-requires-clause-bounded

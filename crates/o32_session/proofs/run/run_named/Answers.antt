@@ -1,7 +1,7 @@
 use Rattle.std.proofs.Common.{ap}
 use Rattle.std.specs.Option.{option_copied}
 use Rattle.outside.specs.Streams.{contents}
-use Rattle.o32_runner.specs.Stored.{stored_of}
+use Rattle.stored_files.specs.Stored.{stored_of}
 use Rattle.o32_runner.proofs.Journals.{behind_none}
 use Rattle.o32_session.proofs.Naming.{nothing_written}
 use Rattle.o32_session.proofs.run.run_named.Goals as goal

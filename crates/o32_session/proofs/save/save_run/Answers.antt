@@ -1,4 +1,4 @@
-use Rattle.o32_runner.specs.Stored.{stored_of}
+use Rattle.stored_files.specs.Stored.{stored_of}
 use Rattle.o32_session.specs.Session.{final_tree}
 use Rattle.o32_session.proofs.Saves.{saves_so}
 use Rattle.o32_session.proofs.SavedFiles.{stands_part}

@@ -5,7 +5,7 @@ use Rattle.o32_session.specs.Soaked.{soak_arguments}
 use Rattle.o32_session.specs.Words.{IsPlain, texts}
 use Rattle.o32_session.proofs.Keeping.{keeps_nothing}
 use Rattle.o32_session.proofs.Soaking.{machine_ready, no_settings, plain_arguments, quantum_ready}
-use Rattle.o32_session.proofs.Trees.{empty_tree_valid}
+use Rattle.session_files.proofs.Trees.{empty_tree_valid}
 use Rattle.o32_session.proofs.soak.begin.Goals as goal
 
 pub machine_of_plan-requires-clause-args : goal.machine_of_plan-requires-clause-args

@@ -1,4 +1,4 @@
-use Rattle.std.proofs.Common.{◌≡◌, IfOk, Ok, Err, [], Result, subst}
+use Rattle.std.proofs.Common.{◌≡◌, IfOk, [], Result, subst}
 use Rattle.outside.specs.Streams.{contents}
 use Rattle.kernel_core.specs.declared.core_error.Stop.{Stop}
 use Rattle.kernel_core.specs.declared.finish.Finish.{Finish}

@@ -1,7 +1,7 @@
 use Rattle.std.proofs.Common.{subst}
 use Rattle.o32_turns.specs.Machine.{Machine}
 use Rattle.o32_session.specs.Soaked.{GoesSoFar, stops_within}
-use Rattle.o32_session.specs.Session.{no_names}
+use Rattle.session_files.specs.Inputs.{no_names}
 use Rattle.o32_session.proofs.Keeping.{keeps_still}
 use Rattle.o32_session.proofs.soak.soak_begun.Goals as goal
 

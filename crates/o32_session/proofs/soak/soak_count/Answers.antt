@@ -1,4 +1,4 @@
-use Rattle.o32_session.specs.Session.{seen_of}
+use Rattle.session_files.specs.Seen.{seen_of}
 use Rattle.o32_session.proofs.Soaking.{told, told_faults, told_host, untold}
 use Rattle.o32_session.proofs.soak.soak_count.Goals as goal
 

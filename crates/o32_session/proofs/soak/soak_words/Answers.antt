@@ -1,9 +1,9 @@
 use Rattle.std.proofs.Common.{None, refl, subst}
-use Rattle.o32_session.specs.Session.{no_names, seen_of}
+use Rattle.session_files.specs.Seen.{seen_of}
 use Rattle.o32_session.specs.Soaked.{AnswersSoakReading}
-use Rattle.o32_session.specs.declared.answer.Refusal.TheVariants.{Usage}
-use Rattle.o32_session.proofs.Faults.{line_faults}
-use Rattle.o32_session.proofs.Sessions.{refused}
+use Rattle.session_files.specs.declared.refusal.Refusal.TheVariants.{Usage}
+use Rattle.session_files.proofs.Faults.{line_faults}
+use Rattle.session_files.proofs.Unrun.{refused}
 use Rattle.o32_session.proofs.soak.soak_words.Goals as goal
 
 pub returns-in-Ok-clause-answer : goal.returns-in-Ok-clause-answer
@@ -18,7 +18,7 @@ returns-in-Err-clause-answer g c loads store =
     let old = seen_of g.I.Source.left g.O.Sink.written g.E.Sink.written g.I.Source.faults g.O.Sink.faults g.E.Sink.faults c.args.dev.now loads store in
     let new = seen_of g.I.Source.left g.O.Sink.written g.E.Sink.written g.I.Source.faults g.O.Sink.faults g.E.Sink.faults (record c.args.dev.now { err = c.refuse.new.err }) loads store in
     subst (λ r. AnswersSoakReading r old new 0 c.refuse.result None) c.in-Err.ensures.reading
-    (refused (Usage c.in-Err.word) no_names c.refuse.result old (g.E.Sink.written c.refuse.new.err) (g.E.Sink.faults c.refuse.new.err) loads store None
+    (refused (Usage c.in-Err.word) c.refuse.result old (g.E.Sink.written c.refuse.new.err) (g.E.Sink.faults c.refuse.new.err) loads store
     c.refuse.ensures.line c.refuse.ensures.cause refl)
 
 pub returns-in-Err-clause-faults : goal.returns-in-Err-clause-faults

@@ -1,7 +1,7 @@
 use Rattle.std.proofs.Common.{subst}
-use Rattle.o32_runner.specs.Stored.{stored_of}
+use Rattle.stored_files.specs.Stored.{stored_of}
 use Rattle.o32_session.specs.Soaked.{AnswersCommand}
-use Rattle.o32_session.specs.Session.{seen_of}
+use Rattle.session_files.specs.Seen.{seen_of}
 use Rattle.o32_session.specs.Words.{texts}
 use Rattle.o32_session.proofs.top_call.answer_command.Goals as goal
 

@@ -1,10 +1,10 @@
 use Rattle.std.proofs.Common.{ℕ, subst, sym}
-use Rattle.o32_runner.specs.Stored.{stored_of}
-use Rattle.o32_session.specs.Faults.{TellsFaults}
-use Rattle.o32_session.specs.Replayed.{AnswersReplayWords}
-use Rattle.o32_session.specs.Session.{seen_of}
+use Rattle.stored_files.specs.Stored.{stored_of}
+use Rattle.session_files.specs.Faults.{TellsFaults}
+use Rattle.session_replay.specs.Replayed.{AnswersReplayWords}
+use Rattle.session_files.specs.Seen.{seen_of}
 use Rattle.o32_session.specs.Words.{texts}
-use Rattle.o32_session.specs.declared.answer.End.{End}
+use Rattle.session_files.specs.declared.end.End.{End}
 use Rattle.o32_session.proofs.top_call.answer_replay.Goals as goal
 
 pub returns-clause-answer : goal.returns-clause-answer

@@ -1,6 +1,6 @@
 use Rattle.std.proofs.Common.{inl, inr, option_map, ◌∙◌}
 use Rattle.o32_session.specs.Words.{texts, word_at}
-use Rattle.o32_runner.specs.Stored.{stored_of}
+use Rattle.stored_files.specs.Stored.{stored_of}
 use Rattle.o32_session.proofs.Saves.{failed_so}
 use Rattle.o32_session.proofs.top_call.answer_run.Goals as goal
 

@@ -1,12 +1,14 @@
 use Rattle.std.proofs.Common.{ℕ, ◌≤◌, [], None, Ok, Err, option_map, refl, subst, sym}
-use Rattle.o32_session.specs.Asked.{Names}
+use Rattle.session_files.specs.Inputs.{Names}
 use Rattle.o32_session.specs.Words.{texts, read_words, word_at}
-use Rattle.o32_session.specs.Faults.{NoneRose, TellsFaults}
-use Rattle.o32_runner.specs.Stored.{stored_of}
-use Rattle.o32_session.specs.Session.{AnswersWords, seen_of}
-use Rattle.o32_session.specs.declared.answer.End.{End}
-use Rattle.o32_session.proofs.Faults.{tells_since, unrun_faults}
-use Rattle.o32_session.proofs.Loading.{reading_writes}
+use Rattle.session_files.specs.Faults.{NoneRose, TellsFaults}
+use Rattle.stored_files.specs.Stored.{stored_of}
+use Rattle.o32_session.specs.Session.{AnswersWords}
+use Rattle.session_files.specs.Seen.{seen_of}
+use Rattle.session_files.specs.declared.end.End.{End}
+use Rattle.session_files.proofs.Faults.{tells_since, unrun_faults}
+use Rattle.session_files.proofs.Loading.{reading_writes}
+use Rattle.o32_session.specs.declared.prepare.Ready.{Ready}
 use Rattle.o32_session.proofs.Naming.{ready_differ}
 use Rattle.o32_session.proofs.Sessions.{ran_on, unrun, run_answers}
 use Rattle.o32_session.proofs.top_call.answer_words.Goals as goal
@@ -47,7 +49,7 @@ returns-in-Err-clause-faults g c =
     let old = seen_of g.I.Source.left g.O.Sink.written g.E.Sink.written g.I.Source.faults g.O.Sink.faults g.E.Sink.faults c.args.dev.now (g.F.Store.load_faults c.args.files.now) (stored_of g.F.Store.files g.F.Store.created g.F.Store.loads g.F.Store.turned_away g.F.Store.write_faults c.args.files.now) in
     let new = seen_of g.I.Source.left g.O.Sink.written g.E.Sink.written g.I.Source.faults g.O.Sink.faults g.E.Sink.faults (record c.args.dev.now { err = c.end_without_run.new.err }) (g.F.Store.load_faults c.prepare.new.files) (stored_of g.F.Store.files g.F.Store.created g.F.Store.loads g.F.Store.turned_away g.F.Store.write_faults c.prepare.new.files) in
     subst (λ (e : End). TellsFaults e old new) (sym c.answer_of.ensures.end)
-    (unrun_faults c.in-Err.reason c.end_without_run.result old new (g.E.Sink.written c.args.dev.now.err) (g.E.Sink.written c.end_without_run.new.err) c.end_without_run.ensures.line
+    (unrun_faults Ready c.in-Err.reason c.end_without_run.result old new (g.E.Sink.written c.args.dev.now.err) (g.E.Sink.written c.end_without_run.new.err) c.end_without_run.ensures.line
     c.end_without_run.ensures.cause c.in-Err.ensures.cause refl refl
     (reading_writes (texts c.args.words.now) (read_words (texts c.args.words.now)) (Err c.in-Err.reason) old.store new.store c.in-Err.ensures.loads))
 

@@ -5,15 +5,17 @@ use Rattle.kernel_core.specs.declared.finish.Finish.{Finish}
 use Rattle.outside.specs.Streams.{contents}
 use Rattle.o32_runner.specs.Making.{StopsBehind}
 use Rattle.o32_runner.specs.Runs.{KeepsTexts, RunsAs, WithinBudget, no_turn_follows}
-use Rattle.o32_runner.specs.Stored.{stored_of}
+use Rattle.stored_files.specs.Stored.{stored_of}
 use Rattle.o32_runner.specs.Texts.{WritesTexts}
 use Rattle.o32_runner.specs.Traced.{StopsOnlyIfAnyRose}
 use Rattle.o32_session.specs.Asked.{Run}
-use Rattle.o32_session.specs.Faults.{TellsFaults}
-use Rattle.o32_session.specs.Session.{Answers, seen_of}
+use Rattle.session_files.specs.Faults.{TellsFaults}
+use Rattle.o32_session.specs.Session.{Answers}
+use Rattle.session_files.specs.Seen.{seen_of}
 use Rattle.o32_session.specs.Words.{texts, word_at}
-use Rattle.o32_session.specs.declared.answer.End.{End}
-use Rattle.o32_session.proofs.Faults.{cut_faults, run_faults, tells_since}
+use Rattle.session_files.specs.declared.end.End.{End}
+use Rattle.o32_session.proofs.Faults.{cut_faults, run_faults}
+use Rattle.session_files.proofs.Faults.{tells_since}
 use Rattle.o32_session.proofs.Keeping.{keeps_named}
 use Rattle.o32_session.proofs.Sessions.{cut_answer, read_cause, run_answer, texts_named, write_cause}
 use Rattle.o32_session.proofs.top_call.run_ready.Goals as goal

@@ -1,12 +1,12 @@
 use Rattle.std.proofs.Common.{inl, inr, refl, subst}
 use Rattle.o32_session.specs.Words.{texts, command_of}
-use Rattle.o32_session.specs.Faults.{TellsFaults}
-use Rattle.o32_runner.specs.Stored.{stored_of}
-use Rattle.o32_session.specs.Session.{seen_of}
-use Rattle.o32_session.specs.declared.answer.End.{End}
+use Rattle.session_files.specs.Faults.{TellsFaults}
+use Rattle.stored_files.specs.Stored.{stored_of}
+use Rattle.session_files.specs.Seen.{seen_of}
+use Rattle.session_files.specs.declared.end.End.{End}
 use Rattle.o32_session.proofs.LeftJournals.{journal_left}
-use Rattle.o32_session.proofs.ReadWords.{words_utf8}
-use Rattle.o32_session.proofs.Repeating.{command_saves, replay_complete, run_complete}
+use Rattle.session_files.proofs.ReadWords.{words_utf8}
+use Rattle.o32_session.proofs.Commands.{command_saves, replay_complete, run_complete}
 use Rattle.o32_session.proofs.Soaking.{soak_complete}
 use Rattle.o32_session.proofs.top_call.session.Goals as goal
 

@@ -1,0 +1,9 @@
+pub mod Chance
+pub mod Trees
+pub mod Plain
+pub mod ReadWords
+pub mod Programs
+pub mod Loading
+pub mod Unrun
+pub mod Faults
+pub mod AllInputs

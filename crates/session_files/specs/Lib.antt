@@ -1,0 +1,9 @@
+pub mod Lines
+pub mod Answers
+pub mod Inputs
+pub mod Saved
+pub mod Seen
+pub mod Unrun
+pub mod Faults
+pub mod Ends
+pub mod Steps
