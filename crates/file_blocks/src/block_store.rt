@@ -117,11 +117,3 @@ impl BlockStore {
         self.extents.clear_from(index as u64, place);
     }
 }
-
-#[cfg(test)]
-impl BlockStore {
-    /// How many extents there are.
-    pub(crate) fn extents(&self) -> usize {
-        self.extents.count()
-    }
-}

@@ -155,14 +155,6 @@ impl Content {
     }
 }
 
-#[cfg(test)]
-impl Content {
-    /// How many extents there are.
-    pub(crate) fn extents(&self) -> usize {
-        self.blocks.extents()
-    }
-}
-
 /// The size after a write of `count` bytes at `at`.
 fn size_with(size: u64, at: u64, count: usize) -> u64
     requires { at + count ≤ greatest_size }

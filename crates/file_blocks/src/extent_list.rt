@@ -277,11 +277,3 @@ impl ExtentList {
         }
     }
 }
-
-#[cfg(test)]
-impl ExtentList {
-    /// How many extents there are.
-    pub(crate) fn count(&self) -> usize {
-        self.extents.len()
-    }
-}

@@ -106,9 +106,9 @@ fn a_cut_leaves_zeros(rt: HostRuntime) -> Result<(), Fail> {
 #[test]
 fn a_block_between_two_joins_them(rt: HostRuntime) -> Result<(), Fail> {
     let mut content = with_writes(rt.alloc(), &[(0, &[1u8; 4096]), (8192, &[3u8; 4096])])?;
-    assert_eq!(rt; (content.blocks(), content.extents()), (2, 2));
+    assert_eq!(rt; content.blocks(), 2);
     assert_eq!(rt; write(&mut content, 4096, &[2u8; 4096], 1)?, 4096);
-    assert_eq!(rt; (content.blocks(), content.extents()), (3, 1));
+    assert_eq!(rt; content.blocks(), 3);
     for (at, text) in [(4095, [1u8, 2]), (8191, [2, 3])] {
         let mut buffer = [0u8; 2];
         assert_eq!(rt; content.read(at, &mut buffer), 2);
@@ -120,7 +120,7 @@ fn a_block_between_two_joins_them(rt: HostRuntime) -> Result<(), Fail> {
 #[test]
 fn a_file_cut_and_made_longer_is_zeros_there(rt: HostRuntime) -> Result<(), Fail> {
     let mut content = with_writes(rt.alloc(), &[(0, &[7u8; 10_000])])?;
-    assert_eq!(rt; (content.blocks(), content.extents()), (3, 1));
+    assert_eq!(rt; content.blocks(), 3);
     content.set_size(5000);
     content.set_size(10_000);
     assert_eq!(rt; (content.size(), content.blocks()), (10_000, 2));
