@@ -45,11 +45,11 @@ pub fn acceptance_call<I: Source, O: Sink, E: Sink>(
         memory: mem,
         log,
     };
-    by_number(args, cpu, space, dev, seen, below)
+    accept_and_tell(args, cpu, space, dev, seen, below)
 }
 
-/// The same by its number, with the kernel and what its calls are made with as one value.
-fn by_number<I: Source, O: Sink, E: Sink>(
+/// The same with the kernel and what its calls are made with as one value.
+fn accept_and_tell<I: Source, O: Sink, E: Sink>(
     args: &CallWords,
     cpu: &mut Cpu,
     space: &mut Space,

@@ -16,6 +16,7 @@ use outside::{Devices, Sink, Source};
 use std::alloc::Global;
 
 /// Makes a native call, and keeps it where native calls are kept.
+#[inline(always)]
 pub(crate) fn native<I: Source, O: Sink, E: Sink>(
     k: &mut NativeKernel,
     nr: u64,
@@ -44,6 +45,7 @@ pub(crate) fn native<I: Source, O: Sink, E: Sink>(
 }
 
 /// Makes a native call.
+#[inline(always)]
 fn make<I: Source, O: Sink, E: Sink>(
     k: &mut NativeKernel,
     nr: u64,
@@ -61,7 +63,9 @@ fn make<I: Source, O: Sink, E: Sink>(
     k.call(nr, args, mem, dev)
 }
 
-/// Makes a native call and adds its entry.
+/// Makes a native call and adds its entry. It stands apart from the path of a call that isn't kept.
+#[cold]
+#[inline(never)]
 fn kept_call<I: Source, O: Sink, E: Sink>(
     k: &mut NativeKernel,
     nr: u64,

@@ -11,8 +11,8 @@ mod mirrored;
 mod outcomes;
 mod storing;
 
-// Passed on: who makes native calls for a program names one crate for the kernel, for its host's rooms and for the program's memory.
 pub use below::Below;
+// Passed on: who makes native calls for a program names one crate for the kernel, for its host's rooms and for the program's memory.
 pub use bridge_mem::{
     PathError, Vector, fresh_room, load_buffer, load_structure, path, six_words, stack_pair,
 };

@@ -54,7 +54,7 @@ enum Quiet {
 
 /// What comes behind instructions that store nothing.
 #[derive(Clone, Copy)]
-enum Next {
+enum Behind {
     /// This store.
     Store(Store),
     /// A call.
@@ -78,7 +78,7 @@ enum Ended {
 #[derive(Clone, Copy)]
 struct Rest {
     left: u64,
-    next: Next,
+    next: Behind,
 }
 
 /// What is left of a number of instructions, and how they ended.
@@ -203,13 +203,13 @@ fn run_in_page(cpu: &mut Cpu, space: &Space, page: &[u8; 4096], most: u64) -> Re
             Quiet::Stores(store) => {
                 return Rest {
                     left,
-                    next: Next::Store(store),
+                    next: Behind::Store(store),
                 };
             }
             Quiet::Calls => {
                 return Rest {
                     left,
-                    next: Next::Call,
+                    next: Behind::Call,
                 };
             }
             Quiet::Stays => break,
@@ -217,7 +217,7 @@ fn run_in_page(cpu: &mut Cpu, space: &Space, page: &[u8; 4096], most: u64) -> Re
     }
     Rest {
         left,
-        next: Next::Other,
+        next: Behind::Other,
     }
 }
 
@@ -232,7 +232,7 @@ fn run_here(cpu: &mut Cpu, space: &Space, most: u64) -> Rest
         Some(page) => run_in_page(cpu, space, page, most),
         None => Rest {
             left: most,
-            next: Next::Other,
+            next: Behind::Other,
         },
     }
 }
@@ -247,7 +247,7 @@ fn run_to_store(cpu: &mut Cpu, space: &mut Space, most: u64) -> Stretch
 {
     let rest = run_here(cpu, space, most);
     match rest.next {
-        Next::Store(store) => {
+        Behind::Store(store) => {
             if store_quietly(cpu, space, store.span, store.address, store.value) {
                 Stretch {
                     left: rest.left - 1,
@@ -260,11 +260,11 @@ fn run_to_store(cpu: &mut Cpu, space: &mut Space, most: u64) -> Stretch
                 }
             }
         }
-        Next::Call => Stretch {
+        Behind::Call => Stretch {
             left: rest.left,
             ended: Ended::AtCall,
         },
-        Next::Other => Stretch {
+        Behind::Other => Stretch {
             left: rest.left,
             ended: Ended::AtOther,
         },

@@ -76,6 +76,7 @@ impl NativeKernel {
 
     /// A call that reaches no stream.
     #[tactic(auto, unfolding(native_calls::specs::Transfers::pread_row))]
+    #[inline(always)]
     fn quiet_call(&mut self, nr: u64, args: [u64; 6], mem: &mut HostMem) -> Result<Reply, NoMemory>
         requires { (nr < 63) ⊎ (66 < nr) }
         ensures row { IfOk result (λ reply. IsQuiet (built_call nr args self.old mem.old) reply self.new mem.new) }

@@ -1,4 +1,4 @@
-//! The tests of `native_kernel`, and nothing else.
+//! The tests of `native_kernel`, and through it of `native_polls`, and nothing else.
 #![tactic(auto)]
 
 #[cfg(test)]

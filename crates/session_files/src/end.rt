@@ -83,7 +83,7 @@ impl From<SaveError> for End {
 }
 
 impl End {
-    /// The exit status of the emulator: that of the guest, the lesser of 128 and the signal's number or 255, 124 where
+    /// The exit status of the emulator: that of the guest, the lesser of 255 and 128 plus the signal's number, 124 where
     /// the budget is done, 123 where the guest is blocked, 125 where nothing was run, 120 where a replay differs from its journal, 122 and 119 for
     /// faults, and 121 for want of memory. A replay has the status of its run, and so has a soak. The numbers are this project's own, after those of a shell and of
     /// timeout(1).

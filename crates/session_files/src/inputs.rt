@@ -1,5 +1,5 @@
 //! The files that a run begins with, loaded in their order.
-ghost use Rattle.std.specs.Prelude.{◌≡◌, ◌≤◌, ◌<◌, length, IfOk};
+ghost use Rattle.std.specs.Prelude.{◌≤◌, ◌<◌, length, IfOk};
 ghost use Rattle.elf_image.specs.Loading.{IsValidPlan};
 ghost use Rattle.kernel_core.specs.ValidTree.{IsValidTree};
 ghost use Rattle.schedule.specs.Ranges.{IsGivenSchedule};

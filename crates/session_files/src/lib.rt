@@ -1,4 +1,4 @@
-//! What a session loads, and saves, refuses and tells, without a run.
+//! What a session loads, and saves, refuses and tells, without a machine.
 #![tactic(auto)]
 
 mod end;

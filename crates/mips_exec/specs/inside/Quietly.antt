@@ -4,10 +4,10 @@ use Rattle.guest_space.specs.Memory.{Memory}
 use Rattle.mips_exec.specs.Processor.{Processor}
 use Rattle.mips_exec.specs.Step.{step_of, effect_at}
 use Rattle.mips_exec.specs.declared.effect.Effect.TheVariants as Effect
+use Rattle.mips_exec.specs.declared.running.Behind.{Behind}
+use Rattle.mips_exec.specs.declared.running.Behind.TheVariants as behind
 use Rattle.mips_exec.specs.declared.running.Ended.{Ended}
 use Rattle.mips_exec.specs.declared.running.Ended.TheVariants as ended
-use Rattle.mips_exec.specs.declared.running.Next.{Next as Behind}
-use Rattle.mips_exec.specs.declared.running.Next.TheVariants as behind
 use Rattle.mips_exec.specs.declared.running.Quiet.{Quiet}
 use Rattle.mips_exec.specs.declared.running.Quiet.TheVariants.{Went, Stores, Calls, Stays}
 use Rattle.mips_exec.specs.declared.execution.Stepped.TheVariants.{Next}

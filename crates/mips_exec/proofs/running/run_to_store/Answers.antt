@@ -1,6 +1,6 @@
 use Rattle.std.proofs.Common.{◌+◌, ◌-◌, arith, refl, sym, subst}
 use Rattle.mips_exec.specs.Going.{Goes}
-use Rattle.mips_exec.specs.declared.running.Next.{Next as Behind}
+use Rattle.mips_exec.specs.declared.running.Behind.{Behind}
 use Rattle.mips_exec.specs.inside.Quietly.{IsNext}
 use Rattle.mips_exec.specs.declared.effect.Effect.TheVariants as Effect
 use Rattle.mips_exec.specs.declared.execution.Stepped.TheVariants.{Next}

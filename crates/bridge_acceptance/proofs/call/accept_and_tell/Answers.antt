@@ -5,7 +5,7 @@ use Rattle.bridge_acceptance.proofs.Closed.{ends_called, ends_keeps}
 use Rattle.bridge_acceptance.proofs.Rows.{called_row}
 use Rattle.bridge_acceptance.specs.Found.{found}
 use Rattle.bridge_signal_state.proofs.Passed.{stopped_row}
-use Rattle.bridge_acceptance.proofs.call.by_number.Goals as goal
+use Rattle.bridge_acceptance.proofs.call.accept_and_tell.Goals as goal
 
 pub returns-clause-row : goal.returns-clause-row
 returns-clause-row g c = λ left told.
