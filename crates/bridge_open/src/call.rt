@@ -8,7 +8,7 @@ ghost use Rattle.o32_model.specs.Answered.{IsCall};
 ghost use Rattle.o32_model.specs.Table.{o32_call};
 ghost use Rattle.outside.specs.Streams.{NoCountFell, contents};
 
-use crate::opening::open;
+use crate::opening::{OpenCall, open};
 use bridge_paths::{Below, NativeKernel};
 use guest_space::Space;
 use host_mem::HostMem;
@@ -76,8 +76,32 @@ fn by_number<I: Source, O: Sink, E: Sink>(
 {
     let [a0, a1, a2, a3] = args.reg;
     match args.nr {
-        4005 => open(alloc, args, WORKING, a0, a1, a2, space, dev, below),
-        4008 => open(alloc, args, WORKING, a0, CREAT_FLAGS, a1, space, dev, below),
-        _ => open(alloc, args, a0, a1, a2, a3, space, dev, below),
+        4005 => {
+            let call = OpenCall {
+                directory: WORKING,
+                address: a0,
+                flags: a1,
+                mode: a2,
+            };
+            open(alloc, args, call, space, dev, below)
+        }
+        4008 => {
+            let call = OpenCall {
+                directory: WORKING,
+                address: a0,
+                flags: CREAT_FLAGS,
+                mode: a1,
+            };
+            open(alloc, args, call, space, dev, below)
+        }
+        _ => {
+            let call = OpenCall {
+                directory: a0,
+                address: a1,
+                flags: a2,
+                mode: a3,
+            };
+            open(alloc, args, call, space, dev, below)
+        }
     }
 }

@@ -1,7 +1,8 @@
 //! Files that are too large to be opened without O_LARGEFILE.
-ghost use Rattle.std.specs.Prelude.{◌≡◌, ℕ, Ok, Some};
+ghost use Rattle.std.specs.Prelude.{◌≡◌, ℕ, List, Ok, Some};
 ghost use Rattle.bridge_paths.specs.Passed.{KeepsCall, LeadsOn};
 ghost use Rattle.bridge_open.specs.inside.Openings.{IsTooLarge, is_no_entry, outcome_of_large};
+ghost use Rattle.kernel_core.specs.OpenSet.{OpenSet};
 ghost use Rattle.kernel_model.specs.Stops.{StopsOnlyIfRose};
 ghost use Rattle.o32_model.specs.Answered.{IsCall};
 ghost use Rattle.o32_model.specs.Opening.{open_row};
@@ -12,9 +13,8 @@ ghost use Rattle.outside.specs.Streams.{NoCountFell, contents};
 
 use crate::numbers::OPENAT;
 use bridge_paths::{Below, outcome_of};
-use guest_space::Space;
 use host_mem::FIRST_ADDRESS;
-use kernel_core::{Bytes, Errno, OpenFlags, Reply, Stop};
+use kernel_core::{Errno, Reply, Stop};
 use o32_model::{CallWords, Outcome};
 use outside::{Devices, Sink, Source};
 
@@ -25,21 +25,16 @@ const NO_ENTRY: i64 = -2;
 /// That there is one is told by opening the empty path, which is ENOENT then, wherever a path begins.
 pub(crate) fn too_large<I: Source, O: Sink, E: Sink>(
     words: &CallWords,
-    address: u32,
-    path: &Bytes,
-    flags: OpenFlags,
-    space: &Space,
     dev: &mut Devices<I, O, E>,
     below: &mut Below,
 ) -> Result<Outcome, Stop>
-    requires found { path_at space.now address ≡ Ok path.now }
-    ensures row { (guest : Guest) (directory mode : ℕ) → guest.words ≡ words.now → guest.memory ≡ space.now
-        → IsTooLarge below.old.kernel.now.files (base directory) path.now flags
+    ensures row { (guest : Guest) (directory address mode : ℕ) (path : List ℕ) (flags : OpenSet) → guest.words ≡ words.now → path_at guest.memory address ≡ Ok path
+        → IsTooLarge below.old.kernel.now.files (base directory) path flags
         → IsCall (open_row below.old.kernel.now guest (base directory) address (Some flags) mode) result
         below.new.kernel.now guest.memory guest.processor
         (contents I.left O.written E.written dev.old) (contents I.left O.written E.written dev.new) }
-    ensures kept { (guest : Guest) (directory mode : ℕ) → guest.words ≡ words.now → guest.memory ≡ space.now
-        → IsTooLarge below.old.kernel.now.files (base directory) path.now flags
+    ensures kept { (guest : Guest) (directory address mode : ℕ) (path : List ℕ) (flags : OpenSet) → guest.words ≡ words.now → path_at guest.memory address ≡ Ok path
+        → IsTooLarge below.old.kernel.now.files (base directory) path flags
         → KeepsCall (open_row below.old.kernel.now guest (base directory) address (Some flags) mode) result below.old.kernel.now guest
         (I.left dev.old.input) below.old.log.now below.new.log.now }
     ensures cause { StopsOnlyIfRose I.faults O.faults E.faults result dev.old dev.new }

@@ -30,37 +30,66 @@ use std::alloc::Global;
 /// bits holds).
 const SMALL_FILE_LIMIT: u64 = 0x7FFF_FFFF;
 
+/// What a call that opens a file asks for, by its words.
+#[derive(Clone, Copy)]
+pub(crate) struct OpenCall {
+    /// What a relative path counts from.
+    pub(crate) directory: u32,
+    /// The address of the path.
+    pub(crate) address: u32,
+    /// The flags, by the program's numbers.
+    pub(crate) flags: u32,
+    /// The mode of a file that is made.
+    pub(crate) mode: u32,
+}
+
+/// What such a call asks for, with flags that are listed.
+#[derive(Clone, Copy)]
+struct Opening {
+    /// What a relative path counts from.
+    directory: u32,
+    /// The address of the path.
+    address: u32,
+    /// The flags.
+    flags: OpenFlags,
+    /// The mode of a file that is made.
+    mode: u32,
+}
+
 /// open(2), openat(2), and creat(2) by its flags: EINVAL for flags that are none, and for O_CREAT with
 /// O_DIRECTORY; what is wrong with the path; EMFILE, EEXIST, EISDIR, ENOTDIR, ELOOP, ENOSPC; EOVERFLOW for a
 /// file of more than 2^31 - 1 bytes without O_LARGEFILE.
 pub(crate) fn open<I: Source, O: Sink, E: Sink>(
     alloc: Global,
     words: &CallWords,
-    directory: u32,
-    address: u32,
-    flags: u32,
-    mode: u32,
+    call: OpenCall,
     space: &Space,
     dev: &mut Devices<I, O, E>,
     below: &mut Below,
 ) -> Result<Outcome, Stop>
     ensures row { (guest : Guest) → guest.words ≡ words.now → guest.memory ≡ space.now
-        → IsCall (open_row below.old.kernel.now guest (base directory) address (open_of_o32 flags) mode) result
+        → IsCall (open_row below.old.kernel.now guest (base call.directory) call.address (open_of_o32 call.flags) call.mode) result
         below.new.kernel.now guest.memory guest.processor
         (contents I.left O.written E.written dev.old) (contents I.left O.written E.written dev.new) }
     ensures kept { (guest : Guest) → guest.words ≡ words.now → guest.memory ≡ space.now
-        → KeepsCall (open_row below.old.kernel.now guest (base directory) address (open_of_o32 flags) mode) result below.old.kernel.now guest
+        → KeepsCall (open_row below.old.kernel.now guest (base call.directory) call.address (open_of_o32 call.flags) call.mode) result below.old.kernel.now guest
         (I.left dev.old.input) below.old.log.now below.new.log.now }
     ensures cause { StopsOnlyIfRose I.faults O.faults E.faults result dev.old dev.new }
     ensures counts { NoCountFell I.faults O.faults E.faults dev.old dev.new }
     ensures clock { below.new.kernel.now.clock ≡ below.old.kernel.now.clock }
     ensures same { LeadsOn below.old below.new }
 {
-    match OpenFlags::of_o32(flags) {
+    match OpenFlags::of_o32(call.flags) {
         None => Ok(Outcome::Error(Errno::EINVAL)),
-        Some(flags) => open_listed(
-            alloc, words, directory, address, flags, mode, space, dev, below,
-        ),
+        Some(flags) => {
+            let opening = Opening {
+                directory: call.directory,
+                address: call.address,
+                flags,
+                mode: call.mode,
+            };
+            open_listed(alloc, words, opening, space, dev, below)
+        }
     }
 }
 
@@ -68,35 +97,30 @@ pub(crate) fn open<I: Source, O: Sink, E: Sink>(
 fn open_listed<I: Source, O: Sink, E: Sink>(
     alloc: Global,
     words: &CallWords,
-    directory: u32,
-    address: u32,
-    flags: OpenFlags,
-    mode: u32,
+    opening: Opening,
     space: &Space,
     dev: &mut Devices<I, O, E>,
     below: &mut Below,
 ) -> Result<Outcome, Stop>
-    requires listed { IsTrue (is_synced flags) }
+    requires listed { IsTrue (is_synced opening.flags) }
     ensures row { (guest : Guest) → guest.words ≡ words.now → guest.memory ≡ space.now
-        → IsCall (open_row below.old.kernel.now guest (base directory) address (Some flags) mode) result
+        → IsCall (open_row below.old.kernel.now guest (base opening.directory) opening.address (Some opening.flags) opening.mode) result
         below.new.kernel.now guest.memory guest.processor
         (contents I.left O.written E.written dev.old) (contents I.left O.written E.written dev.new) }
     ensures kept { (guest : Guest) → guest.words ≡ words.now → guest.memory ≡ space.now
-        → KeepsCall (open_row below.old.kernel.now guest (base directory) address (Some flags) mode) result below.old.kernel.now guest
+        → KeepsCall (open_row below.old.kernel.now guest (base opening.directory) opening.address (Some opening.flags) opening.mode) result below.old.kernel.now guest
         (I.left dev.old.input) below.old.log.now below.new.log.now }
     ensures cause { StopsOnlyIfRose I.faults O.faults E.faults result dev.old dev.new }
     ensures counts { NoCountFell I.faults O.faults E.faults dev.old dev.new }
     ensures clock { below.new.kernel.now.clock ≡ below.old.kernel.now.clock }
     ensures same { LeadsOn below.old below.new }
 {
-    if makes_directory(flags) {
+    if makes_directory(opening.flags) {
         return Ok(Outcome::Error(Errno::EINVAL));
     }
-    match read_path(alloc, space, address)? {
+    match read_path(alloc, space, opening.address)? {
         Err(error) => Ok(Outcome::Error(error)),
-        Ok(path) => open_path(
-            words, directory, address, &path, flags, mode, space, dev, below,
-        ),
+        Ok(path) => open_path(words, opening, &path, dev, below),
     }
 }
 
@@ -110,40 +134,31 @@ fn makes_directory(flags: OpenFlags) -> bool
 /// The same once the path is read.
 fn open_path<I: Source, O: Sink, E: Sink>(
     words: &CallWords,
-    directory: u32,
-    address: u32,
+    opening: Opening,
     path: &Bytes,
-    flags: OpenFlags,
-    mode: u32,
-    space: &Space,
     dev: &mut Devices<I, O, E>,
     below: &mut Below,
 ) -> Result<Outcome, Stop>
-    requires listed { IsTrue (is_synced flags) }
-    requires found { path_at space.now address ≡ Ok path.now }
+    requires listed { IsTrue (is_synced opening.flags) }
     requires short { length path.now < path_limit }
     requires plain { position is_nul path.now ≡ None }
-    ensures row { (guest : Guest) → guest.words ≡ words.now → guest.memory ≡ space.now
-        → IsCall (open_row below.old.kernel.now guest (base directory) address (Some flags) mode) result
+    ensures row { (guest : Guest) → guest.words ≡ words.now → path_at guest.memory opening.address ≡ Ok path.now
+        → IsCall (open_row below.old.kernel.now guest (base opening.directory) opening.address (Some opening.flags) opening.mode) result
         below.new.kernel.now guest.memory guest.processor
         (contents I.left O.written E.written dev.old) (contents I.left O.written E.written dev.new) }
-    ensures kept { (guest : Guest) → guest.words ≡ words.now → guest.memory ≡ space.now
-        → KeepsCall (open_row below.old.kernel.now guest (base directory) address (Some flags) mode) result below.old.kernel.now guest
+    ensures kept { (guest : Guest) → guest.words ≡ words.now → path_at guest.memory opening.address ≡ Ok path.now
+        → KeepsCall (open_row below.old.kernel.now guest (base opening.directory) opening.address (Some opening.flags) opening.mode) result below.old.kernel.now guest
         (I.left dev.old.input) below.old.log.now below.new.log.now }
     ensures cause { StopsOnlyIfRose I.faults O.faults E.faults result dev.old dev.new }
     ensures counts { NoCountFell I.faults O.faults E.faults dev.old dev.new }
     ensures clock { below.new.kernel.now.clock ≡ below.old.kernel.now.clock }
     ensures same { LeadsOn below.old below.new }
 {
-    if is_unlimited(flags) {
-        return open_now(
-            words, directory, address, path, flags, mode, space, dev, below,
-        );
+    if is_unlimited(opening.flags) {
+        return open_now(words, opening, path, dev, below);
     }
-    let size = size_led(directory, path, follows(flags), dev, below)?;
-    open_sized(
-        words, directory, address, path, flags, mode, size, space, dev, below,
-    )
+    let size = size_led(opening.directory, path, follows(opening.flags), dev, below)?;
+    open_sized(words, opening, path, size, dev, below)
 }
 
 /// Whether the flags say by themselves that no size limits the opening.
@@ -163,29 +178,24 @@ fn follows(flags: OpenFlags) -> bool
 /// The same, by the size of what the path leads to.
 fn open_sized<I: Source, O: Sink, E: Sink>(
     words: &CallWords,
-    directory: u32,
-    address: u32,
+    opening: Opening,
     path: &Bytes,
-    flags: OpenFlags,
-    mode: u32,
     size: u64,
-    space: &Space,
     dev: &mut Devices<I, O, E>,
     below: &mut Below,
 ) -> Result<Outcome, Stop>
-    requires listed { IsTrue (is_synced flags) }
-    requires found { path_at space.now address ≡ Ok path.now }
+    requires listed { IsTrue (is_synced opening.flags) }
     requires short { length path.now < path_limit }
     requires plain { position is_nul path.now ≡ None }
-    requires limited { is_unlimited flags ≡ false }
-    ensures row { (guest : Guest) → guest.words ≡ words.now → guest.memory ≡ space.now
-        → size ≡ size_led below.old.kernel.now.files (base directory) path.now (follows flags)
-        → IsCall (open_row below.old.kernel.now guest (base directory) address (Some flags) mode) result
+    requires limited { is_unlimited opening.flags ≡ false }
+    ensures row { (guest : Guest) → guest.words ≡ words.now → path_at guest.memory opening.address ≡ Ok path.now
+        → size ≡ size_led below.old.kernel.now.files (base opening.directory) path.now (follows opening.flags)
+        → IsCall (open_row below.old.kernel.now guest (base opening.directory) opening.address (Some opening.flags) opening.mode) result
         below.new.kernel.now guest.memory guest.processor
         (contents I.left O.written E.written dev.old) (contents I.left O.written E.written dev.new) }
-    ensures kept { (guest : Guest) → guest.words ≡ words.now → guest.memory ≡ space.now
-        → size ≡ size_led below.old.kernel.now.files (base directory) path.now (follows flags)
-        → KeepsCall (open_row below.old.kernel.now guest (base directory) address (Some flags) mode) result below.old.kernel.now guest
+    ensures kept { (guest : Guest) → guest.words ≡ words.now → path_at guest.memory opening.address ≡ Ok path.now
+        → size ≡ size_led below.old.kernel.now.files (base opening.directory) path.now (follows opening.flags)
+        → KeepsCall (open_row below.old.kernel.now guest (base opening.directory) opening.address (Some opening.flags) opening.mode) result below.old.kernel.now guest
         (I.left dev.old.input) below.old.log.now below.new.log.now }
     ensures cause { StopsOnlyIfRose I.faults O.faults E.faults result dev.old dev.new }
     ensures counts { NoCountFell I.faults O.faults E.faults dev.old dev.new }
@@ -194,38 +204,31 @@ fn open_sized<I: Source, O: Sink, E: Sink>(
 {
     below.kernel.files_valid();
     if size > SMALL_FILE_LIMIT {
-        too_large(words, address, path, flags, space, dev, below)
+        too_large(words, dev, below)
     } else {
-        open_now(
-            words, directory, address, path, flags, mode, space, dev, below,
-        )
+        open_now(words, opening, path, dev, below)
     }
 }
 
 /// Opens where no size limits it.
 fn open_now<I: Source, O: Sink, E: Sink>(
     words: &CallWords,
-    directory: u32,
-    address: u32,
+    opening: Opening,
     path: &Bytes,
-    flags: OpenFlags,
-    mode: u32,
-    space: &Space,
     dev: &mut Devices<I, O, E>,
     below: &mut Below,
 ) -> Result<Outcome, Stop>
-    requires listed { IsTrue (is_synced flags) }
-    requires found { path_at space.now address ≡ Ok path.now }
+    requires listed { IsTrue (is_synced opening.flags) }
     requires short { length path.now < path_limit }
     requires plain { position is_nul path.now ≡ None }
-    ensures row { (guest : Guest) → guest.words ≡ words.now → guest.memory ≡ space.now
-        → Unlimited below.old.kernel.now.files (base directory) path.now flags
-        → IsCall (open_row below.old.kernel.now guest (base directory) address (Some flags) mode) result
+    ensures row { (guest : Guest) → guest.words ≡ words.now → path_at guest.memory opening.address ≡ Ok path.now
+        → Unlimited below.old.kernel.now.files (base opening.directory) path.now opening.flags
+        → IsCall (open_row below.old.kernel.now guest (base opening.directory) opening.address (Some opening.flags) opening.mode) result
         below.new.kernel.now guest.memory guest.processor
         (contents I.left O.written E.written dev.old) (contents I.left O.written E.written dev.new) }
-    ensures kept { (guest : Guest) → guest.words ≡ words.now → guest.memory ≡ space.now
-        → Unlimited below.old.kernel.now.files (base directory) path.now flags
-        → KeepsCall (open_row below.old.kernel.now guest (base directory) address (Some flags) mode) result below.old.kernel.now guest
+    ensures kept { (guest : Guest) → guest.words ≡ words.now → path_at guest.memory opening.address ≡ Ok path.now
+        → Unlimited below.old.kernel.now.files (base opening.directory) path.now opening.flags
+        → KeepsCall (open_row below.old.kernel.now guest (base opening.directory) opening.address (Some opening.flags) opening.mode) result below.old.kernel.now guest
         (I.left dev.old.input) below.old.log.now below.new.log.now }
     ensures cause { StopsOnlyIfRose I.faults O.faults E.faults result dev.old dev.new }
     ensures counts { NoCountFell I.faults O.faults E.faults dev.old dev.new }
@@ -235,10 +238,10 @@ fn open_now<I: Source, O: Sink, E: Sink>(
     below.kernel.whole();
     put_one(below.memory, path)?;
     let args = [
-        u64::from(directory),
+        u64::from(opening.directory),
         FIRST_ADDRESS,
-        flags.to_native(),
-        handed(flags, mode),
+        opening.flags.to_native(),
+        handed(opening.flags, opening.mode),
         0,
         0,
     ];

@@ -16,7 +16,6 @@ use Rattle.bridge_open.proofs.opening.open_listed.Goals as goal
 pub open_path-requires : goal.open_path-requires
 open_path-requires g c = record {
   listed = c.requires.listed;
-  found = c.in_ok-error.ensures.answer ∙ c.in-Ok.is;
   short = subst (λ (r : Result (List ℕ) Errno). IfOk r (λ p. length p < path_limit)) c.in-Ok.is c.in_ok-error.ensures.short;
   plain = subst (λ (r : Result (List ℕ) Errno). IfOk r (λ p. position is_nul p ≡ None)) c.in-Ok.is c.in_ok-error.ensures.plain;
 }
@@ -24,31 +23,39 @@ open_path-requires g c = record {
 pub returns-then-makes_directory-clause-row : goal.returns-then-makes_directory-clause-row
 returns-then-makes_directory-clause-row g c = λ guest same memory left told.
     let at = contents g.I.Source.left g.O.Sink.written g.E.Sink.written c.args.dev.now in
-    let step = open_row c.args.below.now.kernel.now guest (base c.args.directory) c.args.address (Some c.args.flags) c.args.mode left in
+    let step = open_row c.args.below.now.kernel.now guest (base c.args.opening.directory) c.args.opening.address (Some c.args.opening.flags) c.args.opening.mode left in
     still_called guest c.args.below.now.kernel.now left (Error EINVAL) step at told
-    (still_of guest c.args.below.now.kernel.now EINVAL left step (open_makes guest c.args.below.now.kernel.now (base c.args.directory) c.args.address c.args.mode c.args.flags left (sym c.makes_directory.ensures ∙ c.if-makes_directory.true)))
+    (still_of guest c.args.below.now.kernel.now EINVAL left step (open_makes guest c.args.below.now.kernel.now (base c.args.opening.directory) c.args.opening.address c.args.opening.mode c.args.opening.flags left (sym c.makes_directory.ensures ∙ c.if-makes_directory.true)))
 
 pub returns-then-makes_directory-clause-kept : goal.returns-then-makes_directory-clause-kept
 returns-then-makes_directory-clause-kept g c = λ guest same memory left told.
-    let step = open_row c.args.below.now.kernel.now guest (base c.args.directory) c.args.address (Some c.args.flags) c.args.mode left in
+    let step = open_row c.args.below.now.kernel.now guest (base c.args.opening.directory) c.args.opening.address (Some c.args.opening.flags) c.args.opening.mode left in
     still_keeps guest c.args.below.now.kernel.now left (Error EINVAL) step c.args.below.now.log.now
-    (still_of guest c.args.below.now.kernel.now EINVAL left step (open_makes guest c.args.below.now.kernel.now (base c.args.directory) c.args.address c.args.mode c.args.flags left (sym c.makes_directory.ensures ∙ c.if-makes_directory.true)))
+    (still_of guest c.args.below.now.kernel.now EINVAL left step (open_makes guest c.args.below.now.kernel.now (base c.args.opening.directory) c.args.opening.address c.args.opening.mode c.args.opening.flags left (sym c.makes_directory.ensures ∙ c.if-makes_directory.true)))
 
 pub returns-in_err-error-clause-row : goal.returns-in_err-error-clause-row
 returns-in_err-error-clause-row g c = λ guest same memory left told.
-    fails_before (open_row c.args.below.now.kernel.now guest (base c.args.directory) c.args.address (Some c.args.flags) c.args.mode left) c.from_residual.result _ _ _ _ c.from_residual.ensures.0
+    fails_before (open_row c.args.below.now.kernel.now guest (base c.args.opening.directory) c.args.opening.address (Some c.args.opening.flags) c.args.opening.mode left) c.from_residual.result _ _ _ _ c.from_residual.ensures.0
 
 pub returns-in-Err-clause-row : goal.returns-in-Err-clause-row
 returns-in-Err-clause-row g c = λ guest same memory left told.
     let at = contents g.I.Source.left g.O.Sink.written g.E.Sink.written c.args.dev.now in
-    let step = open_row c.args.below.now.kernel.now guest (base c.args.directory) c.args.address (Some c.args.flags) c.args.mode left in
-    let lost = open_lost guest c.args.below.now.kernel.now (base c.args.directory) c.args.address c.args.mode c.args.flags c.in-Err.error left (sym c.makes_directory.ensures ∙ c.if-makes_directory.false)
-    (ap (λ (m : Memory). path_at m c.args.address) memory ∙ c.in_ok-error.ensures.answer ∙ c.in-Err.is) in
+    let step = open_row c.args.below.now.kernel.now guest (base c.args.opening.directory) c.args.opening.address (Some c.args.opening.flags) c.args.opening.mode left in
+    let lost = open_lost guest c.args.below.now.kernel.now (base c.args.opening.directory) c.args.opening.address c.args.opening.mode c.args.opening.flags c.in-Err.error left (sym c.makes_directory.ensures ∙ c.if-makes_directory.false)
+    (ap (λ (m : Memory). path_at m c.args.opening.address) memory ∙ c.in_ok-error.ensures.answer ∙ c.in-Err.is) in
     still_called guest c.args.below.now.kernel.now left (Error c.in-Err.error) step at told (still_of guest c.args.below.now.kernel.now c.in-Err.error left step lost)
 
 pub returns-in-Err-clause-kept : goal.returns-in-Err-clause-kept
 returns-in-Err-clause-kept g c = λ guest same memory left told.
-    let step = open_row c.args.below.now.kernel.now guest (base c.args.directory) c.args.address (Some c.args.flags) c.args.mode left in
-    let lost = open_lost guest c.args.below.now.kernel.now (base c.args.directory) c.args.address c.args.mode c.args.flags c.in-Err.error left (sym c.makes_directory.ensures ∙ c.if-makes_directory.false)
-    (ap (λ (m : Memory). path_at m c.args.address) memory ∙ c.in_ok-error.ensures.answer ∙ c.in-Err.is) in
+    let step = open_row c.args.below.now.kernel.now guest (base c.args.opening.directory) c.args.opening.address (Some c.args.opening.flags) c.args.opening.mode left in
+    let lost = open_lost guest c.args.below.now.kernel.now (base c.args.opening.directory) c.args.opening.address c.args.opening.mode c.args.opening.flags c.in-Err.error left (sym c.makes_directory.ensures ∙ c.if-makes_directory.false)
+    (ap (λ (m : Memory). path_at m c.args.opening.address) memory ∙ c.in_ok-error.ensures.answer ∙ c.in-Err.is) in
     still_keeps guest c.args.below.now.kernel.now left (Error c.in-Err.error) step c.args.below.now.log.now (still_of guest c.args.below.now.kernel.now c.in-Err.error left step lost)
+
+pub returns-in-Ok-clause-row : goal.returns-in-Ok-clause-row
+returns-in-Ok-clause-row g c = λ guest same memory.
+    c.open_path.ensures.row guest same (ap (λ (m : Memory). path_at m c.args.opening.address) memory ∙ c.in_ok-error.ensures.answer ∙ c.in-Ok.is)
+
+pub returns-in-Ok-clause-kept : goal.returns-in-Ok-clause-kept
+returns-in-Ok-clause-kept g c = λ guest same memory.
+    c.open_path.ensures.kept guest same (ap (λ (m : Memory). path_at m c.args.opening.address) memory ∙ c.in_ok-error.ensures.answer ∙ c.in-Ok.is)
