@@ -1,3 +1,4 @@
+pub mod PathStatuses
 pub mod StatusCalls
 pub mod Statuses
 pub mod Tells

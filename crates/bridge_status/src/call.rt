@@ -3,13 +3,16 @@ ghost use Rattle.bridge_paths.specs.Passed.{KeepsCall, LeadsOn};
 ghost use Rattle.std.specs.Prelude.{◌≡◌, IsTrue};
 ghost use Rattle.bridge_paths.specs.Found.{found};
 ghost use Rattle.bridge_status.specs.Numbers.{is_status_call};
+ghost use Rattle.bridge_status.specs.inside.PathStatuses.{from_directory, from_working};
 ghost use Rattle.kernel_model.specs.Stops.{StopsOnlyIfRose};
 ghost use Rattle.o32_model.specs.Answered.{IsCall};
+ghost use Rattle.o32_model.specs.PathArguments.{nofollow_flag};
 ghost use Rattle.o32_model.specs.Table.{o32_call};
 ghost use Rattle.outside.specs.Streams.{NoCountFell, contents};
 
-use crate::status::{fstat, fstatat};
+use crate::status::{PathStatus, fstat, fstatat};
 use crate::structures::Form;
+use crate::telling::StatusAt;
 use bridge_paths::{Below, NativeKernel};
 use guest_space::Space;
 use host_mem::HostMem;
@@ -75,58 +78,59 @@ fn by_number<I: Source, O: Sink, E: Sink>(
     ensures clock { below.new.kernel.now.clock ≡ below.old.kernel.now.clock }
     ensures same { LeadsOn below.old below.new }
 {
-    let [a0, a1, a2, a3] = args.reg;
     match args.nr {
-        4106 => fstatat(
-            alloc,
-            args,
-            WORKING,
-            a0,
-            a1,
-            0,
-            Form::Old,
-            space,
-            dev,
-            below,
-        ),
-        4107 => fstatat(
-            alloc,
-            args,
-            WORKING,
-            a0,
-            a1,
-            NOFOLLOW,
-            Form::Old,
-            space,
-            dev,
-            below,
-        ),
-        4108 => fstat(args, a0, a1, Form::Old, space, dev, below),
-        4213 => fstatat(
-            alloc,
-            args,
-            WORKING,
-            a0,
-            a1,
-            0,
-            Form::Wide,
-            space,
-            dev,
-            below,
-        ),
-        4214 => fstatat(
-            alloc,
-            args,
-            WORKING,
-            a0,
-            a1,
-            NOFOLLOW,
-            Form::Wide,
-            space,
-            dev,
-            below,
-        ),
-        4215 => fstat(args, a0, a1, Form::Wide, space, dev, below),
-        _ => fstatat(alloc, args, a0, a1, a2, a3, Form::Wide, space, dev, below),
+        4106 => fstatat(alloc, args, of_stat(args, Form::Old), space, dev, below),
+        4107 => fstatat(alloc, args, of_lstat(args, Form::Old), space, dev, below),
+        4108 => fstat(args, Form::Old, space, dev, below),
+        4213 => fstatat(alloc, args, of_stat(args, Form::Wide), space, dev, below),
+        4214 => fstatat(alloc, args, of_lstat(args, Form::Wide), space, dev, below),
+        4215 => fstat(args, Form::Wide, space, dev, below),
+        _ => fstatat(alloc, args, of_fstatat(args), space, dev, below),
+    }
+}
+
+/// What stat(2) asks for, in one of the two structures.
+fn of_stat(words: &CallWords, form: Form) -> PathStatus
+    ensures { result ≡ from_working words.now 0 form }
+{
+    from_working(words, 0, form)
+}
+
+/// What lstat(2) asks for, in one of the two structures.
+fn of_lstat(words: &CallWords, form: Form) -> PathStatus
+    ensures { result ≡ from_working words.now nofollow_flag form }
+{
+    from_working(words, NOFOLLOW, form)
+}
+
+/// What both ask for, whose path begins at the working directory.
+fn from_working(words: &CallWords, flags: u32, form: Form) -> PathStatus
+    ensures { result ≡ from_working words.now flags form }
+{
+    let [address, buffer, _, _] = words.reg;
+    PathStatus {
+        directory: WORKING,
+        address,
+        flags,
+        to: StatusAt {
+            address: buffer,
+            form,
+        },
+    }
+}
+
+/// What fstatat64 asks for.
+fn of_fstatat(words: &CallWords) -> PathStatus
+    ensures { result ≡ from_directory words.now }
+{
+    let [directory, address, buffer, flags] = words.reg;
+    PathStatus {
+        directory,
+        address,
+        flags,
+        to: StatusAt {
+            address: buffer,
+            form: Form::Wide,
+        },
     }
 }

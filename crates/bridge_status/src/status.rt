@@ -7,11 +7,12 @@ ghost use Rattle.o32_model.specs.Answered.{IsCall};
 ghost use Rattle.o32_model.specs.PathArguments.{base};
 ghost use Rattle.o32_model.specs.Paths.{is_nul, path_at, path_limit};
 ghost use Rattle.o32_model.specs.Step.{Guest};
+ghost use Rattle.o32_model.specs.Words.{argument};
 ghost use Rattle.outside.specs.Streams.{NoCountFell, contents};
 
 use crate::numbers::{FSTAT, NEWFSTATAT};
 use crate::structures::Form;
-use crate::telling::{STATUS_SIZE, tell_call};
+use crate::telling::{NativeCall, STATUS_SIZE, StatusAt, tell_call};
 use bridge_paths::{Below, fresh_room, put_behind, read_path};
 use guest_space::Space;
 use host_mem::FIRST_ADDRESS;
@@ -23,30 +24,45 @@ use std::alloc::Global;
 /// AT_SYMLINK_NOFOLLOW, AT_NO_AUTOMOUNT and AT_EMPTY_PATH (Linux `include/uapi/linux/fcntl.h`).
 const FLAGS: u32 = 0x1900;
 
+/// What a call asks for that tells the status of what a path leads to.
+#[derive(Clone, Copy)]
+pub(crate) struct PathStatus {
+    /// What a relative path counts from.
+    pub(crate) directory: u32,
+    /// The address of the path.
+    pub(crate) address: u32,
+    /// The flags of fstatat(2).
+    pub(crate) flags: u32,
+    /// Where the program wants the status.
+    pub(crate) to: StatusAt,
+}
+
 /// fstat(2), fstat64(2): EBADF; EOVERFLOW for a status that the old structure can't hold; EFAULT.
 pub(crate) fn fstat<I: Source, O: Sink, E: Sink>(
     words: &CallWords,
-    fd: u32,
-    buffer: u32,
     form: Form,
     space: &mut Space,
     dev: &mut Devices<I, O, E>,
     below: &mut Below,
 ) -> Result<Outcome, Stop>
     ensures row { (guest : Guest) → guest.words ≡ words.now → guest.memory ≡ space.old
-        → IsCall (open_status form below.old.kernel.now guest fd buffer) result below.new.kernel.now space.new guest.processor
+        → IsCall (open_status form below.old.kernel.now guest (argument words.now 0) (argument words.now 1)) result below.new.kernel.now space.new guest.processor
         (contents I.left O.written E.written dev.old) (contents I.left O.written E.written dev.new) }
     ensures kept { (guest : Guest) → guest.words ≡ words.now → guest.memory ≡ space.old
-        → KeepsCall (open_status form below.old.kernel.now guest fd buffer) result below.old.kernel.now guest (I.left dev.old.input) below.old.log.now below.new.log.now }
+        → KeepsCall (open_status form below.old.kernel.now guest (argument words.now 0) (argument words.now 1)) result below.old.kernel.now guest (I.left dev.old.input) below.old.log.now below.new.log.now }
     ensures cause { StopsOnlyIfRose I.faults O.faults E.faults result dev.old dev.new }
     ensures counts { NoCountFell I.faults O.faults E.faults dev.old dev.new }
     ensures clock { below.new.kernel.now.clock ≡ below.old.kernel.now.clock }
     ensures same { LeadsOn below.old below.new }
 {
     below.kernel.files_valid();
+    let [fd, address, _, _] = words.reg;
     fresh_room(below.memory, STATUS_SIZE)?;
-    let args = [u64::from(fd), FIRST_ADDRESS, 0, 0, 0, 0];
-    tell_call(words, buffer, form, space, FSTAT, args, dev, below)
+    let call = NativeCall {
+        nr: FSTAT,
+        args: [u64::from(fd), FIRST_ADDRESS, 0, 0, 0, 0],
+    };
+    tell_call(words, StatusAt { address, form }, space, call, dev, below)
 }
 
 /// fstatat(2), of which stat(2) and lstat(2) are forms: EINVAL for flags other than AT_SYMLINK_NOFOLLOW,
@@ -55,33 +71,27 @@ pub(crate) fn fstat<I: Source, O: Sink, E: Sink>(
 pub(crate) fn fstatat<I: Source, O: Sink, E: Sink>(
     alloc: Global,
     words: &CallWords,
-    directory: u32,
-    address: u32,
-    buffer: u32,
-    flags: u32,
-    form: Form,
+    asked: PathStatus,
     space: &mut Space,
     dev: &mut Devices<I, O, E>,
     below: &mut Below,
 ) -> Result<Outcome, Stop>
     ensures row { (guest : Guest) → guest.words ≡ words.now → guest.memory ≡ space.old
-        → IsCall (path_status form below.old.kernel.now guest (base directory) address buffer flags) result below.new.kernel.now space.new guest.processor
+        → IsCall (path_status asked.to.form below.old.kernel.now guest (base asked.directory) asked.address asked.to.address asked.flags) result below.new.kernel.now space.new guest.processor
         (contents I.left O.written E.written dev.old) (contents I.left O.written E.written dev.new) }
     ensures kept { (guest : Guest) → guest.words ≡ words.now → guest.memory ≡ space.old
-        → KeepsCall (path_status form below.old.kernel.now guest (base directory) address buffer flags) result below.old.kernel.now guest (I.left dev.old.input) below.old.log.now below.new.log.now }
+        → KeepsCall (path_status asked.to.form below.old.kernel.now guest (base asked.directory) asked.address asked.to.address asked.flags) result below.old.kernel.now guest (I.left dev.old.input) below.old.log.now below.new.log.now }
     ensures cause { StopsOnlyIfRose I.faults O.faults E.faults result dev.old dev.new }
     ensures counts { NoCountFell I.faults O.faults E.faults dev.old dev.new }
     ensures clock { below.new.kernel.now.clock ≡ below.old.kernel.now.clock }
     ensures same { LeadsOn below.old below.new }
 {
-    if !is_listed(flags) {
+    if !is_listed(asked.flags) {
         return Ok(Outcome::Error(Errno::EINVAL));
     }
-    match read_path(alloc, space, address)? {
+    match read_path(alloc, space, asked.address)? {
         Err(error) => Ok(Outcome::Error(error)),
-        Ok(path) => path_status(
-            words, directory, address, &path, buffer, flags, form, space, dev, below,
-        ),
+        Ok(path) => path_status(words, asked, &path, space, dev, below),
     }
 }
 
@@ -95,24 +105,20 @@ fn is_listed(flags: u32) -> bool
 /// The same once the path is read.
 fn path_status<I: Source, O: Sink, E: Sink>(
     words: &CallWords,
-    directory: u32,
-    address: u32,
+    asked: PathStatus,
     path: &Bytes,
-    buffer: u32,
-    flags: u32,
-    form: Form,
     space: &mut Space,
     dev: &mut Devices<I, O, E>,
     below: &mut Below,
 ) -> Result<Outcome, Stop>
-    requires found { path_at space.old address ≡ Ok path.now }
+    requires found { path_at space.old asked.address ≡ Ok path.now }
     requires short { length path.now < path_limit }
     requires plain { position is_nul path.now ≡ None }
     ensures row { (guest : Guest) → guest.words ≡ words.now → guest.memory ≡ space.old
-        → IsCall (path_status form below.old.kernel.now guest (base directory) address buffer flags) result below.new.kernel.now space.new guest.processor
+        → IsCall (path_status asked.to.form below.old.kernel.now guest (base asked.directory) asked.address asked.to.address asked.flags) result below.new.kernel.now space.new guest.processor
         (contents I.left O.written E.written dev.old) (contents I.left O.written E.written dev.new) }
     ensures kept { (guest : Guest) → guest.words ≡ words.now → guest.memory ≡ space.old
-        → KeepsCall (path_status form below.old.kernel.now guest (base directory) address buffer flags) result below.old.kernel.now guest (I.left dev.old.input) below.old.log.now below.new.log.now }
+        → KeepsCall (path_status asked.to.form below.old.kernel.now guest (base asked.directory) asked.address asked.to.address asked.flags) result below.old.kernel.now guest (I.left dev.old.input) below.old.log.now below.new.log.now }
     ensures cause { StopsOnlyIfRose I.faults O.faults E.faults result dev.old dev.new }
     ensures counts { NoCountFell I.faults O.faults E.faults dev.old dev.new }
     ensures clock { below.new.kernel.now.clock ≡ below.old.kernel.now.clock }
@@ -120,13 +126,16 @@ fn path_status<I: Source, O: Sink, E: Sink>(
 {
     below.kernel.files_valid();
     let at = put_behind(below.memory, STATUS_SIZE, path)?;
-    let args = [
-        u64::from(directory),
-        at,
-        FIRST_ADDRESS,
-        u64::from(flags),
-        0,
-        0,
-    ];
-    tell_call(words, buffer, form, space, NEWFSTATAT, args, dev, below)
+    let call = NativeCall {
+        nr: NEWFSTATAT,
+        args: [
+            u64::from(asked.directory),
+            at,
+            FIRST_ADDRESS,
+            u64::from(asked.flags),
+            0,
+            0,
+        ],
+    };
+    tell_call(words, asked.to, space, call, dev, below)
 }

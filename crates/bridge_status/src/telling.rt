@@ -24,77 +24,91 @@ use outside::{Devices, Sink, Source};
 /// How many bytes a native status has (struct stat of Linux `include/uapi/asm-generic/stat.h`).
 pub(crate) const STATUS_SIZE: u32 = 128;
 
+/// Where the program wants a status.
+#[derive(Clone, Copy)]
+pub(crate) struct StatusAt {
+    /// The address.
+    pub(crate) address: u32,
+    /// The structure that is to stand there.
+    pub(crate) form: Form,
+}
+
+/// A native call that is to be made.
+#[derive(Clone, Copy)]
+pub(crate) struct NativeCall {
+    /// Its number.
+    pub(crate) nr: u64,
+    /// Its arguments.
+    pub(crate) args: [u64; 6],
+}
+
 /// Makes the native call that a call of the program is, where it tells a status at the first address of host memory,
 /// from where it then goes to the program's memory, whole or with EFAULT; one that the structure can't hold is
 /// EOVERFLOW. `row` and `kept` hold of every o32 call that this native call tells for.
 pub(crate) fn tell_call<I: Source, O: Sink, E: Sink>(
     words: &CallWords,
-    address: u32,
-    form: Form,
+    to: StatusAt,
     space: &mut Space,
-    nr: u64,
-    args: [u64; 6],
+    call: NativeCall,
     dev: &mut Devices<I, O, E>,
     below: &mut Below,
 ) -> Result<Outcome, Stop>
-    requires built { built_call nr ≡ native_call nr }
-    requires unused { AreUnusedZero nr args }
-    requires placed { IsPlaced nr below.old.memory.now }
+    requires built { built_call call.nr ≡ native_call call.nr }
+    requires unused { AreUnusedZero call.nr call.args }
+    requires placed { IsPlaced call.nr below.old.memory.now }
     ensures row { (guest : Guest) (step : List ℕ → O32Step) → guest.words ≡ words.now → guest.memory ≡ space.old
-        → ((left : List ℕ) → Tells guest address form (native_call nr args below.old.kernel.now below.old.memory.now left) (step left))
+        → ((left : List ℕ) → Tells guest to.address to.form (native_call call.nr call.args below.old.kernel.now below.old.memory.now left) (step left))
         → IsCall step result below.new.kernel.now space.new guest.processor
         (contents I.left O.written E.written dev.old) (contents I.left O.written E.written dev.new) }
     ensures kept { (guest : Guest) (step : List ℕ → O32Step) → guest.words ≡ words.now → guest.memory ≡ space.old
-        → ((left : List ℕ) → Tells guest address form (native_call nr args below.old.kernel.now below.old.memory.now left) (step left))
+        → ((left : List ℕ) → Tells guest to.address to.form (native_call call.nr call.args below.old.kernel.now below.old.memory.now left) (step left))
         → KeepsCall step result below.old.kernel.now guest (I.left dev.old.input) below.old.log.now below.new.log.now }
     ensures cause { StopsOnlyIfRose I.faults O.faults E.faults result dev.old dev.new }
     ensures counts { NoCountFell I.faults O.faults E.faults dev.old dev.new }
     ensures clock { below.new.kernel.now.clock ≡ below.old.kernel.now.clock }
     ensures same { LeadsOn below.old below.new }
 {
-    let reply = below.native(nr, args, dev)?;
-    let outcome = tell(words, address, form, below.memory, reply, space, below.log)?;
+    let reply = below.native(call.nr, call.args, dev)?;
+    let outcome = tell(words, to, below.memory, reply, space, below.log)?;
     Ok(outcome)
 }
 
 /// What the call comes to by a reply: the status is stored, or nothing after an error.
 fn tell(
     words: &CallWords,
-    address: u32,
-    form: Form,
+    to: StatusAt,
     mem: &HostMem,
     reply: Reply,
     space: &mut Space,
     log: &mut Log,
 ) -> Result<Outcome, NoMemory>
-    ensures outcome { IfOk result (λ outcome. outcome ≡ outcome_told words.now space.old address form mem.now reply) }
-    ensures stored { OnOk result (space.new ≡ memory_told space.old address form mem.now reply) }
+    ensures outcome { IfOk result (λ outcome. outcome ≡ outcome_told words.now space.old to.address to.form mem.now reply) }
+    ensures stored { OnOk result (space.new ≡ memory_told space.old to.address to.form mem.now reply) }
     ensures effects { OnOk result ((processor : Processor) (sent : Sent)
         → Effected log.old.effects log.new.effects (reached processor space.old.pages sent) (reached processor space.new.pages sent)) }
     ensures native { log.new.native ≡ log.old.native }
 {
     match reply {
-        Reply::Done(number) if number >= 0 => tell_there(address, form, mem, space, log),
+        Reply::Done(number) if number >= 0 => tell_there(to, mem, space, log),
         _ => Ok(outcome_of(words, reply)),
     }
 }
 
 /// What the call comes to by what stands in host memory.
 fn tell_there(
-    address: u32,
-    form: Form,
+    to: StatusAt,
     mem: &HostMem,
     space: &mut Space,
     log: &mut Log,
 ) -> Result<Outcome, NoMemory>
-    ensures outcome { IfOk result (λ outcome. outcome ≡ outcome_by space.old address form (status_there mem.now)) }
-    ensures stored { OnOk result (space.new ≡ memory_by space.old address form (status_there mem.now)) }
+    ensures outcome { IfOk result (λ outcome. outcome ≡ outcome_by space.old to.address to.form (status_there mem.now)) }
+    ensures stored { OnOk result (space.new ≡ memory_by space.old to.address to.form (status_there mem.now)) }
     ensures effects { OnOk result ((processor : Processor) (sent : Sent)
         → Effected log.old.effects log.new.effects (reached processor space.old.pages sent) (reached processor space.new.pages sent)) }
     ensures native { log.new.native ≡ log.old.native }
 {
     match status_there(mem) {
-        Some(status) => tell_status(address, form, status, space, log),
+        Some(status) => tell_status(to, status, space, log),
         None => Ok(Outcome::Error(Errno::EFAULT)),
     }
 }
@@ -109,44 +123,42 @@ fn status_there(mem: &HostMem) -> Option<&[u8]>
 
 /// What the call comes to by a status.
 fn tell_status(
-    address: u32,
-    form: Form,
+    to: StatusAt,
     status: &[u8],
     space: &mut Space,
     log: &mut Log,
 ) -> Result<Outcome, NoMemory>
     requires { length status.now ≡ 128 }
-    ensures outcome { IfOk result (λ outcome. outcome ≡ outcome_by space.old address form (Some status.now)) }
-    ensures stored { OnOk result (space.new ≡ memory_by space.old address form (Some status.now)) }
+    ensures outcome { IfOk result (λ outcome. outcome ≡ outcome_by space.old to.address to.form (Some status.now)) }
+    ensures stored { OnOk result (space.new ≡ memory_by space.old to.address to.form (Some status.now)) }
     ensures effects { OnOk result ((processor : Processor) (sent : Sent)
         → Effected log.old.effects log.new.effects (reached processor space.old.pages sent) (reached processor space.new.pages sent)) }
     ensures native { log.new.native ≡ log.old.native }
 {
-    if is_too_wide(form, status) {
+    if is_too_wide(to.form, status) {
         Ok(Outcome::Error(Errno::EOVERFLOW))
     } else {
-        store_status(address, form, status, space, log)
+        store_status(to, status, space, log)
     }
 }
 
 /// Stores a status as a structure of the program.
 fn store_status(
-    address: u32,
-    form: Form,
+    to: StatusAt,
     status: &[u8],
     space: &mut Space,
     log: &mut Log,
 ) -> Result<Outcome, NoMemory>
     requires { length status.now ≡ 128 }
-    ensures outcome { IfOk result (λ outcome. outcome ≡ stored space.old address (shown (shape_of form) status.now)) }
-    ensures stored { OnOk result (space.new ≡ with_stored space.old address (shown (shape_of form) status.now)) }
+    ensures outcome { IfOk result (λ outcome. outcome ≡ stored space.old to.address (shown (shape_of to.form) status.now)) }
+    ensures stored { OnOk result (space.new ≡ with_stored space.old to.address (shown (shape_of to.form) status.now)) }
     ensures effects { OnOk result ((processor : Processor) (sent : Sent)
         → Effected log.old.effects log.new.effects (reached processor space.old.pages sent) (reached processor space.new.pages sent)) }
     ensures native { log.new.native ≡ log.old.native }
 {
-    match form {
-        Form::Old => store(address, &old_bytes(status), space, log),
-        Form::Wide => store(address, &wide_bytes(status), space, log),
+    match to.form {
+        Form::Old => store(to.address, &old_bytes(status), space, log),
+        Form::Wide => store(to.address, &wide_bytes(status), space, log),
     }
 }
 

@@ -24,33 +24,33 @@ path_status-requires g c = record {
 pub returns-then-not-is_listed-clause-row : goal.returns-then-not-is_listed-clause-row
 returns-then-not-is_listed-clause-row g c = λ guest same memory left told.
     let at = contents g.I.Source.left g.O.Sink.written g.E.Sink.written c.args.dev.now in
-    let step = path_status c.args.form c.args.below.now.kernel.now guest (base c.args.directory) c.args.address c.args.buffer c.args.flags left in
+    let step = path_status c.args.asked.to.form c.args.below.now.kernel.now guest (base c.args.asked.directory) c.args.asked.address c.args.asked.to.address c.args.asked.flags left in
     subst (λ (m : Memory). Called step (Error EINVAL) c.args.below.now.kernel.now m guest.processor at at) memory
     (still_called guest c.args.below.now.kernel.now left (Error EINVAL) step at told
-    (still_of guest c.args.below.now.kernel.now EINVAL left step (status_unlisted guest c.args.below.now.kernel.now c.args.form (base c.args.directory) c.args.address c.args.buffer c.args.flags left (sym c.is_listed.ensures ∙ c.if-not-is_listed.true))))
+    (still_of guest c.args.below.now.kernel.now EINVAL left step (status_unlisted guest c.args.below.now.kernel.now c.args.asked.to.form (base c.args.asked.directory) c.args.asked.address c.args.asked.to.address c.args.asked.flags left (sym c.is_listed.ensures ∙ c.if-not-is_listed.true))))
 
 pub returns-then-not-is_listed-clause-kept : goal.returns-then-not-is_listed-clause-kept
 returns-then-not-is_listed-clause-kept g c = λ guest same memory left told.
-    let step = path_status c.args.form c.args.below.now.kernel.now guest (base c.args.directory) c.args.address c.args.buffer c.args.flags left in
+    let step = path_status c.args.asked.to.form c.args.below.now.kernel.now guest (base c.args.asked.directory) c.args.asked.address c.args.asked.to.address c.args.asked.flags left in
     still_keeps guest c.args.below.now.kernel.now left (Error EINVAL) step c.args.below.now.log.now
-    (still_of guest c.args.below.now.kernel.now EINVAL left step (status_unlisted guest c.args.below.now.kernel.now c.args.form (base c.args.directory) c.args.address c.args.buffer c.args.flags left (sym c.is_listed.ensures ∙ c.if-not-is_listed.true)))
+    (still_of guest c.args.below.now.kernel.now EINVAL left step (status_unlisted guest c.args.below.now.kernel.now c.args.asked.to.form (base c.args.asked.directory) c.args.asked.address c.args.asked.to.address c.args.asked.flags left (sym c.is_listed.ensures ∙ c.if-not-is_listed.true)))
 
 pub returns-in_err-error-clause-row : goal.returns-in_err-error-clause-row
 returns-in_err-error-clause-row g c = λ guest same memory left told.
-    fails_before (path_status c.args.form c.args.below.now.kernel.now guest (base c.args.directory) c.args.address c.args.buffer c.args.flags left) c.from_residual.result _ _ _ _ c.from_residual.ensures.0
+    fails_before (path_status c.args.asked.to.form c.args.below.now.kernel.now guest (base c.args.asked.directory) c.args.asked.address c.args.asked.to.address c.args.asked.flags left) c.from_residual.result _ _ _ _ c.from_residual.ensures.0
 
 pub returns-in-Err-clause-row : goal.returns-in-Err-clause-row
 returns-in-Err-clause-row g c = λ guest same memory left told.
     let at = contents g.I.Source.left g.O.Sink.written g.E.Sink.written c.args.dev.now in
-    let step = path_status c.args.form c.args.below.now.kernel.now guest (base c.args.directory) c.args.address c.args.buffer c.args.flags left in
-    let lost = status_lost guest c.args.below.now.kernel.now c.args.form (base c.args.directory) c.args.address c.args.buffer c.args.flags c.in-Err.error left (sym c.is_listed.ensures ∙ c.if-not-is_listed.false)
-    (ap (λ (m : Memory). path_at m c.args.address) memory ∙ c.in_ok-error.ensures.answer ∙ c.in-Err.is) in
+    let step = path_status c.args.asked.to.form c.args.below.now.kernel.now guest (base c.args.asked.directory) c.args.asked.address c.args.asked.to.address c.args.asked.flags left in
+    let lost = status_lost guest c.args.below.now.kernel.now c.args.asked.to.form (base c.args.asked.directory) c.args.asked.address c.args.asked.to.address c.args.asked.flags c.in-Err.error left (sym c.is_listed.ensures ∙ c.if-not-is_listed.false)
+    (ap (λ (m : Memory). path_at m c.args.asked.address) memory ∙ c.in_ok-error.ensures.answer ∙ c.in-Err.is) in
     subst (λ (m : Memory). Called step (Error c.in-Err.error) c.args.below.now.kernel.now m guest.processor at at) memory
     (still_called guest c.args.below.now.kernel.now left (Error c.in-Err.error) step at told (still_of guest c.args.below.now.kernel.now c.in-Err.error left step lost))
 
 pub returns-in-Err-clause-kept : goal.returns-in-Err-clause-kept
 returns-in-Err-clause-kept g c = λ guest same memory left told.
-    let step = path_status c.args.form c.args.below.now.kernel.now guest (base c.args.directory) c.args.address c.args.buffer c.args.flags left in
-    let lost = status_lost guest c.args.below.now.kernel.now c.args.form (base c.args.directory) c.args.address c.args.buffer c.args.flags c.in-Err.error left (sym c.is_listed.ensures ∙ c.if-not-is_listed.false)
-    (ap (λ (m : Memory). path_at m c.args.address) memory ∙ c.in_ok-error.ensures.answer ∙ c.in-Err.is) in
+    let step = path_status c.args.asked.to.form c.args.below.now.kernel.now guest (base c.args.asked.directory) c.args.asked.address c.args.asked.to.address c.args.asked.flags left in
+    let lost = status_lost guest c.args.below.now.kernel.now c.args.asked.to.form (base c.args.asked.directory) c.args.asked.address c.args.asked.to.address c.args.asked.flags c.in-Err.error left (sym c.is_listed.ensures ∙ c.if-not-is_listed.false)
+    (ap (λ (m : Memory). path_at m c.args.asked.address) memory ∙ c.in_ok-error.ensures.answer ∙ c.in-Err.is) in
     still_keeps guest c.args.below.now.kernel.now left (Error c.in-Err.error) step c.args.below.now.log.now (still_of guest c.args.below.now.kernel.now c.in-Err.error left step lost)
