@@ -25,13 +25,21 @@ pub(crate) struct Answer {
     pub(crate) place: Option<u64>,
 }
 
-/// The answer by the native records that were given behind a position: to a call that asks for `asked` bytes, of
-/// which `room` can be stored. Where none was given it is the reply's.
+/// What bounds the records of an answer, in bytes.
+#[derive(Clone, Copy)]
+pub(crate) struct Bounds {
+    /// How many are asked for.
+    pub(crate) asked: u32,
+    /// How many can be stored.
+    pub(crate) room: u32,
+}
+
+/// The answer by the native records that were given behind a position, within these bounds. Where none was given it is
+/// the reply's.
 pub(crate) fn answer_to(
     alloc: Global,
     words: &CallWords,
-    asked: u32,
-    room: u32,
+    bounds: Bounds,
     position: u64,
     reply: Reply,
     given: &[u8],
@@ -39,15 +47,15 @@ pub(crate) fn answer_to(
     ensures none { IfOk result (λ answer. given.now ≡ [] → (answer.outcome ≡ outcome_of words.now reply)
         × (answer.bytes.items ≡ []) × (answer.place ≡ None)) }
     ensures some { IfOk result (λ answer. (first : Entry) (rest : List Entry) → AreListed position (first ∷ rest)
-        → given.now ≡ flat_map entry_bytes (first ∷ rest) → IsAnswer words.now position (came_by asked room (first ∷ rest)) answer) }
+        → given.now ≡ flat_map entry_bytes (first ∷ rest) → IsAnswer words.now position (came_by bounds.asked bounds.room (first ∷ rest)) answer) }
 {
     if given.is_empty() {
         return Ok(without_records(alloc, outcome_of(words, reply), None));
     }
-    match refusal(Form::Narrow, asked as usize, given) {
+    match refusal(Form::Narrow, bounds.asked as usize, given) {
         Some(error) => Ok(without_records(alloc, Outcome::Error(error), Some(position))),
         None => {
-            let answer = with_records(alloc, asked, room, position, given)?;
+            let answer = with_records(alloc, bounds, position, given)?;
             Ok(answer)
         }
     }
@@ -69,21 +77,20 @@ fn without_records(alloc: Global, outcome: Outcome, place: Option<u64>) -> Answe
 /// The answer where nothing is wrong with the first record: EFAULT where the records that fit have no room.
 fn with_records(
     alloc: Global,
-    asked: u32,
-    room: u32,
+    bounds: Bounds,
     position: u64,
     given: &[u8],
 ) -> Result<Answer, NoMemory>
     ensures { IfOk result (λ answer. (words : CallWords) (entries : List Entry) → AreListed position entries
         → given.now ≡ flat_map entry_bytes entries
-        → IsAnswer words position (if_room room (fitting narrow asked entries)) answer) }
+        → IsAnswer words position (if_room bounds.room (fitting narrow bounds.asked entries)) answer) }
 {
     let Shown {
         bytes,
         cookie,
         left: _,
-    } = show_all(alloc, Form::Narrow, asked as usize, position, given)?;
-    if bytes.len() > room as usize {
+    } = show_all(alloc, Form::Narrow, bounds.asked as usize, position, given)?;
+    if bytes.len() > bounds.room as usize {
         return Ok(without_records(alloc, Outcome::Error(Errno::EFAULT), Some(position)));
     }
     Ok(Answer {

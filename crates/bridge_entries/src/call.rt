@@ -69,9 +69,8 @@ fn by_number<I: Source, O: Sink, E: Sink>(
     ensures clock { below.new.kernel.now.clock ≡ below.old.kernel.now.clock }
     ensures same { LeadsOn below.old below.new }
 {
-    let [fd, buffer, size, _] = args.reg;
     match args.nr {
-        4141 => getdents(alloc, args, fd, buffer, size, space, dev, below),
-        _ => getdents64(alloc, args, fd, buffer, size, space, dev, below),
+        4141 => getdents(alloc, args, space, dev, below),
+        _ => getdents64(alloc, args, space, dev, below),
     }
 }

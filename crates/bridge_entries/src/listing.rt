@@ -16,9 +16,10 @@ ghost use Rattle.o32_model.specs.Effects.{Effected};
 ghost use Rattle.o32_model.specs.Entries.{entry_form, entry64_form, getdents_row};
 ghost use Rattle.o32_model.specs.GuestBytes.{with_stored};
 ghost use Rattle.o32_model.specs.Step.{Guest};
+ghost use Rattle.o32_model.specs.Words.{argument};
 ghost use Rattle.outside.specs.Streams.{NoCountFell, contents};
 
-use crate::answers::{Answer, answer_to};
+use crate::answers::{Answer, Bounds, answer_to};
 use crate::numbers::GETDENTS64;
 use crate::passing::{list, position, put_position};
 use crate::records::Form;
@@ -39,24 +40,22 @@ const LONGEST_NARROW: u32 = 268;
 pub(crate) fn getdents64<I: Source, O: Sink, E: Sink>(
     alloc: Global,
     words: &CallWords,
-    fd: u32,
-    buffer: u32,
-    size: u32,
     space: &mut Space,
     dev: &mut Devices<I, O, E>,
     below: &mut Below,
 ) -> Result<Outcome, Stop>
     ensures row { (guest : Guest) → guest.words ≡ words.now → guest.memory ≡ space.old
-        → IsCall (getdents_row entry64_form below.old.kernel.now guest fd buffer size) result below.new.kernel.now space.new guest.processor
+        → IsCall (getdents_row entry64_form below.old.kernel.now guest (argument words.now 0) (argument words.now 1) (argument words.now 2)) result below.new.kernel.now space.new guest.processor
         (contents I.left O.written E.written dev.old) (contents I.left O.written E.written dev.new) }
     ensures kept { (guest : Guest) → guest.words ≡ words.now → guest.memory ≡ space.old
-        → KeepsCall (getdents_row entry64_form below.old.kernel.now guest fd buffer size) result below.old.kernel.now guest (I.left dev.old.input) below.old.log.now below.new.log.now }
+        → KeepsCall (getdents_row entry64_form below.old.kernel.now guest (argument words.now 0) (argument words.now 1) (argument words.now 2)) result below.old.kernel.now guest (I.left dev.old.input) below.old.log.now below.new.log.now }
     ensures cause { StopsOnlyIfRose I.faults O.faults E.faults result dev.old dev.new }
     ensures counts { NoCountFell I.faults O.faults E.faults dev.old dev.new }
     ensures clock { below.new.kernel.now.clock ≡ below.old.kernel.now.clock }
     ensures same { LeadsOn below.old below.new }
 {
     below.kernel.files_valid();
+    let [fd, buffer, size, _] = words.reg;
     let room = space.writable(buffer, size);
     fresh_room(below.memory, room)?;
     let args = [u64::from(fd), FIRST_ADDRESS, u64::from(size), 0, 0, 0];
@@ -78,26 +77,24 @@ pub(crate) fn getdents64<I: Source, O: Sink, E: Sink>(
 pub(crate) fn getdents<I: Source, O: Sink, E: Sink>(
     alloc: Global,
     words: &CallWords,
-    fd: u32,
-    buffer: u32,
-    size: u32,
     space: &mut Space,
     dev: &mut Devices<I, O, E>,
     below: &mut Below,
 ) -> Result<Outcome, Stop>
     ensures row { (guest : Guest) → guest.words ≡ words.now → guest.memory ≡ space.old
-        → IsCall (getdents_row entry_form below.old.kernel.now guest fd buffer size) result below.new.kernel.now space.new guest.processor
+        → IsCall (getdents_row entry_form below.old.kernel.now guest (argument words.now 0) (argument words.now 1) (argument words.now 2)) result below.new.kernel.now space.new guest.processor
         (contents I.left O.written E.written dev.old) (contents I.left O.written E.written dev.new) }
     ensures kept { (guest : Guest) → guest.words ≡ words.now → guest.memory ≡ space.old
-        → KeepsCall (getdents_row entry_form below.old.kernel.now guest fd buffer size) result below.old.kernel.now guest (I.left dev.old.input) below.old.log.now below.new.log.now }
+        → KeepsCall (getdents_row entry_form below.old.kernel.now guest (argument words.now 0) (argument words.now 1) (argument words.now 2)) result below.old.kernel.now guest (I.left dev.old.input) below.old.log.now below.new.log.now }
     ensures cause { StopsOnlyIfRose I.faults O.faults E.faults result dev.old dev.new }
     ensures counts { NoCountFell I.faults O.faults E.faults dev.old dev.new }
     ensures clock { below.new.kernel.now.clock ≡ below.old.kernel.now.clock }
     ensures same { LeadsOn below.old below.new }
 {
     below.kernel.files_valid();
+    let [_, buffer, size, _] = words.reg;
     let room = space.writable(buffer, size);
-    let answer = answer_call(alloc, words, fd, size, room, dev, below)?;
+    let answer = answer_call(alloc, words, room, dev, below)?;
     put_some(space, buffer, answer.bytes.as_slice(), below.log)?;
     Ok(answer.outcome)
 }
@@ -107,15 +104,13 @@ pub(crate) fn getdents<I: Source, O: Sink, E: Sink>(
 fn answer_call<I: Source, O: Sink, E: Sink>(
     alloc: Global,
     words: &CallWords,
-    fd: u32,
-    size: u32,
     room: u32,
     dev: &mut Devices<I, O, E>,
     below: &mut Below,
 ) -> Result<Answer, Stop>
     requires { room ≤ user_end }
-    ensures goes { GoesTo (IsGiven words.now (entries below.old.kernel.now.files fd narrow size room).came) result below.old.kernel.now
-        (with_files below.old.kernel.now (entries below.old.kernel.now.files fd narrow size room).state) below.new.kernel.now
+    ensures goes { GoesTo (IsGiven words.now (entries below.old.kernel.now.files (argument words.now 0) narrow (argument words.now 2) room).came) result below.old.kernel.now
+        (with_files below.old.kernel.now (entries below.old.kernel.now.files (argument words.now 0) narrow (argument words.now 2) room).state) below.new.kernel.now
         (contents I.left O.written E.written dev.old) (contents I.left O.written E.written dev.new) below.old.log.now below.new.log.now }
     ensures cause { StopsOnlyIfRose I.faults O.faults E.faults result dev.old dev.new }
     ensures counts { NoCountFell I.faults O.faults E.faults dev.old dev.new }
@@ -123,14 +118,14 @@ fn answer_call<I: Source, O: Sink, E: Sink>(
     ensures same { LeadsOn below.old below.new }
 {
     below.kernel.files_valid();
+    let [fd, _, size, _] = words.reg;
     let asked = size.min(room + LONGEST_NARROW);
     let before = position(fd, dev, below)?;
     let reply = list(fd, 2 * asked, dev, below)?;
     let answer = answer_to(
         alloc,
         words,
-        asked,
-        room,
+        Bounds { asked, room },
         before.unwrap_or(0),
         reply,
         given(below.memory, reply),

@@ -14,12 +14,12 @@ returns-then-is_empty-clause-some c = λ first rest listed is.
 
 pub returns-in-Some-clause-some : goal.returns-in-Some-clause-some
 returns-in-Some-clause-some c = λ first rest listed is.
-    answer_refused c.args.words.now c.args.position (came_by c.args.asked c.args.room (first ∷ rest)) c.without_records-in-Some.result c.in-Some.error
-    (refused_is c.args.position c.args.asked c.args.room (first ∷ rest) c.args.given.now (Some c.in-Some.error) listed is c.in-Some.ensures)
+    answer_refused c.args.words.now c.args.position (came_by c.args.bounds.asked c.args.bounds.room (first ∷ rest)) c.without_records-in-Some.result c.in-Some.error
+    (refused_is c.args.position c.args.bounds.asked c.args.bounds.room (first ∷ rest) c.args.given.now (Some c.in-Some.error) listed is c.in-Some.ensures)
     c.without_records-in-Some.ensures.outcome c.without_records-in-Some.ensures.bytes c.without_records-in-Some.ensures.place
 
 pub returns-in_ok-answer-in-None-clause-some : goal.returns-in_ok-answer-in-None-clause-some
 returns-in_ok-answer-in-None-clause-some c = λ first rest listed is.
     subst (λ (came : Came (List Entry)). IsAnswer c.args.words.now c.args.position came c.in_ok-answer-in-None.answer)
-    (sym (refused_is c.args.position c.args.asked c.args.room (first ∷ rest) c.args.given.now None listed is c.in-None.ensures))
+    (sym (refused_is c.args.position c.args.bounds.asked c.args.bounds.room (first ∷ rest) c.args.given.now None listed is c.in-None.ensures))
     (c.in_ok-answer-in-None.ensures c.args.words.now (first ∷ rest) listed is)
