@@ -7,6 +7,7 @@ ghost use Rattle.o32_model.specs.Answered.{IsCall};
 ghost use Rattle.o32_model.specs.GuestBytes.{vector};
 ghost use Rattle.o32_model.specs.Step.{Guest};
 ghost use Rattle.o32_model.specs.Transfers.{writev_row};
+ghost use Rattle.o32_model.specs.Words.{argument};
 ghost use Rattle.outside.specs.Streams.{NoCountFell, contents};
 
 use crate::looking::room;
@@ -24,23 +25,21 @@ use outside::{Devices, Sink, Source};
 /// to the first that may not be loaded.
 pub(crate) fn writev<I: Source, O: Sink, E: Sink>(
     words: &CallWords,
-    fd: u32,
-    address: u32,
-    count: u32,
     space: &Space,
     dev: &mut Devices<I, O, E>,
     below: &mut Below,
 ) -> Result<Outcome, Stop>
     ensures row { (guest : Guest) → guest.words ≡ words.now → guest.memory ≡ space.now
-        → IsCall (writev_row below.old.kernel.now guest fd address count) result below.new.kernel.now guest.memory guest.processor
+        → IsCall (writev_row below.old.kernel.now guest (argument words.now 0) (argument words.now 1) (argument words.now 2)) result below.new.kernel.now guest.memory guest.processor
         (contents I.left O.written E.written dev.old) (contents I.left O.written E.written dev.new) }
     ensures kept { (guest : Guest) → guest.words ≡ words.now → guest.memory ≡ space.now
-        → KeepsCall (writev_row below.old.kernel.now guest fd address count) result below.old.kernel.now guest (I.left dev.old.input) below.old.log.now below.new.log.now }
+        → KeepsCall (writev_row below.old.kernel.now guest (argument words.now 0) (argument words.now 1) (argument words.now 2)) result below.old.kernel.now guest (I.left dev.old.input) below.old.log.now below.new.log.now }
     ensures cause { StopsOnlyIfRose I.faults O.faults E.faults result dev.old dev.new }
     ensures counts { NoCountFell I.faults O.faults E.faults dev.old dev.new }
     ensures clock { below.new.kernel.now.clock ≡ below.old.kernel.now.clock }
     ensures same { LeadsOn below.old below.new }
 {
+    let [fd, address, count, _] = words.reg;
     match Vector::read(space, address, count) {
         Ok(buffers) => write_buffers(words, fd, &buffers, space, dev, below),
         Err(error) => {

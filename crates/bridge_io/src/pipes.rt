@@ -15,7 +15,7 @@ ghost use Rattle.outside.specs.Streams.{NoCountFell, contents};
 
 use crate::commands::bit;
 use crate::numbers::PIPE2;
-use crate::structures::{Structure, byte_at, store_call};
+use crate::structures::{GuestStructure, NativeCall, Structure, byte_at, store_call};
 use bridge_log::{Below, fresh_room, outcome_of};
 use guest_space::Space;
 use host_mem::{FIRST_ADDRESS, HostMem};
@@ -120,16 +120,12 @@ pub(crate) fn pipe2<I: Source, O: Sink, E: Sink>(
     below.kernel.whole();
     let place = host_place(space, address, PAIR_SIZE);
     let args = [place, native_pipe_flags(flags), 0, 0, 0, 0];
-    store_call(
-        words,
+    let to = GuestStructure {
         address,
-        Structure::Pair,
-        space,
-        PIPE2,
-        args,
-        dev,
-        below,
-    )
+        structure: Structure::Pair,
+    };
+    let call = NativeCall { nr: PIPE2, args };
+    store_call(words, to, space, call, dev, below)
 }
 
 /// Where a structure stands in host memory: nowhere if the program's can't be stored, so that the native

@@ -12,7 +12,7 @@ ghost use Rattle.kernel_model.specs.Stops.{StopsOnlyIfRose};
 ghost use Rattle.o32_model.specs.Answered.{IsCall};
 ghost use Rattle.o32_model.specs.Step.{Guest};
 ghost use Rattle.o32_model.specs.Transfers.{pwrite_row, small_file_limit};
-ghost use Rattle.o32_model.specs.Words.{stack_pair};
+ghost use Rattle.o32_model.specs.Words.{argument, stack_pair};
 ghost use Rattle.outside.specs.Streams.{NoCountFell, contents};
 
 use crate::looking::{SMALL_FILE_LIMIT, is_ready, size, write_flags};
@@ -36,18 +36,15 @@ const FAR: u64 = 1 << 62;
 /// them can't be read; EINVAL for a place below 0; ESPIPE for a stream or a pipe.
 pub(crate) fn pwrite<I: Source, O: Sink, E: Sink>(
     words: &CallWords,
-    fd: u32,
-    buffer: u32,
-    count: u32,
     space: &Space,
     dev: &mut Devices<I, O, E>,
     below: &mut Below,
 ) -> Result<Outcome, Stop>
     ensures row { (guest : Guest) → guest.words ≡ words.now → guest.memory ≡ space.now
-        → IsCall (pwrite_row below.old.kernel.now guest fd buffer count (stack_pair words.now)) result below.new.kernel.now guest.memory guest.processor
+        → IsCall (pwrite_row below.old.kernel.now guest (argument words.now 0) (argument words.now 1) (argument words.now 2) (stack_pair words.now)) result below.new.kernel.now guest.memory guest.processor
         (contents I.left O.written E.written dev.old) (contents I.left O.written E.written dev.new) }
     ensures kept { (guest : Guest) → guest.words ≡ words.now → guest.memory ≡ space.now
-        → KeepsCall (pwrite_row below.old.kernel.now guest fd buffer count (stack_pair words.now)) result below.old.kernel.now guest (I.left dev.old.input) below.old.log.now below.new.log.now }
+        → KeepsCall (pwrite_row below.old.kernel.now guest (argument words.now 0) (argument words.now 1) (argument words.now 2) (stack_pair words.now)) result below.old.kernel.now guest (I.left dev.old.input) below.old.log.now below.new.log.now }
     ensures cause { StopsOnlyIfRose I.faults O.faults E.faults result dev.old dev.new }
     ensures counts { NoCountFell I.faults O.faults E.faults dev.old dev.new }
     ensures clock { below.new.kernel.now.clock ≡ below.old.kernel.now.clock }
@@ -55,31 +52,29 @@ pub(crate) fn pwrite<I: Source, O: Sink, E: Sink>(
 {
     match stack_pair(words) {
         None => Ok(Outcome::Error(Errno::EFAULT)),
-        Some(place) => write_at(words, fd, buffer, count, place, space, dev, below),
+        Some(place) => write_at(words, place, space, dev, below),
     }
 }
 
 /// The same, where the place can be read.
 fn write_at<I: Source, O: Sink, E: Sink>(
     words: &CallWords,
-    fd: u32,
-    buffer: u32,
-    count: u32,
     place: u64,
     space: &Space,
     dev: &mut Devices<I, O, E>,
     below: &mut Below,
 ) -> Result<Outcome, Stop>
     ensures row { (guest : Guest) → guest.words ≡ words.now → guest.memory ≡ space.now
-        → IsCall (pwrite_row below.old.kernel.now guest fd buffer count (Some place)) result below.new.kernel.now guest.memory guest.processor
+        → IsCall (pwrite_row below.old.kernel.now guest (argument words.now 0) (argument words.now 1) (argument words.now 2) (Some place)) result below.new.kernel.now guest.memory guest.processor
         (contents I.left O.written E.written dev.old) (contents I.left O.written E.written dev.new) }
     ensures kept { (guest : Guest) → guest.words ≡ words.now → guest.memory ≡ space.now
-        → KeepsCall (pwrite_row below.old.kernel.now guest fd buffer count (Some place)) result below.old.kernel.now guest (I.left dev.old.input) below.old.log.now below.new.log.now }
+        → KeepsCall (pwrite_row below.old.kernel.now guest (argument words.now 0) (argument words.now 1) (argument words.now 2) (Some place)) result below.old.kernel.now guest (I.left dev.old.input) below.old.log.now below.new.log.now }
     ensures cause { StopsOnlyIfRose I.faults O.faults E.faults result dev.old dev.new }
     ensures counts { NoCountFell I.faults O.faults E.faults dev.old dev.new }
     ensures clock { below.new.kernel.now.clock ≡ below.old.kernel.now.clock }
     ensures same { LeadsOn below.old below.new }
 {
+    let [fd, buffer, count, _] = words.reg;
     let plan = plan(fd, place, dev, below)?;
     load_buffer(space, below.memory, buffer, count)?;
     write_planned(words, fd, count, plan, dev, below)

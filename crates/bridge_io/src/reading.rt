@@ -6,7 +6,7 @@ ghost use Rattle.kernel_model.specs.Stops.{StopsOnlyIfRose};
 ghost use Rattle.o32_model.specs.Answered.{IsCall};
 ghost use Rattle.o32_model.specs.Step.{Guest};
 ghost use Rattle.o32_model.specs.Transfers.{pread_row, read_row};
-ghost use Rattle.o32_model.specs.Words.{stack_pair};
+ghost use Rattle.o32_model.specs.Words.{argument, stack_pair};
 ghost use Rattle.outside.specs.Streams.{NoCountFell, contents};
 
 use crate::numbers::{PREAD64, READ};
@@ -20,23 +20,21 @@ use outside::{Devices, Sink, Source};
 /// read(2): EBADF, EFAULT, EISDIR, EAGAIN. The longest prefix of the buffer that may be stored to is filled.
 pub(crate) fn read<I: Source, O: Sink, E: Sink>(
     words: &CallWords,
-    fd: u32,
-    buffer: u32,
-    count: u32,
     space: &mut Space,
     dev: &mut Devices<I, O, E>,
     below: &mut Below,
 ) -> Result<Outcome, Stop>
     ensures row { (guest : Guest) → guest.words ≡ words.now → guest.memory ≡ space.old
-        → IsCall (read_row below.old.kernel.now guest fd buffer count) result below.new.kernel.now space.new guest.processor
+        → IsCall (read_row below.old.kernel.now guest (argument words.now 0) (argument words.now 1) (argument words.now 2)) result below.new.kernel.now space.new guest.processor
         (contents I.left O.written E.written dev.old) (contents I.left O.written E.written dev.new) }
     ensures kept { (guest : Guest) → guest.words ≡ words.now → guest.memory ≡ space.old
-        → KeepsCall (read_row below.old.kernel.now guest fd buffer count) result below.old.kernel.now guest (I.left dev.old.input) below.old.log.now below.new.log.now }
+        → KeepsCall (read_row below.old.kernel.now guest (argument words.now 0) (argument words.now 1) (argument words.now 2)) result below.old.kernel.now guest (I.left dev.old.input) below.old.log.now below.new.log.now }
     ensures cause { StopsOnlyIfRose I.faults O.faults E.faults result dev.old dev.new }
     ensures counts { NoCountFell I.faults O.faults E.faults dev.old dev.new }
     ensures clock { below.new.kernel.now.clock ≡ below.old.kernel.now.clock }
     ensures same { LeadsOn below.old below.new }
 {
+    let [fd, buffer, count, _] = words.reg;
     let args = [u64::from(fd), FIRST_ADDRESS, u64::from(count), 0, 0, 0];
     below.fill_call(words, buffer, count, space, READ, args, dev)
 }
@@ -45,18 +43,15 @@ pub(crate) fn read<I: Source, O: Sink, E: Sink>(
 /// them can't be read; EINVAL for a place below 0; ESPIPE for a stream or a pipe.
 pub(crate) fn pread<I: Source, O: Sink, E: Sink>(
     words: &CallWords,
-    fd: u32,
-    buffer: u32,
-    count: u32,
     space: &mut Space,
     dev: &mut Devices<I, O, E>,
     below: &mut Below,
 ) -> Result<Outcome, Stop>
     ensures row { (guest : Guest) → guest.words ≡ words.now → guest.memory ≡ space.old
-        → IsCall (pread_row below.old.kernel.now guest fd buffer count (stack_pair words.now)) result below.new.kernel.now space.new guest.processor
+        → IsCall (pread_row below.old.kernel.now guest (argument words.now 0) (argument words.now 1) (argument words.now 2) (stack_pair words.now)) result below.new.kernel.now space.new guest.processor
         (contents I.left O.written E.written dev.old) (contents I.left O.written E.written dev.new) }
     ensures kept { (guest : Guest) → guest.words ≡ words.now → guest.memory ≡ space.old
-        → KeepsCall (pread_row below.old.kernel.now guest fd buffer count (stack_pair words.now)) result below.old.kernel.now guest (I.left dev.old.input) below.old.log.now below.new.log.now }
+        → KeepsCall (pread_row below.old.kernel.now guest (argument words.now 0) (argument words.now 1) (argument words.now 2) (stack_pair words.now)) result below.old.kernel.now guest (I.left dev.old.input) below.old.log.now below.new.log.now }
     ensures cause { StopsOnlyIfRose I.faults O.faults E.faults result dev.old dev.new }
     ensures counts { NoCountFell I.faults O.faults E.faults dev.old dev.new }
     ensures clock { below.new.kernel.now.clock ≡ below.old.kernel.now.clock }
@@ -65,6 +60,7 @@ pub(crate) fn pread<I: Source, O: Sink, E: Sink>(
     let Some(place) = stack_pair(words) else {
         return Ok(Outcome::Error(Errno::EFAULT));
     };
+    let [fd, buffer, count, _] = words.reg;
     let args = [u64::from(fd), FIRST_ADDRESS, u64::from(count), place, 0, 0];
     below.fill_call(words, buffer, count, space, PREAD64, args, dev)
 }

@@ -201,37 +201,53 @@ static SETTINGS_BACK: [Option<usize>; 36] = [
     None,
 ];
 
+/// A structure in the program's memory.
+#[derive(Clone, Copy)]
+pub(crate) struct GuestStructure {
+    /// Where it begins.
+    pub(crate) address: u32,
+    /// Which one it is.
+    pub(crate) structure: Structure,
+}
+
+/// A native call that is to be made.
+#[derive(Clone, Copy)]
+pub(crate) struct NativeCall {
+    /// Its number.
+    pub(crate) nr: u64,
+    /// Its arguments, of which those that it doesn't take are 0.
+    pub(crate) args: [u64; 6],
+}
+
 /// Makes the native call that a call of the program is, where it gives a structure: over host memory with
 /// as many zeros as the structure has bytes, from where it then goes to the program's memory. `row` and
 /// `kept` hold of every o32 call that this native call stores for.
 pub(crate) fn store_call<I: Source, O: Sink, E: Sink>(
     words: &CallWords,
-    address: u32,
-    structure: Structure,
+    to: GuestStructure,
     space: &mut Space,
-    nr: u64,
-    args: [u64; 6],
+    call: NativeCall,
     dev: &mut Devices<I, O, E>,
     below: &mut Below,
 ) -> Result<Outcome, Stop>
-    requires built { built_call nr ≡ native_call nr }
-    requires unused { AreUnusedZero nr args }
-    requires address { takes_address nr ≡ true }
+    requires built { built_call call.nr ≡ native_call call.nr }
+    requires unused { AreUnusedZero call.nr call.args }
+    requires address { takes_address call.nr ≡ true }
     ensures row { (guest : Guest) (step : List ℕ → O32Step) → guest.words ≡ words.now → guest.memory ≡ space.old
-        → ((left : List ℕ) → Stores guest address structure (native_call nr args below.old.kernel.now (replicate (size structure) 0) left) (step left))
+        → ((left : List ℕ) → Stores guest to.address to.structure (native_call call.nr call.args below.old.kernel.now (replicate (size to.structure) 0) left) (step left))
         → IsCall step result below.new.kernel.now space.new guest.processor
         (contents I.left O.written E.written dev.old) (contents I.left O.written E.written dev.new) }
     ensures kept { (guest : Guest) (step : List ℕ → O32Step) → guest.words ≡ words.now → guest.memory ≡ space.old
-        → ((left : List ℕ) → Stores guest address structure (native_call nr args below.old.kernel.now (replicate (size structure) 0) left) (step left))
+        → ((left : List ℕ) → Stores guest to.address to.structure (native_call call.nr call.args below.old.kernel.now (replicate (size to.structure) 0) left) (step left))
         → KeepsCall step result below.old.kernel.now guest (I.left dev.old.input) below.old.log.now below.new.log.now }
     ensures cause { StopsOnlyIfRose I.faults O.faults E.faults result dev.old dev.new }
     ensures counts { NoCountFell I.faults O.faults E.faults dev.old dev.new }
     ensures clock { below.new.kernel.now.clock ≡ below.old.kernel.now.clock }
     ensures same { LeadsOn below.old below.new }
 {
-    fresh_room(below.memory, structure.size())?;
-    let reply = below.native(nr, args, dev)?;
-    put_structure(space, address, structure, below.memory, reply, below.log)?;
+    fresh_room(below.memory, to.structure.size())?;
+    let reply = below.native(call.nr, call.args, dev)?;
+    put_structure(space, to, below.memory, reply, below.log)?;
     Ok(outcome_of(words, reply))
 }
 
@@ -239,13 +255,12 @@ pub(crate) fn store_call<I: Source, O: Sink, E: Sink>(
 /// where it may be stored whole.
 fn put_structure(
     space: &mut Space,
-    address: u32,
-    structure: Structure,
+    to: GuestStructure,
     mem: &HostMem,
     reply: Reply,
     log: &mut Log,
 ) -> Result<(), NoMemory>
-    ensures stored { OnOk result (space.new ≡ with_stored space.old address (bytes_told structure mem.now reply)) }
+    ensures stored { OnOk result (space.new ≡ with_stored space.old to.address (bytes_told to.structure mem.now reply)) }
     ensures effects { OnOk result ((processor : Processor) (sent : Sent)
         → Effected log.old.effects log.new.effects (reached processor space.old.pages sent) (reached processor space.new.pages sent)) }
     ensures native { log.new.native ≡ log.old.native }
@@ -253,7 +268,7 @@ fn put_structure(
     match reply {
         Reply::Done(number) => {
             if number >= 0 {
-                put_bytes(space, address, structure, mem, log)?;
+                put_bytes(space, to, mem, log)?;
             }
             Ok(())
         }
@@ -263,21 +278,20 @@ fn put_structure(
 
 fn put_bytes(
     space: &mut Space,
-    address: u32,
-    structure: Structure,
+    to: GuestStructure,
     mem: &HostMem,
     log: &mut Log,
 ) -> Result<(), NoMemory>
-    ensures stored { OnOk result (space.new ≡ with_stored space.old address (map (byte_from mem.now) (places structure))) }
+    ensures stored { OnOk result (space.new ≡ with_stored space.old to.address (map (byte_from mem.now) (places to.structure))) }
     ensures effects { OnOk result ((processor : Processor) (sent : Sent)
         → Effected log.old.effects log.new.effects (reached processor space.old.pages sent) (reached processor space.new.pages sent)) }
     ensures native { log.new.native ≡ log.old.native }
 {
-    let places = structure.places();
+    let places = to.structure.places();
     let mut buffer = [0; 40];
     let bytes = &mut buffer[..places.len()];
     rearrange(mem.as_slice(), places, bytes);
-    put(space, address, bytes, log)?;
+    put(space, to.address, bytes, log)?;
     Ok(())
 }
 

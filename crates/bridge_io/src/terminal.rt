@@ -15,11 +15,12 @@ ghost use Rattle.number_tables.specs.Requests.{request_of_o32};
 ghost use Rattle.o32_model.specs.Answered.{IsCall};
 ghost use Rattle.o32_model.specs.Step.{Guest, O32Step};
 ghost use Rattle.o32_model.specs.Terminal.{ioctl_row};
+ghost use Rattle.o32_model.specs.Words.{argument};
 ghost use Rattle.outside.specs.Streams.{NoCountFell, contents};
 
 use crate::numbers::IOCTL;
 use crate::pipes::host_place;
-use crate::structures::{Structure, rearrange, store_call};
+use crate::structures::{GuestStructure, NativeCall, Structure, rearrange, store_call};
 use bridge_log::{Below, load_structure};
 use guest_space::Space;
 use host_mem::HostMem;
@@ -43,25 +44,23 @@ pub(crate) enum Purpose {
 /// EFAULT. Requests have other numbers for the native kernel, and structures other bytes.
 pub(crate) fn ioctl<I: Source, O: Sink, E: Sink>(
     words: &CallWords,
-    fd: u32,
-    request: u32,
-    address: u32,
     space: &mut Space,
     dev: &mut Devices<I, O, E>,
     below: &mut Below,
 ) -> Result<Outcome, Stop>
     ensures row { (guest : Guest) → guest.words ≡ words.now → guest.memory ≡ space.old
-        → IsCall (ioctl_row below.old.kernel.now guest fd request address) result below.new.kernel.now space.new guest.processor
+        → IsCall (ioctl_row below.old.kernel.now guest (argument words.now 0) (argument words.now 1) (argument words.now 2)) result below.new.kernel.now space.new guest.processor
         (contents I.left O.written E.written dev.old) (contents I.left O.written E.written dev.new) }
     ensures kept { (guest : Guest) → guest.words ≡ words.now → guest.memory ≡ space.old
-        → KeepsCall (ioctl_row below.old.kernel.now guest fd request address) result below.old.kernel.now guest (I.left dev.old.input) below.old.log.now below.new.log.now }
+        → KeepsCall (ioctl_row below.old.kernel.now guest (argument words.now 0) (argument words.now 1) (argument words.now 2)) result below.old.kernel.now guest (I.left dev.old.input) below.old.log.now below.new.log.now }
     ensures cause { StopsOnlyIfRose I.faults O.faults E.faults result dev.old dev.new }
     ensures counts { NoCountFell I.faults O.faults E.faults dev.old dev.new }
     ensures clock { below.new.kernel.now.clock ≡ below.old.kernel.now.clock }
     ensures same { LeadsOn below.old below.new }
 {
+    let [fd, request, _, _] = words.reg;
     match Request::of_o32(request) {
-        Some(found) => listed(words, fd, found, address, space, dev, below),
+        Some(found) => listed(words, found, space, dev, below),
         None => plain(words, fd, 0, dev, below),
     }
 }
@@ -69,31 +68,26 @@ pub(crate) fn ioctl<I: Source, O: Sink, E: Sink>(
 /// Makes a request that is listed.
 fn listed<I: Source, O: Sink, E: Sink>(
     words: &CallWords,
-    fd: u32,
     request: Request,
-    address: u32,
     space: &mut Space,
     dev: &mut Devices<I, O, E>,
     below: &mut Below,
 ) -> Result<Outcome, Stop>
     ensures row { (guest : Guest) (asked : ℕ) → guest.words ≡ words.now → guest.memory ≡ space.old → request_of_o32 asked ≡ Some request
-        → IsCall (ioctl_row below.old.kernel.now guest fd asked address) result below.new.kernel.now space.new guest.processor
+        → IsCall (ioctl_row below.old.kernel.now guest (argument words.now 0) asked (argument words.now 2)) result below.new.kernel.now space.new guest.processor
         (contents I.left O.written E.written dev.old) (contents I.left O.written E.written dev.new) }
     ensures kept { (guest : Guest) (asked : ℕ) → guest.words ≡ words.now → guest.memory ≡ space.old → request_of_o32 asked ≡ Some request
-        → KeepsCall (ioctl_row below.old.kernel.now guest fd asked address) result below.old.kernel.now guest (I.left dev.old.input) below.old.log.now below.new.log.now }
+        → KeepsCall (ioctl_row below.old.kernel.now guest (argument words.now 0) asked (argument words.now 2)) result below.old.kernel.now guest (I.left dev.old.input) below.old.log.now below.new.log.now }
     ensures cause { StopsOnlyIfRose I.faults O.faults E.faults result dev.old dev.new }
     ensures counts { NoCountFell I.faults O.faults E.faults dev.old dev.new }
     ensures clock { below.new.kernel.now.clock ≡ below.old.kernel.now.clock }
     ensures same { LeadsOn below.old below.new }
 {
+    let [fd, _, _, _] = words.reg;
     let number = request.to_native();
     match purpose_of(request) {
-        Purpose::Stores(structure) => {
-            show(words, fd, number, address, structure, space, dev, below)
-        }
-        Purpose::Loads(structure) => {
-            take(words, fd, number, address, structure, space, dev, below)
-        }
+        Purpose::Stores(structure) => show(words, number, structure, space, dev, below),
+        Purpose::Loads(structure) => take(words, number, structure, space, dev, below),
         Purpose::Unused => plain(words, fd, number, dev, below),
     }
 }
@@ -142,60 +136,60 @@ fn plain<I: Source, O: Sink, E: Sink>(
 /// Makes a native request that gives a structure.
 fn show<I: Source, O: Sink, E: Sink>(
     words: &CallWords,
-    fd: u32,
     number: u64,
-    address: u32,
     structure: Structure,
     space: &mut Space,
     dev: &mut Devices<I, O, E>,
     below: &mut Below,
 ) -> Result<Outcome, Stop>
-    requires asked { takes_last 29 (fd ∷ number ∷ []) ≡ true }
+    requires asked { takes_last 29 ((argument words.now 0) ∷ number ∷ []) ≡ true }
     ensures row { (guest : Guest) (step : List ℕ → O32Step) → guest.words ≡ words.now → guest.memory ≡ space.old
-        → ((left : List ℕ) → Stores guest address structure
-        (native_call 29 (fd ∷ number ∷ host_place guest.memory address (length (places structure)) ∷ 0 ∷ 0 ∷ 0 ∷ []) below.old.kernel.now (replicate (size structure) 0) left) (step left))
+        → ((left : List ℕ) → Stores guest (argument words.now 2) structure
+        (native_call 29 ((argument words.now 0) ∷ number ∷ host_place guest.memory (argument words.now 2) (length (places structure)) ∷ 0 ∷ 0 ∷ 0 ∷ []) below.old.kernel.now (replicate (size structure) 0) left) (step left))
         → IsCall step result below.new.kernel.now space.new guest.processor
         (contents I.left O.written E.written dev.old) (contents I.left O.written E.written dev.new) }
     ensures kept { (guest : Guest) (step : List ℕ → O32Step) → guest.words ≡ words.now → guest.memory ≡ space.old
-        → ((left : List ℕ) → Stores guest address structure
-        (native_call 29 (fd ∷ number ∷ host_place guest.memory address (length (places structure)) ∷ 0 ∷ 0 ∷ 0 ∷ []) below.old.kernel.now (replicate (size structure) 0) left) (step left))
+        → ((left : List ℕ) → Stores guest (argument words.now 2) structure
+        (native_call 29 ((argument words.now 0) ∷ number ∷ host_place guest.memory (argument words.now 2) (length (places structure)) ∷ 0 ∷ 0 ∷ 0 ∷ []) below.old.kernel.now (replicate (size structure) 0) left) (step left))
         → KeepsCall step result below.old.kernel.now guest (I.left dev.old.input) below.old.log.now below.new.log.now }
     ensures cause { StopsOnlyIfRose I.faults O.faults E.faults result dev.old dev.new }
     ensures counts { NoCountFell I.faults O.faults E.faults dev.old dev.new }
     ensures clock { below.new.kernel.now.clock ≡ below.old.kernel.now.clock }
     ensures same { LeadsOn below.old below.new }
 {
+    let [fd, _, address, _] = words.reg;
     let place = host_place(space, address, structure.size_for_program());
     let args = [u64::from(fd), number, place, 0, 0, 0];
-    store_call(words, address, structure, space, IOCTL, args, dev, below)
+    let to = GuestStructure { address, structure };
+    let call = NativeCall { nr: IOCTL, args };
+    store_call(words, to, space, call, dev, below)
 }
 
 /// Makes a native request that is given a structure.
 fn take<I: Source, O: Sink, E: Sink>(
     words: &CallWords,
-    fd: u32,
     number: u64,
-    address: u32,
     structure: Structure,
     space: &Space,
     dev: &mut Devices<I, O, E>,
     below: &mut Below,
 ) -> Result<Outcome, Stop>
-    requires asked { takes_last 29 (fd ∷ number ∷ []) ≡ true }
+    requires asked { takes_last 29 ((argument words.now 0) ∷ number ∷ []) ≡ true }
     ensures row { (guest : Guest) (step : List ℕ → O32Step) → guest.words ≡ words.now → guest.memory ≡ space.now
-        → ((left room : List ℕ) (place : ℕ) → IsTaken guest.memory address structure room place
-        → Mirrors guest (by_reply guest.words) (native_call 29 (fd ∷ number ∷ place ∷ 0 ∷ 0 ∷ 0 ∷ []) below.old.kernel.now room left) (step left))
+        → ((left room : List ℕ) (place : ℕ) → IsTaken guest.memory (argument words.now 2) structure room place
+        → Mirrors guest (by_reply guest.words) (native_call 29 ((argument words.now 0) ∷ number ∷ place ∷ 0 ∷ 0 ∷ 0 ∷ []) below.old.kernel.now room left) (step left))
         → IsCall step result below.new.kernel.now space.now guest.processor
         (contents I.left O.written E.written dev.old) (contents I.left O.written E.written dev.new) }
     ensures kept { (guest : Guest) (step : List ℕ → O32Step) → guest.words ≡ words.now → guest.memory ≡ space.now
-        → ((left room : List ℕ) (place : ℕ) → IsTaken guest.memory address structure room place
-        → Mirrors guest (by_reply guest.words) (native_call 29 (fd ∷ number ∷ place ∷ 0 ∷ 0 ∷ 0 ∷ []) below.old.kernel.now room left) (step left))
+        → ((left room : List ℕ) (place : ℕ) → IsTaken guest.memory (argument words.now 2) structure room place
+        → Mirrors guest (by_reply guest.words) (native_call 29 ((argument words.now 0) ∷ number ∷ place ∷ 0 ∷ 0 ∷ 0 ∷ []) below.old.kernel.now room left) (step left))
         → KeepsCall step result below.old.kernel.now guest (I.left dev.old.input) below.old.log.now below.new.log.now }
     ensures cause { StopsOnlyIfRose I.faults O.faults E.faults result dev.old dev.new }
     ensures counts { NoCountFell I.faults O.faults E.faults dev.old dev.new }
     ensures clock { below.new.kernel.now.clock ≡ below.old.kernel.now.clock }
     ensures same { LeadsOn below.old below.new }
 {
+    let [fd, _, address, _] = words.reg;
     let place = take_structure(space, address, structure, below.memory)?;
     let args = [u64::from(fd), number, place, 0, 0, 0];
     below.number_call(words, IOCTL, args, dev)

@@ -12,6 +12,7 @@ ghost use Rattle.o32_model.specs.Effects.{Effected};
 ghost use Rattle.o32_model.specs.GuestBytes.{vector, all_accessible, all_copied_out, with_stored};
 ghost use Rattle.o32_model.specs.Step.{Guest};
 ghost use Rattle.o32_model.specs.Transfers.{readv_row};
+ghost use Rattle.o32_model.specs.Words.{argument};
 ghost use Rattle.outside.specs.Streams.{NoCountFell, contents};
 
 use crate::numbers::{READ, READV};
@@ -27,23 +28,21 @@ use outside::{Devices, Sink, Source};
 /// buffers are filled in order, up to the first byte that may not be stored to.
 pub(crate) fn readv<I: Source, O: Sink, E: Sink>(
     words: &CallWords,
-    fd: u32,
-    address: u32,
-    count: u32,
     space: &mut Space,
     dev: &mut Devices<I, O, E>,
     below: &mut Below,
 ) -> Result<Outcome, Stop>
     ensures row { (guest : Guest) → guest.words ≡ words.now → guest.memory ≡ space.old
-        → IsCall (readv_row below.old.kernel.now guest fd address count) result below.new.kernel.now space.new guest.processor
+        → IsCall (readv_row below.old.kernel.now guest (argument words.now 0) (argument words.now 1) (argument words.now 2)) result below.new.kernel.now space.new guest.processor
         (contents I.left O.written E.written dev.old) (contents I.left O.written E.written dev.new) }
     ensures kept { (guest : Guest) → guest.words ≡ words.now → guest.memory ≡ space.old
-        → KeepsCall (readv_row below.old.kernel.now guest fd address count) result below.old.kernel.now guest (I.left dev.old.input) below.old.log.now below.new.log.now }
+        → KeepsCall (readv_row below.old.kernel.now guest (argument words.now 0) (argument words.now 1) (argument words.now 2)) result below.old.kernel.now guest (I.left dev.old.input) below.old.log.now below.new.log.now }
     ensures cause { StopsOnlyIfRose I.faults O.faults E.faults result dev.old dev.new }
     ensures counts { NoCountFell I.faults O.faults E.faults dev.old dev.new }
     ensures clock { below.new.kernel.now.clock ≡ below.old.kernel.now.clock }
     ensures same { LeadsOn below.old below.new }
 {
+    let [fd, address, count, _] = words.reg;
     match Vector::read(space, address, count) {
         Ok(buffers) => fill_buffers(words, fd, &buffers, space, dev, below),
         Err(error) => {

@@ -9,6 +9,7 @@ ghost use Rattle.kernel_model.specs.Stops.{StopsOnlyIfRose};
 ghost use Rattle.o32_model.specs.Answered.{IsCall};
 ghost use Rattle.o32_model.specs.Step.{Guest};
 ghost use Rattle.o32_model.specs.Transfers.{small_file_limit, write_row};
+ghost use Rattle.o32_model.specs.Words.{argument};
 ghost use Rattle.outside.specs.Streams.{NoCountFell, contents};
 
 use crate::looking::room;
@@ -26,23 +27,21 @@ use outside::{Devices, Sink, Source};
 /// longest prefix of the buffer that may be loaded is written.
 pub(crate) fn write<I: Source, O: Sink, E: Sink>(
     words: &CallWords,
-    fd: u32,
-    buffer: u32,
-    count: u32,
     space: &Space,
     dev: &mut Devices<I, O, E>,
     below: &mut Below,
 ) -> Result<Outcome, Stop>
     ensures row { (guest : Guest) → guest.words ≡ words.now → guest.memory ≡ space.now
-        → IsCall (write_row below.old.kernel.now guest fd buffer count) result below.new.kernel.now guest.memory guest.processor
+        → IsCall (write_row below.old.kernel.now guest (argument words.now 0) (argument words.now 1) (argument words.now 2)) result below.new.kernel.now guest.memory guest.processor
         (contents I.left O.written E.written dev.old) (contents I.left O.written E.written dev.new) }
     ensures kept { (guest : Guest) → guest.words ≡ words.now → guest.memory ≡ space.now
-        → KeepsCall (write_row below.old.kernel.now guest fd buffer count) result below.old.kernel.now guest (I.left dev.old.input) below.old.log.now below.new.log.now }
+        → KeepsCall (write_row below.old.kernel.now guest (argument words.now 0) (argument words.now 1) (argument words.now 2)) result below.old.kernel.now guest (I.left dev.old.input) below.old.log.now below.new.log.now }
     ensures cause { StopsOnlyIfRose I.faults O.faults E.faults result dev.old dev.new }
     ensures counts { NoCountFell I.faults O.faults E.faults dev.old dev.new }
     ensures clock { below.new.kernel.now.clock ≡ below.old.kernel.now.clock }
     ensures same { LeadsOn below.old below.new }
 {
+    let [fd, buffer, count, _] = words.reg;
     match below.kernel.output(fd) {
         Some(stream) => {
             load_buffer(space, below.memory, buffer, count)?;

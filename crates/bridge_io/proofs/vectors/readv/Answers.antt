@@ -1,33 +1,34 @@
 -- The row of a vector that is right, and of one that is wrong.
-use Rattle.std.proofs.Common.{ap, sym, subst, ◌∙◌}
+use Rattle.std.proofs.Common.{ap, sym, subst, ◌∙◌, arith}
 use Rattle.guest_space.specs.Memory.{Memory}
 use Rattle.o32_model.specs.Answered.{Answers}
 use Rattle.o32_model.specs.GuestBytes.{vector}
 use Rattle.o32_model.specs.Transfers.{readv_row}
+use Rattle.o32_model.specs.Words.{argument}
 use Rattle.outside.specs.Streams.{contents}
 use Rattle.bridge_io.proofs.ReadvMirrors.{readv_wrong}
 use Rattle.bridge_io.proofs.vectors.readv.Goals as goal
 
 pub returns-in-Ok-clause-row : goal.returns-in-Ok-clause-row
 returns-in-Ok-clause-row g c = λ guest same memory.
-    c.fill_buffers.ensures.row guest c.args.address c.args.count same memory
-    (ap (λ (m : Memory). vector m c.args.address c.args.count) memory ∙ sym c.read.ensures ∙ c.in-Ok.is)
+    c.fill_buffers.ensures.row guest (argument c.args.words.now 1) (argument c.args.words.now 2) same memory
+    (ap (λ (m : Memory). vector m (argument c.args.words.now 1) (argument c.args.words.now 2)) memory ∙ sym c.read.ensures ∙ c.in-Ok.is)
 
 pub returns-in-Ok-clause-kept : goal.returns-in-Ok-clause-kept
 returns-in-Ok-clause-kept g c = λ guest same memory.
-    c.fill_buffers.ensures.kept guest c.args.address c.args.count same memory
-    (ap (λ (m : Memory). vector m c.args.address c.args.count) memory ∙ sym c.read.ensures ∙ c.in-Ok.is)
+    c.fill_buffers.ensures.kept guest (argument c.args.words.now 1) (argument c.args.words.now 2) same memory
+    (ap (λ (m : Memory). vector m (argument c.args.words.now 1) (argument c.args.words.now 2)) memory ∙ sym c.read.ensures ∙ c.in-Ok.is)
 
 pub returns-in-Err-clause-row : goal.returns-in-Err-clause-row
 returns-in-Err-clause-row g c = λ guest same memory left told.
-    let row = readv_row c.args.below.now.kernel.now guest c.args.fd c.args.address c.args.count in
+    let row = readv_row c.args.below.now.kernel.now guest (argument c.args.words.now 0) (argument c.args.words.now 1) (argument c.args.words.now 2) in
     subst (λ (m : Memory). Answers (row left) c.number_call.result c.number_call.new.self.kernel.now m guest.processor (contents g.I.Source.left g.O.Sink.written g.E.Sink.written c.args.dev.now) (contents g.I.Source.left g.O.Sink.written g.E.Sink.written c.number_call.new.dev)) memory
     (c.number_call.ensures.row guest row same
-    (λ left. readv_wrong guest c.args.below.now.kernel.now c.args.below.now.memory.now left _ _ c.args.fd c.args.address c.args.count c.in-Err.error
-    (ap (λ (m : Memory). vector m c.args.address c.args.count) memory ∙ sym c.read.ensures ∙ c.in-Err.is) c.from.ensures c.wrong_count.ensures c.ranges.fd.fits) left told)
+    (λ left. readv_wrong guest c.args.below.now.kernel.now c.args.below.now.memory.now left _ _ (argument c.args.words.now 0) (argument c.args.words.now 1) (argument c.args.words.now 2) c.in-Err.error
+    (ap (λ (m : Memory). vector m (argument c.args.words.now 1) (argument c.args.words.now 2)) memory ∙ sym c.read.ensures ∙ c.in-Err.is) c.from.ensures c.wrong_count.ensures (omega arith)) left told)
 
 pub returns-in-Err-clause-kept : goal.returns-in-Err-clause-kept
 returns-in-Err-clause-kept g c = λ guest same memory.
-    c.number_call.ensures.kept guest (readv_row c.args.below.now.kernel.now guest c.args.fd c.args.address c.args.count) same
-    (λ left. readv_wrong guest c.args.below.now.kernel.now c.args.below.now.memory.now left _ _ c.args.fd c.args.address c.args.count c.in-Err.error
-    (ap (λ (m : Memory). vector m c.args.address c.args.count) memory ∙ sym c.read.ensures ∙ c.in-Err.is) c.from.ensures c.wrong_count.ensures c.ranges.fd.fits)
+    c.number_call.ensures.kept guest (readv_row c.args.below.now.kernel.now guest (argument c.args.words.now 0) (argument c.args.words.now 1) (argument c.args.words.now 2)) same
+    (λ left. readv_wrong guest c.args.below.now.kernel.now c.args.below.now.memory.now left _ _ (argument c.args.words.now 0) (argument c.args.words.now 1) (argument c.args.words.now 2) c.in-Err.error
+    (ap (λ (m : Memory). vector m (argument c.args.words.now 1) (argument c.args.words.now 2)) memory ∙ sym c.read.ensures ∙ c.in-Err.is) c.from.ensures c.wrong_count.ensures (omega arith))
