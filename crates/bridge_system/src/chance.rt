@@ -5,6 +5,7 @@ ghost use Rattle.kernel_model.specs.Stops.{StopsOnlyIfRose};
 ghost use Rattle.o32_model.specs.Answered.{IsCall};
 ghost use Rattle.o32_model.specs.Small.{getrandom_row};
 ghost use Rattle.o32_model.specs.Step.{Guest};
+ghost use Rattle.o32_model.specs.Words.{argument};
 ghost use Rattle.outside.specs.Streams.{NoCountFell, contents};
 
 use crate::numbers::GETRANDOM;
@@ -19,23 +20,21 @@ use outside::{Devices, Sink, Source};
 /// stored to is filled.
 pub(crate) fn getrandom<I: Source, O: Sink, E: Sink>(
     words: &CallWords,
-    buffer: u32,
-    count: u32,
-    flags: u32,
     space: &mut Space,
     dev: &mut Devices<I, O, E>,
     below: &mut Below,
 ) -> Result<Outcome, Stop>
     ensures row { (guest : Guest) → guest.words ≡ words.now → guest.memory ≡ space.old
-        → IsCall (getrandom_row below.old.kernel.now guest buffer count flags) result below.new.kernel.now space.new guest.processor
+        → IsCall (getrandom_row below.old.kernel.now guest (argument words.now 0) (argument words.now 1) (argument words.now 2)) result below.new.kernel.now space.new guest.processor
         (contents I.left O.written E.written dev.old) (contents I.left O.written E.written dev.new) }
     ensures kept { (guest : Guest) → guest.words ≡ words.now → guest.memory ≡ space.old
-        → KeepsCall (getrandom_row below.old.kernel.now guest buffer count flags) result below.old.kernel.now guest (I.left dev.old.input) below.old.log.now below.new.log.now }
+        → KeepsCall (getrandom_row below.old.kernel.now guest (argument words.now 0) (argument words.now 1) (argument words.now 2)) result below.old.kernel.now guest (I.left dev.old.input) below.old.log.now below.new.log.now }
     ensures clock { below.new.kernel.now.clock ≡ below.old.kernel.now.clock }
     ensures cause { StopsOnlyIfRose I.faults O.faults E.faults result dev.old dev.new }
     ensures counts { NoCountFell I.faults O.faults E.faults dev.old dev.new }
     ensures same { LeadsOn below.old below.new }
 {
+    let [buffer, count, flags, _] = words.reg;
     let args = [FIRST_ADDRESS, u64::from(count), u64::from(flags), 0, 0, 0];
     below.fill_call(words, buffer, count, space, GETRANDOM, args, dev)
 }

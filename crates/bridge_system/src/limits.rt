@@ -6,12 +6,13 @@ ghost use Rattle.bridge_system.specs.inside.Tells.{IsTaken};
 ghost use Rattle.o32_model.specs.Answered.{IsCall};
 ghost use Rattle.o32_model.specs.Small.{getrlimit_row, prlimit_row};
 ghost use Rattle.o32_model.specs.Step.{Guest};
+ghost use Rattle.o32_model.specs.Words.{argument};
 ghost use Rattle.std.specs.Int.{cast_signed, w32};
 ghost use Rattle.outside.specs.Streams.{NoCountFell, contents};
 
 use crate::numbers::PRLIMIT64;
 use crate::rlimit::{limit_in, native_limit_bytes, native_number};
-use crate::telling::{Told, tell_call};
+use crate::telling::{NativeCall, Told, ToldAt, tell_call};
 use bridge_io::{Below, fresh_room, load_structure};
 use guest_space::Space;
 use host_mem::{FIRST_ADDRESS, HostMem};
@@ -47,16 +48,15 @@ pub(crate) fn getrlimit<I: Source, O: Sink, E: Sink>(
     below.kernel.limits_fit();
     fresh_room(below.memory, LIMIT_SIZE)?;
     let args = [0, native_number(resource), 0, FIRST_ADDRESS, 0, 0];
-    tell_call(
-        words,
+    let to = ToldAt {
         address,
-        Told::Limits,
-        space,
-        PRLIMIT64,
+        told: Told::Limits,
+    };
+    let call = NativeCall {
+        nr: PRLIMIT64,
         args,
-        dev,
-        below,
-    )
+    };
+    tell_call(words, to, space, call, dev, below)
 }
 
 /// prlimit(2): ESRCH for another process; EINVAL for no resource and for a soft limit above the hard one; EPERM
@@ -64,24 +64,21 @@ pub(crate) fn getrlimit<I: Source, O: Sink, E: Sink>(
 /// old one.
 pub(crate) fn prlimit<I: Source, O: Sink, E: Sink>(
     words: &CallWords,
-    pid: u32,
-    resource: u32,
-    new: u32,
-    old: u32,
     space: &mut Space,
     dev: &mut Devices<I, O, E>,
     below: &mut Below,
 ) -> Result<Outcome, Stop>
     ensures row { (guest : Guest) → guest.words ≡ words.now → guest.memory ≡ space.old
-        → IsCall (prlimit_row below.old.kernel.now guest (cast_signed w32 pid) resource new old) result below.new.kernel.now space.new guest.processor
+        → IsCall (prlimit_row below.old.kernel.now guest (cast_signed w32 (argument words.now 0)) (argument words.now 1) (argument words.now 2) (argument words.now 3)) result below.new.kernel.now space.new guest.processor
         (contents I.left O.written E.written dev.old) (contents I.left O.written E.written dev.new) }
     ensures kept { (guest : Guest) → guest.words ≡ words.now → guest.memory ≡ space.old
-        → KeepsCall (prlimit_row below.old.kernel.now guest (cast_signed w32 pid) resource new old) result below.old.kernel.now guest (I.left dev.old.input) below.old.log.now below.new.log.now }
+        → KeepsCall (prlimit_row below.old.kernel.now guest (cast_signed w32 (argument words.now 0)) (argument words.now 1) (argument words.now 2) (argument words.now 3)) result below.old.kernel.now guest (I.left dev.old.input) below.old.log.now below.new.log.now }
     ensures clock { below.new.kernel.now.clock ≡ below.old.kernel.now.clock }
     ensures cause { StopsOnlyIfRose I.faults O.faults E.faults result dev.old dev.new }
     ensures counts { NoCountFell I.faults O.faults E.faults dev.old dev.new }
     ensures same { LeadsOn below.old below.new }
 {
+    let [pid, resource, new, old] = words.reg;
     below.kernel.limits_fit();
     let place = take_limit(space, new, below.memory)?;
     if old == 0 {
@@ -96,16 +93,15 @@ pub(crate) fn prlimit<I: Source, O: Sink, E: Sink>(
         0,
         0,
     ];
-    tell_call(
-        words,
-        old,
-        Told::WideLimits,
-        space,
-        PRLIMIT64,
+    let to = ToldAt {
+        address: old,
+        told: Told::WideLimits,
+    };
+    let call = NativeCall {
+        nr: PRLIMIT64,
         args,
-        dev,
-        below,
-    )
+    };
+    tell_call(words, to, space, call, dev, below)
 }
 
 /// Makes host memory of a limit in the program's memory, and gives its place there: null where the pointer is, and

@@ -8,7 +8,7 @@ ghost use Rattle.o32_model.specs.Step.{Guest};
 ghost use Rattle.outside.specs.Streams.{NoCountFell, contents};
 
 use crate::numbers::UNAME;
-use crate::telling::{Told, tell_call};
+use crate::telling::{NativeCall, Told, ToldAt, tell_call};
 use bridge_io::{Below, fresh_room};
 use guest_space::Space;
 use host_mem::FIRST_ADDRESS;
@@ -39,5 +39,10 @@ pub(crate) fn uname<I: Source, O: Sink, E: Sink>(
 {
     fresh_room(below.memory, NAMES_SIZE)?;
     let args = [FIRST_ADDRESS, 0, 0, 0, 0, 0];
-    tell_call(words, address, Told::Names, space, UNAME, args, dev, below)
+    let to = ToldAt {
+        address,
+        told: Told::Names,
+    };
+    let call = NativeCall { nr: UNAME, args };
+    tell_call(words, to, space, call, dev, below)
 }

@@ -65,12 +65,12 @@ fn by_number<I: Source, O: Sink, E: Sink>(
     ensures counts { NoCountFell I.faults O.faults E.faults dev.old dev.new }
     ensures same { LeadsOn below.old below.new }
 {
-    let [a0, a1, a2, a3] = args.reg;
+    let [a0, a1, _, _] = args.reg;
     match args.nr {
         4076 => getrlimit(args, a0, a1, space, dev, below),
         4122 => uname(args, a0, space, dev, below),
-        4338 => prlimit(args, a0, a1, a2, a3, space, dev, below),
-        4353 => getrandom(args, a0, a1, a2, space, dev, below),
+        4338 => prlimit(args, space, dev, below),
+        4353 => getrandom(args, space, dev, below),
         _ => Ok(plain_call(args, cpu)),
     }
 }

@@ -31,78 +31,92 @@ pub(crate) enum Told {
     WideLimits,
 }
 
+/// What a call tells, and where in the program's memory.
+#[derive(Clone, Copy)]
+pub(crate) struct ToldAt {
+    /// Where it begins.
+    pub(crate) address: u32,
+    /// What it is.
+    pub(crate) told: Told,
+}
+
+/// A native call that is to be made.
+#[derive(Clone, Copy)]
+pub(crate) struct NativeCall {
+    /// Its number.
+    pub(crate) nr: u64,
+    /// Its arguments, of which those that it doesn't take are 0.
+    pub(crate) args: [u64; 6],
+}
+
 /// Makes the native call that a call of the program is, where it gives names or a limit over host memory of their
 /// size, from where they then go to the program's memory, whole or with EFAULT. `row` and `kept` hold of every o32
 /// call that this native call tells for.
 pub(crate) fn tell_call<I: Source, O: Sink, E: Sink>(
     words: &CallWords,
-    address: u32,
-    told: Told,
+    to: ToldAt,
     space: &mut Space,
-    nr: u64,
-    args: [u64; 6],
+    call: NativeCall,
     dev: &mut Devices<I, O, E>,
     below: &mut Below,
 ) -> Result<Outcome, Stop>
-    requires built { built_call nr ≡ native_call nr }
-    requires unused { AreUnusedZero nr args }
-    requires placed { IsPlaced nr below.old.memory.now }
+    requires built { built_call call.nr ≡ native_call call.nr }
+    requires unused { AreUnusedZero call.nr call.args }
+    requires placed { IsPlaced call.nr below.old.memory.now }
     ensures row { (guest : Guest) (step : List ℕ → O32Step) → guest.words ≡ words.now → guest.memory ≡ space.old
-        → ((left : List ℕ) → Tells guest address told (native_call nr args below.old.kernel.now below.old.memory.now left) (step left))
+        → ((left : List ℕ) → Tells guest to.address to.told (native_call call.nr call.args below.old.kernel.now below.old.memory.now left) (step left))
         → IsCall step result below.new.kernel.now space.new guest.processor
         (contents I.left O.written E.written dev.old) (contents I.left O.written E.written dev.new) }
     ensures kept { (guest : Guest) (step : List ℕ → O32Step) → guest.words ≡ words.now → guest.memory ≡ space.old
-        → ((left : List ℕ) → Tells guest address told (native_call nr args below.old.kernel.now below.old.memory.now left) (step left))
+        → ((left : List ℕ) → Tells guest to.address to.told (native_call call.nr call.args below.old.kernel.now below.old.memory.now left) (step left))
         → KeepsCall step result below.old.kernel.now guest (I.left dev.old.input) below.old.log.now below.new.log.now }
     ensures clock { below.new.kernel.now.clock ≡ below.old.kernel.now.clock }
     ensures cause { StopsOnlyIfRose I.faults O.faults E.faults result dev.old dev.new }
     ensures counts { NoCountFell I.faults O.faults E.faults dev.old dev.new }
     ensures same { LeadsOn below.old below.new }
 {
-    let reply = below.native(nr, args, dev)?;
-    let outcome = tell(words, address, told, below.memory, reply, space, below.log)?;
+    let reply = below.native(call.nr, call.args, dev)?;
+    let outcome = tell(words, to, below.memory, reply, space, below.log)?;
     Ok(outcome)
 }
 
 /// What the call comes to by a reply: what was given is stored, or nothing after an error.
 fn tell(
     words: &CallWords,
-    address: u32,
-    told: Told,
+    to: ToldAt,
     mem: &HostMem,
     reply: Reply,
     space: &mut Space,
     log: &mut Log,
 ) -> Result<Outcome, NoMemory>
-    ensures outcome { IfOk result (λ outcome. outcome ≡ outcome_told words.now space.old address told mem.now reply) }
-    ensures stored { OnOk result (space.new ≡ memory_told space.old address told mem.now reply) }
+    ensures outcome { IfOk result (λ outcome. outcome ≡ outcome_told words.now space.old to.address to.told mem.now reply) }
+    ensures stored { OnOk result (space.new ≡ memory_told space.old to.address to.told mem.now reply) }
     ensures effects { OnOk result ((processor : Processor) (sent : Sent)
         → Effected log.old.effects log.new.effects (reached processor space.old.pages sent) (reached processor space.new.pages sent)) }
     ensures native { log.new.native ≡ log.old.native }
 {
     match reply {
-        Reply::Done(number) if number >= 0 => tell_bytes(address, told, mem, space, log),
+        Reply::Done(number) if number >= 0 => tell_bytes(to, mem, space, log),
         _ => Ok(outcome_of(words, reply)),
     }
 }
 
 fn tell_bytes(
-    address: u32,
-    told: Told,
+    to: ToldAt,
     mem: &HostMem,
     space: &mut Space,
     log: &mut Log,
 ) -> Result<Outcome, NoMemory>
-    ensures outcome { IfOk result (λ outcome. outcome ≡ stored space.old address (bytes_told told mem.now)) }
-    ensures stored { OnOk result (space.new ≡ with_stored space.old address (bytes_told told mem.now)) }
+    ensures outcome { IfOk result (λ outcome. outcome ≡ stored space.old to.address (bytes_told to.told mem.now)) }
+    ensures stored { OnOk result (space.new ≡ with_stored space.old to.address (bytes_told to.told mem.now)) }
     ensures effects { OnOk result ((processor : Processor) (sent : Sent)
         → Effected log.old.effects log.new.effects (reached processor space.old.pages sent) (reached processor space.new.pages sent)) }
     ensures native { log.new.native ≡ log.old.native }
 {
-    match told {
-        Told::Names => store(address, mem.as_slice(), space, log),
-        Told::Limits => store(address, &shown_bytes(limit_there(mem)), space, log),
-        Told::WideLimits => store(address, &limit_bytes(limit_there(mem)), space, log),
+    match to.told {
+        Told::Names => store(to.address, mem.as_slice(), space, log),
+        Told::Limits => store(to.address, &shown_bytes(limit_there(mem)), space, log),
+        Told::WideLimits => store(to.address, &limit_bytes(limit_there(mem)), space, log),
     }
 }
 

@@ -8,6 +8,6 @@ use Rattle.bridge_system.proofs.telling.tell_bytes.Goals as goal
 
 pub returns-in-WideLimits-clause-stored : goal.returns-in-WideLimits-clause-stored
 returns-in-WideLimits-clause-stored c =
-    let same : c.limit_bytes.result ≡ bytes_told c.args.told c.args.mem.now =
+    let same : c.limit_bytes.result ≡ bytes_told c.args.to.told c.args.mem.now =
     c.limit_bytes.ensures ∙ ap limit_bytes c.limit_there-in-WideLimits.ensures ∙ sym (ap (λ (t : Told). bytes_told t c.args.mem.now) c.in-WideLimits.is) in
-    subst (λ (b : List ℕ). OnOk c.store-in-WideLimits.result (c.store-in-WideLimits.new.space ≡ with_stored c.args.space.now c.args.address b)) same c.store-in-WideLimits.ensures.stored
+    subst (λ (b : List ℕ). OnOk c.store-in-WideLimits.result (c.store-in-WideLimits.new.space ≡ with_stored c.args.space.now c.args.to.address b)) same c.store-in-WideLimits.ensures.stored
