@@ -12,9 +12,10 @@ use crate::arguments::{pair, widened};
 use crate::groups::{is_node_call, is_place_call, is_size_call, is_text_call};
 use crate::names::{link, linkat, mkdir, remove, rename, symlink};
 use crate::nodes::{access, chdir, chmod, fchdir, fchmod, fdatasync, fsync, umask};
+use crate::paths::{Caller, at, here};
 use crate::seeking::{llseek, lseek};
 use crate::sizes::{ftruncate, truncate};
-use crate::texts::{getcwd, readlink};
+use crate::texts::{LinkQuery, getcwd, readlink};
 use crate::times::utimensat;
 use bridge_paths::{Below, NativeKernel};
 use guest_space::Space;
@@ -24,9 +25,6 @@ use mips_exec::Cpu;
 use o32_model::{CallWords, Log, Outcome, Seen};
 use outside::{Devices, Sink, Source};
 use std::alloc::Global;
-
-/// AT_FDCWD, as an int (Linux `include/uapi/linux/fcntl.h`): a path begins at the working directory.
-const WORKING: u32 = 0xFFFF_FF9C;
 
 /// The flag of unlinkat(2) by which a directory is removed (Linux `include/uapi/linux/fcntl.h`).
 const AT_REMOVEDIR: u32 = 0x200;
@@ -116,18 +114,23 @@ fn name_call<I: Source, O: Sink, E: Sink>(
     ensures same { LeadsOn below.old below.new }
 {
     let [a0, a1, a2, a3] = args.reg;
+    let caller = &Caller {
+        alloc,
+        words: args,
+        space,
+    };
     match args.nr {
-        4009 => link(alloc, args, WORKING, a0, WORKING, a1, 0, space, dev, below),
-        4010 => remove(alloc, args, WORKING, a0, 0, space, dev, below),
-        4038 => rename(alloc, args, WORKING, a0, WORKING, a1, space, dev, below),
-        4039 => mkdir(alloc, args, WORKING, a0, a1, space, dev, below),
-        4040 => remove(alloc, args, WORKING, a0, AT_REMOVEDIR, space, dev, below),
-        4083 => symlink(alloc, args, a0, WORKING, a1, space, dev, below),
-        4289 => mkdir(alloc, args, a0, a1, a2, space, dev, below),
-        4294 => remove(alloc, args, a0, a1, a2, space, dev, below),
-        4295 => rename(alloc, args, a0, a1, a2, a3, space, dev, below),
-        4296 => linkat(alloc, args, a0, a1, a2, a3, space, dev, below),
-        _ => symlink(alloc, args, a0, a1, a2, space, dev, below),
+        4009 => link(caller, here(a0), here(a1), 0, dev, below),
+        4010 => remove(caller, here(a0), 0, dev, below),
+        4038 => rename(caller, here(a0), here(a1), dev, below),
+        4039 => mkdir(caller, here(a0), a1, dev, below),
+        4040 => remove(caller, here(a0), AT_REMOVEDIR, dev, below),
+        4083 => symlink(caller, a0, here(a1), dev, below),
+        4289 => mkdir(caller, at(a0, a1), a2, dev, below),
+        4294 => remove(caller, at(a0, a1), a2, dev, below),
+        4295 => rename(caller, at(a0, a1), at(a2, a3), dev, below),
+        4296 => linkat(caller, at(a0, a1), at(a2, a3), dev, below),
+        _ => symlink(caller, a0, at(a1, a2), dev, below),
     }
 }
 
@@ -150,19 +153,24 @@ fn node_call<I: Source, O: Sink, E: Sink>(
     ensures clock { below.new.kernel.now.clock ≡ below.old.kernel.now.clock }
     ensures same { LeadsOn below.old below.new }
 {
-    let [a0, a1, a2, a3] = args.reg;
+    let [a0, a1, a2, _] = args.reg;
+    let caller = &Caller {
+        alloc,
+        words: args,
+        space,
+    };
     match args.nr {
-        4012 => chdir(alloc, args, a0, space, dev, below),
-        4015 => chmod(alloc, args, WORKING, a0, a1, space, dev, below),
-        4033 => access(alloc, args, WORKING, a0, a1, space, dev, below),
+        4012 => chdir(caller, a0, dev, below),
+        4015 => chmod(caller, here(a0), a1, dev, below),
+        4033 => access(caller, here(a0), a1, dev, below),
         4060 => umask(args, a0, dev, below),
         4094 => fchmod(args, a0, a1, dev, below),
         4118 => fsync(args, a0, dev, below),
         4133 => fchdir(args, a0, dev, below),
         4152 => fdatasync(args, a0, dev, below),
-        4299 => chmod(alloc, args, a0, a1, a2, space, dev, below),
-        4316 => utimensat(alloc, args, a0, a1, a2, a3, space, dev, below),
-        _ => access(alloc, args, a0, a1, a2, space, dev, below),
+        4299 => chmod(caller, at(a0, a1), a2, dev, below),
+        4316 => utimensat(caller, dev, below),
+        _ => access(caller, at(a0, a1), a2, dev, below),
     }
 }
 
@@ -187,9 +195,23 @@ fn text_call<I: Source, O: Sink, E: Sink>(
 {
     let [a0, a1, a2, a3] = args.reg;
     match args.nr {
-        4085 => readlink(alloc, args, WORKING, a0, a1, a2, space, dev, below),
+        4085 => {
+            let query = LinkQuery {
+                link: here(a0),
+                buffer: a1,
+                size: a2,
+            };
+            readlink(alloc, args, query, space, dev, below)
+        }
         4203 => getcwd(args, a0, a1, space, dev, below),
-        _ => readlink(alloc, args, a0, a1, a2, a3, space, dev, below),
+        _ => {
+            let query = LinkQuery {
+                link: at(a0, a1),
+                buffer: a2,
+                size: a3,
+            };
+            readlink(alloc, args, query, space, dev, below)
+        }
     }
 }
 
@@ -213,10 +235,15 @@ fn size_call<I: Source, O: Sink, E: Sink>(
     ensures same { LeadsOn below.old below.new }
 {
     let [a0, a1, a2, a3] = args.reg;
+    let caller = &Caller {
+        alloc,
+        words: args,
+        space,
+    };
     match args.nr {
-        4092 => truncate(alloc, args, a0, widened(a1), space, dev, below),
+        4092 => truncate(caller, a0, widened(a1), dev, below),
         4093 => ftruncate(args, a0, widened(a1), dev, below),
-        4211 => truncate(alloc, args, a0, pair(a2, a3), space, dev, below),
+        4211 => truncate(caller, a0, pair(a2, a3), dev, below),
         _ => ftruncate(args, a0, pair(a2, a3), dev, below),
     }
 }
@@ -239,9 +266,9 @@ fn place_call<I: Source, O: Sink, E: Sink>(
     ensures clock { below.new.kernel.now.clock ≡ below.old.kernel.now.clock }
     ensures same { LeadsOn below.old below.new }
 {
-    let [a0, a1, a2, a3] = args.reg;
+    let [a0, a1, a2, _] = args.reg;
     match args.nr {
         4019 => lseek(args, a0, a1, a2, dev, below),
-        _ => llseek(args, a0, a1, a2, a3, space, dev, below),
+        _ => llseek(args, space, dev, below),
     }
 }

@@ -8,6 +8,7 @@ mod groups;
 mod names;
 mod nodes;
 mod numbers;
+mod paths;
 mod seeking;
 mod sizes;
 mod telling;

@@ -10,93 +10,89 @@ ghost use Rattle.o32_model.specs.PathArguments.{base};
 ghost use Rattle.o32_model.specs.Step.{Guest};
 ghost use Rattle.outside.specs.Streams.{NoCountFell, contents};
 
-use crate::calls::path_call;
+use crate::calls::{NativeCall, path_call};
 use crate::numbers::{CHDIR, FACCESSAT, FCHDIR, FCHMOD, FCHMODAT, FDATASYNC, FSYNC, UMASK};
+use crate::paths::{Caller, PathAt};
 use bridge_paths::Below;
-use guest_space::Space;
 use host_mem::FIRST_ADDRESS;
 use kernel_core::Stop;
 use o32_model::{CallWords, Outcome};
 use outside::{Devices, Sink, Source};
-use std::alloc::Global;
 
 /// access(2), faccessat(2): what is wrong with the path; EINVAL for other bits, EACCES.
 pub(crate) fn access<I: Source, O: Sink, E: Sink>(
-    alloc: Global,
-    words: &CallWords,
-    directory: u32,
-    address: u32,
+    caller: &Caller,
+    path: PathAt,
     mode: u32,
-    space: &Space,
     dev: &mut Devices<I, O, E>,
     below: &mut Below,
 ) -> Result<Outcome, Stop>
-    ensures row { (guest : Guest) → guest.words ≡ words.now → guest.memory ≡ space.now
-        → IsCall (access_row below.old.kernel.now guest (base directory) address mode) result below.new.kernel.now guest.memory guest.processor
+    ensures row { (guest : Guest) → guest.words ≡ caller.now.words.now → guest.memory ≡ caller.now.space.now
+        → IsCall (access_row below.old.kernel.now guest (base path.directory) path.address mode) result below.new.kernel.now guest.memory guest.processor
         (contents I.left O.written E.written dev.old) (contents I.left O.written E.written dev.new) }
-    ensures kept { (guest : Guest) → guest.words ≡ words.now → guest.memory ≡ space.now
-        → KeepsCall (access_row below.old.kernel.now guest (base directory) address mode) result below.old.kernel.now guest (I.left dev.old.input) below.old.log.now below.new.log.now }
+    ensures kept { (guest : Guest) → guest.words ≡ caller.now.words.now → guest.memory ≡ caller.now.space.now
+        → KeepsCall (access_row below.old.kernel.now guest (base path.directory) path.address mode) result below.old.kernel.now guest (I.left dev.old.input) below.old.log.now below.new.log.now }
     ensures cause { StopsOnlyIfRose I.faults O.faults E.faults result dev.old dev.new }
     ensures counts { NoCountFell I.faults O.faults E.faults dev.old dev.new }
     ensures clock { below.new.kernel.now.clock ≡ below.old.kernel.now.clock }
     ensures same { LeadsOn below.old below.new }
 {
     let args = [
-        u64::from(directory),
+        u64::from(path.directory),
         FIRST_ADDRESS,
         u64::from(mode),
         0,
         0,
         0,
     ];
-    path_call(alloc, words, address, space, FACCESSAT, args, dev, below)
+    let call = NativeCall {
+        nr: FACCESSAT,
+        args,
+    };
+    path_call(caller, path.address, call, dev, below)
 }
 
 /// chmod(2), fchmodat(2): what is wrong with the path.
 pub(crate) fn chmod<I: Source, O: Sink, E: Sink>(
-    alloc: Global,
-    words: &CallWords,
-    directory: u32,
-    address: u32,
+    caller: &Caller,
+    path: PathAt,
     mode: u32,
-    space: &Space,
     dev: &mut Devices<I, O, E>,
     below: &mut Below,
 ) -> Result<Outcome, Stop>
-    ensures row { (guest : Guest) → guest.words ≡ words.now → guest.memory ≡ space.now
-        → IsCall (chmod_row below.old.kernel.now guest (base directory) address mode) result below.new.kernel.now guest.memory guest.processor
+    ensures row { (guest : Guest) → guest.words ≡ caller.now.words.now → guest.memory ≡ caller.now.space.now
+        → IsCall (chmod_row below.old.kernel.now guest (base path.directory) path.address mode) result below.new.kernel.now guest.memory guest.processor
         (contents I.left O.written E.written dev.old) (contents I.left O.written E.written dev.new) }
-    ensures kept { (guest : Guest) → guest.words ≡ words.now → guest.memory ≡ space.now
-        → KeepsCall (chmod_row below.old.kernel.now guest (base directory) address mode) result below.old.kernel.now guest (I.left dev.old.input) below.old.log.now below.new.log.now }
+    ensures kept { (guest : Guest) → guest.words ≡ caller.now.words.now → guest.memory ≡ caller.now.space.now
+        → KeepsCall (chmod_row below.old.kernel.now guest (base path.directory) path.address mode) result below.old.kernel.now guest (I.left dev.old.input) below.old.log.now below.new.log.now }
     ensures cause { StopsOnlyIfRose I.faults O.faults E.faults result dev.old dev.new }
     ensures counts { NoCountFell I.faults O.faults E.faults dev.old dev.new }
     ensures clock { below.new.kernel.now.clock ≡ below.old.kernel.now.clock }
     ensures same { LeadsOn below.old below.new }
 {
     let args = [
-        u64::from(directory),
+        u64::from(path.directory),
         FIRST_ADDRESS,
         u64::from(mode),
         0,
         0,
         0,
     ];
-    path_call(alloc, words, address, space, FCHMODAT, args, dev, below)
+    let call = NativeCall { nr: FCHMODAT, args };
+    path_call(caller, path.address, call, dev, below)
 }
 
 /// chdir(2): what is wrong with the path; ENOTDIR.
 pub(crate) fn chdir<I: Source, O: Sink, E: Sink>(
-    alloc: Global,
-    words: &CallWords,
+    caller: &Caller,
     address: u32,
-    space: &Space,
     dev: &mut Devices<I, O, E>,
     below: &mut Below,
 ) -> Result<Outcome, Stop>
-    ensures row { (guest : Guest) → guest.words ≡ words.now → guest.memory ≡ space.now
+    ensures row { (guest : Guest) → guest.words ≡ caller.now.words.now → guest.memory ≡ caller.now.space.now
         → IsCall (chdir_row below.old.kernel.now guest address) result below.new.kernel.now guest.memory guest.processor
         (contents I.left O.written E.written dev.old) (contents I.left O.written E.written dev.new) }
-    ensures kept { (guest : Guest) → guest.words ≡ words.now → guest.memory ≡ space.now
+    ensures kept { (guest : Guest) → guest.words ≡ caller.now.words.now → guest.memory ≡ caller.now.space.now
         → KeepsCall (chdir_row below.old.kernel.now guest address) result below.old.kernel.now guest (I.left dev.old.input) below.old.log.now below.new.log.now }
     ensures cause { StopsOnlyIfRose I.faults O.faults E.faults result dev.old dev.new }
     ensures counts { NoCountFell I.faults O.faults E.faults dev.old dev.new }
@@ -104,7 +100,8 @@ pub(crate) fn chdir<I: Source, O: Sink, E: Sink>(
     ensures same { LeadsOn below.old below.new }
 {
     let args = [FIRST_ADDRESS, 0, 0, 0, 0, 0];
-    path_call(alloc, words, address, space, CHDIR, args, dev, below)
+    let call = NativeCall { nr: CHDIR, args };
+    path_call(caller, address, call, dev, below)
 }
 
 /// fchmod(2): EBADF.

@@ -7,13 +7,14 @@ ghost use Rattle.native_calls.specs.Table.{native_call};
 ghost use Rattle.o32_model.specs.Answered.{IsCall};
 ghost use Rattle.o32_model.specs.Opening.{llseek_row, lseek_row};
 ghost use Rattle.o32_model.specs.Step.{Guest, O32Step};
-ghost use Rattle.o32_model.specs.Words.{pair, stack_word};
+ghost use Rattle.o32_model.specs.Words.{argument, pair, stack_word};
 ghost use Rattle.outside.specs.Streams.{NoCountFell, contents};
 ghost use Rattle.bridge_file.specs.inside.Places.{outcome_of_place, told_place};
 
 use crate::arguments::{fifth, pair, widened};
+use crate::calls::NativeCall;
 use crate::numbers::LSEEK;
-use crate::telling::{Told, tell_call};
+use crate::telling::{Told, ToldAt, tell_call};
 use bridge_paths::{Below, outcome_of};
 use guest_space::Space;
 use kernel_core::{Errno, Reply, Stop};
@@ -45,33 +46,32 @@ pub(crate) fn lseek<I: Source, O: Sink, E: Sink>(
 {
     below.memory.clear();
     let args = [u64::from(fd), widened(offset), u64::from(origin), 0, 0, 0];
-    place_call(words, LSEEK, args, dev, below)
+    place_call(words, NativeCall { nr: LSEEK, args }, dev, below)
 }
 
 /// Makes a native call whose number is a place, and EOVERFLOW where the result does not hold it.
 fn place_call<I: Source, O: Sink, E: Sink>(
     words: &CallWords,
-    nr: u64,
-    args: [u64; 6],
+    call: NativeCall,
     dev: &mut Devices<I, O, E>,
     below: &mut Below,
 ) -> Result<Outcome, Stop>
-    requires built { built_call nr ≡ native_call nr }
-    requires unused { AreUnusedZero nr args }
-    requires placed { IsPlaced nr below.old.memory.now }
+    requires built { built_call call.nr ≡ native_call call.nr }
+    requires unused { AreUnusedZero call.nr call.args }
+    requires placed { IsPlaced call.nr below.old.memory.now }
     ensures row { (guest : Guest) (step : List ℕ → O32Step) → guest.words ≡ words.now
-        → ((left : List ℕ) → Mirrors guest (told_place guest.words) (native_call nr args below.old.kernel.now below.old.memory.now left) (step left))
+        → ((left : List ℕ) → Mirrors guest (told_place guest.words) (native_call call.nr call.args below.old.kernel.now below.old.memory.now left) (step left))
         → IsCall step result below.new.kernel.now guest.memory guest.processor
         (contents I.left O.written E.written dev.old) (contents I.left O.written E.written dev.new) }
     ensures kept { (guest : Guest) (step : List ℕ → O32Step) → guest.words ≡ words.now
-        → ((left : List ℕ) → Mirrors guest (told_place guest.words) (native_call nr args below.old.kernel.now below.old.memory.now left) (step left))
+        → ((left : List ℕ) → Mirrors guest (told_place guest.words) (native_call call.nr call.args below.old.kernel.now below.old.memory.now left) (step left))
         → KeepsCall step result below.old.kernel.now guest (I.left dev.old.input) below.old.log.now below.new.log.now }
     ensures cause { StopsOnlyIfRose I.faults O.faults E.faults result dev.old dev.new }
     ensures counts { NoCountFell I.faults O.faults E.faults dev.old dev.new }
     ensures clock { below.new.kernel.now.clock ≡ below.old.kernel.now.clock }
     ensures same { LeadsOn below.old below.new }
 {
-    let reply = below.native(nr, args, dev)?;
+    let reply = below.native(call.nr, call.args, dev)?;
     Ok(outcome_of_place(words, reply))
 }
 
@@ -89,19 +89,15 @@ fn outcome_of_place(words: &CallWords, reply: Reply) -> Outcome
 /// EINVAL; EFAULT where the place can't be stored, and then the position has moved.
 pub(crate) fn llseek<I: Source, O: Sink, E: Sink>(
     words: &CallWords,
-    fd: u32,
-    high: u32,
-    low: u32,
-    address: u32,
     space: &mut Space,
     dev: &mut Devices<I, O, E>,
     below: &mut Below,
 ) -> Result<Outcome, Stop>
     ensures row { (guest : Guest) → guest.words ≡ words.now → guest.memory ≡ space.old
-        → IsCall (llseek_row below.old.kernel.now guest fd (pair high low) address (stack_word words.now 0)) result below.new.kernel.now space.new guest.processor
+        → IsCall (llseek_row below.old.kernel.now guest (argument words.now 0) (pair (argument words.now 1) (argument words.now 2)) (argument words.now 3) (stack_word words.now 0)) result below.new.kernel.now space.new guest.processor
         (contents I.left O.written E.written dev.old) (contents I.left O.written E.written dev.new) }
     ensures kept { (guest : Guest) → guest.words ≡ words.now → guest.memory ≡ space.old
-        → KeepsCall (llseek_row below.old.kernel.now guest fd (pair high low) address (stack_word words.now 0)) result below.old.kernel.now guest (I.left dev.old.input) below.old.log.now below.new.log.now }
+        → KeepsCall (llseek_row below.old.kernel.now guest (argument words.now 0) (pair (argument words.now 1) (argument words.now 2)) (argument words.now 3) (stack_word words.now 0)) result below.old.kernel.now guest (I.left dev.old.input) below.old.log.now below.new.log.now }
     ensures cause { StopsOnlyIfRose I.faults O.faults E.faults result dev.old dev.new }
     ensures counts { NoCountFell I.faults O.faults E.faults dev.old dev.new }
     ensures clock { below.new.kernel.now.clock ≡ below.old.kernel.now.clock }
@@ -110,9 +106,21 @@ pub(crate) fn llseek<I: Source, O: Sink, E: Sink>(
     match fifth(words) {
         None => Ok(Outcome::Error(Errno::EFAULT)),
         Some(origin) => {
+            let [fd, high, low, address] = words.reg;
             below.memory.clear();
             let args = [u64::from(fd), pair(high, low), u64::from(origin), 0, 0, 0];
-            tell_call(words, address, Told::Place, space, LSEEK, args, dev, below)
+            let told = ToldAt {
+                what: Told::Place,
+                address,
+            };
+            tell_call(
+                words,
+                told,
+                space,
+                NativeCall { nr: LSEEK, args },
+                dev,
+                below,
+            )
         }
     }
 }

@@ -9,31 +9,28 @@ ghost use Rattle.o32_model.specs.NodeCalls.{ftruncate_row, truncate_row};
 ghost use Rattle.o32_model.specs.Step.{Guest};
 ghost use Rattle.outside.specs.Streams.{NoCountFell, contents};
 
-use crate::calls::path_call;
+use crate::calls::{NativeCall, path_call};
 use crate::numbers::{FTRUNCATE, TRUNCATE};
+use crate::paths::Caller;
 use bridge_paths::Below;
-use guest_space::Space;
 use host_mem::FIRST_ADDRESS;
 use kernel_core::Stop;
 use o32_model::{CallWords, Outcome};
 use outside::{Devices, Sink, Source};
-use std::alloc::Global;
 
 /// truncate(2), truncate64(2), by the bits of the size: what is wrong with the path; EINVAL for a size below 0
 /// and for what is no file, EISDIR, EFBIG.
 pub(crate) fn truncate<I: Source, O: Sink, E: Sink>(
-    alloc: Global,
-    words: &CallWords,
+    caller: &Caller,
     address: u32,
     size: u64,
-    space: &Space,
     dev: &mut Devices<I, O, E>,
     below: &mut Below,
 ) -> Result<Outcome, Stop>
-    ensures row { (guest : Guest) → guest.words ≡ words.now → guest.memory ≡ space.now
+    ensures row { (guest : Guest) → guest.words ≡ caller.now.words.now → guest.memory ≡ caller.now.space.now
         → IsCall (truncate_row below.old.kernel.now guest address (cast_signed w64 size)) result below.new.kernel.now guest.memory guest.processor
         (contents I.left O.written E.written dev.old) (contents I.left O.written E.written dev.new) }
-    ensures kept { (guest : Guest) → guest.words ≡ words.now → guest.memory ≡ space.now
+    ensures kept { (guest : Guest) → guest.words ≡ caller.now.words.now → guest.memory ≡ caller.now.space.now
         → KeepsCall (truncate_row below.old.kernel.now guest address (cast_signed w64 size)) result below.old.kernel.now guest (I.left dev.old.input) below.old.log.now below.new.log.now }
     ensures cause { StopsOnlyIfRose I.faults O.faults E.faults result dev.old dev.new }
     ensures counts { NoCountFell I.faults O.faults E.faults dev.old dev.new }
@@ -41,7 +38,8 @@ pub(crate) fn truncate<I: Source, O: Sink, E: Sink>(
     ensures same { LeadsOn below.old below.new }
 {
     let args = [FIRST_ADDRESS, size, 0, 0, 0, 0];
-    path_call(alloc, words, address, space, TRUNCATE, args, dev, below)
+    let call = NativeCall { nr: TRUNCATE, args };
+    path_call(caller, address, call, dev, below)
 }
 
 /// ftruncate(2), ftruncate64(2), by the bits of the size: EBADF; EINVAL for a size below 0, for a descriptor

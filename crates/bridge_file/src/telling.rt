@@ -14,6 +14,7 @@ ghost use Rattle.o32_model.specs.Opening.{place_bytes};
 ghost use Rattle.o32_model.specs.Step.{Guest, O32Step};
 ghost use Rattle.outside.specs.Streams.{NoCountFell, contents};
 
+use crate::calls::NativeCall;
 use bridge_paths::{Below, outcome_of, put};
 use guest_space::Space;
 use host_mem::{FIRST_ADDRESS, HostMem};
@@ -30,84 +31,87 @@ pub(crate) enum Told {
     Place,
 }
 
+/// What a call tells, and where that goes.
+#[derive(Clone, Copy)]
+pub(crate) struct ToldAt {
+    /// What it tells.
+    pub(crate) what: Told,
+    /// The address in the program's memory that it goes to.
+    pub(crate) address: u32,
+}
+
 /// Makes the native call that a call of the program is, where it tells something, which goes to the
 /// program's memory, whole or with EFAULT. `row` and `kept` hold of every o32 call that this native call
 /// tells for.
 pub(crate) fn tell_call<I: Source, O: Sink, E: Sink>(
     words: &CallWords,
-    address: u32,
-    told: Told,
+    told: ToldAt,
     space: &mut Space,
-    nr: u64,
-    args: [u64; 6],
+    call: NativeCall,
     dev: &mut Devices<I, O, E>,
     below: &mut Below,
 ) -> Result<Outcome, Stop>
-    requires built { built_call nr ≡ native_call nr }
-    requires unused { AreUnusedZero nr args }
-    requires placed { IsPlaced nr below.old.memory.now }
+    requires built { built_call call.nr ≡ native_call call.nr }
+    requires unused { AreUnusedZero call.nr call.args }
+    requires placed { IsPlaced call.nr below.old.memory.now }
     ensures row { (guest : Guest) (step : List ℕ → O32Step) → guest.words ≡ words.now → guest.memory ≡ space.old
-        → ((left : List ℕ) → Tells guest address told (native_call nr args below.old.kernel.now below.old.memory.now left) (step left))
+        → ((left : List ℕ) → Tells guest told.address told.what (native_call call.nr call.args below.old.kernel.now below.old.memory.now left) (step left))
         → IsCall step result below.new.kernel.now space.new guest.processor
         (contents I.left O.written E.written dev.old) (contents I.left O.written E.written dev.new) }
     ensures kept { (guest : Guest) (step : List ℕ → O32Step) → guest.words ≡ words.now → guest.memory ≡ space.old
-        → ((left : List ℕ) → Tells guest address told (native_call nr args below.old.kernel.now below.old.memory.now left) (step left))
+        → ((left : List ℕ) → Tells guest told.address told.what (native_call call.nr call.args below.old.kernel.now below.old.memory.now left) (step left))
         → KeepsCall step result below.old.kernel.now guest (I.left dev.old.input) below.old.log.now below.new.log.now }
     ensures cause { StopsOnlyIfRose I.faults O.faults E.faults result dev.old dev.new }
     ensures counts { NoCountFell I.faults O.faults E.faults dev.old dev.new }
     ensures clock { below.new.kernel.now.clock ≡ below.old.kernel.now.clock }
     ensures same { LeadsOn below.old below.new }
 {
-    let reply = below.native(nr, args, dev)?;
-    let outcome = tell(words, address, told, below.memory, reply, space, below.log)?;
+    let reply = below.native(call.nr, call.args, dev)?;
+    let outcome = tell(words, told, below.memory, reply, space, below.log)?;
     Ok(outcome)
 }
 
 /// What the call comes to by a reply: what was told is stored, or nothing after an error.
 fn tell(
     words: &CallWords,
-    address: u32,
-    told: Told,
+    told: ToldAt,
     mem: &HostMem,
     reply: Reply,
     space: &mut Space,
     log: &mut Log,
 ) -> Result<Outcome, NoMemory>
-    ensures outcome { IfOk result (λ outcome. outcome ≡ outcome_told words.now space.old address told mem.now reply) }
-    ensures stored { OnOk result (space.new ≡ memory_told space.old address told mem.now reply) }
+    ensures outcome { IfOk result (λ outcome. outcome ≡ outcome_told words.now space.old told.address told.what mem.now reply) }
+    ensures stored { OnOk result (space.new ≡ memory_told space.old told.address told.what mem.now reply) }
     ensures effects { OnOk result ((processor : Processor) (sent : Sent)
         → Effected log.old.effects log.new.effects (reached processor space.old.pages sent) (reached processor space.new.pages sent)) }
     ensures native { log.new.native ≡ log.old.native }
 {
     match reply {
-        Reply::Done(number) if number >= 0 => {
-            tell_number(address, told, mem, number as u64, space, log)
-        }
+        Reply::Done(number) if number >= 0 => { tell_number(told, mem, number as u64, space, log) }
         _ => Ok(outcome_of(words, reply)),
     }
 }
 
 /// Stores what the number of a reply tells.
 fn tell_number(
-    address: u32,
-    told: Told,
+    told: ToldAt,
     mem: &HostMem,
     number: u64,
     space: &mut Space,
     log: &mut Log,
 ) -> Result<Outcome, NoMemory>
-    ensures outcome { IfOk result (λ outcome. outcome ≡ outcome_stored space.old address (bytes_told told mem.now number) (value_told told number)) }
-    ensures stored { OnOk result (space.new ≡ with_stored space.old address (bytes_told told mem.now number)) }
+    ensures outcome { IfOk result (λ outcome. outcome ≡ outcome_stored space.old told.address (bytes_told told.what mem.now number) (value_told told.what number)) }
+    ensures stored { OnOk result (space.new ≡ with_stored space.old told.address (bytes_told told.what mem.now number)) }
     ensures effects { OnOk result ((processor : Processor) (sent : Sent)
         → Effected log.old.effects log.new.effects (reached processor space.old.pages sent) (reached processor space.new.pages sent)) }
     ensures native { log.new.native ≡ log.old.native }
 {
-    match told {
+    match told.what {
         Told::Text(at) => {
             let result = (number % (1 << 32)) as u32;
-            store(address, text_at(mem, at, number), result, space, log)
+            store(told.address, text_at(mem, at, number), result, space, log)
         }
-        Told::Place => store(address, &place_bytes(number), 0, space, log),
+        Told::Place => store(told.address, &place_bytes(number), 0, space, log),
     }
 }
 

@@ -12,8 +12,10 @@ ghost use Rattle.o32_model.specs.Step.{Guest};
 ghost use Rattle.outside.specs.Streams.{NoCountFell, contents};
 ghost use Rattle.bridge_file.specs.inside.Tells.{size_room};
 
+use crate::calls::NativeCall;
 use crate::numbers::{GETCWD, READLINKAT};
-use crate::telling::{Told, tell_call};
+use crate::paths::PathAt;
+use crate::telling::{Told, ToldAt, tell_call};
 use bridge_paths::{Below, fresh_room, put_room, read_path};
 use guest_space::Space;
 use host_mem::FIRST_ADDRESS;
@@ -25,82 +27,84 @@ use std::alloc::Global;
 /// From here on a size is one below 0 (ssize_t).
 const FIRST_NEGATIVE: u32 = 1 << 31;
 
+/// A question for the text of a link.
+#[derive(Clone, Copy)]
+pub(crate) struct LinkQuery {
+    /// The link.
+    pub(crate) link: PathAt,
+    /// The address in the program's memory that its text goes to.
+    pub(crate) buffer: u32,
+    /// How many bytes have room there (size_t).
+    pub(crate) size: u32,
+}
+
 /// readlink(2), readlinkat(2): what is wrong with the path; EINVAL for a size below 1 and for what is no link;
 /// EFAULT.
 pub(crate) fn readlink<I: Source, O: Sink, E: Sink>(
     alloc: Global,
     words: &CallWords,
-    directory: u32,
-    address: u32,
-    buffer: u32,
-    size: u32,
+    query: LinkQuery,
     space: &mut Space,
     dev: &mut Devices<I, O, E>,
     below: &mut Below,
 ) -> Result<Outcome, Stop>
     ensures row { (guest : Guest) → guest.words ≡ words.now → guest.memory ≡ space.old
-        → IsCall (readlink_row below.old.kernel.now guest (base directory) address buffer (cast_signed w32 size)) result below.new.kernel.now space.new guest.processor
+        → IsCall (readlink_row below.old.kernel.now guest (base query.link.directory) query.link.address query.buffer (cast_signed w32 query.size)) result below.new.kernel.now space.new guest.processor
         (contents I.left O.written E.written dev.old) (contents I.left O.written E.written dev.new) }
     ensures kept { (guest : Guest) → guest.words ≡ words.now → guest.memory ≡ space.old
-        → KeepsCall (readlink_row below.old.kernel.now guest (base directory) address buffer (cast_signed w32 size)) result below.old.kernel.now guest (I.left dev.old.input) below.old.log.now below.new.log.now }
+        → KeepsCall (readlink_row below.old.kernel.now guest (base query.link.directory) query.link.address query.buffer (cast_signed w32 query.size)) result below.old.kernel.now guest (I.left dev.old.input) below.old.log.now below.new.log.now }
     ensures cause { StopsOnlyIfRose I.faults O.faults E.faults result dev.old dev.new }
     ensures counts { NoCountFell I.faults O.faults E.faults dev.old dev.new }
     ensures clock { below.new.kernel.now.clock ≡ below.old.kernel.now.clock }
     ensures same { LeadsOn below.old below.new }
 {
-    match read_path(alloc, space, address)? {
+    match read_path(alloc, space, query.link.address)? {
         Err(error) => Ok(Outcome::Error(error)),
-        Ok(path) => link_text(
-            words, directory, address, &path, buffer, size, space, dev, below,
-        ),
+        Ok(path) => link_text(words, query, &path, space, dev, below),
     }
 }
 
 /// The same once the path is read.
 fn link_text<I: Source, O: Sink, E: Sink>(
     words: &CallWords,
-    directory: u32,
-    address: u32,
+    query: LinkQuery,
     path: &Bytes,
-    buffer: u32,
-    size: u32,
     space: &mut Space,
     dev: &mut Devices<I, O, E>,
     below: &mut Below,
 ) -> Result<Outcome, Stop>
-    requires found { path_at space.old address ≡ Ok path.now }
+    requires found { path_at space.old query.link.address ≡ Ok path.now }
     requires short { length path.now < path_limit }
     requires plain { position is_nul path.now ≡ None }
     ensures row { (guest : Guest) → guest.words ≡ words.now → guest.memory ≡ space.old
-        → IsCall (readlink_row below.old.kernel.now guest (base directory) address buffer (cast_signed w32 size)) result below.new.kernel.now space.new guest.processor
+        → IsCall (readlink_row below.old.kernel.now guest (base query.link.directory) query.link.address query.buffer (cast_signed w32 query.size)) result below.new.kernel.now space.new guest.processor
         (contents I.left O.written E.written dev.old) (contents I.left O.written E.written dev.new) }
     ensures kept { (guest : Guest) → guest.words ≡ words.now → guest.memory ≡ space.old
-        → KeepsCall (readlink_row below.old.kernel.now guest (base directory) address buffer (cast_signed w32 size)) result below.old.kernel.now guest (I.left dev.old.input) below.old.log.now below.new.log.now }
+        → KeepsCall (readlink_row below.old.kernel.now guest (base query.link.directory) query.link.address query.buffer (cast_signed w32 query.size)) result below.old.kernel.now guest (I.left dev.old.input) below.old.log.now below.new.log.now }
     ensures cause { StopsOnlyIfRose I.faults O.faults E.faults result dev.old dev.new }
     ensures counts { NoCountFell I.faults O.faults E.faults dev.old dev.new }
     ensures clock { below.new.kernel.now.clock ≡ below.old.kernel.now.clock }
     ensures same { LeadsOn below.old below.new }
 {
-    let room = space.writable(buffer, size_room(size));
+    let room = space.writable(query.buffer, size_room(query.size));
     let at = put_room(below.memory, path, room)?;
     let args = [
-        u64::from(directory),
+        u64::from(query.link.directory),
         FIRST_ADDRESS,
         at,
-        u64::from(size),
+        u64::from(query.size),
         0,
         0,
     ];
-    tell_call(
-        words,
-        buffer,
-        Told::Text(at),
-        space,
-        READLINKAT,
+    let told = ToldAt {
+        what: Told::Text(at),
+        address: query.buffer,
+    };
+    let call = NativeCall {
+        nr: READLINKAT,
         args,
-        dev,
-        below,
-    )
+    };
+    tell_call(words, told, space, call, dev, below)
 }
 
 /// How many bytes a text has at most by a size: none by one below 0.
@@ -132,14 +136,10 @@ pub(crate) fn getcwd<I: Source, O: Sink, E: Sink>(
 {
     fresh_room(below.memory, space.writable(buffer, size))?;
     let args = [FIRST_ADDRESS, u64::from(size), 0, 0, 0, 0];
-    tell_call(
-        words,
-        buffer,
-        Told::Text(FIRST_ADDRESS),
-        space,
-        GETCWD,
-        args,
-        dev,
-        below,
-    )
+    let told = ToldAt {
+        what: Told::Text(FIRST_ADDRESS),
+        address: buffer,
+    };
+    let call = NativeCall { nr: GETCWD, args };
+    tell_call(words, told, space, call, dev, below)
 }

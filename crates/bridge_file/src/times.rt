@@ -13,6 +13,7 @@ ghost use Rattle.o32_model.specs.PathArguments.{base};
 ghost use Rattle.o32_model.specs.Paths.{is_nul, path_limit};
 ghost use Rattle.o32_model.specs.Step.{Guest};
 ghost use Rattle.o32_model.specs.Times.{spec_in};
+ghost use Rattle.o32_model.specs.Words.{argument};
 ghost use Rattle.outside.specs.Streams.{NoCountFell, contents};
 ghost use Rattle.bridge_file.specs.inside.BothTimes.{
   HasPathOrNone,
@@ -25,6 +26,7 @@ ghost use Rattle.bridge_file.specs.inside.BothTimes.{
 };
 
 use crate::numbers::UTIMENSAT;
+use crate::paths::Caller;
 use bridge_paths::{Below, load_structure, put_path, read_path};
 use byteorder::{BigEndian, ByteOrder};
 use guest_space::Space;
@@ -32,7 +34,7 @@ use host_mem::HostMem;
 use kernel_core::{Bytes, Errno, NoMemory, Stop};
 use kernel_model::TimeSpec;
 use layouts::{NativeStructure, native_layout, put_record};
-use o32_model::{CallWords, Outcome};
+use o32_model::Outcome;
 use outside::{Devices, Sink, Source};
 use std::alloc::Global;
 
@@ -49,66 +51,55 @@ pub(crate) struct BothTimes {
 /// none, and for flags other than AT_SYMLINK_NOFOLLOW; EBADF. A null path is the descriptor itself, and without
 /// times both are now.
 pub(crate) fn utimensat<I: Source, O: Sink, E: Sink>(
-    alloc: Global,
-    words: &CallWords,
-    directory: u32,
-    address: u32,
-    times: u32,
-    flags: u32,
-    space: &Space,
+    caller: &Caller,
     dev: &mut Devices<I, O, E>,
     below: &mut Below,
 ) -> Result<Outcome, Stop>
-    ensures row { (guest : Guest) → guest.words ≡ words.now → guest.memory ≡ space.now
-        → IsCall (utimensat_row below.old.kernel.now guest (base directory) address times flags) result below.new.kernel.now guest.memory guest.processor
+    ensures row { (guest : Guest) → guest.words ≡ caller.now.words.now → guest.memory ≡ caller.now.space.now
+        → IsCall (utimensat_row below.old.kernel.now guest (base (argument caller.now.words.now 0)) (argument caller.now.words.now 1) (argument caller.now.words.now 2) (argument caller.now.words.now 3)) result below.new.kernel.now guest.memory guest.processor
         (contents I.left O.written E.written dev.old) (contents I.left O.written E.written dev.new) }
-    ensures kept { (guest : Guest) → guest.words ≡ words.now → guest.memory ≡ space.now
-        → KeepsCall (utimensat_row below.old.kernel.now guest (base directory) address times flags) result below.old.kernel.now guest (I.left dev.old.input) below.old.log.now below.new.log.now }
+    ensures kept { (guest : Guest) → guest.words ≡ caller.now.words.now → guest.memory ≡ caller.now.space.now
+        → KeepsCall (utimensat_row below.old.kernel.now guest (base (argument caller.now.words.now 0)) (argument caller.now.words.now 1) (argument caller.now.words.now 2) (argument caller.now.words.now 3)) result below.old.kernel.now guest (I.left dev.old.input) below.old.log.now below.new.log.now }
     ensures cause { StopsOnlyIfRose I.faults O.faults E.faults result dev.old dev.new }
     ensures counts { NoCountFell I.faults O.faults E.faults dev.old dev.new }
     ensures clock { below.new.kernel.now.clock ≡ below.old.kernel.now.clock }
     ensures same { LeadsOn below.old below.new }
 {
-    match read_path_or_none(alloc, space, address)? {
+    let [_, address, _, _] = caller.words.reg;
+    match read_path_or_none(caller.alloc, caller.space, address)? {
         Err(error) => Ok(Outcome::Error(error)),
-        Ok(path) => set_times(
-            words, directory, address, &path, times, flags, space, dev, below,
-        ),
+        Ok(path) => set_times(caller, &path, dev, below),
     }
 }
 
 /// The same once the path is read.
 fn set_times<I: Source, O: Sink, E: Sink>(
-    words: &CallWords,
-    directory: u32,
-    address: u32,
+    caller: &Caller,
     path: &Option<Bytes>,
-    times: u32,
-    flags: u32,
-    space: &Space,
     dev: &mut Devices<I, O, E>,
     below: &mut Below,
 ) -> Result<Outcome, Stop>
-    requires found { path_or_none space.now address ≡ Ok path.now }
+    requires found { path_or_none caller.now.space.now (argument caller.now.words.now 1) ≡ Ok path.now }
     requires short { IfSome path.now (λ path. length path < path_limit) }
     requires plain { IfSome path.now (λ path. position is_nul path ≡ None) }
-    ensures row { (guest : Guest) → guest.words ≡ words.now → guest.memory ≡ space.now
-        → IsCall (utimensat_row below.old.kernel.now guest (base directory) address times flags) result below.new.kernel.now guest.memory guest.processor
+    ensures row { (guest : Guest) → guest.words ≡ caller.now.words.now → guest.memory ≡ caller.now.space.now
+        → IsCall (utimensat_row below.old.kernel.now guest (base (argument caller.now.words.now 0)) (argument caller.now.words.now 1) (argument caller.now.words.now 2) (argument caller.now.words.now 3)) result below.new.kernel.now guest.memory guest.processor
         (contents I.left O.written E.written dev.old) (contents I.left O.written E.written dev.new) }
-    ensures kept { (guest : Guest) → guest.words ≡ words.now → guest.memory ≡ space.now
-        → KeepsCall (utimensat_row below.old.kernel.now guest (base directory) address times flags) result below.old.kernel.now guest (I.left dev.old.input) below.old.log.now below.new.log.now }
+    ensures kept { (guest : Guest) → guest.words ≡ caller.now.words.now → guest.memory ≡ caller.now.space.now
+        → KeepsCall (utimensat_row below.old.kernel.now guest (base (argument caller.now.words.now 0)) (argument caller.now.words.now 1) (argument caller.now.words.now 2) (argument caller.now.words.now 3)) result below.old.kernel.now guest (I.left dev.old.input) below.old.log.now below.new.log.now }
     ensures cause { StopsOnlyIfRose I.faults O.faults E.faults result dev.old dev.new }
     ensures counts { NoCountFell I.faults O.faults E.faults dev.old dev.new }
     ensures clock { below.new.kernel.now.clock ≡ below.old.kernel.now.clock }
     ensures same { LeadsOn below.old below.new }
 {
-    match read_times(space, times) {
+    let [directory, _, times, flags] = caller.words.reg;
+    match read_times(caller.space, times) {
         Err(error) => Ok(Outcome::Error(error)),
         Ok(given) => {
             let at = put_path_or_none(below.memory, path)?;
             let times_at = put_times_or_none(below.memory, given)?;
             let args = [u64::from(directory), at, times_at, u64::from(flags), 0, 0];
-            below.number_call(words, UTIMENSAT, args, dev)
+            below.number_call(caller.words, UTIMENSAT, args, dev)
         }
     }
 }

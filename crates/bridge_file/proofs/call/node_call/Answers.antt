@@ -2,7 +2,7 @@
 use Rattle.std.proofs.Common.{◌≡◌, refl, rules}
 use Rattle.bridge_paths.specs.Found.{found}
 use Rattle.outside.specs.Streams.{contents}
-use Rattle.bridge_paths.proofs.ByNumber.{by_number}
+use Rattle.bridge_paths.proofs.ByNumber.{by_number, by_number_kept}
 use Rattle.bridge_file.proofs.call.node_call.Goals as goal
 
 pub returns-in-4012-clause-row : goal.returns-in-4012-clause-row
@@ -15,13 +15,25 @@ pub returns-in-4015-clause-row : goal.returns-in-4015-clause-row
 returns-in-4015-clause-row g c = λ left told.
     let guest = found c.args.args.now c.args.cpu.now c.args.space.now in
     by_number 4015 c.args.below.now.kernel.now guest left c.chmod.result c.chmod.new.below.kernel.now c.args.space.now c.args.cpu.now (contents g.I.Source.left g.O.Sink.written g.E.Sink.written c.args.dev.now) (contents g.I.Source.left g.O.Sink.written g.E.Sink.written c.chmod.new.dev) c.in-4015.is
-    (c.chmod.ensures.row guest refl refl left told)
+    (rw c.here.ensures at (c.chmod.ensures.row guest refl refl left told))
+
+pub returns-in-4015-clause-kept : goal.returns-in-4015-clause-kept
+returns-in-4015-clause-kept g c = λ left told.
+    let guest = found c.args.args.now c.args.cpu.now c.args.space.now in
+    by_number_kept 4015 c.args.below.now.kernel.now guest left c.chmod.result c.args.below.now.log.now c.chmod.new.below.log.now c.in-4015.is
+    (rw c.here.ensures at (c.chmod.ensures.kept guest refl refl left told))
 
 pub returns-in-4033-clause-row : goal.returns-in-4033-clause-row
 returns-in-4033-clause-row g c = λ left told.
     let guest = found c.args.args.now c.args.cpu.now c.args.space.now in
     by_number 4033 c.args.below.now.kernel.now guest left c.access.result c.access.new.below.kernel.now c.args.space.now c.args.cpu.now (contents g.I.Source.left g.O.Sink.written g.E.Sink.written c.args.dev.now) (contents g.I.Source.left g.O.Sink.written g.E.Sink.written c.access.new.dev) c.in-4033.is
-    (c.access.ensures.row guest refl refl left told)
+    (rw c.here-in-4033.ensures at (c.access.ensures.row guest refl refl left told))
+
+pub returns-in-4033-clause-kept : goal.returns-in-4033-clause-kept
+returns-in-4033-clause-kept g c = λ left told.
+    let guest = found c.args.args.now c.args.cpu.now c.args.space.now in
+    by_number_kept 4033 c.args.below.now.kernel.now guest left c.access.result c.args.below.now.log.now c.access.new.below.log.now c.in-4033.is
+    (rw c.here-in-4033.ensures at (c.access.ensures.kept guest refl refl left told))
 
 pub returns-in-4060-clause-row : goal.returns-in-4060-clause-row
 returns-in-4060-clause-row g c = λ left told.
@@ -57,7 +69,7 @@ pub returns-in-4299-clause-row : goal.returns-in-4299-clause-row
 returns-in-4299-clause-row g c = λ left told.
     let guest = found c.args.args.now c.args.cpu.now c.args.space.now in
     by_number 4299 c.args.below.now.kernel.now guest left c.chmod-in-4299.result c.chmod-in-4299.new.below.kernel.now c.args.space.now c.args.cpu.now (contents g.I.Source.left g.O.Sink.written g.E.Sink.written c.args.dev.now) (contents g.I.Source.left g.O.Sink.written g.E.Sink.written c.chmod-in-4299.new.dev) c.in-4299.is
-    (c.chmod-in-4299.ensures.row guest refl refl left told)
+    (rw c.at.ensures at (c.chmod-in-4299.ensures.row guest refl refl left told))
 
 pub returns-in-4316-clause-row : goal.returns-in-4316-clause-row
 returns-in-4316-clause-row g c = λ left told.
@@ -70,4 +82,4 @@ returns-in_default-clause-row g c = λ left told.
     let guest = found c.args.args.now c.args.cpu.now c.args.space.now in
     let is : c.args.args.now.nr ≡ 4300 = search rules in
     by_number 4300 c.args.below.now.kernel.now guest left c.access-in_default.result c.access-in_default.new.below.kernel.now c.args.space.now c.args.cpu.now (contents g.I.Source.left g.O.Sink.written g.E.Sink.written c.args.dev.now) (contents g.I.Source.left g.O.Sink.written g.E.Sink.written c.access-in_default.new.dev) is
-    (c.access-in_default.ensures.row guest refl refl left told)
+    (rw c.at-in_default.ensures at (c.access-in_default.ensures.row guest refl refl left told))

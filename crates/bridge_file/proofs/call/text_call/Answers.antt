@@ -2,14 +2,20 @@
 use Rattle.std.proofs.Common.{◌≡◌, refl, rules}
 use Rattle.bridge_paths.specs.Found.{found}
 use Rattle.outside.specs.Streams.{contents}
-use Rattle.bridge_paths.proofs.ByNumber.{by_number}
+use Rattle.bridge_paths.proofs.ByNumber.{by_number, by_number_kept}
 use Rattle.bridge_file.proofs.call.text_call.Goals as goal
 
 pub returns-in-4085-clause-row : goal.returns-in-4085-clause-row
 returns-in-4085-clause-row g c = λ left told.
     let guest = found c.args.args.now c.args.cpu.now c.args.space.now in
     by_number 4085 c.args.below.now.kernel.now guest left c.readlink.result c.readlink.new.below.kernel.now c.readlink.new.space c.args.cpu.now (contents g.I.Source.left g.O.Sink.written g.E.Sink.written c.args.dev.now) (contents g.I.Source.left g.O.Sink.written g.E.Sink.written c.readlink.new.dev) c.in-4085.is
-    (c.readlink.ensures.row guest refl refl left told)
+    (rw c.here.ensures at (c.readlink.ensures.row guest refl refl left told))
+
+pub returns-in-4085-clause-kept : goal.returns-in-4085-clause-kept
+returns-in-4085-clause-kept g c = λ left told.
+    let guest = found c.args.args.now c.args.cpu.now c.args.space.now in
+    by_number_kept 4085 c.args.below.now.kernel.now guest left c.readlink.result c.args.below.now.log.now c.readlink.new.below.log.now c.in-4085.is
+    (rw c.here.ensures at (c.readlink.ensures.kept guest refl refl left told))
 
 pub returns-in-4203-clause-row : goal.returns-in-4203-clause-row
 returns-in-4203-clause-row g c = λ left told.
@@ -22,4 +28,4 @@ returns-in_default-clause-row g c = λ left told.
     let guest = found c.args.args.now c.args.cpu.now c.args.space.now in
     let is : c.args.args.now.nr ≡ 4298 = search rules in
     by_number 4298 c.args.below.now.kernel.now guest left c.readlink-in_default.result c.readlink-in_default.new.below.kernel.now c.readlink-in_default.new.space c.args.cpu.now (contents g.I.Source.left g.O.Sink.written g.E.Sink.written c.args.dev.now) (contents g.I.Source.left g.O.Sink.written g.E.Sink.written c.readlink-in_default.new.dev) is
-    (c.readlink-in_default.ensures.row guest refl refl left told)
+    (rw c.at.ensures at (c.readlink-in_default.ensures.row guest refl refl left told))

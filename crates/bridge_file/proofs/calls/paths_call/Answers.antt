@@ -27,10 +27,10 @@ returns-in_err-error-clause-row g c = λ guest step same memory mirrors left tol
 pub returns-in-Err-clause-row : goal.returns-in-Err-clause-row
 returns-in-Err-clause-row g c = λ guest step same memory mirrors left told.
     let at = contents g.I.Source.left g.O.Sink.written g.E.Sink.written c.args.dev.now in
-    let lost = mirrors.first_lost c.in-Err.error (ap (λ (m : Memory). path_at m c.args.first) memory ∙ c.in_ok-error.ensures.answer ∙ c.in-Err.is) left in
+    let lost = mirrors.first_lost c.in-Err.error (ap (λ (m : Memory). path_at m c.args.paths.first) memory ∙ c.in_ok-error.ensures.answer ∙ c.in-Err.is) left in
     still_called guest c.args.below.now.kernel.now left (Error c.in-Err.error) (step left) at told (still_of guest c.args.below.now.kernel.now c.in-Err.error left (step left) lost)
 
 pub returns-in-Err-clause-kept : goal.returns-in-Err-clause-kept
 returns-in-Err-clause-kept g c = λ guest step same memory mirrors left told.
-    let lost = mirrors.first_lost c.in-Err.error (ap (λ (m : Memory). path_at m c.args.first) memory ∙ c.in_ok-error.ensures.answer ∙ c.in-Err.is) left in
+    let lost = mirrors.first_lost c.in-Err.error (ap (λ (m : Memory). path_at m c.args.paths.first) memory ∙ c.in_ok-error.ensures.answer ∙ c.in-Err.is) left in
     still_keeps guest c.args.below.now.kernel.now left (Error c.in-Err.error) (step left) c.args.below.now.log.now (still_of guest c.args.below.now.kernel.now c.in-Err.error left (step left) lost)

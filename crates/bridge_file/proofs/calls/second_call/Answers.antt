@@ -31,26 +31,26 @@ returns-in_err-at-in-Ok-clause-row g c = λ guest step same memory mirrors left 
 pub returns-in-Err-clause-row : goal.returns-in-Err-clause-row
 returns-in-Err-clause-row g c = λ guest step same memory mirrors left told.
     let at = contents g.I.Source.left g.O.Sink.written g.E.Sink.written c.args.dev.now in
-    let lost = mirrors.second_lost c.args.one.now c.in-Err.error (ap (λ (m : Memory). path_at m c.args.first) memory ∙ c.requires.found)
-    (ap (λ (m : Memory). path_at m c.args.second) memory ∙ c.in_ok-error.ensures.answer ∙ c.in-Err.is) left in
+    let lost = mirrors.second_lost c.args.one.now c.in-Err.error (ap (λ (m : Memory). path_at m c.args.paths.first) memory ∙ c.requires.found)
+    (ap (λ (m : Memory). path_at m c.args.paths.second) memory ∙ c.in_ok-error.ensures.answer ∙ c.in-Err.is) left in
     still_called guest c.args.below.now.kernel.now left (Error c.in-Err.error) (step left) at told (still_of guest c.args.below.now.kernel.now c.in-Err.error left (step left) lost)
 
 pub returns-in-Err-clause-kept : goal.returns-in-Err-clause-kept
 returns-in-Err-clause-kept g c = λ guest step same memory mirrors left told.
-    let lost = mirrors.second_lost c.args.one.now c.in-Err.error (ap (λ (m : Memory). path_at m c.args.first) memory ∙ c.requires.found)
-    (ap (λ (m : Memory). path_at m c.args.second) memory ∙ c.in_ok-error.ensures.answer ∙ c.in-Err.is) left in
+    let lost = mirrors.second_lost c.args.one.now c.in-Err.error (ap (λ (m : Memory). path_at m c.args.paths.first) memory ∙ c.requires.found)
+    (ap (λ (m : Memory). path_at m c.args.paths.second) memory ∙ c.in_ok-error.ensures.answer ∙ c.in-Err.is) left in
     still_keeps guest c.args.below.now.kernel.now left (Error c.in-Err.error) (step left) c.args.below.now.log.now (still_of guest c.args.below.now.kernel.now c.in-Err.error left (step left) lost)
 
 pub returns-in_ok-at-in-Ok-clause-row : goal.returns-in_ok-at-in-Ok-clause-row
 returns-in_ok-at-in-Ok-clause-row g c = λ guest step same memory mirrors.
     c.number_call.ensures.row guest step same (λ left.
-    subst (λ (args : List ℕ). Mirrors guest (by_reply guest.words) (native_call c.args.nr args c.args.below.now.kernel.now c.put_two.new.mem left) (step left)) (sym c.with_argument-args.ensures)
-    (mirrors.found c.args.one.now c.in-Ok.two c.put_two.new.mem c.in_ok-at-in-Ok.at (ap (λ (m : Memory). path_at m c.args.first) memory ∙ c.requires.found)
-    (ap (λ (m : Memory). path_at m c.args.second) memory ∙ c.in_ok-error.ensures.answer ∙ c.in-Ok.is) c.in_ok-at-in-Ok.ensures.first c.in_ok-at-in-Ok.ensures.second left))
+    subst (λ (args : List ℕ). Mirrors guest (by_reply guest.words) (native_call c.args.call.nr args c.args.below.now.kernel.now c.put_two.new.mem left) (step left)) (sym c.with_argument-args.ensures)
+    (mirrors.found c.args.one.now c.in-Ok.two c.put_two.new.mem c.in_ok-at-in-Ok.at (ap (λ (m : Memory). path_at m c.args.paths.first) memory ∙ c.requires.found)
+    (ap (λ (m : Memory). path_at m c.args.paths.second) memory ∙ c.in_ok-error.ensures.answer ∙ c.in-Ok.is) c.in_ok-at-in-Ok.ensures.first c.in_ok-at-in-Ok.ensures.second left))
 
 pub returns-in_ok-at-in-Ok-clause-kept : goal.returns-in_ok-at-in-Ok-clause-kept
 returns-in_ok-at-in-Ok-clause-kept g c = λ guest step same memory mirrors.
     c.number_call.ensures.kept guest step same (λ left.
-    subst (λ (args : List ℕ). Mirrors guest (by_reply guest.words) (native_call c.args.nr args c.args.below.now.kernel.now c.put_two.new.mem left) (step left)) (sym c.with_argument-args.ensures)
-    (mirrors.found c.args.one.now c.in-Ok.two c.put_two.new.mem c.in_ok-at-in-Ok.at (ap (λ (m : Memory). path_at m c.args.first) memory ∙ c.requires.found)
-    (ap (λ (m : Memory). path_at m c.args.second) memory ∙ c.in_ok-error.ensures.answer ∙ c.in-Ok.is) c.in_ok-at-in-Ok.ensures.first c.in_ok-at-in-Ok.ensures.second left))
+    subst (λ (args : List ℕ). Mirrors guest (by_reply guest.words) (native_call c.args.call.nr args c.args.below.now.kernel.now c.put_two.new.mem left) (step left)) (sym c.with_argument-args.ensures)
+    (mirrors.found c.args.one.now c.in-Ok.two c.put_two.new.mem c.in_ok-at-in-Ok.at (ap (λ (m : Memory). path_at m c.args.paths.first) memory ∙ c.requires.found)
+    (ap (λ (m : Memory). path_at m c.args.paths.second) memory ∙ c.in_ok-error.ensures.answer ∙ c.in-Ok.is) c.in_ok-at-in-Ok.ensures.first c.in_ok-at-in-Ok.ensures.second left))

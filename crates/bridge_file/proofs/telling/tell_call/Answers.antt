@@ -16,7 +16,7 @@ returns-clause-row g c = λ guest step same memory tells left told.
 
 pub returns-clause-kept : goal.returns-clause-kept
 returns-clause-kept g c = λ guest step same memory tells left told.
-    let nstep = native_call c.args.nr c.args.args c.args.below.now.kernel.now c.args.below.now.memory.now left in
+    let nstep = native_call c.args.call.nr c.args.call.args c.args.below.now.kernel.now c.args.below.now.memory.now left in
     tells_keeps c.args.space.now c.tell.new.space c.args.below.now.kernel.now left c.args.below.now.log.now c.tell.new.log memory (tells left) (c.in_ok-reply.ensures.row left told) c.in_ok-outcome.ensures.stored
     (subst (λ (n : Option (List LogEntry)). Logged c.args.below.now.log.now.native n (opening c.args.below.now.kernel.now left) (moment nstep.kernel nstep.left nstep.sent)) (sym c.tell.ensures.native) (c.in_ok-reply.ensures.kept left told nothing))
     (subst (λ (o : Option (List Effect)). Effected o c.tell.new.log.effects (reached guest.processor c.args.space.now.pages nothing) (reached guest.processor c.tell.new.space.pages nothing)) c.native.ensures.effects

@@ -23,18 +23,18 @@ link_text-requires g c = record {
 
 pub returns-in_err-error-clause-row : goal.returns-in_err-error-clause-row
 returns-in_err-error-clause-row g c = λ guest same memory left told.
-    fails_before (readlink_row c.args.below.now.kernel.now guest (base c.args.directory) c.args.address c.args.buffer (cast_signed w32 c.args.size) left) c.from_residual.result _ _ _ _ c.from_residual.ensures.0
+    fails_before (readlink_row c.args.below.now.kernel.now guest (base c.args.query.link.directory) c.args.query.link.address c.args.query.buffer (cast_signed w32 c.args.query.size) left) c.from_residual.result _ _ _ _ c.from_residual.ensures.0
 
 pub returns-in-Err-clause-row : goal.returns-in-Err-clause-row
 returns-in-Err-clause-row g c = λ guest same memory left told.
     let at = contents g.I.Source.left g.O.Sink.written g.E.Sink.written c.args.dev.now in
-    let step = readlink_row c.args.below.now.kernel.now guest (base c.args.directory) c.args.address c.args.buffer (cast_signed w32 c.args.size) left in
-    let lost = readlink_lost guest c.args.below.now.kernel.now c.args.directory c.args.address c.args.buffer c.args.size c.in-Err.error left (ap (λ (m : Memory). path_at m c.args.address) memory ∙ c.in_ok-error.ensures.answer ∙ c.in-Err.is) in
+    let step = readlink_row c.args.below.now.kernel.now guest (base c.args.query.link.directory) c.args.query.link.address c.args.query.buffer (cast_signed w32 c.args.query.size) left in
+    let lost = readlink_lost guest c.args.below.now.kernel.now c.args.query.link.directory c.args.query.link.address c.args.query.buffer c.args.query.size c.in-Err.error left (ap (λ (m : Memory). path_at m c.args.query.link.address) memory ∙ c.in_ok-error.ensures.answer ∙ c.in-Err.is) in
     subst (λ (m : Memory). Called step (Error c.in-Err.error) c.args.below.now.kernel.now m guest.processor at at) memory
     (still_called guest c.args.below.now.kernel.now left (Error c.in-Err.error) step at told (still_of guest c.args.below.now.kernel.now c.in-Err.error left step lost))
 
 pub returns-in-Err-clause-kept : goal.returns-in-Err-clause-kept
 returns-in-Err-clause-kept g c = λ guest same memory left told.
-    let step = readlink_row c.args.below.now.kernel.now guest (base c.args.directory) c.args.address c.args.buffer (cast_signed w32 c.args.size) left in
-    let lost = readlink_lost guest c.args.below.now.kernel.now c.args.directory c.args.address c.args.buffer c.args.size c.in-Err.error left (ap (λ (m : Memory). path_at m c.args.address) memory ∙ c.in_ok-error.ensures.answer ∙ c.in-Err.is) in
+    let step = readlink_row c.args.below.now.kernel.now guest (base c.args.query.link.directory) c.args.query.link.address c.args.query.buffer (cast_signed w32 c.args.query.size) left in
+    let lost = readlink_lost guest c.args.below.now.kernel.now c.args.query.link.directory c.args.query.link.address c.args.query.buffer c.args.query.size c.in-Err.error left (ap (λ (m : Memory). path_at m c.args.query.link.address) memory ∙ c.in_ok-error.ensures.answer ∙ c.in-Err.is) in
     still_keeps guest c.args.below.now.kernel.now left (Error c.in-Err.error) step c.args.below.now.log.now (still_of guest c.args.below.now.kernel.now c.in-Err.error left step lost)

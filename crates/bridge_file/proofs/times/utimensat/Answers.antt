@@ -6,6 +6,7 @@ use Rattle.kernel_core.specs.declared.error.Errno.{Errno}
 use Rattle.o32_model.specs.NodeCalls.{utimensat_row}
 use Rattle.o32_model.specs.PathArguments.{base}
 use Rattle.o32_model.specs.Paths.{is_nul, path_limit}
+use Rattle.o32_model.specs.Words.{argument}
 use Rattle.o32_model.specs.declared.outcome.Outcome.TheVariants.{Error}
 use Rattle.outside.specs.Streams.{contents}
 use Rattle.bridge_paths.proofs.Passed.{fails_before, still_called, still_keeps}
@@ -23,17 +24,17 @@ set_times-requires g c = record {
 
 pub returns-in_err-error-clause-row : goal.returns-in_err-error-clause-row
 returns-in_err-error-clause-row g c = λ guest same memory left told.
-    fails_before (utimensat_row c.args.below.now.kernel.now guest (base c.args.directory) c.args.address c.args.times c.args.flags left) c.from_residual.result _ _ _ _ c.from_residual.ensures.0
+    fails_before (utimensat_row c.args.below.now.kernel.now guest (base (argument c.args.caller.now.words.now 0)) (argument c.args.caller.now.words.now 1) (argument c.args.caller.now.words.now 2) (argument c.args.caller.now.words.now 3) left) c.from_residual.result _ _ _ _ c.from_residual.ensures.0
 
 pub returns-in-Err-clause-row : goal.returns-in-Err-clause-row
 returns-in-Err-clause-row g c = λ guest same memory left told.
     let at = contents g.I.Source.left g.O.Sink.written g.E.Sink.written c.args.dev.now in
-    let step = utimensat_row c.args.below.now.kernel.now guest (base c.args.directory) c.args.address c.args.times c.args.flags left in
-    let lost = path_lost guest c.args.below.now.kernel.now c.args.directory c.args.address c.args.times c.args.flags c.in-Err.error left (ap (λ (m : Memory). path_or_none m c.args.address) memory ∙ c.in_ok-error.ensures.answer ∙ c.in-Err.is) in
+    let step = utimensat_row c.args.below.now.kernel.now guest (base (argument c.args.caller.now.words.now 0)) (argument c.args.caller.now.words.now 1) (argument c.args.caller.now.words.now 2) (argument c.args.caller.now.words.now 3) left in
+    let lost = path_lost guest c.args.below.now.kernel.now (argument c.args.caller.now.words.now 0) (argument c.args.caller.now.words.now 1) (argument c.args.caller.now.words.now 2) (argument c.args.caller.now.words.now 3) c.in-Err.error left (ap (λ (m : Memory). path_or_none m (argument c.args.caller.now.words.now 1)) memory ∙ c.in_ok-error.ensures.answer ∙ c.in-Err.is) in
     still_called guest c.args.below.now.kernel.now left (Error c.in-Err.error) step at told (still_of guest c.args.below.now.kernel.now c.in-Err.error left step lost)
 
 pub returns-in-Err-clause-kept : goal.returns-in-Err-clause-kept
 returns-in-Err-clause-kept g c = λ guest same memory left told.
-    let step = utimensat_row c.args.below.now.kernel.now guest (base c.args.directory) c.args.address c.args.times c.args.flags left in
-    let lost = path_lost guest c.args.below.now.kernel.now c.args.directory c.args.address c.args.times c.args.flags c.in-Err.error left (ap (λ (m : Memory). path_or_none m c.args.address) memory ∙ c.in_ok-error.ensures.answer ∙ c.in-Err.is) in
+    let step = utimensat_row c.args.below.now.kernel.now guest (base (argument c.args.caller.now.words.now 0)) (argument c.args.caller.now.words.now 1) (argument c.args.caller.now.words.now 2) (argument c.args.caller.now.words.now 3) left in
+    let lost = path_lost guest c.args.below.now.kernel.now (argument c.args.caller.now.words.now 0) (argument c.args.caller.now.words.now 1) (argument c.args.caller.now.words.now 2) (argument c.args.caller.now.words.now 3) c.in-Err.error left (ap (λ (m : Memory). path_or_none m (argument c.args.caller.now.words.now 1)) memory ∙ c.in_ok-error.ensures.answer ∙ c.in-Err.is) in
     still_keeps guest c.args.below.now.kernel.now left (Error c.in-Err.error) step c.args.below.now.log.now (still_of guest c.args.below.now.kernel.now c.in-Err.error left step lost)
