@@ -69,13 +69,13 @@ fn by_number<I: Source, O: Sink, E: Sink>(
     ensures clock { below.new.kernel.now.clock ≡ below.old.kernel.now.clock }
     ensures same { LeadsOn below.old below.new }
 {
-    let [a0, a1, a2, _] = args.reg;
+    let [a0, a1, _, _] = args.reg;
     match args.nr {
         4013 => time(a0, space, dev, below),
         4078 => gettimeofday(a0, a1, space, dev, below),
         4166 => nanosleep(args, a0, space, dev, below),
         4263 => clock_gettime(a0, a1, seen.quanta, space, dev, below),
         4264 => clock_getres(a0, a1, space, dev, below),
-        _ => clock_nanosleep(args, a0, a1, a2, space, dev, below),
+        _ => clock_nanosleep(args, space, dev, below),
     }
 }

@@ -17,6 +17,15 @@ use guest_space::Space;
 use kernel_core::{Errno, NoMemory, Stop};
 use o32_model::{Cause, Close, Log, Wait};
 
+/// What a call that sleeps asked for.
+#[derive(Clone, Copy)]
+struct Sleeping {
+    /// Whether it sleeps for a length of time, and not until a time of the clock.
+    relative: bool,
+    /// Where what is left of that length is stored; nowhere where it is 0.
+    address: u32,
+}
+
 /// Ends the wait of a sleep for a cause, at a time of the clock in nanoseconds: nanosleep(2) and
 /// clock_nanosleep(2). A handler ends one with EINTR, and of a length of time it stores what is left until the
 /// wait's own deadline, or ends it with EFAULT where that can't be stored. No native call is made: the kernel
@@ -58,23 +67,26 @@ fn closed(
     ensures native { log.new.native ≡ log.old.native }
 {
     match wait.nr {
-        4166 => sleep_end(true, wait.words[1], wait, cause, clock, space, log),
-        _ => sleep_end(
-            wait.words[1] == 0,
-            wait.words[3],
-            wait,
-            cause,
-            clock,
-            space,
-            log,
-        ),
+        4166 => {
+            let sleeping = Sleeping {
+                relative: true,
+                address: wait.words[1],
+            };
+            sleep_end(sleeping, wait, cause, clock, space, log)
+        }
+        _ => {
+            let sleeping = Sleeping {
+                relative: wait.words[1] == 0,
+                address: wait.words[3],
+            };
+            sleep_end(sleeping, wait, cause, clock, space, log)
+        }
     }
 }
 
-/// The same, by whether the sleep is by a length of time, and where what is left of it is stored.
+/// The same, by what its call asked for.
 fn sleep_end(
-    relative: bool,
-    address: u32,
+    sleeping: Sleeping,
     wait: &Wait,
     cause: Cause,
     clock: u64,
@@ -82,7 +94,7 @@ fn sleep_end(
     log: &mut Log,
 ) -> Result<Close, NoMemory>
     ensures ends { IfOk result (λ close. (kernel : Kernel)
-        → sleep_ended (record { relative = relative; address = address }) wait.now cause clock kernel space.old ≡ ends_with close kernel space.new) }
+        → sleep_ended (record { relative = sleeping.relative; address = sleeping.address }) wait.now cause clock kernel space.old ≡ ends_with close kernel space.new) }
     ensures effects { OnOk result ((processor : Processor) (sent : Sent)
         → Effected log.old.effects log.new.effects (reached processor space.old.pages sent) (reached processor space.new.pages sent)) }
     ensures native { log.new.native ≡ log.old.native }
@@ -90,8 +102,8 @@ fn sleep_end(
     match cause {
         Cause::Due => Ok(Close::Value(0)),
         Cause::Accepted => Ok(Close::Value(0)),
-        Cause::Handler => interrupted(relative, address, wait, clock, space, log),
-        Cause::Stopped => Ok(if relative {
+        Cause::Handler => interrupted(sleeping, wait, clock, space, log),
+        Cause::Stopped => Ok(if sleeping.relative {
             Close::Restart
         } else {
             Close::Again
@@ -101,24 +113,23 @@ fn sleep_end(
 
 /// The end by a handler.
 fn interrupted(
-    relative: bool,
-    address: u32,
+    sleeping: Sleeping,
     wait: &Wait,
     clock: u64,
     space: &mut Space,
     log: &mut Log,
 ) -> Result<Close, NoMemory>
     ensures ends { IfOk result (λ close. (kernel : Kernel)
-        → sleep_interrupted (record { relative = relative; address = address }) wait.now clock kernel space.old ≡ ends_with close kernel space.new) }
+        → sleep_interrupted (record { relative = sleeping.relative; address = sleeping.address }) wait.now clock kernel space.old ≡ ends_with close kernel space.new) }
     ensures effects { OnOk result ((processor : Processor) (sent : Sent)
         → Effected log.old.effects log.new.effects (reached processor space.old.pages sent) (reached processor space.new.pages sent)) }
     ensures native { log.new.native ≡ log.old.native }
 {
-    if !relative || address == 0 {
+    if !sleeping.relative || sleeping.address == 0 {
         return Ok(Close::Error(Errno::EINTR));
     }
     let left = ClockTime::of(left_until(clock, wait.deadline));
-    let stored = put(space, address, &left.spec_bytes(), log)?;
+    let stored = put(space, sleeping.address, &left.spec_bytes(), log)?;
     Ok(interrupted_if(stored))
 }
 

@@ -6,6 +6,7 @@ ghost use Rattle.kernel_model.specs.Stops.{StopsOnlyIfRose};
 ghost use Rattle.o32_model.specs.Answered.{IsCall};
 ghost use Rattle.o32_model.specs.Sleeps.{clock_nanosleep_row, nanosleep_row};
 ghost use Rattle.o32_model.specs.Step.{Guest};
+ghost use Rattle.o32_model.specs.Words.{argument};
 ghost use Rattle.outside.specs.Streams.{NoCountFell, contents};
 
 use crate::numbers::{CLOCK_NANOSLEEP, NANOSLEEP};
@@ -43,23 +44,21 @@ pub(crate) fn nanosleep<I: Source, O: Sink, E: Sink>(
 /// flags other than TIMER_ABSTIME; then as nanosleep(2).
 pub(crate) fn clock_nanosleep<I: Source, O: Sink, E: Sink>(
     words: &CallWords,
-    clock: u32,
-    flags: u32,
-    address: u32,
     space: &Space,
     dev: &mut Devices<I, O, E>,
     below: &mut Below,
 ) -> Result<Outcome, Stop>
     ensures row { (guest : Guest) → guest.words ≡ words.now → guest.memory ≡ space.now
-        → IsCall (clock_nanosleep_row below.old.kernel.now guest clock flags address) result below.new.kernel.now space.now guest.processor
+        → IsCall (clock_nanosleep_row below.old.kernel.now guest (argument words.now 0) (argument words.now 1) (argument words.now 2)) result below.new.kernel.now space.now guest.processor
         (contents I.left O.written E.written dev.old) (contents I.left O.written E.written dev.new) }
     ensures kept { (guest : Guest) → guest.words ≡ words.now → guest.memory ≡ space.now
-        → KeepsCall (clock_nanosleep_row below.old.kernel.now guest clock flags address) result below.old.kernel.now guest (I.left dev.old.input) below.old.log.now below.new.log.now }
+        → KeepsCall (clock_nanosleep_row below.old.kernel.now guest (argument words.now 0) (argument words.now 1) (argument words.now 2)) result below.old.kernel.now guest (I.left dev.old.input) below.old.log.now below.new.log.now }
     ensures cause { StopsOnlyIfRose I.faults O.faults E.faults result dev.old dev.new }
     ensures counts { NoCountFell I.faults O.faults E.faults dev.old dev.new }
     ensures clock { below.new.kernel.now.clock ≡ below.old.kernel.now.clock }
     ensures same { LeadsOn below.old below.new }
 {
+    let [clock, flags, address, _] = words.reg;
     let place = take_time(space, address, below.memory)?;
     let args = [u64::from(clock), u64::from(flags), place, 0, 0, 0];
     below.number_call(words, CLOCK_NANOSLEEP, args, dev)
