@@ -56,43 +56,47 @@ pub(crate) fn limited<I: Source, O: Sink, E: Sink>(
     let answer = ask(entries, limits, space, dev, below)?;
     match answer.came {
         Came::Ended(ended) => {
-            let outcome = end(
-                ended,
-                answer,
+            let places = Places {
                 entries,
-                limits.left,
-                below.memory,
-                space,
-                below.log,
-            )?;
+                left: limits.left,
+            };
+            let outcome = end(ended, answer, places, below.memory, space, below.log)?;
             Ok(outcome)
         }
         Came::Waits(until) => sleep(words, until, limits.own, dev, below),
     }
 }
 
+/// Where a call stores what it came to.
+#[derive(Clone, Copy)]
+struct Places {
+    /// Its entries, of each of which it is told what is there.
+    entries: Entries,
+    /// Where the time that is left is stored; nowhere where it is None.
+    left: Option<TimePlace>,
+}
+
 /// The end of a call: what is told of its entries is stored, and then the time that is left.
 fn end(
     ended: Result<u32, Errno>,
     answer: Answer,
-    entries: Entries,
-    left: Option<TimePlace>,
+    places: Places,
     mem: &HostMem,
     space: &mut Space,
     log: &mut Log,
 ) -> Result<Outcome, NoMemory>
     ensures answer { IfOk result (λ outcome. outcome ≡ outcome_by ended space.old
-        (pieces_told space.old entries (told_bytes mem.now answer.entries entries.count))) }
+        (pieces_told space.old places.entries (told_bytes mem.now answer.entries places.entries.count))) }
     ensures stored { (time : Option ℕ) → ShowsLeft mem.now answer.time time
-        → OnOk result (space.new ≡ with_left_if left space.old time (told_memory ended space.old
-        (pieces_told space.old entries (told_bytes mem.now answer.entries entries.count)))) }
+        → OnOk result (space.new ≡ with_left_if places.left space.old time (told_memory ended space.old
+        (pieces_told space.old places.entries (told_bytes mem.now answer.entries places.entries.count)))) }
     ensures effects { OnOk result ((processor : Processor) (sent : Sent)
         → Effected log.old.effects log.new.effects (reached processor space.old.pages sent) (reached processor space.new.pages sent)) }
     ensures native { log.new.native ≡ log.old.native }
 {
-    let told = native_entries(mem, answer.entries, entries.count);
-    let outcome = tell(ended, told, entries, space, log)?;
-    store_time(left, answer.time, mem, space, log)?;
+    let told = native_entries(mem, answer.entries, places.entries.count);
+    let outcome = tell(ended, told, places.entries, space, log)?;
+    store_time(places.left, answer.time, mem, space, log)?;
     Ok(outcome)
 }
 
