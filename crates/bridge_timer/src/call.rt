@@ -68,10 +68,10 @@ fn by_number<I: Source, O: Sink, E: Sink>(
     ensures clock { below.new.kernel.now.clock ≡ below.old.kernel.now.clock }
     ensures same { LeadsOn below.old below.new }
 {
-    let [a0, a1, a2, _] = args.reg;
+    let [a0, a1, _, _] = args.reg;
     match args.nr {
         4027 => alarm(a0, dev, below),
-        4104 => setitimer(args, a0, a1, a2, space, dev, below),
+        4104 => setitimer(args, space, dev, below),
         _ => getitimer(a0, a1, space, dev, below),
     }
 }

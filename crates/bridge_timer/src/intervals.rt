@@ -8,6 +8,7 @@ ghost use Rattle.kernel_model.specs.Stops.{StopsOnlyIfRose};
 ghost use Rattle.o32_model.specs.Answered.{IsCall};
 ghost use Rattle.o32_model.specs.Sleeps.{getitimer_row, setitimer_row};
 ghost use Rattle.o32_model.specs.Step.{Guest};
+ghost use Rattle.o32_model.specs.Words.{argument};
 ghost use Rattle.outside.specs.Streams.{NoCountFell, contents};
 
 use crate::looking::timer_shown;
@@ -49,26 +50,24 @@ pub(crate) fn getitimer<I: Source, O: Sink, E: Sink>(
 /// setting stands also where that is EFAULT.
 pub(crate) fn setitimer<I: Source, O: Sink, E: Sink>(
     words: &CallWords,
-    which: u32,
-    setting: u32,
-    before: u32,
     space: &mut Space,
     dev: &mut Devices<I, O, E>,
     below: &mut Below,
 ) -> Result<Outcome, Stop>
     ensures row { (guest : Guest) → guest.words ≡ words.now → guest.memory ≡ space.old
-        → IsCall (setitimer_row below.old.kernel.now guest which setting before) result below.new.kernel.now space.new guest.processor
+        → IsCall (setitimer_row below.old.kernel.now guest (argument words.now 0) (argument words.now 1) (argument words.now 2)) result below.new.kernel.now space.new guest.processor
         (contents I.left O.written E.written dev.old) (contents I.left O.written E.written dev.new) }
     ensures kept { (guest : Guest) → guest.words ≡ words.now → guest.memory ≡ space.old
-        → KeepsCall (setitimer_row below.old.kernel.now guest which setting before) result below.old.kernel.now guest (I.left dev.old.input) below.old.log.now below.new.log.now }
+        → KeepsCall (setitimer_row below.old.kernel.now guest (argument words.now 0) (argument words.now 1) (argument words.now 2)) result below.old.kernel.now guest (I.left dev.old.input) below.old.log.now below.new.log.now }
     ensures cause { StopsOnlyIfRose I.faults O.faults E.faults result dev.old dev.new }
     ensures counts { NoCountFell I.faults O.faults E.faults dev.old dev.new }
     ensures clock { below.new.kernel.now.clock ≡ below.old.kernel.now.clock }
     ensures same { LeadsOn below.old below.new }
 {
+    let [which, _, _, _] = words.reg;
     match timer_shown(which, dev, below)? {
         None => Ok(Outcome::Error(Errno::EINVAL)),
-        Some(shown) => exchange(words, shown, setting, before, space, dev, below),
+        Some(shown) => exchange(words, shown, space, dev, below),
     }
 }
 
@@ -76,22 +75,21 @@ pub(crate) fn setitimer<I: Source, O: Sink, E: Sink>(
 fn exchange<I: Source, O: Sink, E: Sink>(
     words: &CallWords,
     shown: Shown,
-    setting: u32,
-    before: u32,
     space: &mut Space,
     dev: &mut Devices<I, O, E>,
     below: &mut Below,
 ) -> Result<Outcome, Stop>
     ensures row { (guest : Guest) → guest.words ≡ words.now → guest.memory ≡ space.old → shown ≡ shown_of (timer_value below.old.kernel.now)
-        → IsCall (setitimer_row below.old.kernel.now guest 0 setting before) result below.new.kernel.now space.new guest.processor
+        → IsCall (setitimer_row below.old.kernel.now guest 0 (argument words.now 1) (argument words.now 2)) result below.new.kernel.now space.new guest.processor
         (contents I.left O.written E.written dev.old) (contents I.left O.written E.written dev.new) }
     ensures kept { (guest : Guest) → guest.words ≡ words.now → guest.memory ≡ space.old → shown ≡ shown_of (timer_value below.old.kernel.now)
-        → KeepsCall (setitimer_row below.old.kernel.now guest 0 setting before) result below.old.kernel.now guest (I.left dev.old.input) below.old.log.now below.new.log.now }
+        → KeepsCall (setitimer_row below.old.kernel.now guest 0 (argument words.now 1) (argument words.now 2)) result below.old.kernel.now guest (I.left dev.old.input) below.old.log.now below.new.log.now }
     ensures cause { StopsOnlyIfRose I.faults O.faults E.faults result dev.old dev.new }
     ensures counts { NoCountFell I.faults O.faults E.faults dev.old dev.new }
     ensures clock { below.new.kernel.now.clock ≡ below.old.kernel.now.clock }
     ensures same { LeadsOn below.old below.new }
 {
+    let [_, setting, before, _] = words.reg;
     let place = take_setting(space, setting, below.memory)?;
     let reply = set_timer(place, dev, below)?;
     let outcome = store_before(words, shown, reply, before, space, below.log)?;
