@@ -71,16 +71,16 @@ fn by_number<I: Source, O: Sink, E: Sink>(
     ensures clock { below.new.kernel.now.clock ≡ below.old.kernel.now.clock }
     ensures same { LeadsOn below.old below.new }
 {
-    let [a0, a1, a2, a3] = args.reg;
+    let [a0, a1, a2, _] = args.reg;
     match args.nr {
         4029 => pause(args, dev, below),
         4037 => kill(args, a0, a1, dev, below),
         4119 => sigreturn(cpu, space, dev, below),
         4193 => rt_sigreturn(cpu, space, dev, below),
-        4194 => rt_sigaction(a0, a1, a2, a3, space, dev, below),
-        4195 => rt_sigprocmask(a0, a1, a2, a3, space, dev, below),
+        4194 => rt_sigaction(args, space, dev, below),
+        4195 => rt_sigprocmask(args, space, dev, below),
         4196 => rt_sigpending(a0, a1, space, dev, below),
-        4198 => rt_sigqueueinfo(args, a0, a1, a2, space, dev, below),
+        4198 => rt_sigqueueinfo(args, space, dev, below),
         4199 => rt_sigsuspend(args, a0, a1, space, dev, below),
         4206 => sigaltstack(cpu, a0, a1, space, dev, below),
         4236 => tkill(args, a0, a1, dev, below),

@@ -6,6 +6,7 @@ ghost use Rattle.kernel_model.specs.Stops.{StopsOnlyIfRose};
 ghost use Rattle.o32_model.specs.Answered.{IsCall};
 ghost use Rattle.o32_model.specs.Sending.{kill_row, rt_sigqueueinfo_row, tgkill_row, tkill_row};
 ghost use Rattle.o32_model.specs.Step.{Guest};
+ghost use Rattle.o32_model.specs.Words.{argument};
 ghost use Rattle.outside.specs.Streams.{NoCountFell, contents};
 
 use crate::infos::take_info;
@@ -100,24 +101,22 @@ pub(crate) fn tgkill<I: Source, O: Sink, E: Sink>(
 /// uid and value of the structure are those of the signal.
 pub(crate) fn rt_sigqueueinfo<I: Source, O: Sink, E: Sink>(
     words: &CallWords,
-    pid: u32,
-    number: u32,
-    address: u32,
     space: &Space,
     dev: &mut Devices<I, O, E>,
     below: &mut Below,
 ) -> Result<Outcome, Stop>
     ensures row { (guest : Guest) → guest.words ≡ words.now → guest.memory ≡ space.now
-        → IsCall (rt_sigqueueinfo_row below.old.kernel.now guest (cast_signed w32 pid) number address) result below.new.kernel.now space.now guest.processor
+        → IsCall (rt_sigqueueinfo_row below.old.kernel.now guest (cast_signed w32 (argument words.now 0)) (argument words.now 1) (argument words.now 2)) result below.new.kernel.now space.now guest.processor
         (contents I.left O.written E.written dev.old) (contents I.left O.written E.written dev.new) }
     ensures kept { (guest : Guest) → guest.words ≡ words.now → guest.memory ≡ space.now
-        → KeepsCall (rt_sigqueueinfo_row below.old.kernel.now guest (cast_signed w32 pid) number address) result below.old.kernel.now guest
+        → KeepsCall (rt_sigqueueinfo_row below.old.kernel.now guest (cast_signed w32 (argument words.now 0)) (argument words.now 1) (argument words.now 2)) result below.old.kernel.now guest
         (I.left dev.old.input) below.old.log.now below.new.log.now }
     ensures cause { StopsOnlyIfRose I.faults O.faults E.faults result dev.old dev.new }
     ensures counts { NoCountFell I.faults O.faults E.faults dev.old dev.new }
     ensures clock { below.new.kernel.now.clock ≡ below.old.kernel.now.clock }
     ensures same { LeadsOn below.old below.new }
 {
+    let [pid, number, address, _] = words.reg;
     let place = take_info(space, address, below.memory)?;
     let args = [u64::from(pid), native_number(number), place, 0, 0, 0];
     below.number_call(words, RT_SIGQUEUEINFO, args, dev)

@@ -8,6 +8,7 @@ ghost use Rattle.kernel_model.specs.Stops.{StopsOnlyIfRose};
 ghost use Rattle.o32_model.specs.Actions.{rt_sigaction_row, rt_sigpending_row, rt_sigprocmask_row, sigaltstack_row};
 ghost use Rattle.o32_model.specs.Answered.{IsCall};
 ghost use Rattle.o32_model.specs.Step.{Guest};
+ghost use Rattle.o32_model.specs.Words.{argument};
 ghost use Rattle.outside.specs.Streams.{NoCountFell, contents};
 
 use crate::actions::change_action;
@@ -21,7 +22,7 @@ use bridge_signal_state::{Below, pending};
 use guest_space::Space;
 use kernel_core::{Errno, Stop};
 use mips_exec::Cpu;
-use o32_model::Outcome;
+use o32_model::{CallWords, Outcome};
 use outside::{Devices, Sink, Source};
 
 /// The number of the stack pointer among the registers (System V ABI, MIPS supplement).
@@ -31,24 +32,22 @@ const STACK_POINTER: u8 = 29;
 /// KILL or STOP; EFAULT. The old action is stored, where its address is not null; the new one stands also where that
 /// is EFAULT.
 pub(crate) fn rt_sigaction<I: Source, O: Sink, E: Sink>(
-    number: u32,
-    new: u32,
-    old: u32,
-    size: u32,
+    words: &CallWords,
     space: &mut Space,
     dev: &mut Devices<I, O, E>,
     below: &mut Below,
 ) -> Result<Outcome, Stop>
     ensures row { (guest : Guest) → guest.memory ≡ space.old
-        → IsCall (rt_sigaction_row below.old.kernel.now guest number new old size) result below.new.kernel.now space.new guest.processor
+        → IsCall (rt_sigaction_row below.old.kernel.now guest (argument words.now 0) (argument words.now 1) (argument words.now 2) (argument words.now 3)) result below.new.kernel.now space.new guest.processor
         (contents I.left O.written E.written dev.old) (contents I.left O.written E.written dev.new) }
     ensures kept { (guest : Guest) → guest.memory ≡ space.old
-        → KeepsCall (rt_sigaction_row below.old.kernel.now guest number new old size) result below.old.kernel.now guest (I.left dev.old.input) below.old.log.now below.new.log.now }
+        → KeepsCall (rt_sigaction_row below.old.kernel.now guest (argument words.now 0) (argument words.now 1) (argument words.now 2) (argument words.now 3)) result below.old.kernel.now guest (I.left dev.old.input) below.old.log.now below.new.log.now }
     ensures cause { StopsOnlyIfRose I.faults O.faults E.faults result dev.old dev.new }
     ensures counts { NoCountFell I.faults O.faults E.faults dev.old dev.new }
     ensures clock { below.new.kernel.now.clock ≡ below.old.kernel.now.clock }
     ensures same { LeadsOn below.old below.new }
 {
+    let [number, new, old, size] = words.reg;
     let asked = asked_action(number, new, size, space);
     let told = change_action(asked, dev, below)?;
     let outcome = store_action_unless_null(told, old, space, below.log)?;
@@ -58,24 +57,22 @@ pub(crate) fn rt_sigaction<I: Source, O: Sink, E: Sink>(
 /// rt_sigprocmask(2): EINVAL for another size of a set than 16, and, where there is a set, for a change that is not
 /// listed; EFAULT. The old mask is stored, where its address is not null; the new one stands also where that is EFAULT.
 pub(crate) fn rt_sigprocmask<I: Source, O: Sink, E: Sink>(
-    how: u32,
-    new: u32,
-    old: u32,
-    size: u32,
+    words: &CallWords,
     space: &mut Space,
     dev: &mut Devices<I, O, E>,
     below: &mut Below,
 ) -> Result<Outcome, Stop>
     ensures row { (guest : Guest) → guest.memory ≡ space.old
-        → IsCall (rt_sigprocmask_row below.old.kernel.now guest how new old size) result below.new.kernel.now space.new guest.processor
+        → IsCall (rt_sigprocmask_row below.old.kernel.now guest (argument words.now 0) (argument words.now 1) (argument words.now 2) (argument words.now 3)) result below.new.kernel.now space.new guest.processor
         (contents I.left O.written E.written dev.old) (contents I.left O.written E.written dev.new) }
     ensures kept { (guest : Guest) → guest.memory ≡ space.old
-        → KeepsCall (rt_sigprocmask_row below.old.kernel.now guest how new old size) result below.old.kernel.now guest (I.left dev.old.input) below.old.log.now below.new.log.now }
+        → KeepsCall (rt_sigprocmask_row below.old.kernel.now guest (argument words.now 0) (argument words.now 1) (argument words.now 2) (argument words.now 3)) result below.old.kernel.now guest (I.left dev.old.input) below.old.log.now below.new.log.now }
     ensures cause { StopsOnlyIfRose I.faults O.faults E.faults result dev.old dev.new }
     ensures counts { NoCountFell I.faults O.faults E.faults dev.old dev.new }
     ensures clock { below.new.kernel.now.clock ≡ below.old.kernel.now.clock }
     ensures same { LeadsOn below.old below.new }
 {
+    let [how, new, old, size] = words.reg;
     let asked = asked_change(how, new, size, space);
     let told = change_mask(asked, dev, below)?;
     let outcome = store_set_unless_null(told, old, space, below.log)?;

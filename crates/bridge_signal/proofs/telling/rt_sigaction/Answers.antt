@@ -3,6 +3,7 @@ use Rattle.std.proofs.Common.{◌∙◌, ap, sym}
 use Rattle.guest_space.specs.Memory.{Memory}
 use Rattle.number_tables.specs.Signals.{signal_of_o32}
 use Rattle.o32_model.specs.Actions.{action_at, action_bytes, rt_sigaction_row}
+use Rattle.o32_model.specs.Words.{argument}
 use Rattle.bridge_signal.proofs.Asking.{action_ended}
 use Rattle.bridge_signal.specs.inside.Asked.{asked_of, if_sized}
 use Rattle.bridge_signal.specs.inside.Endings.{stores_told_unless_null}
@@ -12,14 +13,14 @@ use Rattle.bridge_signal.proofs.telling.rt_sigaction.Goals as goal
 pub returns-clause-row : goal.returns-clause-row
 returns-clause-row g c = λ guest memory left told.
     let seen = c.in_ok-told.ensures.acts left told in
-    ends_called c.in_ok-outcome.outcome c.store_action_unless_null.new.space guest.processor (stores_told_unless_null action_bytes guest.memory c.args.old c.in_ok-told.told) (rt_sigaction_row c.args.below.now.kernel.now guest c.args.number c.args.new c.args.old c.args.size left) seen.1 told
-    (action_ended c.args.below.now.kernel.now c.change_action.new.below.kernel.now guest c.args.number c.args.new c.args.old c.args.size left c.asked_action-asked.result c.in_ok-told.told (c.asked_action-asked.ensures.row ∙ ap (λ (m : Memory). if_sized c.args.size (asked_of (signal_of_o32 c.args.number) (action_at m c.args.new))) (sym memory)) seen.0)
-    (ap (λ (m : Memory). stores_told_unless_null action_bytes m c.args.old c.in_ok-told.told) memory ∙ c.in_ok-outcome.ensures.ends)
+    ends_called c.in_ok-outcome.outcome c.store_action_unless_null.new.space guest.processor (stores_told_unless_null action_bytes guest.memory (argument c.args.words.now 2) c.in_ok-told.told) (rt_sigaction_row c.args.below.now.kernel.now guest (argument c.args.words.now 0) (argument c.args.words.now 1) (argument c.args.words.now 2) (argument c.args.words.now 3) left) seen.1 told
+    (action_ended c.args.below.now.kernel.now c.change_action.new.below.kernel.now guest (argument c.args.words.now 0) (argument c.args.words.now 1) (argument c.args.words.now 2) (argument c.args.words.now 3) left c.asked_action-asked.result c.in_ok-told.told (c.asked_action-asked.ensures.row ∙ ap (λ (m : Memory). if_sized (argument c.args.words.now 3) (asked_of (signal_of_o32 (argument c.args.words.now 0)) (action_at m (argument c.args.words.now 1)))) (sym memory)) seen.0)
+    (ap (λ (m : Memory). stores_told_unless_null action_bytes m (argument c.args.words.now 2) c.in_ok-told.told) memory ∙ c.in_ok-outcome.ensures.ends)
 
 pub returns-clause-kept : goal.returns-clause-kept
 returns-clause-kept g c = λ guest memory left told.
     let seen = c.in_ok-told.ensures.acts left told in
-    ends_keeps guest c.in_ok-outcome.outcome c.args.space.now c.store_action_unless_null.new.space guest.processor (stores_told_unless_null action_bytes guest.memory c.args.old c.in_ok-told.told) (rt_sigaction_row c.args.below.now.kernel.now guest c.args.number c.args.new c.args.old c.args.size left) c.store_action_unless_null.new.log seen.1 memory
-    (action_ended c.args.below.now.kernel.now c.change_action.new.below.kernel.now guest c.args.number c.args.new c.args.old c.args.size left c.asked_action-asked.result c.in_ok-told.told (c.asked_action-asked.ensures.row ∙ ap (λ (m : Memory). if_sized c.args.size (asked_of (signal_of_o32 c.args.number) (action_at m c.args.new))) (sym memory)) seen.0)
-    (ap (λ (m : Memory). stores_told_unless_null action_bytes m c.args.old c.in_ok-told.told) memory ∙ c.in_ok-outcome.ensures.ends)
+    ends_keeps guest c.in_ok-outcome.outcome c.args.space.now c.store_action_unless_null.new.space guest.processor (stores_told_unless_null action_bytes guest.memory (argument c.args.words.now 2) c.in_ok-told.told) (rt_sigaction_row c.args.below.now.kernel.now guest (argument c.args.words.now 0) (argument c.args.words.now 1) (argument c.args.words.now 2) (argument c.args.words.now 3) left) c.store_action_unless_null.new.log seen.1 memory
+    (action_ended c.args.below.now.kernel.now c.change_action.new.below.kernel.now guest (argument c.args.words.now 0) (argument c.args.words.now 1) (argument c.args.words.now 2) (argument c.args.words.now 3) left c.asked_action-asked.result c.in_ok-told.told (c.asked_action-asked.ensures.row ∙ ap (λ (m : Memory). if_sized (argument c.args.words.now 3) (asked_of (signal_of_o32 (argument c.args.words.now 0)) (action_at m (argument c.args.words.now 1)))) (sym memory)) seen.0)
+    (ap (λ (m : Memory). stores_told_unless_null action_bytes m (argument c.args.words.now 2) c.in_ok-told.told) memory ∙ c.in_ok-outcome.ensures.ends)
     c.store_action_unless_null.ensures.native c.in_ok-outcome.ensures.effects
