@@ -25,6 +25,17 @@ use o32_model::{Cause, Close, Log, Wait};
 use o32_turns::Going;
 use outside::{Devices, Sink, Source};
 
+/// What ends a wait.
+#[derive(Clone, Copy)]
+struct Ending {
+    /// Why it ends.
+    cause: Cause,
+    /// Whether the action of the handler that ends it restarts calls (SA_RESTART of sigaction(2)).
+    restarts: bool,
+    /// The kernel's time, in nanoseconds.
+    clock: u64,
+}
+
 /// Ends the call that waits, if there is one, for a cause, at the kernel's time `clock`, in nanoseconds; `restarts`
 /// says that the action of the handler that ends it restarts calls (SA_RESTART of sigaction(2)). The call returns a
 /// result or an error, or its SYSCALL comes again, with its own number or with that of restart_syscall(2), which then
@@ -56,57 +67,63 @@ pub fn end_wait<I: Source, O: Sink, E: Sink>(
         memory: mem,
         log,
     };
-    end_call(restarts, cause, clock, going, cpu, space, dev, below)
+    let ending = Ending {
+        cause,
+        restarts,
+        clock,
+    };
+    end_call(ending, going, cpu, space, dev, below)
 }
 
 /// The same, with the kernel and what its calls are made with as one value.
 fn end_call<I: Source, O: Sink, E: Sink>(
-    restarts: bool,
-    cause: Cause,
-    clock: u64,
+    ending: Ending,
     going: &mut Going,
     cpu: &mut Cpu,
     space: &mut Space,
     dev: &mut Devices<I, O, E>,
     below: &mut Below,
 ) -> Result<(), Stop>
-    requires clock { below.old.kernel.now.clock ≡ clock }
-    ensures ends { Carries (λ within. ended_wait restarts cause within within.machine.wait) result
+    requires clock { below.old.kernel.now.clock ≡ ending.clock }
+    ensures ends { Carries (λ within. ended_wait ending.restarts ending.cause within within.machine.wait) result
         (within_of going.old cpu.old space.old below.old.kernel.now) (within_of going.new cpu.new space.new below.new.kernel.now)
         (contents I.left O.written E.written dev.old) (contents I.left O.written E.written dev.new) }
     ensures kept { KeepsEnd result (I.left dev.old.input) below.old.kernel.now below.new.kernel.now space.old.pages space.new.pages below.old.log.now below.new.log.now }
     ensures cause { StopsOnlyIfRose I.faults O.faults E.faults result dev.old dev.new }
     ensures counts { NoCountFell I.faults O.faults E.faults dev.old dev.new }
-    ensures clock { below.new.kernel.now.clock ≡ clock }
+    ensures clock { below.new.kernel.now.clock ≡ ending.clock }
     ensures same { LeadsOn below.old below.new }
 {
     let Some(wait) = going.wait else {
         return Ok(());
     };
-    let end = wait_close(restarts, &wait, cause, clock, space, dev, below)?;
+    let end = wait_close(&wait, ending, space, dev, below)?;
     close(&wait, end, going, cpu)?;
     Ok(())
 }
 
 /// What the end of a wait comes to, by the number of its call; what it stores is stored.
 fn wait_close<I: Source, O: Sink, E: Sink>(
-    restarts: bool,
     wait: &Wait,
-    cause: Cause,
-    clock: u64,
+    ending: Ending,
     space: &mut Space,
     dev: &mut Devices<I, O, E>,
     below: &mut Below,
 ) -> Result<Close, Stop>
-    requires { below.old.kernel.now.clock ≡ clock }
-    ensures ends { Closes (whole_end restarts wait.now cause below.old.kernel.now space.old) result below.new.kernel.now space.new
+    requires { below.old.kernel.now.clock ≡ ending.clock }
+    ensures ends { Closes (whole_end ending.restarts wait.now ending.cause below.old.kernel.now space.old) result below.new.kernel.now space.new
         (contents I.left O.written E.written dev.old) (contents I.left O.written E.written dev.new) }
     ensures kept { KeepsEnd result (I.left dev.old.input) below.old.kernel.now below.new.kernel.now space.old.pages space.new.pages below.old.log.now below.new.log.now }
     ensures cause { StopsOnlyIfRose I.faults O.faults E.faults result dev.old dev.new }
     ensures counts { NoCountFell I.faults O.faults E.faults dev.old dev.new }
-    ensures clock { below.new.kernel.now.clock ≡ clock }
+    ensures clock { below.new.kernel.now.clock ≡ ending.clock }
     ensures same { LeadsOn below.old below.new }
 {
+    let Ending {
+        cause,
+        restarts,
+        clock,
+    } = ending;
     if is_transfer(wait) {
         return Ok(transfer_close(restarts, wait, cause));
     }
