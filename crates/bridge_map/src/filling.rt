@@ -19,35 +19,56 @@ use outside::{Devices, Sink, Source};
 /// own length.
 const PIECE: u32 = 0x1_0000;
 
-/// Reads a file from `offset` on to memory from `address` on, as far as it goes, at most `count` bytes, by
-/// native calls of a piece each.
+/// A part of a file that goes to the program's memory.
+#[derive(Clone, Copy)]
+pub(crate) struct FilePart {
+    /// The file's descriptor.
+    pub(crate) fd: u32,
+    /// Where the part begins in the file.
+    pub(crate) offset: u64,
+    /// Where it goes in memory.
+    pub(crate) address: u32,
+    /// How many bytes it has at most, as the file may end within it.
+    pub(crate) count: u32,
+}
+
+/// Reads a part of a file to memory, as far as the file goes, by native calls of a piece each.
 pub(crate) fn fill<I: Source, O: Sink, E: Sink>(
     args: &CallWords,
-    fd: u32,
-    offset: u64,
-    address: u32,
-    count: u32,
+    part: FilePart,
     space: &mut Space,
     dev: &mut Devices<I, O, E>,
     below: &mut Below,
 ) -> Result<(), Stop>
-    requires offset { offset < 2 ^ 62 }
-    requires range { address + count < 2 ^ 32 }
+    requires offset { part.offset < 2 ^ 62 }
+    requires range { part.address + part.count < 2 ^ 32 }
     ensures filled { (left : List ℕ) → I.left dev.old.input ≡ Some left
-        → (content : FileContent) → Shows below.old.kernel.now.files fd content → AreStorable space.old.pages address count
+        → (content : FileContent) → Shows below.old.kernel.now.files part.fd content → AreStorable space.old.pages part.address part.count
         → Fills (λ _. ⊤) result below.old.kernel.now below.new.kernel.now left
         (contents I.left O.written E.written dev.old) (contents I.left O.written E.written dev.new)
-        space.old space.new below.old.log.now below.new.log.now address (file_bytes content offset count) }
+        space.old space.new below.old.log.now below.new.log.now part.address (file_bytes content part.offset part.count) }
     ensures cause { StopsOnlyIfRose I.faults O.faults E.faults result dev.old dev.new }
     ensures counts { NoCountFell I.faults O.faults E.faults dev.old dev.new }
     ensures clock { below.new.kernel.now.clock ≡ below.old.kernel.now.clock }
     ensures same { LeadsOn below.old below.new }
 {
+    let FilePart {
+        fd,
+        offset,
+        address,
+        count,
+    } = part;
     for piece in 0..count.div_ceil(PIECE) {
         let done = piece * PIECE;
         let want = (count - done).min(PIECE);
         let from = offset + u64::from(done);
-        let got = fill_piece(args, fd, from, address + done, want, space, dev, below)?;
+        let next = FilePart {
+            fd,
+            offset: from,
+            address: address + done,
+            count: want,
+        };
+        let got = fill_piece(args, next, space, dev, below)?;
         if got < want {
             return Ok(());
         }
@@ -58,27 +79,30 @@ pub(crate) fn fill<I: Source, O: Sink, E: Sink>(
 /// Reads a piece of a file to memory, and answers how many bytes of it there were.
 fn fill_piece<I: Source, O: Sink, E: Sink>(
     args: &CallWords,
-    fd: u32,
-    offset: u64,
-    address: u32,
-    count: u32,
+    part: FilePart,
     space: &mut Space,
     dev: &mut Devices<I, O, E>,
     below: &mut Below,
 ) -> Result<u32, Stop>
-    requires offset { offset < 2 ^ 63 }
-    requires some { 0 < count }
-    requires few { count ≤ 65536 }
+    requires offset { part.offset < 2 ^ 63 }
+    requires some { 0 < part.count }
+    requires few { part.count ≤ 65536 }
     ensures filled { (left : List ℕ) → I.left dev.old.input ≡ Some left
-        → (content : FileContent) → Shows below.old.kernel.now.files fd content → AreStorable space.old.pages address count
-        → Fills (λ got. got ≡ length (file_bytes content offset count)) result below.old.kernel.now below.new.kernel.now left
+        → (content : FileContent) → Shows below.old.kernel.now.files part.fd content → AreStorable space.old.pages part.address part.count
+        → Fills (λ got. got ≡ length (file_bytes content part.offset part.count)) result below.old.kernel.now below.new.kernel.now left
         (contents I.left O.written E.written dev.old) (contents I.left O.written E.written dev.new)
-        space.old space.new below.old.log.now below.new.log.now address (file_bytes content offset count) }
+        space.old space.new below.old.log.now below.new.log.now part.address (file_bytes content part.offset part.count) }
     ensures cause { StopsOnlyIfRose I.faults O.faults E.faults result dev.old dev.new }
     ensures counts { NoCountFell I.faults O.faults E.faults dev.old dev.new }
     ensures clock { below.new.kernel.now.clock ≡ below.old.kernel.now.clock }
     ensures same { LeadsOn below.old below.new }
 {
+    let FilePart {
+        fd,
+        offset,
+        address,
+        count,
+    } = part;
     let call = [u64::from(fd), FIRST_ADDRESS, u64::from(count), offset, 0, 0];
     let outcome = below.fill_call(args, address, count, space, PREAD64, call, dev)?;
     Ok(count_of(outcome))

@@ -13,7 +13,7 @@ ghost use Rattle.outside.specs.Streams.{NoCountFell, contents};
 
 use crate::asked::{Asked, asked_in};
 use crate::effects::{map, protect};
-use crate::filling::fill;
+use crate::filling::{FilePart, fill};
 use crate::place::place_for;
 use crate::shown::refusal;
 use bridge_log::Below;
@@ -127,17 +127,13 @@ fn map_shown_at<I: Source, O: Sink, E: Sink>(
         return Ok(Outcome::Error(Errno::ENOMEM));
     }
     let address = first * PAGE_SIZE;
-    let bytes = asked.count * PAGE_SIZE;
-    fill(
-        args,
-        asked.fd,
-        asked.offset,
+    let part = FilePart {
+        fd: asked.fd,
+        offset: asked.offset,
         address,
-        bytes,
-        space,
-        dev,
-        below,
-    )?;
+        count: asked.count * PAGE_SIZE,
+    };
+    fill(args, part, space, dev, below)?;
     protect(space, below.log, first, asked.count, asked.protection)?;
     Ok(Outcome::Value(address))
 }

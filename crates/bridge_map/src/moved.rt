@@ -11,26 +11,38 @@ use kernel_core::address_space::{PAGE_SIZE, PROT_READ, PROT_WRITE};
 use kernel_core::{Bytes, Effect, NoMemory};
 use o32_model::Log;
 
-/// Keeps what a change of size led over, after it: a range of `old` pages got the size of `new` pages, and stands
-/// at page `at` then; `protection` is that of its last old page. A page's bytes are copied only where effects are
-/// kept.
-pub(crate) fn keep_resized(
-    space: &Space,
-    log: &mut Log,
-    first: u32,
-    old: u32,
-    new: u32,
-    at: u32,
-    protection: u8,
-) -> Result<(), NoMemory>
-    requires some { 0 < old }
-    requires first { first + old ≤ 524280 }
-    requires new { new ≤ 1048576 }
-    requires at { at + old ≤ 524280 }
-    ensures effects { OnOk result (log.new.effects ≡ with_more log.old.effects (resize_effects space.now.pages first old new at protection)) }
+/// A range of pages that got another size.
+#[derive(Clone, Copy)]
+pub(crate) struct Resized {
+    /// Its first page before.
+    pub(crate) first: u32,
+    /// How many pages it had.
+    pub(crate) old: u32,
+    /// How many it has.
+    pub(crate) new: u32,
+    /// Its first page now.
+    pub(crate) at: u32,
+    /// The protection of the last page that it had.
+    pub(crate) protection: u8,
+}
+
+/// Keeps what a change of size led over, after it. A page's bytes are copied only where effects are kept.
+pub(crate) fn keep_resized(space: &Space, log: &mut Log, range: Resized) -> Result<(), NoMemory>
+    requires some { 0 < range.old }
+    requires first { range.first + range.old ≤ 524280 }
+    requires new { range.new ≤ 1048576 }
+    requires at { range.at + range.old ≤ 524280 }
+    ensures effects { OnOk result (log.new.effects ≡ with_more log.old.effects (resize_effects space.now.pages range.first range.old range.new range.at range.protection)) }
     ensures native { log.new.native ≡ log.old.native }
-    ensures zeros { OnOk result (old < new → at ≢ first → (k : ℕ) → k < old → IsWrittenOrZeros (get space.now.pages (at + k))) }
+    ensures zeros { OnOk result (range.old < range.new → range.at ≢ range.first → (k : ℕ) → k < range.old → IsWrittenOrZeros (get space.now.pages (range.at + k))) }
 {
+    let Resized {
+        first,
+        old,
+        new,
+        at,
+        protection,
+    } = range;
     if new < old {
         let count = old - new;
         keep(

@@ -11,7 +11,7 @@ ghost use Rattle.o32_model.specs.Ranges.{resized};
 ghost use Rattle.o32_model.specs.Step.{outcome_of, value};
 ghost use Rattle.o32_model.specs.Words.{argument};
 
-use crate::moved::keep_resized;
+use crate::moved::{Resized, keep_resized};
 use crate::range::{is_aligned, mapped, page_count, page_of};
 use guest_space::{MapError, Space};
 use kernel_core::address_space::PAGE_SIZE;
@@ -72,7 +72,14 @@ fn resize(
     let protection = protection_of(space, first + old - 1);
     match space.remap(first, old, new, may_move) {
         Ok(at) => {
-            keep_resized(space, log, first, old, new, at, protection)?;
+            let range = Resized {
+                first,
+                old,
+                new,
+                at,
+                protection,
+            };
+            keep_resized(space, log, range)?;
             Ok(Some(at))
         }
         Err(MapError::Full) => Ok(None),

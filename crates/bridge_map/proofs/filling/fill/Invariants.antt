@@ -15,8 +15,8 @@ invariant-loop-piece g l = record {
   same : LeadsOn l.fn.below l.below;
   so_far :
       (left : List ℕ) → g.I.Source.left l.fn.dev.input ≡ Some left
-      → (content : FileContent) → Shows l.fn.below.kernel.now.files l.fn.fd content → AreStorable l.fn.space.pages l.fn.address l.fn.count
+      → (content : FileContent) → Shows l.fn.below.kernel.now.files l.fn.part.fd content → AreStorable l.fn.space.pages l.fn.part.address l.fn.part.count
       → SoFar content l.fn.below.kernel.now l.below.kernel.now left
       (contents g.I.Source.left g.O.Sink.written g.E.Sink.written l.fn.dev) (contents g.I.Source.left g.O.Sink.written g.E.Sink.written l.dev)
-      l.fn.space l.space l.fn.below.log.now l.below.log.now l.fn.address l.fn.offset (min (l.piece * 65536) l.fn.count);
+      l.fn.space l.space l.fn.below.log.now l.below.log.now l.fn.part.address l.fn.part.offset (min (l.piece * 65536) l.fn.part.count);
 }

@@ -10,17 +10,17 @@ use Rattle.bridge_map.proofs.moved.keep_resized.Goals as goal
 pub returns-then-new-old-clause-effects : goal.returns-then-new-old-clause-effects
 returns-then-new-old-clause-effects c =
     c.in_ok-keep.ensures.effects
-    ∙ ap (with_more c.args.log.now.effects) (sym (cut_effects c.args.space.now.pages c.args.first c.args.old c.args.new c.args.at c.args.protection c.if-new-old.true))
+    ∙ ap (with_more c.args.log.now.effects) (sym (cut_effects c.args.space.now.pages c.args.range.first c.args.range.old c.args.range.new c.args.range.at c.args.range.protection c.if-new-old.true))
 
 pub returns-then-new-old-2-clause-effects : goal.returns-then-new-old-2-clause-effects
 returns-then-new-old-2-clause-effects c =
     with_more-none c.args.log.now.effects
-    ∙ ap (with_more c.args.log.now.effects) (sym (same_effects c.args.space.now.pages c.args.first c.args.old c.args.new c.args.at c.args.protection c.if-new-old-2.true))
+    ∙ ap (with_more c.args.log.now.effects) (sym (same_effects c.args.space.now.pages c.args.range.first c.args.range.old c.args.range.new c.args.range.at c.args.range.protection c.if-new-old-2.true))
 
 pub returns-clause-effects : goal.returns-clause-effects
 returns-clause-effects c =
-    let growth : List Effect = Map (c.args.at + c.args.old) (c.args.new - c.args.old) c.args.protection ∷ [] in
+    let growth : List Effect = Map (c.args.range.at + c.args.range.old) (c.args.range.new - c.args.range.old) c.args.range.protection ∷ [] in
     c.in_ok-keep-2.ensures.effects
     ∙ ap (λ kept. with_more kept growth) c.in_ok-keep_moved.ensures.effects
-    ∙ with_more-twice c.args.log.now.effects (move_effects c.args.space.now.pages c.args.first c.args.old c.args.at) growth
-    ∙ ap (with_more c.args.log.now.effects) (sym (growth_effects c.args.space.now.pages c.args.first c.args.old c.args.new c.args.at c.args.protection (omega arith)))
+    ∙ with_more-twice c.args.log.now.effects (move_effects c.args.space.now.pages c.args.range.first c.args.range.old c.args.range.at) growth
+    ∙ ap (with_more c.args.log.now.effects) (sym (growth_effects c.args.space.now.pages c.args.range.first c.args.range.old c.args.range.new c.args.range.at c.args.range.protection (omega arith)))
