@@ -24,7 +24,7 @@ use Rattle.o32_model.specs.NodeCalls as o32
 use Rattle.o32_model.specs.Opening as opening
 use Rattle.o32_model.specs.Opening.{is_far, place_bytes}
 use Rattle.o32_model.specs.Step as o32_step
-use Rattle.o32_model.specs.Step.{Guest, O32Step, failure}
+use Rattle.o32_model.specs.Step.{Guest, failure}
 use Rattle.o32_model.specs.Transfers.{small_file_limit}
 use Rattle.o32_model.specs.declared.call_words.CallWords.{CallWords}
 use Rattle.o32_model.specs.declared.outcome.Outcome.TheVariants as outcomes

@@ -1,12 +1,12 @@
 //! The calls on names: mkdir(2), rmdir(2), unlink(2), symlink(2), link(2), rename(2), and their forms with
 //! descriptors of directories. What is wrong with a path is EFAULT or ENAMETOOLONG, and what the walk finds.
-ghost use Rattle.std.specs.Prelude.{◌≡◌, ℕ, List};
+ghost use Rattle.std.specs.Prelude.{◌≡◌};
 ghost use Rattle.bridge_paths.specs.Passed.{KeepsCall, LeadsOn};
 ghost use Rattle.kernel_model.specs.Stops.{StopsOnlyIfRose};
 ghost use Rattle.o32_model.specs.Answered.{IsCall};
 ghost use Rattle.o32_model.specs.Names.{follow_flag, linked, linkat_row, mkdir_row, remove_directory_flag, remove_row, rename_row, symlink_row};
 ghost use Rattle.o32_model.specs.PathArguments.{base, one_flag};
-ghost use Rattle.o32_model.specs.Step.{Guest, O32Step, gives};
+ghost use Rattle.o32_model.specs.Step.{Guest, gives};
 ghost use Rattle.o32_model.specs.Words.{stack_word};
 ghost use Rattle.outside.specs.Streams.{NoCountFell, contents};
 

@@ -46,7 +46,8 @@ pub(crate) fn lseek<I: Source, O: Sink, E: Sink>(
 {
     below.memory.clear();
     let args = [u64::from(fd), widened(offset), u64::from(origin), 0, 0, 0];
-    place_call(words, NativeCall { nr: LSEEK, args }, dev, below)
+    let call = NativeCall { nr: LSEEK, args };
+    place_call(words, call, dev, below)
 }
 
 /// Makes a native call whose number is a place, and EOVERFLOW where the result does not hold it.
@@ -113,14 +114,8 @@ pub(crate) fn llseek<I: Source, O: Sink, E: Sink>(
                 what: Told::Place,
                 address,
             };
-            tell_call(
-                words,
-                told,
-                space,
-                NativeCall { nr: LSEEK, args },
-                dev,
-                below,
-            )
+            let call = NativeCall { nr: LSEEK, args };
+            tell_call(words, told, space, call, dev, below)
         }
     }
 }

@@ -87,7 +87,7 @@ fn tell(
     ensures native { log.new.native ≡ log.old.native }
 {
     match reply {
-        Reply::Done(number) if number >= 0 => { tell_number(told, mem, number as u64, space, log) }
+        Reply::Done(number) if number >= 0 => tell_number(told, mem, number as u64, space, log),
         _ => Ok(outcome_of(words, reply)),
     }
 }

@@ -34,7 +34,7 @@ pub(crate) struct LinkQuery {
     pub(crate) link: PathAt,
     /// The address in the program's memory that its text goes to.
     pub(crate) buffer: u32,
-    /// How many bytes have room there (size_t).
+    /// How many bytes have room there, a signed number (ssize_t).
     pub(crate) size: u32,
 }
 

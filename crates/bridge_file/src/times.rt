@@ -18,7 +18,6 @@ ghost use Rattle.outside.specs.Streams.{NoCountFell, contents};
 ghost use Rattle.bridge_file.specs.inside.BothTimes.{
   HasPathOrNone,
   both_bytes,
-  host_path_or_none,
   host_times_or_none,
   path_or_none,
   times_of,
