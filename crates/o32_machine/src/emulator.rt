@@ -20,6 +20,7 @@ ghost use Rattle.outside.specs.Streams.{NoCountFell, contents};
 ghost use Rattle.schedule.specs.Ranges.{IsGivenSchedule};
 ghost use Rattle.turn_records.specs.Keeping.{emptied, first_records};
 
+use crate::kept::Kept;
 use crate::process::Process;
 use crate::times::{later, most_quiet};
 use crate::turn::Turn;
@@ -47,12 +48,7 @@ pub struct Emulator {
     quantum: u64,
     turns: u64,
     over: bool,
-    /// What the kernel was told and asked in the last turns that were taken at once.
-    native: NativeLog,
-    /// What a journal keeps of the last turn.
-    records: TurnRecords,
-    /// The registers before the last part of a turn that was looked at for the journal.
-    was: Registers,
+    kept: Kept,
 }
 
 impl Model for Emulator {
@@ -66,10 +62,10 @@ impl Model for Emulator {
 
     ghost coded = { Prim.hlevel (codes, memory_code, nodes_code) };
 
-    ghost view = { λ e. record { machine = machine_at e.clock (machine_of e.process); quantum = e.quantum; turns = e.turns; over = e.over; events = e.process.going.events; native = e.native; records = e.records } };
+    ghost view = { λ e. record { machine = machine_at e.clock (machine_of e.process); quantum = e.quantum; turns = e.turns; over = e.over; events = e.process.going.events; native = e.kept.native; records = e.kept.records } };
 
     ghost invariant = { λ e. (1 ≤ e.quantum) × (e.quantum ≤ 1_000_000) × (e.clock ≤ 2 ^ 61 + 1_000_000 * e.turns) × (e.process.idle ≤ e.clock)
-        × (e.process.kernel.clock ≤ e.clock) × (e.native.told ≤ e.process.kernel.clock) × (e.turns ≤ 1_000_000_000_000) };
+        × (e.process.kernel.clock ≤ e.clock) × (e.kept.native.told ≤ e.process.kernel.clock) × (e.turns ≤ 1_000_000_000_000) };
 }
 
 impl Emulator {
@@ -99,9 +95,11 @@ impl Emulator {
             quantum,
             turns: 0,
             over: false,
-            native: NativeLog::new(alloc, log),
-            records: TurnRecords::new(alloc, journal),
-            was,
+            kept: Kept {
+                native: NativeLog::new(alloc, log),
+                records: TurnRecords::new(alloc, journal),
+                was,
+            },
         })
     }
 
@@ -229,22 +227,15 @@ impl Emulator {
         ensures counts { NoCountFell I.faults O.faults E.faults dev.old dev.new }
     {
         self.process.begin();
-        self.native.clear();
-        self.records.clear();
+        self.kept.clear();
         let ran = self.process.run(most);
         self.clock = later(self.clock, self.quantum, ran.quiet);
         self.turns += ran.quiet;
         let came = ran.came?;
         self.process.set_clock(self.clock)?;
-        let turn = self.process.end_turn(
-            came,
-            self.clock,
-            self.turns + 1,
-            &mut self.native,
-            &mut self.records,
-            &mut self.was,
-            dev,
-        )?;
+        let turn = self
+            .process
+            .end_turn(came, self.clock, self.turns + 1, &mut self.kept, dev)?;
         self.clock += self.quantum;
         self.turns += 1;
         Ok(turn)
@@ -268,27 +259,13 @@ impl Emulator {
         ensures cause { StopsOnlyIfRose I.faults O.faults E.faults result dev.old dev.new }
         ensures counts { NoCountFell I.faults O.faults E.faults dev.old dev.new }
     {
-        self.native.clear();
-        self.records.clear();
+        self.kept.clear();
         let next = self.turns + 1;
-        self.process.settle(
-            self.clock,
-            next,
-            &mut self.native,
-            &mut self.records,
-            &mut self.was,
-            dev,
-        )?;
-        let last = self.process.last_steps(
-            self.clock,
-            self.quantum,
-            next,
-            &mut self.native,
-            &mut self.records,
-            &mut self.was,
-            dev,
-        )?;
-        end_records(&mut self.records, last.turn);
+        self.process.settle(self.clock, next, &mut self.kept, dev)?;
+        let last = self
+            .process
+            .last_steps(self.clock, self.quantum, next, &mut self.kept, dev)?;
+        end_records(&mut self.kept.records, last.turn);
         self.clock = last.clock;
         self.turns += last.turn.count();
         Ok(last.turn)
@@ -320,17 +297,11 @@ impl Emulator {
     {
         self.over = true;
         self.process.begin();
-        self.native.clear();
-        self.records.clear();
+        self.kept.clear();
         self.process.set_clock(self.clock)?;
-        let turn = self.process.call(
-            self.clock,
-            self.turns + 1,
-            &mut self.native,
-            &mut self.records,
-            &mut self.was,
-            dev,
-        )?;
+        let turn = self
+            .process
+            .call(self.clock, self.turns + 1, &mut self.kept, dev)?;
         self.over = turn.is_end();
         Ok(turn)
     }
@@ -363,7 +334,7 @@ impl Emulator {
     pub fn native(&self) -> &[LogEntry]
         ensures { result.now ≡ unwrap_or self.now.native.entries [] }
     {
-        self.native.entries()
+        self.kept.native.entries()
     }
 
     /// What a journal keeps of the last turn, or of the last call alone, in order: what was done to the machine before the
@@ -373,7 +344,7 @@ impl Emulator {
     pub fn records(&self) -> &[Record]
         ensures { result.now ≡ unwrap_or self.now.records [] }
     {
-        self.records.records()
+        self.kept.records.records()
     }
 
     /// Whether the process runs: it is not over, no call waits, and no signal has stopped it.

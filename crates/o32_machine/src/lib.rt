@@ -4,9 +4,11 @@
 mod calls;
 mod emulator;
 mod files;
+mod kept;
 mod numbers;
 mod posting;
 mod process;
+mod process_core;
 mod times;
 mod turn;
 

@@ -10,7 +10,7 @@ ghost use Rattle.mips_exec.specs.Processor.{register};
 ghost use Rattle.mips_exec.specs.Going.{GoesThen};
 ghost use Rattle.o32_machine.specs.Answered.{IsTurn, Turned, over_of, turns_of};
 ghost use Rattle.o32_machine.specs.Emulator.{at_clock, coming_of, first_process, first_standing, machine_at, machine_of, within_at, within_now};
-ghost use Rattle.native_log.specs.NativeLog.{IsReady, NativeLog as KeptLog, emptied};
+ghost use Rattle.native_log.specs.NativeLog.{IsReady};
 ghost use Rattle.o32_machine.specs.inside.Finishing.{finished};
 ghost use Rattle.o32_machine.specs.inside.Logging.{KeepsNative, LastLogged, LogsLast, LogsSettled, PostsLogged};
 ghost use Rattle.o32_machine.specs.inside.Plainly.{called_of, is_plain_call};
@@ -26,23 +26,24 @@ ghost use Rattle.o32_turns.specs.Turn.{after_events, next_event, next_for, secon
 ghost use Rattle.o32_model.specs.Words.{a3, v0, with_result};
 ghost use Rattle.o32_model.specs.declared.call_words.CallWords.{CallWords};
 ghost use Rattle.turn_records.specs.Entry.{IsOne};
-ghost use Rattle.turn_records.specs.Keeping.{Gains, no_effects};
+ghost use Rattle.turn_records.specs.Keeping.{Gains};
 ghost use Rattle.turn_records.specs.Turn.{IsCallEntry};
 ghost use Rattle.outside.specs.Streams.{Contents, NoCountFell, contents};
 ghost use Rattle.schedule.specs.Ranges.{IsGivenSchedule};
 
 use crate::calls::make_call;
+use crate::kept::Kept;
 use crate::numbers::is_plain_call;
 use crate::posting::post_due;
+use crate::process_core::Core;
 use crate::times::{deadline_in, if_comes, is_over_at, later, sooner};
 use crate::turn::Turn;
 use bridge_delivery::{accepts, deliver, end_wait, is_quiet, post_timer};
 use bridge_mem::args;
 use bridge_system::plain_call;
-use guest_space::Space;
 use host_mem::HostMem;
 use kernel_core::{Effect, Event, Finish, Info, NoMemory, Sig, Stop, Tree};
-use mips_exec::{Cpu, Ran, Stepped, run};
+use mips_exec::{Ran, Stepped, run};
 use native_kernel::NativeKernel;
 use native_log::NativeLog;
 use number_tables::O32Number;
@@ -53,7 +54,6 @@ use schedule::Schedule;
 use start_stack::Start;
 use std::alloc::Global;
 use std::marker::Model;
-use turn_records::{Registers, TurnRecords};
 
 // The registers of a call's results (System V ABI, MIPS supplement; syscall(2)).
 
@@ -83,13 +83,7 @@ pub(crate) struct Last {
 /// A process. Contracts see it as `ProcessState`, whose kernel is the native one as it stands.
 #[derive(Drop)]
 pub(crate) struct Process {
-    cpu: Cpu,
-    space: Space,
-    kernel: NativeKernel,
-    /// The memory of the host in which native calls find their buffers.
-    mem: HostMem,
-    /// What gives the calls on files the memory for paths.
-    alloc: Global,
+    core: Core,
     /// What stands within a turn, and what happened in the last one.
     going: Going,
     /// The events that are still to come, from its cursor on.
@@ -109,7 +103,7 @@ impl Model for Process {
 
     ghost coded = { Prim.hlevel (codes, memory_code, nodes_code) };
 
-    ghost view = { λ p. record { processor = p.cpu; memory = p.space; kernel = p.kernel; going = p.going; coming = coming_of p.schedule; idle = p.idle } };
+    ghost view = { λ p. record { processor = p.core.cpu; memory = p.core.space; kernel = p.core.kernel; going = p.going; coming = coming_of p.schedule; idle = p.idle } };
 
     ghost invariant = { λ p. IsGivenSchedule p.schedule };
 }
@@ -126,11 +120,13 @@ impl Process {
         ensures { result ≡ first_process start.cpu start.space kernel (coming_of schedule) }
     {
         Process {
-            cpu: start.cpu,
-            space: start.space,
-            kernel,
-            mem: HostMem::new(alloc),
-            alloc,
+            core: Core {
+                cpu: start.cpu,
+                space: start.space,
+                kernel,
+                memory: HostMem::new(alloc),
+                alloc,
+            },
             going: first_going(alloc),
             schedule,
             idle: 0,
@@ -153,7 +149,7 @@ impl Process {
         self.going.wait.is_none()
             && self.going.fault.is_none()
             && !self.going.stopped
-            && is_quiet(&self.kernel)
+            && is_quiet(&self.core.kernel)
     }
 
     /// The time at which an event of the schedule or the timer is due next, in nanoseconds of the clock.
@@ -161,7 +157,7 @@ impl Process {
     pub(crate) fn next_due(&self) -> Option<u64>
         ensures { result ≡ next_due (machine_of self.now) }
     {
-        sooner(next_event(&self.schedule), self.kernel.next_time())
+        sooner(next_event(&self.schedule), self.core.kernel.next_time())
     }
 
     /// The nodes as a file tree, as the kernel tells it. It copies every byte once.
@@ -170,7 +166,7 @@ impl Process {
         ensures valid { IfOk result IsValidTree }
         ensures reached { IfOk result (λ tree. (number : ℕ) → Contains (numbers tree.nodes) number ↔ IsReached tree.nodes number) }
     {
-        self.kernel.tree()
+        self.core.kernel.tree()
     }
 
     /// Begins a turn, in which nothing has happened so far. The room for events is kept.
@@ -190,7 +186,7 @@ impl Process {
         ensures clock { self.new.kernel.clock ≡ clock }
         ensures idle { self.new.idle ≡ self.old.idle }
     {
-        self.kernel.advance(clock, false)?;
+        self.core.kernel.advance(clock, false)?;
         Ok(())
     }
 
@@ -213,12 +209,17 @@ impl Process {
             clock,
             &mut self.schedule,
             &mut self.going,
-            &self.space,
-            &mut self.kernel,
+            &self.core.space,
+            &mut self.core.kernel,
             native,
         )?;
-        let next = self.kernel.next_time();
-        post_timer(clock, &mut self.going, &self.space, &mut self.kernel)?;
+        let next = self.core.kernel.next_time();
+        post_timer(
+            clock,
+            &mut self.going,
+            &self.core.space,
+            &mut self.core.kernel,
+        )?;
         native.tell_timer(clock, next)
     }
 
@@ -246,10 +247,10 @@ impl Process {
             cause,
             clock,
             &mut self.going,
-            &mut self.cpu,
-            &mut self.space,
-            &mut self.kernel,
-            &mut self.mem,
+            &mut self.core.cpu,
+            &mut self.core.space,
+            &mut self.core.kernel,
+            &mut self.core.memory,
             dev,
             log,
         )
@@ -287,9 +288,9 @@ impl Process {
         }
         accepts(
             &wait,
-            &self.space,
-            &mut self.kernel,
-            &mut self.mem,
+            &self.core.space,
+            &mut self.core.kernel,
+            &mut self.core.memory,
             dev,
             log,
         )
@@ -346,10 +347,10 @@ impl Process {
         deliver(
             clock,
             &mut self.going,
-            &mut self.cpu,
-            &mut self.space,
-            &mut self.kernel,
-            &mut self.mem,
+            &mut self.core.cpu,
+            &mut self.core.space,
+            &mut self.core.kernel,
+            &mut self.core.memory,
             dev,
             log,
         )
@@ -439,18 +440,16 @@ impl Process {
         &mut self,
         clock: u64,
         turn: u64,
-        native: &mut NativeLog,
-        records: &mut TurnRecords,
-        was: &mut Registers,
+        kept: &mut Kept,
         dev: &mut Devices<I, O, E>,
     ) -> Result<(), Stop>
         requires later { self.old.kernel.clock ≤ clock }
-        requires told { native.old.told ≤ self.old.kernel.clock }
+        requires told { kept.old.native.told ≤ self.old.kernel.clock }
         ensures settled { Settles clock result self.old self.new
             (contents I.left O.written E.written dev.old) (contents I.left O.written E.written dev.new) }
-        ensures native { LogsSettled clock result (I.left dev.old.input) self.old.kernel self.new.kernel native.old native.new }
-        ensures records { RecordsBefore result (I.left dev.old.input) turn (machine_at clock (machine_of self.old)) records.old records.new }
-        ensures told { native.new.told ≤ self.new.kernel.clock }
+        ensures native { LogsSettled clock result (I.left dev.old.input) self.old.kernel self.new.kernel kept.old.native kept.new.native }
+        ensures records { RecordsBefore result (I.left dev.old.input) turn (machine_at clock (machine_of self.old)) kept.old.records kept.new.records }
+        ensures told { kept.new.native.told ≤ self.new.kernel.clock }
         ensures clock { OnOk result (self.new.kernel.clock ≡ clock) }
         ensures behind { self.new.kernel.clock ≤ clock }
         ensures idle { self.new.idle ≡ self.old.idle }
@@ -458,17 +457,17 @@ impl Process {
         ensures counts { NoCountFell I.faults O.faults E.faults dev.old dev.new }
     {
         self.begin();
-        self.post(clock, native)?;
-        records.look(&self.cpu, was);
-        let mut log = part_of(native, records);
+        self.post(clock, &mut kept.native)?;
+        kept.records.look(&self.core.cpu, &mut kept.was);
+        let mut log = kept.part();
         self.wake_to_resume(clock, dev, &mut log)?;
         let (calls, effects) = halves(log);
-        native.add(calls, clock)?;
+        kept.native.add(calls, clock)?;
         let alive = self.going.over.is_none();
-        records.add_before(
+        kept.records.add_before(
             turn,
-            was,
-            &self.cpu,
+            &kept.was,
+            &self.core.cpu,
             self.going.events.as_slice(),
             alive,
             effects,
@@ -488,22 +487,20 @@ impl Process {
         clock: u64,
         quantum: u64,
         turn: u64,
-        native: &mut NativeLog,
-        records: &mut TurnRecords,
-        was: &mut Registers,
+        kept: &mut Kept,
         dev: &mut Devices<I, O, E>,
     ) -> Result<Last, Stop>
         requires clock { self.old.kernel.clock ≡ clock }
-        requires told { native.old.told ≤ clock }
+        requires told { kept.old.native.told ≤ clock }
         requires quantum { quantum ≤ 1_000_000 }
         requires few { clock + 1_000_000 < 2 ^ 64 }
         requires idle { self.old.idle ≤ clock }
         ensures last { IsLast (last_steps quantum (within_now self.old)) result self.new
             (contents I.left O.written E.written dev.old) (contents I.left O.written E.written dev.new) }
-        ensures native { LogsLast (last_steps quantum (within_now self.old)) clock result self.old.kernel self.new.kernel native.old native.new
+        ensures native { LogsLast (last_steps quantum (within_now self.old)) clock result self.old.kernel self.new.kernel kept.old.native kept.new.native
             (contents I.left O.written E.written dev.old) }
-        ensures records { RecordsBehind result (I.left dev.old.input) turn (within_now self.old) records.old records.new }
-        ensures told { native.new.told ≤ clock }
+        ensures records { RecordsBehind result (I.left dev.old.input) turn (within_now self.old) kept.old.records kept.new.records }
+        ensures told { kept.new.native.told ≤ clock }
         ensures bound { IfOk result (λ last. last.clock ≤ max clock (2 ^ 61) + 1_000_000 * turns_of last.turn) }
         ensures later { IfOk result (λ last. clock ≤ last.clock) }
         ensures clock { self.new.kernel.clock ≡ clock }
@@ -519,10 +516,10 @@ impl Process {
             });
         }
         if self.rests() {
-            records.add_idle(turn, &self.cpu)?;
+            kept.records.add_idle(turn, &self.core.cpu)?;
             return Ok(self.jump(clock));
         }
-        self.execute(clock, quantum, turn, native, records, was, dev)
+        self.execute(clock, quantum, turn, kept, dev)
     }
 
     /// How the process has ended.
@@ -552,7 +549,7 @@ impl Process {
         };
         sooner(
             next_event(&self.schedule),
-            sooner(self.kernel.next_time(), deadline),
+            sooner(self.core.kernel.next_time(), deadline),
         )
     }
 
@@ -594,22 +591,20 @@ impl Process {
         clock: u64,
         quantum: u64,
         turn: u64,
-        native: &mut NativeLog,
-        records: &mut TurnRecords,
-        was: &mut Registers,
+        kept: &mut Kept,
         dev: &mut Devices<I, O, E>,
     ) -> Result<Last, Stop>
         requires clock { self.old.kernel.clock ≡ clock }
-        requires told { native.old.told ≤ clock }
+        requires told { kept.old.native.told ≤ clock }
         requires quantum { quantum ≤ 1_000_000 }
         requires few { clock + 1_000_000 < 2 ^ 64 }
         ensures last { IsLast (sixth_step whole quantum (within_now self.old)) result self.new
             (contents I.left O.written E.written dev.old) (contents I.left O.written E.written dev.new) }
-        ensures native { LogsLast (sixth_step whole quantum (within_now self.old)) clock result self.old.kernel self.new.kernel native.old native.new
+        ensures native { LogsLast (sixth_step whole quantum (within_now self.old)) clock result self.old.kernel self.new.kernel kept.old.native kept.new.native
             (contents I.left O.written E.written dev.old) }
         ensures records { (self.old.going.stopped || is_some self.old.going.wait) ≡ false → self.old.going.over ≡ None
-            → RecordsBehind result (I.left dev.old.input) turn (within_now self.old) records.old records.new }
-        ensures told { native.new.told ≤ clock }
+            → RecordsBehind result (I.left dev.old.input) turn (within_now self.old) kept.old.records kept.new.records }
+        ensures told { kept.new.native.told ≤ clock }
         ensures time { IfOk result (λ last. last.clock ≡ clock + quantum) }
         ensures counted { IfOk result (λ last. turns_of last.turn ≡ 1) }
         ensures clock { self.new.kernel.clock ≡ clock }
@@ -618,7 +613,7 @@ impl Process {
         ensures counts { NoCountFell I.faults O.faults E.faults dev.old dev.new }
     {
         let came = self.run(0).came?;
-        let ended = self.end_turn(came, clock, turn, native, records, was, dev)?;
+        let ended = self.end_turn(came, clock, turn, kept, dev)?;
         Ok(Last {
             turn: ended,
             clock: later(clock, quantum, 1),
@@ -632,7 +627,7 @@ impl Process {
         ensures few { result.quiet ≤ most }
         ensures others { self.new ≡ record self.old { processor = self.new.processor; memory = self.new.memory } }
     {
-        run(&mut self.cpu, &mut self.space, most)
+        run(&mut self.core.cpu, &mut self.core.space, most)
     }
 
     /// Ends a turn whose instruction was just executed and came to this: makes its call, or keeps its fault. `clock` is the
@@ -642,20 +637,18 @@ impl Process {
         came: Stepped,
         clock: u64,
         turn: u64,
-        native: &mut NativeLog,
-        records: &mut TurnRecords,
-        was: &mut Registers,
+        kept: &mut Kept,
         dev: &mut Devices<I, O, E>,
     ) -> Result<Turn, Stop>
         requires clock { self.old.kernel.clock ≡ clock }
-        requires told { native.old.told ≤ clock }
+        requires told { kept.old.native.told ≤ clock }
         ensures turn { IsTurn (λ left. after_events self.old.going.events (after_step whole (machine_of self.old) came left)) result
             (machine_of self.new) self.new.going.events
             (contents I.left O.written E.written dev.old) (contents I.left O.written E.written dev.new) }
-        ensures native { LogsLast (λ left. after_events self.old.going.events (after_step whole (machine_of self.old) came left)) clock result self.old.kernel self.new.kernel native.old native.new
+        ensures native { LogsLast (λ left. after_events self.old.going.events (after_step whole (machine_of self.old) came left)) clock result self.old.kernel self.new.kernel kept.old.native kept.new.native
             (contents I.left O.written E.written dev.old) }
-        ensures records { RecordsStep result (I.left dev.old.input) turn ((self.old.processor.pc + (2 ^ 32 - 4)) % 2 ^ 32) (machine_of self.old) came records.old records.new }
-        ensures told { native.new.told ≤ clock }
+        ensures records { RecordsStep result (I.left dev.old.input) turn ((self.old.processor.pc + (2 ^ 32 - 4)) % 2 ^ 32) (machine_of self.old) came kept.old.records kept.new.records }
+        ensures told { kept.new.native.told ≤ clock }
         ensures clock { self.new.kernel.clock ≡ clock }
         ensures counted { IfOk result (λ turn. turns_of turn ≡ 1) }
         ensures idle { self.new.idle ≡ self.old.idle }
@@ -664,7 +657,7 @@ impl Process {
     {
         match came {
             Stepped::Next => Ok(Turn::Went),
-            Stepped::Syscall => self.call(clock, turn, native, records, was, dev),
+            Stepped::Syscall => self.call(clock, turn, kept, dev),
             Stepped::Fault { sig, code, addr } => {
                 self.keep_fault(fault_info(sig, code, addr))?;
                 Ok(Turn::Went)
@@ -680,21 +673,19 @@ impl Process {
         &mut self,
         clock: u64,
         turn: u64,
-        native: &mut NativeLog,
-        records: &mut TurnRecords,
-        was: &mut Registers,
+        kept: &mut Kept,
         dev: &mut Devices<I, O, E>,
     ) -> Result<Turn, Stop>
         requires clock { self.old.kernel.clock ≡ clock }
-        requires told { native.old.told ≤ clock }
+        requires told { kept.old.native.told ≤ clock }
         ensures turn { IsTurn (λ left. after_events self.old.going.events (called whole (machine_of self.old) left)) result
             (machine_of self.new) self.new.going.events
             (contents I.left O.written E.written dev.old) (contents I.left O.written E.written dev.new) }
-        ensures native { LogsLast (λ left. after_events self.old.going.events (called whole (machine_of self.old) left)) clock result self.old.kernel self.new.kernel native.old native.new
+        ensures native { LogsLast (λ left. after_events self.old.going.events (called whole (machine_of self.old) left)) clock result self.old.kernel self.new.kernel kept.old.native kept.new.native
             (contents I.left O.written E.written dev.old) }
-        ensures records { RecordsCall result turn (machine_of self.old) records.old records.new
+        ensures records { RecordsCall result turn (machine_of self.old) kept.old.records kept.new.records
             (contents I.left O.written E.written dev.old) }
-        ensures told { native.new.told ≤ clock }
+        ensures told { kept.new.native.told ≤ clock }
         ensures clock { self.new.kernel.clock ≡ clock }
         ensures counted { IfOk result (λ turn. turns_of turn ≡ 1) }
         ensures idle { self.new.idle ≡ self.old.idle }
@@ -702,28 +693,19 @@ impl Process {
         ensures counts { NoCountFell I.faults O.faults E.faults dev.old dev.new }
     {
         if self.asks_nothing() {
-            let plain = self.call_plainly(turn, records, was)?;
+            let plain = self.call_plainly(turn, kept)?;
             return Ok(plain);
         }
-        let words = args(&self.space, &self.cpu);
+        let words = args(&self.core.space, &self.core.cpu);
         let seen = self.seen(clock);
-        records.look(&self.cpu, was);
-        let mut log = part_of(native, records);
-        let outcome = make_call(
-            self.alloc,
-            &words,
-            &mut self.cpu,
-            &mut self.space,
-            &mut self.kernel,
-            &mut self.mem,
-            dev,
-            &mut log,
-            &seen,
-        )?;
+        kept.records.look(&self.core.cpu, &mut kept.was);
+        let mut log = kept.part();
+        let outcome = make_call(&words, &seen, &mut self.core, dev, &mut log)?;
         let (calls, effects) = halves(log);
-        native.add(calls, clock)?;
-        let ended = self.finish(&words, outcome)?;
-        records.add_call(turn, was, &self.cpu, effects)?;
+        kept.native.add(calls, clock)?;
+        let ended = self.finish(&words, &outcome)?;
+        kept.records
+            .add_call(turn, &kept.was, &self.core.cpu, effects)?;
         Ok(ended)
     }
 
@@ -732,34 +714,31 @@ impl Process {
     fn asks_nothing(&self) -> bool
         ensures { result ≡ is_plain_call (register self.now.processor v0) }
     {
-        is_plain_call(self.cpu.register(V0))
+        is_plain_call(self.core.cpu.register(V0))
     }
 
     /// Makes such a call. It stands apart from the others since it wants no buffer, no log and nothing that they see of the
     /// machine.
     #[inline(always)]
-    fn call_plainly(
-        &mut self,
-        turn: u64,
-        records: &mut TurnRecords,
-        was: &mut Registers,
-    ) -> Result<Turn, NoMemory>
+    fn call_plainly(&mut self, turn: u64, kept: &mut Kept) -> Result<Turn, NoMemory>
         requires { is_plain_call (register self.old.processor v0) ≡ true }
         ensures turn { IfOk result (λ turn. (left : List ℕ) (at : Contents) → at.left ≡ Some left
             → Turned (called_of self.old left) turn (machine_of self.new) self.new.going.events at at) }
-        ensures native { OnOk result ((left : List ℕ) (log : KeptLog) → LastLogged self.old.kernel self.new.kernel left (called_of self.old left) log log) }
+        ensures native { OnOk result ((left : List ℕ) → LastLogged self.old.kernel self.new.kernel left (called_of self.old left) kept.old.native kept.new.native) }
+        ensures told { kept.new.native.told ≡ kept.old.native.told }
         ensures records { OnOk result ((left : List ℕ)
-            → Gains records.old records.new (IsOne (IsCallEntry turn ((self.old.processor.pc + (2 ^ 32 - 4)) % 2 ^ 32) (machine_of self.old) (called whole (machine_of self.old) left)))) }
+            → Gains kept.old.records kept.new.records (IsOne (IsCallEntry turn ((self.old.processor.pc + (2 ^ 32 - 4)) % 2 ^ 32) (machine_of self.old) (called whole (machine_of self.old) left)))) }
         ensures counted { IfOk result (λ turn. turns_of turn ≡ 1) }
         ensures clock { self.new.kernel.clock ≡ self.old.kernel.clock }
         ensures idle { self.new.idle ≡ self.old.idle }
     {
-        let words = args(&self.space, &self.cpu);
-        records.look(&self.cpu, was);
-        let effects = records.part();
-        let outcome = plain_call(&words, &mut self.cpu);
-        let ended = self.finish(&words, outcome)?;
-        records.add_call(turn, was, &self.cpu, effects)?;
+        let words = args(&self.core.space, &self.core.cpu);
+        kept.records.look(&self.core.cpu, &mut kept.was);
+        let effects = kept.records.part();
+        let outcome = plain_call(&words, &mut self.core.cpu);
+        let ended = self.finish(&words, &outcome)?;
+        kept.records
+            .add_call(turn, &kept.was, &self.core.cpu, effects)?;
         Ok(ended)
     }
 
@@ -778,10 +757,10 @@ impl Process {
     /// Puts the outcome of a call of these words into the registers, or keeps its wait, or makes a fault of it, or ends
     /// the process, and keeps what happened.
     #[inline(always)]
-    fn finish(&mut self, words: &CallWords, outcome: Outcome) -> Result<Turn, NoMemory>
-        ensures machine { OnOk result (machine_of self.new ≡ (finished words.now (machine_of self.old) outcome).machine) }
-        ensures events { OnOk result (self.new.going.events ≡ self.old.going.events ++ (finished words.now (machine_of self.old) outcome).events) }
-        ensures over { IfOk result (λ turn. over_of turn ≡ (finished words.now (machine_of self.old) outcome).over) }
+    fn finish(&mut self, words: &CallWords, outcome: &Outcome) -> Result<Turn, NoMemory>
+        ensures machine { OnOk result (machine_of self.new ≡ (finished words.now (machine_of self.old) outcome.now).machine) }
+        ensures events { OnOk result (self.new.going.events ≡ self.old.going.events ++ (finished words.now (machine_of self.old) outcome.now).events) }
+        ensures over { IfOk result (λ turn. over_of turn ≡ (finished words.now (machine_of self.old) outcome.now).over) }
         ensures counted { IfOk result (λ turn. turns_of turn ≡ 1) }
         ensures kernel { self.new.kernel ≡ self.old.kernel }
         ensures idle { self.new.idle ≡ self.old.idle }
@@ -794,22 +773,22 @@ impl Process {
     /// Puts the outcome of a call of these words into the registers, or keeps its wait, or makes a fault of it, and tells
     /// what happened.
     #[inline(always)]
-    fn put_outcome(&mut self, words: &CallWords, outcome: Outcome) -> Event
-        ensures machine { machine_of self.new ≡ (finished words.now (machine_of self.old) outcome).machine }
-        ensures event { (finished words.now (machine_of self.old) outcome).events ≡ result ∷ [] }
+    fn put_outcome(&mut self, words: &CallWords, outcome: &Outcome) -> Event
+        ensures machine { machine_of self.new ≡ (finished words.now (machine_of self.old) outcome.now).machine }
+        ensures event { (finished words.now (machine_of self.old) outcome.now).events ≡ result ∷ [] }
         ensures kernel { self.new.kernel ≡ self.old.kernel }
         ensures events { self.new.going.events ≡ self.old.going.events }
         ensures idle { self.new.idle ≡ self.old.idle }
     {
         self.use_restart(words.nr);
-        match outcome {
+        match *outcome {
             Outcome::Value(value) => {
                 self.set_result(value, false);
                 self.call_told(words)
             }
             Outcome::Pair(first, second) => {
                 self.set_result(first, false);
-                self.cpu.set_register(V1, second);
+                self.core.cpu.set_register(V1, second);
                 self.call_told(words)
             }
             Outcome::Error(error) => {
@@ -845,8 +824,8 @@ impl Process {
     fn set_result(&mut self, value: u32, failed: bool)
         ensures { self.new ≡ record self.old { processor = with_result self.old.processor value (if failed then 1 else 0) } }
     {
-        self.cpu.set_register(V0, value);
-        self.cpu.set_register(A3, u32::from(failed));
+        self.core.cpu.set_register(V0, value);
+        self.core.cpu.set_register(A3, u32::from(failed));
     }
 
     /// That a call of these words has ended, with what the registers hold of it.
@@ -857,8 +836,8 @@ impl Process {
         Event::Call {
             nr: words.nr,
             args: words.reg,
-            v0: self.cpu.register(V0),
-            a3: self.cpu.register(A3),
+            v0: self.core.cpu.register(V0),
+            a3: self.core.cpu.register(A3),
         }
     }
 
@@ -898,17 +877,6 @@ impl Process {
     {
         self.going.events.push(event)?;
         Ok(())
-    }
-}
-
-/// What the calls of a part of a turn keep: the native calls where a native log is kept, and the effects where a journal is.
-fn part_of(native: &NativeLog, records: &TurnRecords) -> Log
-    ensures native { result.native ≡ emptied native.now.entries }
-    ensures effects { result.effects ≡ no_effects records.now }
-{
-    Log {
-        native: native.part().native,
-        effects: records.part(),
     }
 }
 
@@ -953,11 +921,11 @@ fn next_event(schedule: &Schedule) -> Option<u64>
 }
 
 /// The turn of a call that came to this.
-fn turn_of(outcome: Outcome) -> Turn
-    ensures over { (words : CallWords) (machine : Machine) → over_of result ≡ (finished words machine outcome).over }
+fn turn_of(outcome: &Outcome) -> Turn
+    ensures over { (words : CallWords) (machine : Machine) → over_of result ≡ (finished words machine outcome.now).over }
     ensures counted { turns_of result ≡ 1 }
 {
-    match outcome {
+    match *outcome {
         Outcome::Exit(status) => Turn::Ended(Finish::Exited(status)),
         _ => Turn::Went,
     }

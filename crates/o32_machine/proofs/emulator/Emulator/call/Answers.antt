@@ -23,7 +23,7 @@ returns-in_err-turn-clause-turn g c = λ left told.
     let clock = c.self.inside.clock in
     let before : c.set_clock.new.self ≡ record c.self.inside.process { kernel = at_clock clock c.self.inside.process.kernel; going = begun c.self.inside.process.going } =
     c.in_ok-set_clock.ensures.moved ∙ ap (λ (p : ProcessState). record p { kernel = at_clock clock p.kernel }) c.begin.ensures in
-    call_stopped_here c.args.self.now clock c.self.inside.quantum c.self.inside.turns c.self.inside.over c.self.inside.native c.self.inside.records c.self.inside.process c.set_clock.new.self c.self.view_is before left
+    call_stopped_here c.args.self.now clock c.self.inside.quantum c.self.inside.turns c.self.inside.over c.self.inside.kept.native c.self.inside.kept.records c.self.inside.process c.set_clock.new.self c.self.view_is before left
     c.from_residual-in_err-turn.result _ _ _ _ c.from_residual-in_err-turn.ensures.0 (c.in_err-turn.ensures.turn left told)
 
 pub returns-clause-turn : goal.returns-clause-turn
@@ -31,7 +31,7 @@ returns-clause-turn g c = λ left told.
     let clock = c.self.inside.clock in
     let before : c.set_clock.new.self ≡ record c.self.inside.process { kernel = at_clock clock c.self.inside.process.kernel; going = begun c.self.inside.process.going } =
     c.in_ok-set_clock.ensures.moved ∙ ap (λ (p : ProcessState). record p { kernel = at_clock clock p.kernel }) c.begin.ensures in
-    call_went c.args.self.now clock c.self.inside.quantum c.self.inside.turns c.self.inside.over c.self.inside.native c.self.inside.records c.self.inside.process c.set_clock.new.self c.self.view_is before left
+    call_went c.args.self.now clock c.self.inside.quantum c.self.inside.turns c.self.inside.over c.self.inside.kept.native c.self.inside.kept.records c.self.inside.process c.set_clock.new.self c.self.view_is before left
     c.in_ok-turn.turn (machine_of c.call.new.self) c.call.new.self.going.events _ _ (c.in_ok-turn.ensures.turn left told)
 
 pub set_clock-requires-clause-timer : goal.set_clock-requires-clause-timer
@@ -49,18 +49,18 @@ returns-clause-native g c = λ left told.
     let moved : c.set_clock.new.self.kernel ≡ at_clock clock process.kernel =
     ap (λ (p : ProcessState). p.kernel) c.in_ok-set_clock.ensures.moved ∙ ap (λ (p : ProcessState). at_clock clock p.kernel) c.begin.ensures in
     let waits : gone_off clock process.kernel.timer ≡ None = ap (λ (e : Emulated). gone_off e.machine.kernel.clock e.machine.kernel.timer) c.self.view_is ∙ c.requires.timer in
-    turn_logged c.args.self.now clock c.self.inside.quantum c.self.inside.turns c.self.inside.over c.self.inside.native c.self.inside.records process c.self.view_is
-    c.clear.new.self c.clear.new.self c.call.new.native c.set_clock.new.self.kernel c.call.new.self.kernel clock left (at_time c.args.self.now.machine.kernel.clock (called whole c.args.self.now.machine left))
+    turn_logged c.args.self.now clock c.self.inside.quantum c.self.inside.turns c.self.inside.over c.self.inside.kept.native c.self.inside.kept.records process c.self.view_is
+    c.clear.new.self.native c.clear.new.self.native c.call.new.kept.native c.set_clock.new.self.kernel c.call.new.self.kernel clock left (at_time c.args.self.now.machine.kernel.clock (called whole c.args.self.now.machine left))
     c.clear.ensures.entries c.clear.ensures.told
-    (clocked_logged c.clear.new.self process.kernel c.set_clock.new.self.kernel clock left moved)
-    (subst (λ (t : Turn). LastLogged c.set_clock.new.self.kernel c.call.new.self.kernel left t c.clear.new.self c.call.new.native)
-    (call_is c.args.self.now clock c.self.inside.quantum c.self.inside.turns c.self.inside.over c.self.inside.native c.self.inside.records process c.set_clock.new.self c.self.view_is before left)
-    (c.in_ok-turn.ensures.native left told (clocked_ready c.clear.new.self process.kernel c.set_clock.new.self.kernel clock moved waits))) (omega (arith, c.call.ensures.told))
+    (clocked_logged c.clear.new.self.native process.kernel c.set_clock.new.self.kernel clock left moved)
+    (subst (λ (t : Turn). LastLogged c.set_clock.new.self.kernel c.call.new.self.kernel left t c.clear.new.self.native c.call.new.kept.native)
+    (call_is c.args.self.now clock c.self.inside.quantum c.self.inside.turns c.self.inside.over c.self.inside.kept.native c.self.inside.kept.records process c.set_clock.new.self c.self.view_is before left)
+    (c.in_ok-turn.ensures.native left told (clocked_ready c.clear.new.self.native process.kernel c.set_clock.new.self.kernel clock moved waits))) (omega (arith, c.call.ensures.told))
 
 pub returns-clause-records : goal.returns-clause-records
 returns-clause-records g c =
     let clock = c.self.inside.clock in
     let before : c.set_clock.new.self ≡ record c.self.inside.process { kernel = at_clock clock c.self.inside.process.kernel; going = begun c.self.inside.process.going } =
     c.in_ok-set_clock.ensures.moved ∙ ap (λ (p : ProcessState). record p { kernel = at_clock clock p.kernel }) c.begin.ensures in
-    alone_recorded c.args.self.now clock c.self.inside.quantum c.self.inside.turns c.self.inside.over c.self.inside.native c.self.inside.records c.self.inside.process c.self.view_is
-    (Ok c.in_ok-turn.turn) c.set_clock.new.self c.clear-2.new.self c.call.new.records (contents g.I.Source.left g.O.Sink.written g.E.Sink.written c.args.dev.now) before c.clear-2.ensures c.in_ok-turn.ensures.records
+    alone_recorded c.args.self.now clock c.self.inside.quantum c.self.inside.turns c.self.inside.over c.self.inside.kept.native c.self.inside.kept.records c.self.inside.process c.self.view_is
+    (Ok c.in_ok-turn.turn) c.set_clock.new.self c.clear.new.self.records c.call.new.kept.records (contents g.I.Source.left g.O.Sink.written g.E.Sink.written c.args.dev.now) before c.clear.ensures.records c.in_ok-turn.ensures.records

@@ -13,7 +13,7 @@ use Rattle.o32_machine.proofs.Recording.{looks_effects}
 use Rattle.o32_machine.proofs.process.Process.accepts.Goals as goal
 
 abbrev seen_as : Inside → ProcessState
-seen_as p = record { processor = p.cpu; memory = p.space; kernel = p.kernel; going = p.going; coming = coming_of p.schedule; idle = p.idle }
+seen_as p = record { processor = p.core.cpu; memory = p.core.space; kernel = p.core.kernel; going = p.going; coming = coming_of p.schedule; idle = p.idle }
 
 pub returns-clause-found : goal.returns-clause-found
 returns-clause-found g c =
@@ -31,8 +31,8 @@ returns-clause-native g c =
 
 pub returns-clause-effects : goal.returns-clause-effects
 returns-clause-effects g c =
-    subst (λ (p : Pages). KeepsEffects c.accepts.result (g.I.Source.left c.args.dev.now.input) p c.self-inside.inside.0.1.0.pages c.args.log.now.effects c.accepts.new.log.effects)
+    subst (λ (p : Pages). KeepsEffects c.accepts.result (g.I.Source.left c.args.dev.now.input) p c.self-inside.inside.0.0.space.pages c.args.log.now.effects c.accepts.new.log.effects)
     (ap (λ (p : ProcessState). p.memory.pages) (ap seen_as c.self-inside.view_is ∙ c.self.view_is))
     (looks_effects _ c.accepts.result _ c.accepts.new.k
     (contents g.I.Source.left g.O.Sink.written g.E.Sink.written c.args.dev.now) (contents g.I.Source.left g.O.Sink.written g.E.Sink.written c.accepts.new.dev)
-    c.args.log.now c.accepts.new.log c.self-inside.inside.0.1.0.pages c.accepts.ensures.looks)
+    c.args.log.now c.accepts.new.log c.self-inside.inside.0.0.space.pages c.accepts.ensures.looks)

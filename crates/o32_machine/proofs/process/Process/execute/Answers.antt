@@ -34,15 +34,15 @@ pub returns-clause-native : goal.returns-clause-native
 returns-clause-native g c = λ left told ready.
     let step = steps_once c.run.result.quiet c.args.self.now.processor c.args.self.now.memory c.run.result.came c.in_ok-came.came c.run.new.self.processor c.run.new.self.memory c.run.ensures.few c.in_ok-came.was c.run.ensures.last in
     let same = ap (λ (p : ProcessState). p.kernel) c.run.ensures.others in
-    subst (λ (t : Turn). LastLogged c.args.self.now.kernel c.end_turn.new.self.kernel left t c.args.native.now c.end_turn.new.native)
+    subst (λ (t : Turn). LastLogged c.args.self.now.kernel c.end_turn.new.self.kernel left t c.args.kept.now.native c.end_turn.new.kept.native)
     (sym (executes c.args.quantum c.args.clock c.args.self.now c.run.new.self c.in_ok-came.came c.requires.clock c.run.ensures.others step left))
-    (subst (λ (k : Kernel). LastLogged k c.end_turn.new.self.kernel left (after_events c.run.new.self.going.events (after_step whole (machine_of c.run.new.self) c.in_ok-came.came left)) c.args.native.now c.end_turn.new.native) same
-    (c.in_ok-ended.ensures.native left told (subst (λ (k : Kernel). IsReady c.args.clock c.args.native.now k) (sym same) ready)))
+    (subst (λ (k : Kernel). LastLogged k c.end_turn.new.self.kernel left (after_events c.run.new.self.going.events (after_step whole (machine_of c.run.new.self) c.in_ok-came.came left)) c.args.kept.now.native c.end_turn.new.kept.native) same
+    (c.in_ok-ended.ensures.native left told (subst (λ (k : Kernel). IsReady c.args.clock c.args.kept.now.native k) (sym same) ready)))
 
 pub returns-clause-records : goal.returns-clause-records
 returns-clause-records g c = λ rests over left told.
     let step = steps_once c.run.result.quiet c.args.self.now.processor c.args.self.now.memory c.run.result.came c.in_ok-came.came c.run.new.self.processor c.run.new.self.memory c.run.ensures.few c.in_ok-came.was c.run.ensures.last in
-    gains_so c.args.records.now c.end_turn.new.records _ (IsBehind c.args.turn (within_now c.args.self.now) left)
+    gains_so c.args.kept.now.records c.end_turn.new.kept.records _ (IsBehind c.args.turn (within_now c.args.self.now) left)
     (λ (more : List Record) (so : IsStepRecorded c.args.turn ((c.run.new.self.processor.pc + (2 ^ 32 - 4)) % 2 ^ 32) (machine_of c.run.new.self) c.in_ok-came.came left more).
     behind_step c.args.turn (within_now c.args.self.now) left more over rests
     (instruction_recorded c.args.turn c.args.self.now c.run.new.self c.in_ok-came.came left more c.run.ensures.others step so))

@@ -29,20 +29,20 @@ returns-clause-last g c = λ left told.
 
 pub returns-in-Some-clause-native : goal.returns-in-Some-clause-native
 returns-in-Some-clause-native g c = λ left told ready.
-    subst (λ (t : Turn). LastLogged c.args.self.now.kernel c.args.self.now.kernel left t c.args.native.now c.args.native.now)
+    subst (λ (t : Turn). LastLogged c.args.self.now.kernel c.args.self.now.kernel left t c.args.kept.now.native c.args.kept.now.native)
     (sym (over_is c.args.quantum c.args.clock c.args.self.now c.requires.clock left c.in-Some.finish (sym c.over.ensures ∙ c.in-Some.is)))
-    (nothing_logged c.args.self.now.kernel c.args.self.now.kernel left c.args.native.now refl)
+    (nothing_logged c.args.self.now.kernel c.args.self.now.kernel left c.args.kept.now.native refl)
 
 pub returns-then-rests-clause-native : goal.returns-then-rests-clause-native
 returns-then-rests-clause-native g c = λ left told ready.
-    subst (λ (t : Turn). LastLogged c.args.self.now.kernel c.jump.new.self.kernel left t c.args.native.now c.args.native.now)
+    subst (λ (t : Turn). LastLogged c.args.self.now.kernel c.jump.new.self.kernel left t c.args.kept.now.native c.args.kept.now.native)
     (sym (rests_is c.args.quantum c.args.clock c.args.self.now c.requires.clock left (sym c.over.ensures ∙ c.in_default.is) true (sym c.rests.ensures ∙ c.if-rests.true)))
-    (nothing_logged c.args.self.now.kernel c.jump.new.self.kernel left c.args.native.now c.jump.ensures.kernel)
+    (nothing_logged c.args.self.now.kernel c.jump.new.self.kernel left c.args.kept.now.native c.jump.ensures.kernel)
 
 pub returns-clause-native : goal.returns-clause-native
 returns-clause-native g c =
     last_so c.execute.result c.args.clock (sixth_step whole c.args.quantum (within_now c.args.self.now)) (last_steps c.args.quantum (within_now c.args.self.now))
-    c.args.self.now.kernel c.execute.new.self.kernel c.args.native.now c.execute.new.native (contents g.I.Source.left g.O.Sink.written g.E.Sink.written c.args.dev.now)
+    c.args.self.now.kernel c.execute.new.self.kernel c.args.kept.now.native c.execute.new.kept.native (contents g.I.Source.left g.O.Sink.written g.E.Sink.written c.args.dev.now)
     (λ left. sym (rests_is c.args.quantum c.args.clock c.args.self.now c.requires.clock left (sym c.over.ensures ∙ c.in_default.is) false (sym c.rests.ensures ∙ c.if-rests.false)))
     c.execute.ensures.native
 
@@ -52,12 +52,12 @@ returns-in_err-add_idle-clause-last g c = λ left told.
 
 pub returns-in-Some-clause-records : goal.returns-in-Some-clause-records
 returns-in-Some-clause-records g c = λ left told.
-    gains_none c.args.records.now (IsBehind c.args.turn (within_now c.args.self.now) left)
+    gains_none c.args.kept.now.records (IsBehind c.args.turn (within_now c.args.self.now) left)
     (behind_over c.args.turn (within_now c.args.self.now) left [] c.in-Some.finish (sym c.over.ensures ∙ c.in-Some.is) refl)
 
 pub returns-then-rests-clause-records : goal.returns-then-rests-clause-records
 returns-then-rests-clause-records g c = λ left told.
-    gains_so c.args.records.now c.add_idle.new.self _ (IsBehind c.args.turn (within_now c.args.self.now) left)
+    gains_so c.args.kept.now.records c.add_idle.new.self _ (IsBehind c.args.turn (within_now c.args.self.now) left)
     (λ (more : List Record). behind_rests c.args.turn (within_now c.args.self.now) left more (sym c.over.ensures ∙ c.in_default.is) (sym c.rests.ensures ∙ c.if-rests.true))
     (c.in_ok-add_idle.ensures (machine_of c.args.self.now) (ap (λ (p : ProcessState). p.processor) (sym c.self.view_is)))
 

@@ -8,7 +8,7 @@ use Rattle.o32_machine.proofs.process.Process.set_clock.Goals as goal
 
 pub returns-clause-moved : goal.returns-clause-moved
 returns-clause-moved c =
-    let process : ProcessState = record { processor = c.self.inside.cpu; memory = c.self.inside.space; kernel = c.self.inside.kernel; going = c.self.inside.going; coming = coming_of c.self.inside.schedule; idle = c.self.inside.idle } in
+    let process : ProcessState = record { processor = c.self.inside.core.cpu; memory = c.self.inside.core.space; kernel = c.self.inside.core.kernel; going = c.self.inside.going; coming = coming_of c.self.inside.schedule; idle = c.self.inside.idle } in
     ap (λ (k : Kernel). record process { kernel = k })
     (c.in_ok-advance.ensures.row
     ∙ not_due process.kernel c.args.clock (ap (λ (p : ProcessState). gone_off c.args.clock p.kernel.timer) c.self.view_is ∙ c.requires.timer))

@@ -25,7 +25,7 @@ not_some false None is = absurd cc
 not_some false (Some finish) is = refl
 
 abbrev seen_as : Inside → ProcessState
-seen_as p = record { processor = p.cpu; memory = p.space; kernel = p.kernel; going = p.going; coming = coming_of p.schedule; idle = p.idle }
+seen_as p = record { processor = p.core.cpu; memory = p.core.space; kernel = p.core.kernel; going = p.going; coming = coming_of p.schedule; idle = p.idle }
 
 pub returns-clause-settled : goal.returns-clause-settled
 returns-clause-settled g c =
@@ -36,10 +36,10 @@ returns-clause-settled g c =
 
 pub returns-clause-native : goal.returns-clause-native
 returns-clause-native g c = λ left told.
-    settled_logged c.args.clock c.args.self.now.kernel c.begin.new.self.kernel c.post.new.self.kernel c.wake_to_resume.new.self.kernel left c.args.native.now c.post.new.native c.add.new.self
-    c.part_of-log.result.native c.halves-calls.result.0.native (ap (λ (p : ProcessState). p.kernel) c.begin.ensures) c.in_ok-post.ensures.native c.part_of-log.ensures.native
+    settled_logged c.args.clock c.args.self.now.kernel c.begin.new.self.kernel c.post.new.self.kernel c.wake_to_resume.new.self.kernel left c.args.kept.now.native c.post.new.native c.add.new.self
+    c.part-log.result.native c.halves-calls.result.0.native (ap (λ (p : ProcessState). p.kernel) c.begin.ensures) c.in_ok-post.ensures.native c.part-log.ensures.native
     (λ sent.
-    subst (λ (n : Option (List LogEntry)). Logged c.part_of-log.result.native n (moment c.post.new.self.kernel left sent) (moment c.wake_to_resume.new.self.kernel left sent)) (sym c.halves-calls.ensures.native)
+    subst (λ (n : Option (List LogEntry)). Logged c.part-log.result.native n (moment c.post.new.self.kernel left sent) (moment c.wake_to_resume.new.self.kernel left sent)) (sym c.halves-calls.ensures.native)
     (c.in_ok-wake_to_resume.ensures.native left told sent))
     (λ before after logged. c.in_ok-add.ensures.leads c.post.new.self.kernel c.wake_to_resume.new.self.kernel left left before after c.in_ok-post.ensures.clock c.wake_to_resume.ensures.clock c.in_ok-post.ensures.ready logged)
     (λ logged. c.in_ok-add.ensures.ready c.post.new.self.kernel c.wake_to_resume.new.self.kernel left left nothing nothing c.in_ok-post.ensures.ready logged)
@@ -50,12 +50,12 @@ returns-clause-records g c = λ left told.
     let is = (settles c.args.clock done c.args.self.now c.post.new.self c.wake_to_resume.new.self
     (contents g.I.Source.left g.O.Sink.written g.E.Sink.written c.args.dev.now) (contents g.I.Source.left g.O.Sink.written g.E.Sink.written c.wake_to_resume.new.dev)
     (c.in_ok-post.ensures.posted ∙ ap (λ (p : ProcessState). posted whole (within_at c.args.clock p)) c.begin.ensures) c.in_ok-wake_to_resume.ensures.took left told).1 in
-    before_recorded c.args.turn c.args.clock c.args.self.now c.post.new.self c.wake_to_resume.new.self c.args.records.now c.add_before.new.self c.look.new.was _ c.as_slice.result.now c.is_none-alive.result
-    c.part_of-log.result.effects c.wake_to_resume.new.log.effects _
-    (looked c.args.records.now c.look.new.was _ _ c.look.ensures
+    before_recorded c.args.turn c.args.clock c.args.self.now c.post.new.self c.wake_to_resume.new.self c.args.kept.now.records c.add_before.new.self c.look.new.was _ c.as_slice.result.now c.is_none-alive.result
+    c.part-log.result.effects c.wake_to_resume.new.log.effects _
+    (looked c.args.kept.now.records c.look.new.was _ _ c.look.ensures
     (ap (λ (p : ProcessState). registers_of p.processor) c.self.view_is ∙ ap registers_of (c.post.ensures.processor ∙ ap (λ (p : ProcessState). p.processor) c.begin.ensures)))
     (ap (λ (p : ProcessState). p.processor) (ap seen_as c.self-inside.view_is ∙ c.self-2.view_is))
     (c.as_slice.ensures.value ∙ ap (λ (p : ProcessState). p.going.events) (ap seen_as c.self-inside.view_is ∙ c.self-2.view_is))
     (not_some c.is_none-alive.result _ (sym c.is_none-alive.ensures) ∙ ap (λ (p : ProcessState). is_none p.going.over) (ap seen_as c.self-inside.view_is ∙ c.self-2.view_is))
-    c.part_of-log.ensures.effects c.halves-calls.ensures.effects
+    c.part-log.ensures.effects c.halves-calls.ensures.effects
     (c.post.ensures.memory ∙ ap (λ (p : ProcessState). p.memory) c.begin.ensures) is (c.in_ok-wake_to_resume.ensures.effects left told) c.in_ok-add_before.ensures
