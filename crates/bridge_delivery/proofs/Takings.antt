@@ -1,4 +1,4 @@
--- The first that pends of a signal is taken.
+-- A fault is taken, or the first that pends of a signal.
 use Rattle.std.proofs.Common.{◌≡◌, ◌∙◌, ℕ, List, [], ◌∷◌, drop, set, refl, sym, ap, Some, None}
 use Rattle.std.specs.Prelude.{slice_get}
 use Rattle.std.proofs.lemmas.List.{set-get_or}
@@ -8,9 +8,10 @@ use Rattle.kernel_model.specs.Shared.{Info}
 use Rattle.kernel_model.specs.SignalRows.{action_at, pending_at, with_pending, with_signals}
 use Rattle.kernel_model.specs.SignalSets.{place}
 use Rattle.kernel_model.specs.State.{Kernel}
+use Rattle.kernel_model.specs.declared.signal.Action.{Action}
 use Rattle.mips_exec.specs.Processor.{Processor}
 use Rattle.o32_turns.specs.Closing.{whole_end}
-use Rattle.o32_turns.specs.Delivering.{delivered, signal_taken}
+use Rattle.o32_turns.specs.Delivering.{delivered, fault_delivered, fault_taken, signal_taken}
 use Rattle.o32_turns.specs.Going.{Standing, within_of}
 use Rattle.schedule.specs.declared.events.Due.{Due}
 
@@ -45,3 +46,11 @@ module _ (standing : Standing) (processor : Processor) (memory : Memory) (kernel
     by (first ∷ queue) there is =
         ap (λ (k : Kernel). delivered whole_end (within_of standing processor memory k coming idle) info (action_at kernel.signals signal)) is
         ∙ ap (λ (i : Info). delivered whole_end (within_of standing processor memory (with_signals kernel (with_pending kernel.signals signal queue)) coming idle) i (action_at kernel.signals signal)) (some_is there)
+
+-- a fault, whose action was found and with which the kernel stayed
+pub taken_fault : (standing went : Standing) (processor : Processor) (memory : Memory) (kernel became : Kernel) (info : Info) (action : Action) (coming : List Due) (idle : ℕ)
+    → went ≡ record standing { fault = None } → became ≡ kernel → action ≡ action_at kernel.signals info.sig
+    → fault_delivered whole_end (within_of went processor memory became coming idle) info action
+    ≡ fault_taken whole_end (within_of standing processor memory kernel coming idle) info
+taken_fault standing went processor memory kernel became info action coming idle gone same found =
+    λ i. fault_delivered whole_end (within_of (gone i) processor memory (same i) coming idle) info (found i)

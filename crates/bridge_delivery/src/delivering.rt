@@ -1,7 +1,8 @@
 //! The delivery of signals, round by round.
-ghost use Rattle.std.specs.Prelude.{◌≡◌, Some};
+ghost use Rattle.std.specs.Prelude.{◌≡◌, Some, is_some};
 ghost use Rattle.bridge_ends.specs.Passed.{LeadsOn};
 ghost use Rattle.bridge_ends.specs.Ends.{KeepsEnd};
+ghost use Rattle.bridge_delivery.specs.inside.Processes.{StaysOn, stands};
 ghost use Rattle.bridge_delivery.specs.inside.Standings.{Finds, is_over};
 ghost use Rattle.guest_space.specs.Memory.{Pages};
 ghost use Rattle.kernel_model.specs.Stops.{StopsOnlyIfRose};
@@ -11,14 +12,15 @@ ghost use Rattle.o32_turns.specs.Delivering.{fault_delivered, next_signal, next_
 ghost use Rattle.o32_turns.specs.Going.{Carries, within_of};
 ghost use Rattle.outside.specs.Streams.{NoCountFell, contents};
 
-use crate::dispositions::{dispose, has_handler, kill};
+use crate::dispositions::{dispose, fault_of, has_handler, kill, use_up_fault};
 use crate::handling::handle;
+use crate::process::Process;
 use crate::quiet::is_quiet;
+use crate::taken::TakenSignal;
 use bridge_ends::{Below, NativeKernel, action, mask, pending, take};
 use guest_space::Space;
 use host_mem::HostMem;
 use kernel_core::{Info, Sig, Stop};
-use kernel_model::Action;
 use mips_exec::Cpu;
 use o32_model::Log;
 use o32_turns::Going;
@@ -58,38 +60,45 @@ pub fn deliver<I: Source, O: Sink, E: Sink>(
         memory: mem,
         log,
     };
-    deliver_rounds(clock, going, cpu, space, dev, below)
+    let process = &mut Process { going, cpu, space };
+    deliver_rounds(clock, process, dev, below)
 }
 
-/// The same, with the kernel and what its calls are made with as one value.
+/// The same, with the process as one value, and the kernel and what its calls are made with as another.
 fn deliver_rounds<I: Source, O: Sink, E: Sink>(
     clock: u64,
-    going: &mut Going,
-    cpu: &mut Cpu,
-    space: &mut Space,
+    process: &mut Process,
     dev: &mut Devices<I, O, E>,
     below: &mut Below,
 ) -> Result<(), Stop>
     requires clock { below.old.kernel.now.clock ≡ clock }
     ensures delivered { Carries (spec.deliver whole_end) result
-        (within_of going.old cpu.old space.old below.old.kernel.now) (within_of going.new cpu.new space.new below.new.kernel.now)
+        (stands process.old below.old.kernel.now) (stands process.new below.new.kernel.now)
         (contents I.left O.written E.written dev.old) (contents I.left O.written E.written dev.new) }
-    ensures kept { KeepsEnd result (I.left dev.old.input) below.old.kernel.now below.new.kernel.now space.old.pages space.new.pages below.old.log.now below.new.log.now }
+    ensures kept { KeepsEnd result (I.left dev.old.input) below.old.kernel.now below.new.kernel.now process.old.space.now.pages process.new.space.now.pages below.old.log.now below.new.log.now }
     ensures cause { StopsOnlyIfRose I.faults O.faults E.faults result dev.old dev.new }
     ensures counts { NoCountFell I.faults O.faults E.faults dev.old dev.new }
     ensures clock { below.new.kernel.now.clock ≡ clock }
     ensures same { LeadsOn below.old below.new }
+    ensures stays { StaysOn process.old process.new }
 {
-    if cpu.slot.is_some() {
+    if is_in_slot(process.cpu) {
         return Ok(());
     }
     for _round in 0..MOST_ROUNDS {
-        if is_delivered(going, below.kernel) {
+        if is_delivered(process.going, below.kernel) {
             return Ok(());
         }
-        round(clock, going, cpu, space, dev, below)?;
+        round(clock, process, dev, below)?;
     }
     Ok(())
+}
+
+/// Whether the processor stands in a branch delay slot.
+fn is_in_slot(cpu: &Cpu) -> bool
+    ensures { result ≡ is_some cpu.now.slot }
+{
+    cpu.slot.is_some()
 }
 
 /// Whether nothing is left to deliver, or the process was stopped or killed.
@@ -102,106 +111,102 @@ fn is_delivered(going: &Going, k: &NativeKernel) -> bool
 /// One round: the fault, or the next signal.
 fn round<I: Source, O: Sink, E: Sink>(
     clock: u64,
-    going: &mut Going,
-    cpu: &mut Cpu,
-    space: &mut Space,
+    process: &mut Process,
     dev: &mut Devices<I, O, E>,
     below: &mut Below,
 ) -> Result<(), Stop>
     requires { below.old.kernel.now.clock ≡ clock }
     ensures delivered { Carries (λ within. spec.round_by whole_end within within.machine.fault) result
-        (within_of going.old cpu.old space.old below.old.kernel.now) (within_of going.new cpu.new space.new below.new.kernel.now)
+        (stands process.old below.old.kernel.now) (stands process.new below.new.kernel.now)
         (contents I.left O.written E.written dev.old) (contents I.left O.written E.written dev.new) }
-    ensures kept { KeepsEnd result (I.left dev.old.input) below.old.kernel.now below.new.kernel.now space.old.pages space.new.pages below.old.log.now below.new.log.now }
+    ensures kept { KeepsEnd result (I.left dev.old.input) below.old.kernel.now below.new.kernel.now process.old.space.now.pages process.new.space.now.pages below.old.log.now below.new.log.now }
     ensures cause { StopsOnlyIfRose I.faults O.faults E.faults result dev.old dev.new }
     ensures counts { NoCountFell I.faults O.faults E.faults dev.old dev.new }
     ensures clock { below.new.kernel.now.clock ≡ clock }
     ensures same { LeadsOn below.old below.new }
+    ensures stays { StaysOn process.old process.new }
 {
-    match going.fault {
-        Some(info) => take_fault(clock, &info, going, cpu, space, dev, below),
-        None => take_next(clock, going, cpu, space, dev, below),
+    match fault_of(process.going) {
+        Some(info) => take_fault(clock, info, process, dev, below),
+        None => take_next(clock, process, dev, below),
     }
 }
 
 /// The fault that the process met is used up and delivered.
 fn take_fault<I: Source, O: Sink, E: Sink>(
     clock: u64,
-    info: &Info,
-    going: &mut Going,
-    cpu: &mut Cpu,
-    space: &mut Space,
+    info: Info,
+    process: &mut Process,
     dev: &mut Devices<I, O, E>,
     below: &mut Below,
 ) -> Result<(), Stop>
     requires { below.old.kernel.now.clock ≡ clock }
-    ensures delivered { Carries (λ within. spec.fault_taken whole_end within info.now) result
-        (within_of going.old cpu.old space.old below.old.kernel.now) (within_of going.new cpu.new space.new below.new.kernel.now)
+    ensures delivered { Carries (λ within. spec.fault_taken whole_end within info) result
+        (stands process.old below.old.kernel.now) (stands process.new below.new.kernel.now)
         (contents I.left O.written E.written dev.old) (contents I.left O.written E.written dev.new) }
-    ensures kept { KeepsEnd result (I.left dev.old.input) below.old.kernel.now below.new.kernel.now space.old.pages space.new.pages below.old.log.now below.new.log.now }
+    ensures kept { KeepsEnd result (I.left dev.old.input) below.old.kernel.now below.new.kernel.now process.old.space.now.pages process.new.space.now.pages below.old.log.now below.new.log.now }
     ensures cause { StopsOnlyIfRose I.faults O.faults E.faults result dev.old dev.new }
     ensures counts { NoCountFell I.faults O.faults E.faults dev.old dev.new }
     ensures clock { below.new.kernel.now.clock ≡ clock }
     ensures same { LeadsOn below.old below.new }
+    ensures stays { StaysOn process.old process.new }
 {
-    going.fault = None;
+    use_up_fault(process.going);
     let action = action(info.sig, dev, below)?;
     let blocked = mask(dev, below)?;
-    deliver_fault(clock, info, &action, blocked, going, cpu, space, dev, below)
+    let taken = TakenSignal { info, action };
+    deliver_fault(clock, &taken, blocked, process, dev, below)
 }
 
-/// A fault is delivered whose action this is, where this is the mask that stands.
+/// A fault is delivered, where this is the mask that stands.
 fn deliver_fault<I: Source, O: Sink, E: Sink>(
     clock: u64,
-    info: &Info,
-    action: &Action,
+    taken: &TakenSignal,
     blocked: [u32; 4],
-    going: &mut Going,
-    cpu: &mut Cpu,
-    space: &mut Space,
+    process: &mut Process,
     dev: &mut Devices<I, O, E>,
     below: &mut Below,
 ) -> Result<(), Stop>
     requires { below.old.kernel.now.clock ≡ clock }
     ensures delivered { blocked ≡ below.old.kernel.now.signals.mask
-        → Carries (λ within. fault_delivered whole_end within info.now action.now) result
-        (within_of going.old cpu.old space.old below.old.kernel.now) (within_of going.new cpu.new space.new below.new.kernel.now)
+        → Carries (λ within. fault_delivered whole_end within taken.now.info taken.now.action) result
+        (stands process.old below.old.kernel.now) (stands process.new below.new.kernel.now)
         (contents I.left O.written E.written dev.old) (contents I.left O.written E.written dev.new) }
-    ensures kept { KeepsEnd result (I.left dev.old.input) below.old.kernel.now below.new.kernel.now space.old.pages space.new.pages below.old.log.now below.new.log.now }
+    ensures kept { KeepsEnd result (I.left dev.old.input) below.old.kernel.now below.new.kernel.now process.old.space.now.pages process.new.space.now.pages below.old.log.now below.new.log.now }
     ensures cause { StopsOnlyIfRose I.faults O.faults E.faults result dev.old dev.new }
     ensures counts { NoCountFell I.faults O.faults E.faults dev.old dev.new }
     ensures clock { below.new.kernel.now.clock ≡ clock }
     ensures same { LeadsOn below.old below.new }
+    ensures stays { StaysOn process.old process.new }
 {
-    if !has(&blocked, info.sig) && has_handler(action) {
-        return handle(clock, info, action, going, cpu, space, dev, below);
+    if !has(&blocked, taken.info.sig) && has_handler(&taken.action) {
+        return handle(clock, taken, process, dev, below);
     }
-    kill(info.sig, going)?;
+    kill(taken.info.sig, process.going)?;
     Ok(())
 }
 
 /// The unblocked signal of the lowest number that pends, if there is one, is used up and delivered.
 fn take_next<I: Source, O: Sink, E: Sink>(
     clock: u64,
-    going: &mut Going,
-    cpu: &mut Cpu,
-    space: &mut Space,
+    process: &mut Process,
     dev: &mut Devices<I, O, E>,
     below: &mut Below,
 ) -> Result<(), Stop>
     requires { below.old.kernel.now.clock ≡ clock }
     ensures delivered { Carries (λ within. next_taken whole_end within (next_signal within.machine.kernel.signals)) result
-        (within_of going.old cpu.old space.old below.old.kernel.now) (within_of going.new cpu.new space.new below.new.kernel.now)
+        (stands process.old below.old.kernel.now) (stands process.new below.new.kernel.now)
         (contents I.left O.written E.written dev.old) (contents I.left O.written E.written dev.new) }
-    ensures kept { KeepsEnd result (I.left dev.old.input) below.old.kernel.now below.new.kernel.now space.old.pages space.new.pages below.old.log.now below.new.log.now }
+    ensures kept { KeepsEnd result (I.left dev.old.input) below.old.kernel.now below.new.kernel.now process.old.space.now.pages process.new.space.now.pages below.old.log.now below.new.log.now }
     ensures cause { StopsOnlyIfRose I.faults O.faults E.faults result dev.old dev.new }
     ensures counts { NoCountFell I.faults O.faults E.faults dev.old dev.new }
     ensures clock { below.new.kernel.now.clock ≡ clock }
     ensures same { LeadsOn below.old below.new }
+    ensures stays { StaysOn process.old process.new }
 {
     match next(dev, below)? {
         None => Ok(()),
-        Some(sig) => take_signal(clock, sig, going, cpu, space, dev, below),
+        Some(sig) => take_signal(clock, sig, process, dev, below),
     }
 }
 
@@ -227,53 +232,50 @@ fn next<I: Source, O: Sink, E: Sink>(
 fn take_signal<I: Source, O: Sink, E: Sink>(
     clock: u64,
     sig: Sig,
-    going: &mut Going,
-    cpu: &mut Cpu,
-    space: &mut Space,
+    process: &mut Process,
     dev: &mut Devices<I, O, E>,
     below: &mut Below,
 ) -> Result<(), Stop>
     requires { below.old.kernel.now.clock ≡ clock }
     ensures delivered { Carries (λ within. next_taken whole_end within (Some sig)) result
-        (within_of going.old cpu.old space.old below.old.kernel.now) (within_of going.new cpu.new space.new below.new.kernel.now)
+        (stands process.old below.old.kernel.now) (stands process.new below.new.kernel.now)
         (contents I.left O.written E.written dev.old) (contents I.left O.written E.written dev.new) }
-    ensures kept { KeepsEnd result (I.left dev.old.input) below.old.kernel.now below.new.kernel.now space.old.pages space.new.pages below.old.log.now below.new.log.now }
+    ensures kept { KeepsEnd result (I.left dev.old.input) below.old.kernel.now below.new.kernel.now process.old.space.now.pages process.new.space.now.pages below.old.log.now below.new.log.now }
     ensures cause { StopsOnlyIfRose I.faults O.faults E.faults result dev.old dev.new }
     ensures counts { NoCountFell I.faults O.faults E.faults dev.old dev.new }
     ensures clock { below.new.kernel.now.clock ≡ clock }
     ensures same { LeadsOn below.old below.new }
+    ensures stays { StaysOn process.old process.new }
 {
     let action = action(sig, dev, below)?;
     match take(sig, dev, below)? {
         None => Ok(()),
-        Some(info) => deliver_sent(clock, &info, &action, going, cpu, space, dev, below),
+        Some(info) => deliver_sent(clock, &TakenSignal { info, action }, process, dev, below),
     }
 }
 
-/// A signal that was sent is delivered, whose action this is.
+/// A signal that was sent is delivered.
 fn deliver_sent<I: Source, O: Sink, E: Sink>(
     clock: u64,
-    info: &Info,
-    action: &Action,
-    going: &mut Going,
-    cpu: &mut Cpu,
-    space: &mut Space,
+    taken: &TakenSignal,
+    process: &mut Process,
     dev: &mut Devices<I, O, E>,
     below: &mut Below,
 ) -> Result<(), Stop>
     requires { below.old.kernel.now.clock ≡ clock }
-    ensures delivered { Carries (λ within. spec.delivered whole_end within info.now action.now) result
-        (within_of going.old cpu.old space.old below.old.kernel.now) (within_of going.new cpu.new space.new below.new.kernel.now)
+    ensures delivered { Carries (λ within. spec.delivered whole_end within taken.now.info taken.now.action) result
+        (stands process.old below.old.kernel.now) (stands process.new below.new.kernel.now)
         (contents I.left O.written E.written dev.old) (contents I.left O.written E.written dev.new) }
-    ensures kept { KeepsEnd result (I.left dev.old.input) below.old.kernel.now below.new.kernel.now space.old.pages space.new.pages below.old.log.now below.new.log.now }
+    ensures kept { KeepsEnd result (I.left dev.old.input) below.old.kernel.now below.new.kernel.now process.old.space.now.pages process.new.space.now.pages below.old.log.now below.new.log.now }
     ensures cause { StopsOnlyIfRose I.faults O.faults E.faults result dev.old dev.new }
     ensures counts { NoCountFell I.faults O.faults E.faults dev.old dev.new }
     ensures clock { below.new.kernel.now.clock ≡ clock }
     ensures same { LeadsOn below.old below.new }
+    ensures stays { StaysOn process.old process.new }
 {
-    if has_handler(action) {
-        return handle(clock, info, action, going, cpu, space, dev, below);
+    if has_handler(&taken.action) {
+        return handle(clock, taken, process, dev, below);
     }
-    dispose(info.sig, action, going)?;
+    dispose(taken.info.sig, &taken.action, process.going)?;
     Ok(())
 }

@@ -1,5 +1,5 @@
 //! What a delivery does to what a process keeps within a turn.
-ghost use Rattle.std.specs.Prelude.{◌≡◌, false, OnOk};
+ghost use Rattle.std.specs.Prelude.{◌≡◌, false, None, OnOk, unwrap_or};
 ghost use Rattle.bridge_delivery.specs.inside.Standings as spec;
 ghost use Rattle.kernel_model.specs.SignalRows.{is_ignored_by_default, is_stop};
 ghost use Rattle.number_tables.specs.Signals.{o32_signal};
@@ -121,6 +121,27 @@ fn enter(going: &mut Going)
 {
     going.restart = None;
     going.saved = None;
+}
+
+/// The fault that the process met and that is not yet delivered.
+pub(crate) fn fault_of(going: &Going) -> Option<Info>
+    ensures { result ≡ going.now.fault }
+{
+    going.fault
+}
+
+/// That fault is used up.
+pub(crate) fn use_up_fault(going: &mut Going)
+    ensures { going.new ≡ record going.old { fault = None } }
+{
+    going.fault = None;
+}
+
+/// The mask that a handler's frame keeps: the one that was kept for it, or else the one that stands.
+pub(crate) fn frame_mask(going: &Going, blocked: [u32; 4]) -> [u32; 4]
+    ensures { result ≡ unwrap_or going.now.saved blocked }
+{
+    going.saved.unwrap_or(blocked)
 }
 
 /// The mask from before the call that waits, where that has one of its own, is the one that the handler's frame keeps.

@@ -15,9 +15,10 @@ ghost use Rattle.o32_model.specs.Logs.{with_more};
 ghost use Rattle.o32_turns.specs.Handling.{handler_address};
 ghost use Rattle.signal_frames.specs.Entering.{frame_address};
 
+use crate::taken::TakenSignal;
 use bridge_ends::wrote;
 use guest_space::{Space, StoreError};
-use kernel_core::{Info, NoMemory};
+use kernel_core::NoMemory;
 use kernel_model::{Action, SigStack};
 use mips_exec::Cpu;
 use o32_model::Log;
@@ -47,45 +48,43 @@ const SS_DISABLE: u32 = 2;
 /// unless that is disabled or in use (sigaltstack(2)). Where effects are kept, its bytes are kept as one. After NoMemory
 /// the memory is not used again.
 pub(crate) fn enter(
-    info: &Info,
-    action: &Action,
+    taken: &TakenSignal,
     mask: [u32; 4],
     stack: SigStack,
     cpu: &mut Cpu,
     space: &mut Space,
     log: &mut Log,
 ) -> Result<bool, NoMemory>
-    ensures entered { Enters (spec.framed stack cpu.old info.now action.now mask) result cpu.old cpu.new space.old space.new }
+    ensures entered { Enters (spec.framed stack cpu.old taken.now.info taken.now.action mask) result cpu.old cpu.new space.old space.new }
     ensures effects { OnOk result ((processor : Processor) (sent : Sent)
         → Effected log.old.effects log.new.effects (reached processor space.old.pages sent) (reached processor space.new.pages sent)) }
     ensures native { log.new.native ≡ log.old.native }
 {
     space.whole();
     let pointer = cpu.register(STACK_POINTER);
-    let top = top_of(stack, pointer, action.flags.onstack());
-    let written = enter_below(info, action, mask, shown(stack, pointer), top, cpu, space)?;
+    let top = top_of(stack, pointer, taken.action.flags.onstack());
+    let written = enter_below(taken, mask, shown(stack, pointer), top, cpu, space)?;
     if written {
-        keep_frame(top, frame_size(action), space, log)?;
+        keep_frame(top, frame_size(&taken.action), space, log)?;
     }
     Ok(written)
 }
 
 /// The same of a frame below `top`, with the alternate stack as it is shown; nothing is kept of it.
 fn enter_below(
-    info: &Info,
-    action: &Action,
+    taken: &TakenSignal,
     mask: [u32; 4],
     stack: SigStack,
     top: u32,
     cpu: &mut Cpu,
     space: &mut Space,
 ) -> Result<bool, NoMemory>
-    ensures { Enters (spec.framed_below top stack cpu.old info.now action.now mask) result cpu.old cpu.new space.old space.new }
+    ensures { Enters (spec.framed_below top stack cpu.old taken.now.info taken.now.action mask) result cpu.old cpu.new space.old space.new }
 {
-    if action.flags.siginfo() {
-        enter_with_info(info, action, mask, stack, top, cpu, space)
+    if taken.action.flags.siginfo() {
+        enter_with_info(taken, mask, stack, top, cpu, space)
     } else {
-        enter_plain(info, action, mask, top, cpu, space)
+        enter_plain(taken, mask, top, cpu, space)
     }
 }
 
@@ -139,33 +138,32 @@ fn read_loadable(space: &Space, address: u32, bytes: &mut [u8])
 
 /// The same under SA_SIGINFO, of a frame below `top`.
 fn enter_with_info(
-    info: &Info,
-    action: &Action,
+    taken: &TakenSignal,
     mask: [u32; 4],
     stack: SigStack,
     top: u32,
     cpu: &mut Cpu,
     space: &mut Space,
 ) -> Result<bool, NoMemory>
-    ensures { Enters (spec.with_info cpu.old info.now action.now mask stack top) result cpu.old cpu.new space.old space.new }
+    ensures { Enters (spec.with_info cpu.old taken.now.info taken.now.action mask stack top) result cpu.old cpu.new space.old space.new }
 {
-    let handler = handler_address(action);
-    let written = write_rt_frame(cpu, space, info, handler, mask, words_of(stack), top);
+    let handler = handler_address(&taken.action);
+    let written = write_rt_frame(cpu, space, &taken.info, handler, mask, words_of(stack), top);
     is_written(written)
 }
 
 /// The same without it.
 fn enter_plain(
-    info: &Info,
-    action: &Action,
+    taken: &TakenSignal,
     mask: [u32; 4],
     top: u32,
     cpu: &mut Cpu,
     space: &mut Space,
 ) -> Result<bool, NoMemory>
-    ensures { Enters (spec.plain cpu.old info.now action.now mask top) result cpu.old cpu.new space.old space.new }
+    ensures { Enters (spec.plain cpu.old taken.now.info taken.now.action mask top) result cpu.old cpu.new space.old space.new }
 {
-    let written = write_frame(cpu, space, info.sig, handler_address(action), mask, top);
+    let handler = handler_address(&taken.action);
+    let written = write_frame(cpu, space, taken.info.sig, handler, mask, top);
     is_written(written)
 }
 

@@ -2,85 +2,82 @@
 ghost use Rattle.std.specs.Prelude.{◌≡◌};
 ghost use Rattle.bridge_ends.specs.Passed.{LeadsOn};
 ghost use Rattle.bridge_ends.specs.Ends.{KeepsEnd};
+ghost use Rattle.bridge_delivery.specs.inside.Processes.{StaysOn, stands};
 ghost use Rattle.bridge_delivery.specs.inside.Standings.{Becomes};
 ghost use Rattle.guest_space.specs.Memory.{Pages};
 ghost use Rattle.kernel_model.specs.Stops.{StopsOnlyIfRose};
 ghost use Rattle.o32_turns.specs.Closing.{whole_end};
-ghost use Rattle.o32_turns.specs.Going.{Carries, within_of};
+ghost use Rattle.o32_turns.specs.Going.{Carries};
 ghost use Rattle.o32_turns.specs.Handling as spec;
 ghost use Rattle.o32_turns.specs.Handling.{begun, wait_left_by, without_action};
 ghost use Rattle.outside.specs.Streams.{NoCountFell, contents};
 
-use crate::dispositions::{after_frame, keep_mask, tell};
+use crate::dispositions::{after_frame, frame_mask, keep_mask, tell};
 use crate::frames::enter;
+use crate::process::Process;
 use crate::sets::handling_mask;
+use crate::taken::TakenSignal;
 use bridge_ends::{Below, end_wait, mask, set_default, set_mask, stack};
-use guest_space::Space;
-use kernel_core::{Delivery, Info, Sig, Stop};
+use kernel_core::{Delivery, Sig, Stop};
 use kernel_model::{Action, SigStack};
-use mips_exec::Cpu;
 use o32_model::Cause;
-use o32_turns::Going;
 use outside::{Devices, Sink, Source};
 use signal_choice::is_unblockable;
 
-/// A signal's handler begins, whose action this is: the call that waits ends, the handler's frame is written, and the
-/// signals that it blocks are blocked. A frame that can't be written whole is not written, and then neither the mask nor
-/// the action changes: the process meets a SIGSEGV, and where that is its signal it is killed.
+/// A signal's handler begins: the call that waits ends, the handler's frame is written, and the signals that it blocks
+/// are blocked. A frame that can't be written whole is not written, and then neither the mask nor the action changes: the
+/// process meets a SIGSEGV, and where that is its signal it is killed.
 pub(crate) fn handle<I: Source, O: Sink, E: Sink>(
     clock: u64,
-    info: &Info,
-    action: &Action,
-    going: &mut Going,
-    cpu: &mut Cpu,
-    space: &mut Space,
+    taken: &TakenSignal,
+    process: &mut Process,
     dev: &mut Devices<I, O, E>,
     below: &mut Below,
 ) -> Result<(), Stop>
     requires { below.old.kernel.now.clock ≡ clock }
-    ensures handled { Carries (λ within. spec.handled whole_end within info.now action.now) result
-        (within_of going.old cpu.old space.old below.old.kernel.now) (within_of going.new cpu.new space.new below.new.kernel.now)
+    ensures handled { Carries (λ within. spec.handled whole_end within taken.now.info taken.now.action) result
+        (stands process.old below.old.kernel.now) (stands process.new below.new.kernel.now)
         (contents I.left O.written E.written dev.old) (contents I.left O.written E.written dev.new) }
-    ensures kept { KeepsEnd result (I.left dev.old.input) below.old.kernel.now below.new.kernel.now space.old.pages space.new.pages below.old.log.now below.new.log.now }
+    ensures kept { KeepsEnd result (I.left dev.old.input) below.old.kernel.now below.new.kernel.now process.old.space.now.pages process.new.space.now.pages below.old.log.now below.new.log.now }
     ensures cause { StopsOnlyIfRose I.faults O.faults E.faults result dev.old dev.new }
     ensures counts { NoCountFell I.faults O.faults E.faults dev.old dev.new }
     ensures clock { below.new.kernel.now.clock ≡ clock }
     ensures same { LeadsOn below.old below.new }
+    ensures stays { StaysOn process.old process.new }
 {
-    leave_wait(clock, action, going, cpu, space, dev, below)?;
-    tell(info.sig, Delivery::Handler, going)?;
-    begin(info, action, going, cpu, space, dev, below)
+    leave_wait(clock, &taken.action, process, dev, below)?;
+    tell(taken.info.sig, Delivery::Handler, process.going)?;
+    begin(taken, process, dev, below)
 }
 
 /// The call that waits, if there is one, ends by a handler with this action.
 fn leave_wait<I: Source, O: Sink, E: Sink>(
     clock: u64,
     action: &Action,
-    going: &mut Going,
-    cpu: &mut Cpu,
-    space: &mut Space,
+    process: &mut Process,
     dev: &mut Devices<I, O, E>,
     below: &mut Below,
 ) -> Result<(), Stop>
     requires { below.old.kernel.now.clock ≡ clock }
     ensures left { Carries (λ within. wait_left_by whole_end action.now within.machine.wait within) result
-        (within_of going.old cpu.old space.old below.old.kernel.now) (within_of going.new cpu.new space.new below.new.kernel.now)
+        (stands process.old below.old.kernel.now) (stands process.new below.new.kernel.now)
         (contents I.left O.written E.written dev.old) (contents I.left O.written E.written dev.new) }
-    ensures kept { KeepsEnd result (I.left dev.old.input) below.old.kernel.now below.new.kernel.now space.old.pages space.new.pages below.old.log.now below.new.log.now }
+    ensures kept { KeepsEnd result (I.left dev.old.input) below.old.kernel.now below.new.kernel.now process.old.space.now.pages process.new.space.now.pages below.old.log.now below.new.log.now }
     ensures cause { StopsOnlyIfRose I.faults O.faults E.faults result dev.old dev.new }
     ensures counts { NoCountFell I.faults O.faults E.faults dev.old dev.new }
     ensures clock { below.new.kernel.now.clock ≡ clock }
     ensures same { LeadsOn below.old below.new }
+    ensures stays { StaysOn process.old process.new }
 {
     let restarts = action.flags.restart();
-    keep_mask(going);
+    keep_mask(process.going);
     end_wait(
         restarts,
         Cause::Handler,
         clock,
-        going,
-        cpu,
-        space,
+        process.going,
+        process.cpu,
+        process.space,
         below.kernel,
         below.memory,
         dev,
@@ -90,55 +87,51 @@ fn leave_wait<I: Source, O: Sink, E: Sink>(
 
 /// The handler's frame is written below the stack that stands, with the mask that its return is to put back.
 fn begin<I: Source, O: Sink, E: Sink>(
-    info: &Info,
-    action: &Action,
-    going: &mut Going,
-    cpu: &mut Cpu,
-    space: &mut Space,
+    taken: &TakenSignal,
+    process: &mut Process,
     dev: &mut Devices<I, O, E>,
     below: &mut Below,
 ) -> Result<(), Stop>
-    ensures begun { Carries (λ within. begun within info.now action.now) result
-        (within_of going.old cpu.old space.old below.old.kernel.now) (within_of going.new cpu.new space.new below.new.kernel.now)
+    ensures begun { Carries (λ within. begun within taken.now.info taken.now.action) result
+        (stands process.old below.old.kernel.now) (stands process.new below.new.kernel.now)
         (contents I.left O.written E.written dev.old) (contents I.left O.written E.written dev.new) }
-    ensures kept { KeepsEnd result (I.left dev.old.input) below.old.kernel.now below.new.kernel.now space.old.pages space.new.pages below.old.log.now below.new.log.now }
+    ensures kept { KeepsEnd result (I.left dev.old.input) below.old.kernel.now below.new.kernel.now process.old.space.now.pages process.new.space.now.pages below.old.log.now below.new.log.now }
     ensures cause { StopsOnlyIfRose I.faults O.faults E.faults result dev.old dev.new }
     ensures counts { NoCountFell I.faults O.faults E.faults dev.old dev.new }
     ensures clock { below.new.kernel.now.clock ≡ below.old.kernel.now.clock }
     ensures same { LeadsOn below.old below.new }
+    ensures stays { StaysOn process.old process.new }
 {
     let blocked = mask(dev, below)?;
     let stack = stack(dev, below)?;
-    begin_on(info, action, blocked, stack, going, cpu, space, dev, below)
+    begin_on(taken, blocked, stack, process, dev, below)
 }
 
 /// The same, where this is the mask that stands and the alternate stack.
 fn begin_on<I: Source, O: Sink, E: Sink>(
-    info: &Info,
-    action: &Action,
+    taken: &TakenSignal,
     blocked: [u32; 4],
     stack: SigStack,
-    going: &mut Going,
-    cpu: &mut Cpu,
-    space: &mut Space,
+    process: &mut Process,
     dev: &mut Devices<I, O, E>,
     below: &mut Below,
 ) -> Result<(), Stop>
     ensures begun { blocked ≡ below.old.kernel.now.signals.mask → stack ≡ below.old.kernel.now.signals.stack
-        → Carries (λ within. begun within info.now action.now) result
-        (within_of going.old cpu.old space.old below.old.kernel.now) (within_of going.new cpu.new space.new below.new.kernel.now)
+        → Carries (λ within. begun within taken.now.info taken.now.action) result
+        (stands process.old below.old.kernel.now) (stands process.new below.new.kernel.now)
         (contents I.left O.written E.written dev.old) (contents I.left O.written E.written dev.new) }
-    ensures kept { KeepsEnd result (I.left dev.old.input) below.old.kernel.now below.new.kernel.now space.old.pages space.new.pages below.old.log.now below.new.log.now }
+    ensures kept { KeepsEnd result (I.left dev.old.input) below.old.kernel.now below.new.kernel.now process.old.space.now.pages process.new.space.now.pages below.old.log.now below.new.log.now }
     ensures cause { StopsOnlyIfRose I.faults O.faults E.faults result dev.old dev.new }
     ensures counts { NoCountFell I.faults O.faults E.faults dev.old dev.new }
     ensures clock { below.new.kernel.now.clock ≡ below.old.kernel.now.clock }
     ensures same { LeadsOn below.old below.new }
+    ensures stays { StaysOn process.old process.new }
 {
-    let kept = going.saved.unwrap_or(blocked);
-    let written = enter(info, action, kept, stack, cpu, space, below.log)?;
-    after_frame(written, info.sig, going)?;
+    let kept = frame_mask(process.going, blocked);
+    let written = enter(taken, kept, stack, process.cpu, process.space, below.log)?;
+    after_frame(written, taken.info.sig, process.going)?;
     if written {
-        run_handler(info.sig, action, blocked, dev, below)?;
+        run_handler(taken.info.sig, &taken.action, blocked, dev, below)?;
     }
     Ok(())
 }

@@ -5,8 +5,10 @@ mod delivering;
 mod dispositions;
 mod frames;
 mod handling;
+mod process;
 mod quiet;
 mod sets;
+mod taken;
 
 // Passed on: the turn ends waits, posts and delivers, and names one crate for it.
 pub use bridge_ends::{

@@ -16,7 +16,7 @@ use Rattle.bridge_delivery.proofs.frames.enter_with_info.Goals as goal
 pub returns : goal.returns
 unfolding with_info
 returns c =
-    let info = c.args.info.now in
+    let info = c.args.taken.now.info in
     let p = c.args.cpu.now in
     let stack = c.args.stack in
     let written = c.write_rt_frame-written in
@@ -25,11 +25,11 @@ returns c =
     ≡ rt_frame_bytes (information info) (stack_kept stack) (context_of_processor p) c.args.mask =
     ap (λ (s : AltStack). rt_frame_bytes (information info) (alternate_stack s) (context_of_processor p) c.args.mask) c.words_of.ensures
     ∙ sym (low_words (information info) stack.sp stack.size stack.flags (context_of_processor p) c.args.mask) in
-    wrote (with_info p info c.args.action.now c.args.mask stack c.args.top) 784 (length-rt_frame_bytes (information info) (stack_kept stack) (context_of_processor p) c.args.mask)
+    wrote (with_info p info c.args.taken.now.action c.args.mask stack c.args.top) 784 (length-rt_frame_bytes (information info) (stack_kept stack) (context_of_processor p) c.args.mask)
     p written.new.cpu c.args.space.now written.new.space written.result c.is_written.result
     (are_ready c.args.space.now.pages address (rt_frame_of siginfo).size)
     (subst (λ (bytes : List ℕ). frames.Enters written.result c.args.space.now written.new.space p written.new.cpu bytes
-    (rt_entry (o32_signal info.sig) (handler_address c.args.action.now) address)) same
+    (rt_entry (o32_signal info.sig) (handler_address c.args.taken.now.action) address)) same
     (subst (λ (handler : ℕ). frames.Enters written.result c.args.space.now written.new.space p written.new.cpu
     (rt_frame_bytes (information info) (alternate_stack c.words_of.result) (context_of_processor p) c.args.mask)
     (rt_entry (o32_signal info.sig) handler address)) c.handler_address-handler.ensures written.ensures.enters))

@@ -19,10 +19,10 @@ returns-clause-left g c = λ left told.
     (λ (w : Within). record w { saved = kept_of w.machine.wait w.saved })
     (λ (w : Within). ended_wait c.restart-restarts.result Handler w w.machine.wait)
     (λ (w : Within). wait_left_by whole_end c.args.action.now w.machine.wait w)
-    (within_of c.args.going.now c.args.cpu.now c.args.space.now c.args.below.now.kernel.now)
-    (within_of c.keep_mask.new.going c.args.cpu.now c.args.space.now c.args.below.now.kernel.now)
+    (within_of c.args.process.now.going.now c.args.process.now.cpu.now c.args.process.now.space.now c.args.below.now.kernel.now)
+    (within_of c.keep_mask.new.going c.args.process.now.cpu.now c.args.process.now.space.now c.args.below.now.kernel.now)
     (within_of c.end_wait.new.going c.end_wait.new.cpu c.end_wait.new.space c.end_wait.new.k)
     held held (contents g.I.Source.left g.O.Sink.written g.E.Sink.written c.end_wait.new.dev)
     left (λ w. wait_left c.args.action.now c.restart-restarts.result c.restart-restarts.ensures w.machine.wait w) told
-    (refl, λ (coming : List Due) (idle : ℕ). ap (λ (s : Standing). within_of s c.args.cpu.now c.args.space.now c.args.below.now.kernel.now coming idle) c.keep_mask.ensures)
+    (refl, λ (coming : List Due) (idle : ℕ). ap (λ (s : Standing). within_of s c.args.process.now.cpu.now c.args.process.now.space.now c.args.below.now.kernel.now coming idle) c.keep_mask.ensures)
     c.end_wait.ensures.ends

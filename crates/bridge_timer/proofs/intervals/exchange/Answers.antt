@@ -1,11 +1,9 @@
 -- The timer is set, and what it showed is stored as the row says.
-use Rattle.std.proofs.Common.{◌≡◌, ◌∙◌, Option, ap, sym}
+use Rattle.std.proofs.Common.{◌∙◌, Option, ap, sym}
 use Rattle.guest_space.specs.Memory.{Memory}
-use Rattle.kernel_core.specs.declared.reply.Reply.{Reply}
 use Rattle.kernel_model.specs.Came.{Given}
-use Rattle.kernel_model.specs.Clock.{TimerSetting, arm_timer, timer_value}
+use Rattle.kernel_model.specs.Clock.{TimerSetting, arm_timer}
 use Rattle.o32_model.specs.Sleeps.{setitimer_row, setting_at}
-use Rattle.o32_model.specs.Step.{Guest}
 use Rattle.o32_model.specs.Words.{argument}
 use Rattle.o32_model.specs.declared.call_words.CallWords.{CallWords}
 use Rattle.bridge_timer.proofs.Acting.{ended_called, ended_keeps}

@@ -1,5 +1,5 @@
 -- Another timer is refused, and that of real time is set by what it shows.
-use Rattle.std.proofs.Common.{◌≡◌, ◌∙◌, ℕ, OnOk, ap, refl, subst, sym}
+use Rattle.std.proofs.Common.{◌∙◌, ℕ, OnOk, ap, refl, subst, sym}
 use Rattle.guest_space.specs.Memory.{Memory}
 use Rattle.kernel_core.specs.declared.error.Errno.TheVariants.{EINVAL}
 use Rattle.kernel_model.specs.Clock.{timer_value}
