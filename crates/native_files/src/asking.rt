@@ -12,7 +12,7 @@ ghost use Rattle.native_vfs.specs.Keyed.{IsLiveKey, inode_at, number_at};
 use crate::files::Files;
 use crate::nodes::node_status;
 use crate::progress::Status;
-use crate::walking::{Base, walk_to_node};
+use crate::walking::{Base, PathFrom, walk_to_node};
 use kernel_core::{CoreError, Errno};
 use native_vfs::{NodeKind, Vfs};
 
@@ -90,13 +90,13 @@ impl Files {
         ensures fits { IfOk result IsStatus }
     {
         let keys = self.node_keys.as_slice();
+        let from = PathFrom { base, path };
         match walk_to_node(
             &self.vfs,
             &self.table,
             keys,
             self.directory,
-            base,
-            path,
+            from,
             flags.follow,
         ) {
             Err(error) => Err(error),
@@ -129,15 +129,8 @@ impl Files {
         ensures row { Answers (access_by_path self.now (base_of base) path.now execute) result self.now }
     {
         let keys = self.node_keys.as_slice();
-        match walk_to_node(
-            &self.vfs,
-            &self.table,
-            keys,
-            self.directory,
-            base,
-            path,
-            true,
-        ) {
+        let from = PathFrom { base, path };
+        match walk_to_node(&self.vfs, &self.table, keys, self.directory, from, true) {
             Err(error) => Err(error),
             Ok(node) => access_to(&self.vfs, node, execute),
         }

@@ -10,7 +10,7 @@ ghost use Rattle.native_vfs.specs.Keyed.{IsLiveKey, number_at};
 
 use crate::files::Files;
 use crate::location::path_to;
-use crate::walking::{Base, directory_key, walk_to_node};
+use crate::walking::{Base, PathFrom, directory_key, walk_to_node};
 use kernel_core::{Bytes, CoreError, Errno};
 use kernel_model::Description;
 use native_fd::Table;
@@ -37,15 +37,11 @@ impl Files {
     {
         let keys = self.node_keys.as_slice();
         let from = self.directory;
-        match walk_to_node(
-            &self.vfs,
-            &self.table,
-            keys,
-            from,
-            Base::Working,
+        let named = PathFrom {
+            base: Base::Working,
             path,
-            true,
-        ) {
+        };
+        match walk_to_node(&self.vfs, &self.table, keys, from, named, true) {
             Err(error) => Err(error),
             Ok(to) => match self.vfs.kind(to) {
                 NodeKind::Directory => {

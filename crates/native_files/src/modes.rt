@@ -9,7 +9,7 @@ ghost use Rattle.native_files.specs.inside.Contents.{number_in};
 
 use crate::files::Files;
 use crate::nodes::key_at;
-use crate::walking::{Base, walk_to_node};
+use crate::walking::{Base, PathFrom, walk_to_node};
 use kernel_core::{CoreError, Errno};
 use kernel_model::{Description, Object};
 
@@ -100,15 +100,8 @@ impl Files {
         ensures row { Answers (rows.change_mode self.old now (base_of base) (Ok path.now) mode) result self.new }
     {
         let keys = self.node_keys.as_slice();
-        match walk_to_node(
-            &self.vfs,
-            &self.table,
-            keys,
-            self.directory,
-            base,
-            path,
-            true,
-        ) {
+        let from = PathFrom { base, path };
+        match walk_to_node(&self.vfs, &self.table, keys, self.directory, from, true) {
             Err(error) => Err(error),
             Ok(node) => {
                 self.vfs.set_mode(node, (mode % MODES) as u16, now);

@@ -11,7 +11,7 @@ use crate::changes::{
     link_at, make_directory_at, make_link_at, permitted, remove_directory_at, rename_at, unlink_at,
 };
 use crate::files::Files;
-use crate::walking::{Base, walk, walk_to_node};
+use crate::walking::{Base, PathFrom, walk, walk_to_node};
 use kernel_core::{CoreError, Errno};
 
 impl Files {
@@ -50,15 +50,8 @@ impl Files {
         ensures row { Answers (rows.make_directory self.old now (base_of base) (Ok path.now) mode) result self.new }
     {
         let keys = self.node_keys.as_slice();
-        match walk(
-            &self.vfs,
-            &self.table,
-            keys,
-            self.directory,
-            base,
-            path,
-            false,
-        ) {
+        let from = PathFrom { base, path };
+        match walk(&self.vfs, &self.table, keys, self.directory, from, false) {
             Err(error) => Err(error),
             Ok(at) => {
                 let mode = permitted(self.umask, (mode % 0x400) as u16);
@@ -107,15 +100,8 @@ impl Files {
         ensures row { Answers (rows.remove_name self.old now (base_of base) (Ok path.now) (Some true)) result self.new }
     {
         let keys = self.node_keys.as_slice();
-        match walk(
-            &self.vfs,
-            &self.table,
-            keys,
-            self.directory,
-            base,
-            path,
-            false,
-        ) {
+        let from = PathFrom { base, path };
+        match walk(&self.vfs, &self.table, keys, self.directory, from, false) {
             Err(error) => Err(error),
             Ok(at) => remove_directory_at(&mut self.vfs, &at, now),
         }
@@ -127,15 +113,8 @@ impl Files {
         ensures row { Answers (rows.remove_name self.old now (base_of base) (Ok path.now) (Some false)) result self.new }
     {
         let keys = self.node_keys.as_slice();
-        match walk(
-            &self.vfs,
-            &self.table,
-            keys,
-            self.directory,
-            base,
-            path,
-            false,
-        ) {
+        let from = PathFrom { base, path };
+        match walk(&self.vfs, &self.table, keys, self.directory, from, false) {
             Err(error) => Err(error),
             Ok(at) => unlink_at(&mut self.vfs, &at, now),
         }
@@ -170,7 +149,15 @@ impl Files {
                 Ok(new_path) => match follow {
                     None => Err(CoreError::Refused(Errno::EINVAL)),
                     Some(follow) => {
-                        self.link_named(now, old_base, old_path, new_base, new_path, follow)
+                        let old = PathFrom {
+                            base: old_base,
+                            path: old_path,
+                        };
+                        let new = PathFrom {
+                            base: new_base,
+                            path: new_path,
+                        };
+                        self.link_named(now, old, new, follow)
                     }
                 },
             },
@@ -180,40 +167,22 @@ impl Files {
     fn link_named(
         &mut self,
         now: i128,
-        old_base: Base,
-        old_path: &[u8],
-        new_base: Base,
-        new_path: &[u8],
+        old: PathFrom,
+        new: PathFrom,
         follow: bool,
     ) -> Result<(), CoreError>
         requires time { IsTime now }
-        requires old_path { IsPlain old_path.now }
-        requires new_path { IsPlain new_path.now }
-        ensures row { Answers (rows.link self.old now (base_of old_base) (Ok old_path.now) (base_of new_base) (Ok new_path.now) (Some follow)) result self.new }
+        requires old_path { IsPlain old.path.now }
+        requires new_path { IsPlain new.path.now }
+        ensures row { Answers (rows.link self.old now (base_of old.entry.base) (Ok old.entry.path.now) (base_of new.entry.base) (Ok new.entry.path.now) (Some follow)) result self.new }
     {
         let keys = self.node_keys.as_slice();
         let directory = self.directory;
-        match walk_to_node(
-            &self.vfs,
-            &self.table,
-            keys,
-            directory,
-            old_base,
-            old_path,
-            follow,
-        ) {
+        match walk_to_node(&self.vfs, &self.table, keys, directory, old, follow) {
             Err(error) => Err(error),
-            Ok(node) => match walk(
-                &self.vfs,
-                &self.table,
-                keys,
-                directory,
-                new_base,
-                new_path,
-                false,
-            ) {
+            Ok(node) => match walk(&self.vfs, &self.table, keys, directory, new, false) {
                 Err(error) => Err(error),
-                Ok(at) => link_at(&mut self.vfs, node, &at, new_path, now),
+                Ok(at) => link_at(&mut self.vfs, node, &at, new.path, now),
             },
         }
     }
@@ -265,15 +234,8 @@ impl Files {
         ensures row { Answers (rows.make_link self.old now (Ok target.now) (base_of base) (Ok path.now)) result self.new }
     {
         let keys = self.node_keys.as_slice();
-        match walk(
-            &self.vfs,
-            &self.table,
-            keys,
-            self.directory,
-            base,
-            path,
-            false,
-        ) {
+        let from = PathFrom { base, path };
+        match walk(&self.vfs, &self.table, keys, self.directory, from, false) {
             Err(error) => Err(error),
             Ok(at) => make_link_at(&mut self.vfs, &at, path, target, now),
         }
@@ -304,49 +266,36 @@ impl Files {
             Err(error) => Err(CoreError::Refused(error)),
             Ok(old_path) => match new_path {
                 Err(error) => Err(CoreError::Refused(error)),
-                Ok(new_path) => self.rename_named(now, old_base, old_path, new_base, new_path),
+                Ok(new_path) => {
+                    let old = PathFrom {
+                        base: old_base,
+                        path: old_path,
+                    };
+                    let new = PathFrom {
+                        base: new_base,
+                        path: new_path,
+                    };
+                    self.rename_named(now, old, new)
+                }
             },
         }
     }
 
-    fn rename_named(
-        &mut self,
-        now: i128,
-        old_base: Base,
-        old_path: &[u8],
-        new_base: Base,
-        new_path: &[u8],
-    ) -> Result<(), CoreError>
+    fn rename_named(&mut self, now: i128, old: PathFrom, new: PathFrom) -> Result<(), CoreError>
         requires time { IsTime now }
-        requires old_path { IsPlain old_path.now }
-        requires new_path { IsPlain new_path.now }
-        ensures row { Answers (rows.rename self.old now (base_of old_base) (Ok old_path.now) (base_of new_base) (Ok new_path.now)) result self.new }
+        requires old_path { IsPlain old.path.now }
+        requires new_path { IsPlain new.path.now }
+        ensures row { Answers (rows.rename self.old now (base_of old.entry.base) (Ok old.entry.path.now) (base_of new.entry.base) (Ok new.entry.path.now)) result self.new }
     {
         let keys = self.node_keys.as_slice();
         let directory = self.directory;
-        match walk(
-            &self.vfs,
-            &self.table,
-            keys,
-            directory,
-            old_base,
-            old_path,
-            false,
-        ) {
+        match walk(&self.vfs, &self.table, keys, directory, old, false) {
             Err(error) => Err(error),
             Ok(from) => match from.node {
                 None => Err(CoreError::Refused(Errno::ENOENT)),
-                Some(moved) => match walk(
-                    &self.vfs,
-                    &self.table,
-                    keys,
-                    directory,
-                    new_base,
-                    new_path,
-                    false,
-                ) {
+                Some(moved) => match walk(&self.vfs, &self.table, keys, directory, new, false) {
                     Err(error) => Err(error),
-                    Ok(to) => rename_at(&mut self.vfs, moved, &from, &to, new_path, now),
+                    Ok(to) => rename_at(&mut self.vfs, moved, &from, &to, new.path, now),
                 },
             },
         }

@@ -11,7 +11,7 @@ ghost use Rattle.native_files.specs.inside.NewTimes.{after_new_times, asked_time
 use crate::files::Files;
 use crate::nodes::key_at;
 use crate::sizes::as_answer;
-use crate::walking::{Base, walk_to_node};
+use crate::walking::{Base, PathFrom, walk_to_node};
 use kernel_core::{CoreError, Errno};
 use kernel_model::{Description, Object, TimeSpec};
 
@@ -127,13 +127,13 @@ impl Files {
         ensures row { Answers (times_of_path self.old now (base_of base) path.now asked) result self.new }
     {
         let keys = self.node_keys.as_slice();
+        let from = PathFrom { base, path };
         match walk_to_node(
             &self.vfs,
             &self.table,
             keys,
             self.directory,
-            base,
-            path,
+            from,
             asked.follow,
         ) {
             Err(error) => Err(error),

@@ -21,16 +21,17 @@ use crate::changes::{is_missing_before_slash, permitted};
 use crate::files::Files;
 use crate::flags::kept;
 use crate::readiness::writes;
-use crate::walking::{Base, walk};
+use crate::walking::{Base, PathFrom, walk};
 use kernel_core::{CoreError, Errno, NoMemory, OpenFlags};
 use kernel_model::{Description, Object};
 use native_fd::Table;
 use native_vfs::{NodeKind, Place, Vfs};
 
-/// How a node is opened: with which flags, with which mode bits where it is made, and at which time, in nanoseconds
-/// since the Epoch.
+/// How a node is opened: as which descriptor, with which flags, with which mode bits where it is made, and at which
+/// time, in nanoseconds since the Epoch.
 #[derive(Clone, Copy)]
 struct Opening {
+    fd: u32,
     flags: OpenFlags,
     mode: u16,
     now: i128,
@@ -92,21 +93,19 @@ impl Files {
         };
         let keys = self.node_keys.as_slice();
         let follow = follows(flags);
-        match walk(
-            &self.vfs,
-            &self.table,
-            keys,
-            self.directory,
-            base,
-            path,
-            follow,
-        ) {
+        let from = PathFrom { base, path };
+        match walk(&self.vfs, &self.table, keys, self.directory, from, follow) {
             Err(error) => Err(error),
             Ok(at) => {
                 let mode = permitted(self.umask, (mode % 0x1000) as u16);
-                let how = Opening { flags, mode, now };
+                let how = Opening {
+                    fd,
+                    flags,
+                    mode,
+                    now,
+                };
                 let keys = self.node_keys.as_mut_slice();
-                match open_place(&mut self.vfs, &mut self.table, keys, fd, &at, path, how) {
+                match open_place(&mut self.vfs, &mut self.table, keys, &at, path, how) {
                     Err(error) => Err(error),
                     Ok(()) => Ok(fd),
                 }
@@ -120,7 +119,6 @@ fn open_place(
     vfs: &mut Vfs,
     table: &mut Table<Description>,
     node_keys: &mut [usize],
-    fd: u32,
     at: &Place,
     path: &[u8],
     how: Opening,
@@ -132,13 +130,13 @@ fn open_place(
     requires table { IsTable table.old }
     requires sized { length node_keys.old ≡ 1024 }
     requires few { (node : ℕ) → holds_at vfs.old.nodes node + 1 < 2 ^ 32 }
-    requires least { lowest_free table.old.fds 0 ≡ Some fd }
-    requires within { fd < descriptor_limit }
-    requires free { slot table.old.fds fd ≡ None }
-    ensures opened { OpensAt vfs.old.nodes table.old (opened_at vfs.old.nodes how.now path.now how.flags how.mode (place_at vfs.old at.now) (place_at vfs.old at.now).node) fd how.flags result vfs.new.nodes table.new }
+    requires least { lowest_free table.old.fds 0 ≡ Some how.fd }
+    requires within { how.fd < descriptor_limit }
+    requires free { slot table.old.fds how.fd ≡ None }
+    ensures opened { OpensAt vfs.old.nodes table.old (opened_at vfs.old.nodes how.now path.now how.flags how.mode (place_at vfs.old at.now) (place_at vfs.old at.now).node) how.fd how.flags result vfs.new.nodes table.new }
     ensures kept { (directory : ℕ) → AreKept vfs.old table.old.live node_keys.old directory → StaysKept vfs.old vfs.new table.new.live node_keys.new directory }
 {
-    let flags = how.flags;
+    let Opening { fd, flags, .. } = how;
     match node_to_open(vfs, at, path, how) {
         Err(error) => Err(error),
         Ok(key) => {

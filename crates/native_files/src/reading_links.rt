@@ -6,7 +6,7 @@ ghost use Rattle.native_files.specs.Texts.{text_told};
 ghost use Rattle.native_files.specs.inside.Targets.{read_target};
 
 use crate::files::Files;
-use crate::walking::{Base, walk_to_node};
+use crate::walking::{Base, PathFrom, walk_to_node};
 use kernel_core::{CoreError, Errno};
 use native_vfs::NodeKind;
 
@@ -40,15 +40,8 @@ impl Files {
         ensures row { Answers (read_target self.now (base_of base) path.now most) (text_told result) self.now }
     {
         let keys = self.node_keys.as_slice();
-        match walk_to_node(
-            &self.vfs,
-            &self.table,
-            keys,
-            self.directory,
-            base,
-            path,
-            false,
-        ) {
+        let from = PathFrom { base, path };
+        match walk_to_node(&self.vfs, &self.table, keys, self.directory, from, false) {
             Err(error) => Err(error),
             Ok(node) => match self.vfs.kind(node) {
                 NodeKind::Link => Ok(first_bytes(self.vfs.target(node), most)),

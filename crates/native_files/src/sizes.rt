@@ -12,7 +12,7 @@ ghost use Rattle.native_vfs.specs.Keyed.{IsLiveKey, number_at};
 
 use crate::files::Files;
 use crate::nodes::key_at;
-use crate::walking::{Base, walk_to_node};
+use crate::walking::{Base, PathFrom, walk_to_node};
 use kernel_core::{CoreError, Errno};
 use kernel_model::{Description, Object};
 use native_vfs::{NodeKind, Vfs};
@@ -58,15 +58,8 @@ impl Files {
         ensures row { Answers (truncate_by_path self.old now (base_of base) path.now size) result self.new }
     {
         let keys = self.node_keys.as_slice();
-        match walk_to_node(
-            &self.vfs,
-            &self.table,
-            keys,
-            self.directory,
-            base,
-            path,
-            true,
-        ) {
+        let from = PathFrom { base, path };
+        match walk_to_node(&self.vfs, &self.table, keys, self.directory, from, true) {
             Err(error) => Err(error),
             Ok(node) => as_answer(truncate_at(&mut self.vfs, node, size, now)),
         }

@@ -23,6 +23,13 @@ pub enum Base {
     Descriptor(u32),
 }
 
+/// A path, and where it begins if not with a slash.
+#[derive(Clone, Copy)]
+pub(crate) struct PathFrom<'a> {
+    pub(crate) base: Base,
+    pub(crate) path: &'a [u8],
+}
+
 /// Walks a path and tells where its last name stands. `directory` is the key of the working directory, and the
 /// path has no NUL. ENOENT for an empty path; where the path does not begin with a slash, EBADF for a descriptor
 /// that is not open and ENOTDIR for one that has no directory open; then what `Vfs::walk` has.
@@ -31,23 +38,23 @@ pub(crate) fn walk(
     table: &Table<Description>,
     node_keys: &[usize],
     directory: usize,
-    base: Base,
-    path: &[u8],
+    from: PathFrom,
     follow: bool,
 ) -> Result<Place, CoreError>
     requires kept { AreKept vfs.now table.now.live node_keys.now directory }
-    requires plain { list_any (λ byte. byte == 0) path.now ≡ false }
-    ensures { LeadsTo vfs.now (walk_in vfs.now.nodes table.now (number_at vfs.now directory) (base_of base) path.now follow) result }
+    requires plain { list_any (λ byte. byte == 0) from.path.now ≡ false }
+    ensures { LeadsTo vfs.now (walk_in vfs.now.nodes table.now (number_at vfs.now directory) (base_of from.entry.base) from.entry.path.now follow) result }
 {
+    let path = from.path;
     if path.is_empty() {
         return Err(CoreError::Refused(Errno::ENOENT));
     }
     if path[0] == b'/' {
         return vfs.walk(directory, path, follow);
     }
-    match base_key(vfs, table, node_keys, directory, base) {
+    match base_key(vfs, table, node_keys, directory, from.base) {
         Err(error) => Err(CoreError::Refused(error)),
-        Ok(from) => vfs.walk(from, path, follow),
+        Ok(start) => vfs.walk(start, path, follow),
     }
 }
 
@@ -58,15 +65,14 @@ pub(crate) fn walk_to_node(
     table: &Table<Description>,
     node_keys: &[usize],
     directory: usize,
-    base: Base,
-    path: &[u8],
+    from: PathFrom,
     follow: bool,
 ) -> Result<usize, CoreError>
     requires kept { AreKept vfs.now table.now.live node_keys.now directory }
-    requires plain { list_any (λ byte. byte == 0) path.now ≡ false }
-    ensures { FindsNode vfs.now (node_found (walk_in vfs.now.nodes table.now (number_at vfs.now directory) (base_of base) path.now follow)) result }
+    requires plain { list_any (λ byte. byte == 0) from.path.now ≡ false }
+    ensures { FindsNode vfs.now (node_found (walk_in vfs.now.nodes table.now (number_at vfs.now directory) (base_of from.entry.base) from.entry.path.now follow)) result }
 {
-    match walk(vfs, table, node_keys, directory, base, path, follow) {
+    match walk(vfs, table, node_keys, directory, from, follow) {
         Err(error) => Err(error),
         Ok(place) => match place.node {
             None => Err(CoreError::Refused(Errno::ENOENT)),

@@ -19,6 +19,13 @@ use kernel_core::{CoreError, Errno, Stop};
 use kernel_model::{Description, Object, Stream};
 use outside::{DevError, Sink};
 
+/// A descriptor that is open, and the description that it leads to.
+#[derive(Clone, Copy)]
+struct OpenDescriptor {
+    fd: u32,
+    description: Description,
+}
+
 impl Files {
     /// Writes bytes (write(2), writev(2)). `asked` is how many the program names, or what was wrong with its
     /// vector; `bytes` are those of them that can be loaded. `now` is in nanoseconds since the Epoch, within
@@ -52,7 +59,8 @@ impl Files {
                     if most == 0 {
                         return Ok(Progress::Done(0));
                     }
-                    self.write_object(now, fd, description, &bytes[..most], out, err)
+                    let open = OpenDescriptor { fd, description };
+                    self.write_object(now, &open, &bytes[..most], out, err)
                 }
             },
         }
@@ -62,25 +70,24 @@ impl Files {
     fn write_object<O: Sink, E: Sink>(
         &mut self,
         now: i128,
-        fd: u32,
-        description: Description,
+        open: &OpenDescriptor,
         bytes: &[u8],
         out: &mut O,
         err: &mut E,
     ) -> Result<Progress, CoreError>
-        requires open { opened self.old fd ≡ Some description }
+        requires open { opened self.old open.now.fd ≡ Some open.now.description }
         requires time { IsTime now }
-        ensures row { WritesSo (rows.write_object self.old None now fd description bytes.now description.object) (moved result) self.new (O.written out.old) (O.written out.new) (E.written err.old) (E.written err.new) }
+        ensures row { WritesSo (rows.write_object self.old None now open.now.fd open.now.description bytes.now open.now.description.object) (moved result) self.new (O.written out.old) (O.written out.new) (E.written err.old) (E.written err.new) }
         ensures within { MovesWithin (length bytes.now) (moved result) }
         ensures stops { WriteStops result (O.faults out.old) (O.faults out.new) (E.faults err.old) (E.faults err.new) }
         ensures out_later { O.faults out.old ≤ O.faults out.new }
         ensures err_later { E.faults err.old ≤ E.faults err.new }
     {
-        match description.object {
+        match open.description.object {
             Object::Stream(stream) => self.write_stream(stream, bytes, out, err),
             Object::ReadEnd(_) => Err(CoreError::Refused(Errno::EBADF)),
-            Object::WriteEnd(pipe) => or_refused(self.write_end(description, pipe, bytes)),
-            Object::Node(_) => self.write_node(now, fd, description, bytes),
+            Object::WriteEnd(pipe) => or_refused(self.write_end(open.description, pipe, bytes)),
+            Object::Node(_) => self.write_node(now, open, bytes),
         }
     }
 
@@ -146,21 +153,20 @@ impl Files {
     fn write_node(
         &mut self,
         now: i128,
-        fd: u32,
-        description: Description,
+        open: &OpenDescriptor,
         bytes: &[u8],
     ) -> Result<Progress, CoreError>
-        requires open { opened self.old fd ≡ Some description }
-        requires node { IsSome (node_of description.object) }
+        requires open { opened self.old open.now.fd ≡ Some open.now.description }
+        requires node { IsSome (node_of open.now.description.object) }
         requires time { IsTime now }
-        ensures row { AnswersCount (rows.write_node self.old None now fd description (number_in description.object) bytes.now) result self.new }
+        ensures row { AnswersCount (rows.write_node self.old None now open.now.fd open.now.description (number_in open.now.description.object) bytes.now) result self.new }
         ensures within { MovesWithin (length bytes.now) (moved result) }
     {
-        let position = description.position;
-        match self.write_content(now, fd, &description, position, bytes) {
+        let position = open.description.position;
+        match self.write_content(now, open, position, bytes) {
             Err(error) => Err(error),
             Ok(written) => {
-                self.move_to(fd, description, written.end);
+                self.move_to(open.fd, open.description, written.end);
                 Ok(Progress::Done(written.count))
             }
         }
@@ -193,7 +199,8 @@ impl Files {
             Object::ReadEnd(_) => Err(CoreError::Refused(Errno::ESPIPE)),
             Object::WriteEnd(_) => Err(CoreError::Refused(Errno::ESPIPE)),
             Object::Node(_) => {
-                self.write_asked_at(now, fd, &description, place.unsigned_abs(), asked, bytes)
+                let open = OpenDescriptor { fd, description };
+                self.write_asked_at(now, &open, place.unsigned_abs(), asked, bytes)
             }
         }
     }
@@ -202,16 +209,15 @@ impl Files {
     fn write_asked_at(
         &mut self,
         now: i128,
-        fd: u32,
-        description: &Description,
+        open: &OpenDescriptor,
         at: u64,
         asked: Result<u64, Errno>,
         bytes: &[u8],
     ) -> Result<usize, CoreError>
-        requires open { opened self.old fd ≡ Some description.now }
-        requires node { IsSome (node_of description.now.object) }
+        requires open { opened self.old open.now.fd ≡ Some open.now.description }
+        requires node { IsSome (node_of open.now.description.object) }
         requires time { IsTime now }
-        ensures row { Answers (write_asked_at self.old now description.now (number_in description.now.object) at asked bytes.now) result self.new }
+        ensures row { Answers (write_asked_at self.old now open.now.description (number_in open.now.description.object) at asked bytes.now) result self.new }
         ensures within { IfOk result (λ count. count ≤ min (length bytes.now) rows.transfer_limit) }
     {
         match most_of(asked, bytes.len()) {
@@ -220,7 +226,7 @@ impl Files {
                 if most == 0 {
                     return Ok(0);
                 }
-                match self.write_content(now, fd, description, at, &bytes[..most]) {
+                match self.write_content(now, open, at, &bytes[..most]) {
                     Ok(written) => Ok(written.count),
                     Err(error) => Err(error),
                 }
@@ -232,20 +238,19 @@ impl Files {
     fn write_content(
         &mut self,
         now: i128,
-        fd: u32,
-        description: &Description,
+        open: &OpenDescriptor,
         at: u64,
         bytes: &[u8],
     ) -> Result<Written, CoreError>
-        requires open { opened self.old fd ≡ Some description.now }
-        requires node { IsSome (node_of description.now.object) }
+        requires open { opened self.old open.now.fd ≡ Some open.now.description }
+        requires node { IsSome (node_of open.now.description.object) }
         requires time { IsTime now }
-        ensures written { WritesNode self.old.nodes now (number_in description.now.object) description.now.flags.append at bytes.now (file_at self.old.nodes (number_in description.now.object)) result self.new.nodes }
+        ensures written { WritesNode self.old.nodes now (number_in open.now.description.object) open.now.description.flags.append at bytes.now (file_at self.old.nodes (number_in open.now.description.object)) result self.new.nodes }
         ensures others { self.new ≡ record self.old { nodes = self.new.nodes } }
         ensures within { IfOk result (λ written. written.count ≤ length bytes.now) }
     {
-        let key = key_at(&self.table, self.node_keys.as_slice(), fd);
-        let append = description.flags.append();
+        let key = key_at(&self.table, self.node_keys.as_slice(), open.fd);
+        let append = open.description.flags.append();
         write_file(&mut self.vfs, key, append, at, bytes, now)
     }
 }

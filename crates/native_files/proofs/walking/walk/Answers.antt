@@ -12,20 +12,20 @@ pub returns-then-path-eq47 : goal.returns-then-path-eq47
 returns-then-path-eq47 c =
     let vfs = c.args.vfs.now in
     let home = number_at vfs c.args.directory in
-    let path = c.args.path.now in
+    let path = c.args.from.path.now in
     let slash = slash-begins path (not-empty path c.if-is_empty.ensures) c.if-path-eq47.true in
     subst (λ (w : Result Place Errno). LeadsTo vfs w c.walk.result)
-    (sym (walk_in-slash vfs.nodes c.args.table.now home (base_of c.args.base) c.args.follow path home slash))
+    (sym (walk_in-slash vfs.nodes c.args.table.now home (base_of c.args.from.base) c.args.follow path home slash))
     (walked-leads vfs home path c.args.follow c.walk.result c.walk.ensures)
 
 pub returns-in-Ok : goal.returns-in-Ok
 returns-in-Ok c =
     let vfs = c.args.vfs.now in
     let home = number_at vfs c.args.directory in
-    let from = number_at vfs c.in-Ok.from in
-    let path = c.args.path.now in
+    let from = number_at vfs c.in-Ok.start in
+    let path = c.args.from.path.now in
     let some = not-empty path c.if-is_empty.ensures in
     let other = other-begins path some c.if-path-eq47.false in
     subst (λ (w : Result Place Errno). LeadsTo vfs w c.walk-in-Ok.result)
-    (sym (walk_in-base vfs.nodes c.args.table.now home (base_of c.args.base) c.args.follow path from some other c.in-Ok.ensures.0))
+    (sym (walk_in-base vfs.nodes c.args.table.now home (base_of c.args.from.base) c.args.follow path from some other c.in-Ok.ensures.0))
     (walked-leads vfs from path c.args.follow c.walk-in-Ok.result c.walk-in-Ok.ensures)

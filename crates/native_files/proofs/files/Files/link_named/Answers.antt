@@ -18,16 +18,16 @@ pub returns-in-Err : goal.returns-in-Err
 returns-in-Err c = record {
   row =
       let s = c.self.inside in
-      subst (λ (f : Files). Answers (rows.link f c.args.now (base_of c.args.old_base) (Ok c.args.old_path.now) (base_of c.args.new_base) (Ok c.args.new_path.now) (Some c.args.follow)) (Err c.in-Err.error) f) c.self.view_is
-      (link-lost s.table s.flow s.directory s.umask s.terminal s.vfs (base_of c.args.old_base) c.args.old_path.now (base_of c.args.new_base) c.args.new_path.now c.args.now c.args.follow c.in-Err.error c.in-Err.ensures);
+      subst (λ (f : Files). Answers (rows.link f c.args.now (base_of c.args.old.base) (Ok c.args.old.path.now) (base_of c.args.new.base) (Ok c.args.new.path.now) (Some c.args.follow)) (Err c.in-Err.error) f) c.self.view_is
+      (link-lost s.table s.flow s.directory s.umask s.terminal s.vfs (base_of c.args.old.base) c.args.old.path.now (base_of c.args.new.base) c.args.new.path.now c.args.now c.args.follow c.in-Err.error c.in-Err.ensures);
 }
 
 pub returns-in-Err-walk : goal.returns-in-Err-walk
 returns-in-Err-walk c = record {
   row =
       let s = c.self.inside in
-      subst (λ (f : Files). Answers (rows.link f c.args.now (base_of c.args.old_base) (Ok c.args.old_path.now) (base_of c.args.new_base) (Ok c.args.new_path.now) (Some c.args.follow)) (Err c.in-Err-walk.error) f) c.self.view_is
-      (link-lost_new s.table s.flow s.directory s.umask s.terminal s.vfs (base_of c.args.old_base) c.args.old_path.now (base_of c.args.new_base) c.args.new_path.now c.args.now c.args.follow c.in-Ok.node c.in-Ok.ensures c.in-Err-walk.error c.in-Err-walk.ensures);
+      subst (λ (f : Files). Answers (rows.link f c.args.now (base_of c.args.old.base) (Ok c.args.old.path.now) (base_of c.args.new.base) (Ok c.args.new.path.now) (Some c.args.follow)) (Err c.in-Err-walk.error) f) c.self.view_is
+      (link-lost_new s.table s.flow s.directory s.umask s.terminal s.vfs (base_of c.args.old.base) c.args.old.path.now (base_of c.args.new.base) c.args.new.path.now c.args.now c.args.follow c.in-Ok.node c.in-Ok.ensures c.in-Err-walk.error c.in-Err-walk.ensures);
 }
 
 pub returns-in-Ok-walk : goal.returns-in-Ok-walk
@@ -36,6 +36,6 @@ returns-in-Ok-walk c = record {
       let s = c.self.inside in
       let new = c.link_at.new.vfs in
       let home = home-held s.vfs new s.table.live s.node_keys.items s.directory c.self.invariant c.link_at.ensures.held in
-      subst (λ (f : Files). Answers (rows.link f c.args.now (base_of c.args.old_base) (Ok c.args.old_path.now) (base_of c.args.new_base) (Ok c.args.new_path.now) (Some c.args.follow)) c.link_at.result (seen s.table s.flow s.directory s.umask s.terminal new)) c.self.view_is
-      (link-row s.table s.flow s.directory s.umask s.terminal s.vfs new home c.link_at.result c.args.now (to_z w128 (of_z w128 c.args.now)) (to_z-of_z {w = w128} {z = c.args.now} c.ranges.now) (base_of c.args.new_base) c.args.new_path.now c.in-Ok-walk.at c.in-Ok-walk.ensures (base_of c.args.old_base) c.args.old_path.now c.args.follow c.in-Ok.node c.in-Ok.ensures c.link_at.ensures.changed);
+      subst (λ (f : Files). Answers (rows.link f c.args.now (base_of c.args.old.base) (Ok c.args.old.path.now) (base_of c.args.new.base) (Ok c.args.new.path.now) (Some c.args.follow)) c.link_at.result (seen s.table s.flow s.directory s.umask s.terminal new)) c.self.view_is
+      (link-row s.table s.flow s.directory s.umask s.terminal s.vfs new home c.link_at.result c.args.now (to_z w128 (of_z w128 c.args.now)) (to_z-of_z {w = w128} {z = c.args.now} c.ranges.now) (base_of c.args.new.base) c.args.new.path.now c.in-Ok-walk.at c.in-Ok-walk.ensures (base_of c.args.old.base) c.args.old.path.now c.args.follow c.in-Ok.node c.in-Ok.ensures c.link_at.ensures.changed);
 }

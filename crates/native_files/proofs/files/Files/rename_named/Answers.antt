@@ -21,16 +21,16 @@ pub returns-in-Err : goal.returns-in-Err
 returns-in-Err c = record {
   row =
       let s = c.self.inside in
-      subst (λ (f : Files). Answers (rows.rename f c.args.now (base_of c.args.old_base) (Ok c.args.old_path.now) (base_of c.args.new_base) (Ok c.args.new_path.now)) (Err c.in-Err.error) f) c.self.view_is
-      (rename-lost s.table s.flow s.directory s.umask s.terminal s.vfs (base_of c.args.old_base) c.args.old_path.now (base_of c.args.new_base) c.args.new_path.now c.args.now c.in-Err.error c.in-Err.ensures);
+      subst (λ (f : Files). Answers (rows.rename f c.args.now (base_of c.args.old.base) (Ok c.args.old.path.now) (base_of c.args.new.base) (Ok c.args.new.path.now)) (Err c.in-Err.error) f) c.self.view_is
+      (rename-lost s.table s.flow s.directory s.umask s.terminal s.vfs (base_of c.args.old.base) c.args.old.path.now (base_of c.args.new.base) c.args.new.path.now c.args.now c.in-Err.error c.in-Err.ensures);
 }
 
 pub returns-in-Err-walk : goal.returns-in-Err-walk
 returns-in-Err-walk c = record {
   row =
       let s = c.self.inside in
-      subst (λ (f : Files). Answers (rows.rename f c.args.now (base_of c.args.old_base) (Ok c.args.old_path.now) (base_of c.args.new_base) (Ok c.args.new_path.now)) (Err c.in-Err-walk.error) f) c.self.view_is
-      (rename-lost_new s.table s.flow s.directory s.umask s.terminal s.vfs (base_of c.args.old_base) c.args.old_path.now (base_of c.args.new_base) c.args.new_path.now c.args.now c.in-Ok.from c.in-Ok.ensures c.in-Some.moved c.in-Some.is c.in-Err-walk.error c.in-Err-walk.ensures);
+      subst (λ (f : Files). Answers (rows.rename f c.args.now (base_of c.args.old.base) (Ok c.args.old.path.now) (base_of c.args.new.base) (Ok c.args.new.path.now)) (Err c.in-Err-walk.error) f) c.self.view_is
+      (rename-lost_new s.table s.flow s.directory s.umask s.terminal s.vfs (base_of c.args.old.base) c.args.old.path.now (base_of c.args.new.base) c.args.new.path.now c.args.now c.in-Ok.from c.in-Ok.ensures c.in-Some.moved c.in-Some.is c.in-Err-walk.error c.in-Err-walk.ensures);
 }
 
 pub returns : goal.returns
@@ -39,8 +39,8 @@ returns c = record {
       let s = c.self.inside in
       let new = c.rename_at.new.vfs in
       let home = home-held s.vfs new s.table.live s.node_keys.items s.directory c.self.invariant c.rename_at.ensures.held in
-      subst (λ (f : Files). Answers (rows.rename f c.args.now (base_of c.args.old_base) (Ok c.args.old_path.now) (base_of c.args.new_base) (Ok c.args.new_path.now)) c.rename_at.result (seen s.table s.flow s.directory s.umask s.terminal new)) c.self.view_is
-      (rename-row s.table s.flow s.directory s.umask s.terminal s.vfs new home c.rename_at.result c.args.now (to_z w128 (of_z w128 c.args.now)) (to_z-of_z {w = w128} {z = c.args.now} c.ranges.now) (base_of c.args.new_base) c.args.new_path.now c.in-Ok-walk.to c.in-Ok-walk.ensures (base_of c.args.old_base) c.args.old_path.now c.in-Ok.from c.in-Some.moved c.in-Ok.ensures c.in-Some.is c.rename_at.ensures.changed);
+      subst (λ (f : Files). Answers (rows.rename f c.args.now (base_of c.args.old.base) (Ok c.args.old.path.now) (base_of c.args.new.base) (Ok c.args.new.path.now)) c.rename_at.result (seen s.table s.flow s.directory s.umask s.terminal new)) c.self.view_is
+      (rename-row s.table s.flow s.directory s.umask s.terminal s.vfs new home c.rename_at.result c.args.now (to_z w128 (of_z w128 c.args.now)) (to_z-of_z {w = w128} {z = c.args.now} c.ranges.now) (base_of c.args.new.base) c.args.new.path.now c.in-Ok-walk.to c.in-Ok-walk.ensures (base_of c.args.old.base) c.args.old.path.now c.in-Ok.from c.in-Some.moved c.in-Ok.ensures c.in-Some.is c.rename_at.ensures.changed);
 }
 
 pub returns-in-None : goal.returns-in-None
@@ -48,7 +48,7 @@ returns-in-None c = record {
   row =
       let s = c.self.inside in
       let files = seen s.table s.flow s.directory s.umask s.terminal s.vfs in
-      subst (λ (f : Files). Answers (rows.rename f c.args.now (base_of c.args.old_base) (Ok c.args.old_path.now) (base_of c.args.new_base) (Ok c.args.new_path.now)) (Err (errors.Refused ENOENT)) f) c.self.view_is
+      subst (λ (f : Files). Answers (rows.rename f c.args.now (base_of c.args.old.base) (Ok c.args.old.path.now) (base_of c.args.new.base) (Ok c.args.new.path.now)) (Err (errors.Refused ENOENT)) f) c.self.view_is
       (subst (λ (step : Did Files (Unit {0})). Answers step (Err (errors.Refused ENOENT)) files)
-      (sym (rename-missing s.table s.flow s.directory s.umask s.terminal s.vfs (base_of c.args.old_base) c.args.old_path.now (base_of c.args.new_base) c.args.new_path.now c.args.now c.in-Ok.from c.in-Ok.ensures c.in-None.is)) (refl, refl));
+      (sym (rename-missing s.table s.flow s.directory s.umask s.terminal s.vfs (base_of c.args.old.base) c.args.old.path.now (base_of c.args.new.base) c.args.new.path.now c.args.now c.in-Ok.from c.in-Ok.ensures c.in-None.is)) (refl, refl));
 }
