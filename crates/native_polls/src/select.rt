@@ -28,6 +28,13 @@ pub struct SetPlaces {
     pub except: u64,
 }
 
+/// Where the three sets of a call are, and how many descriptors count in each: the first ones.
+#[derive(Clone, Copy)]
+struct CountedPlaces {
+    count: u32,
+    places: SetPlaces,
+}
+
 /// pselect(2) of the first `count` descriptors of each set, when the clock shows `clock`, in nanoseconds: how many
 /// bits are set, and each set holds those of its descriptors that are ready. There are no exceptions. A count
 /// above 1,024 counts as that.
@@ -74,14 +81,11 @@ fn select<F: Readiness>(
     if count < 0 {
         return Err(Errno::EINVAL);
     }
-    select_sets(
-        files,
-        clock,
-        wait,
-        count.unsigned_abs().min(FD_LIMIT),
+    let counted = CountedPlaces {
+        count: count.unsigned_abs().min(FD_LIMIT),
         places,
-        mem,
-    )
+    };
+    select_sets(files, clock, wait, counted, mem)
 }
 
 /// What a select of so many descriptors comes to.
@@ -89,24 +93,24 @@ fn select_sets<F: Readiness>(
     files: &F,
     clock: u64,
     wait: Option<u128>,
-    count: u32,
-    places: SetPlaces,
+    counted: CountedPlaces,
     mem: &mut HostMem,
 ) -> Result<Found, Errno>
-    requires { count ≤ 1024 }
-    ensures { Finds (selected count (places_of places) mem.old) set_count
-        (select_sets (F.files files.now) clock wait count (polls.sets_at mem.old count (places_of places)))
+    requires { counted.count ≤ 1024 }
+    ensures { Finds (selected counted.count (places_of counted.places) mem.old) set_count
+        (select_sets (F.files files.now) clock wait counted.count (polls.sets_at mem.old counted.count (places_of counted.places)))
         result mem.old mem.new }
 {
-    let sets = sets_at(mem, count, places)?;
-    select_counted(files, clock, wait, count, &sets, places, mem)
+    let sets = sets_at(mem, counted)?;
+    select_counted(files, clock, wait, counted, &sets, mem)
 }
 
 /// The three sets in memory, read in their order.
-fn sets_at(mem: &HostMem, count: u32, places: SetPlaces) -> Result<FdSets, Errno>
-    requires { count ≤ 1024 }
-    ensures { read_as (sets_of count) result ≡ polls.sets_at mem.now count (places_of places) }
+fn sets_at(mem: &HostMem, counted: CountedPlaces) -> Result<FdSets, Errno>
+    requires { counted.count ≤ 1024 }
+    ensures { read_as (sets_of counted.count) result ≡ polls.sets_at mem.now counted.count (places_of counted.places) }
 {
+    let CountedPlaces { count, places } = counted;
     let read = set_at(mem, count, places.read)?;
     let write = set_at(mem, count, places.write)?;
     let except = set_at(mem, count, places.except)?;
@@ -122,15 +126,15 @@ fn select_counted<F: Readiness>(
     files: &F,
     clock: u64,
     wait: Option<u128>,
-    count: u32,
+    counted: CountedPlaces,
     sets: &FdSets,
-    places: SetPlaces,
     mem: &mut HostMem,
 ) -> Result<Found, Errno>
-    requires { count ≤ 1024 }
-    ensures { Finds (selected count (places_of places) mem.old) set_count
-        (select_counted (F.files files.now) clock wait (sets_of count sets.now)) result mem.old mem.new }
+    requires { counted.count ≤ 1024 }
+    ensures { Finds (selected counted.count (places_of counted.places) mem.old) set_count
+        (select_counted (F.files files.now) clock wait (sets_of counted.count sets.now)) result mem.old mem.new }
 {
+    let count = counted.count;
     if names_any_closed(files, count, sets) {
         return Err(Errno::EBADF);
     }
@@ -138,7 +142,7 @@ fn select_counted<F: Readiness>(
     let write = ready_set(files, count, &sets.write, Side::Writing);
     let found = found_or_wait(clock, wait, size_of(count, &read) + size_of(count, &write));
     if let Found::Told(_) = found {
-        store_sets(count, places, &read, &write, mem);
+        store_sets(counted, &read, &write, mem);
     }
     Ok(found)
 }
@@ -154,16 +158,11 @@ fn names_any_closed<F: Readiness>(files: &F, count: u32, sets: &FdSets) -> bool
 }
 
 /// Stores these sets of what is ready, and an empty one for exceptions.
-fn store_sets(
-    count: u32,
-    places: SetPlaces,
-    read: &[u64; WORDS],
-    write: &[u64; WORDS],
-    mem: &mut HostMem,
-)
-    requires { count ≤ 1024 }
-    ensures { StoresSets count (places_of places) read.now write.now mem.old mem.new }
+fn store_sets(counted: CountedPlaces, read: &[u64; WORDS], write: &[u64; WORDS], mem: &mut HostMem)
+    requires { counted.count ≤ 1024 }
+    ensures { StoresSets counted.count (places_of counted.places) read.now write.now mem.old mem.new }
 {
+    let CountedPlaces { count, places } = counted;
     store_set(count, places.read, read, mem);
     store_set(count, places.write, write, mem);
     store_set(count, places.except, &[0; WORDS], mem);

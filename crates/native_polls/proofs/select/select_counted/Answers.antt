@@ -8,13 +8,13 @@ use Rattle.native_polls.proofs.select.select_counted.Goals as goal
 
 pub returns-then-names_any_closed : goal.returns-then-names_any_closed
 returns-then-names_any_closed g c =
-    closed_finds (g.F.Readiness.files c.args.files.now) c.args.clock c.args.wait c.args.count c.args.sets.now (places_of c.args.places) c.args.mem.now
+    closed_finds (g.F.Readiness.files c.args.files.now) c.args.clock c.args.wait c.args.counted.count c.args.sets.now (places_of c.args.counted.places) c.args.mem.now
     (sym c.names_any_closed.ensures ∙ c.if-names_any_closed.true)
 
 pub returns-in-Told : goal.returns-in-Told
 returns-in-Told g c =
-    let stored : List ℕ = with_words c.args.count (places_of c.args.places) c.args.mem.now c.ready_set-read.result c.ready_set-write.result in
-    sets_find (g.F.Readiness.files c.args.files.now) c.args.clock c.args.wait c.args.count c.args.sets.now (places_of c.args.places) c.args.mem.now c.store_sets.new.mem
+    let stored : List ℕ = with_words c.args.counted.count (places_of c.args.counted.places) c.args.mem.now c.ready_set-read.result c.ready_set-write.result in
+    sets_find (g.F.Readiness.files c.args.files.now) c.args.clock c.args.wait c.args.counted.count c.args.sets.now (places_of c.args.counted.places) c.args.mem.now c.store_sets.new.mem
     c.ready_set-read.result c.ready_set-write.result c.size_of.result c.size_of-2.result (c.size_of.result + c.size_of-2.result) c.found_or_wait-found.result c.requires
     (sym c.names_any_closed.ensures ∙ c.if-names_any_closed.false) c.ready_set-read.ensures c.ready_set-write.ensures c.size_of.ensures.size c.size_of-2.ensures.size refl
     c.found_or_wait-found.ensures
@@ -22,8 +22,8 @@ returns-in-Told g c =
 
 pub returns-in_default : goal.returns-in_default
 returns-in_default g c =
-    let stored : List ℕ = with_words c.args.count (places_of c.args.places) c.args.mem.now c.ready_set-read.result c.ready_set-write.result in
-    sets_find (g.F.Readiness.files c.args.files.now) c.args.clock c.args.wait c.args.count c.args.sets.now (places_of c.args.places) c.args.mem.now c.args.mem.now
+    let stored : List ℕ = with_words c.args.counted.count (places_of c.args.counted.places) c.args.mem.now c.ready_set-read.result c.ready_set-write.result in
+    sets_find (g.F.Readiness.files c.args.files.now) c.args.clock c.args.wait c.args.counted.count c.args.sets.now (places_of c.args.counted.places) c.args.mem.now c.args.mem.now
     c.ready_set-read.result c.ready_set-write.result c.size_of.result c.size_of-2.result (c.size_of.result + c.size_of-2.result) c.found_or_wait-found.result c.requires
     (sym c.names_any_closed.ensures ∙ c.if-names_any_closed.false) c.ready_set-read.ensures c.ready_set-write.ensures c.size_of.ensures.size c.size_of-2.ensures.size refl
     c.found_or_wait-found.ensures

@@ -11,6 +11,6 @@ use Rattle.native_polls.proofs.select.select_sets.Goals as goal
 
 pub returns : goal.returns
 returns g c =
-    given_finds (g.F.Readiness.files c.args.files.now) c.args.clock c.args.wait c.args.count c.in_ok-sets.sets (places_of c.args.places) c.args.mem.now
-    (polls.sets_at c.args.mem.now c.args.count (places_of c.args.places)) c.select_counted.new.mem c.select_counted.result
-    (ap (λ (r : Result FdSets Errno). read_as (sets_of c.args.count) r) (sym c.in_ok-sets.was) ∙ c.sets_at.ensures) c.select_counted.ensures
+    given_finds (g.F.Readiness.files c.args.files.now) c.args.clock c.args.wait c.args.counted.count c.in_ok-sets.sets (places_of c.args.counted.places) c.args.mem.now
+    (polls.sets_at c.args.mem.now c.args.counted.count (places_of c.args.counted.places)) c.select_counted.new.mem c.select_counted.result
+    (ap (λ (r : Result FdSets Errno). read_as (sets_of c.args.counted.count) r) (sym c.in_ok-sets.was) ∙ c.sets_at.ensures) c.select_counted.ensures
