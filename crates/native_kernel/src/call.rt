@@ -19,9 +19,12 @@ use crate::numbers::{
     SETITIMER, SIGALTSTACK, SYMLINKAT, TGKILL, TKILL, TRUNCATE, UMASK, UNAME, UNLINKAT, UTIMENSAT,
     WRITE, WRITEV,
 };
+use crate::paths::PathAt;
 use crate::readiness::OpenFiles;
 use crate::replies::failure;
 use crate::sleeping::{CLOCK_MONOTONIC, TIMER_ABSTIME};
+use crate::transfers::Buffer;
+use crate::vectors::BufferVector;
 use host_mem::HostMem;
 use kernel_core::{Errno, NoMemory, Reply, Stop};
 use native_polls::{SetPlaces, ppoll, pselect};
@@ -48,25 +51,20 @@ impl NativeKernel {
         ensures counts { NoCountFell I.faults O.faults E.faults dev.old dev.new }
         ensures clock { self.new.clock ≡ self.old.clock }
     {
+        let fd = low_word(args[0]);
+        let buffer = Buffer {
+            address: args[1],
+            count: args[2],
+        };
+        let buffers = BufferVector {
+            address: args[1],
+            count: args[2],
+        };
         match nr {
-            READ => self.read(low_word(args[0]), args[1], args[2], mem, &mut dev.input),
-            WRITE => self.write(
-                low_word(args[0]),
-                args[1],
-                args[2],
-                mem,
-                &mut dev.out,
-                &mut dev.err,
-            ),
-            READV => self.readv(low_word(args[0]), args[1], args[2], mem, &mut dev.input),
-            WRITEV => self.writev(
-                low_word(args[0]),
-                args[1],
-                args[2],
-                mem,
-                &mut dev.out,
-                &mut dev.err,
-            ),
+            READ => self.read(fd, buffer, mem, &mut dev.input),
+            WRITE => self.write(fd, buffer, mem, &mut dev.out, &mut dev.err),
+            READV => self.readv(fd, buffers, mem, &mut dev.input),
+            WRITEV => self.writev(fd, buffers, mem, &mut dev.out, &mut dev.err),
             _ => match self.quiet_call(nr, args, mem) {
                 Ok(reply) => Ok(reply),
                 Err(NoMemory) => Err(Stop::NoMemory),
@@ -82,21 +80,13 @@ impl NativeKernel {
         ensures row { IfOk result (λ reply. IsQuiet (built_call nr args self.old mem.old) reply self.new mem.new) }
         ensures clock { self.new.clock ≡ self.old.clock }
     {
+        let buffer = Buffer {
+            address: args[1],
+            count: args[2],
+        };
         match nr {
-            PREAD64 => Ok(self.pread(
-                low_word(args[0]),
-                args[1],
-                args[2],
-                args[3].cast_signed(),
-                mem,
-            )),
-            PWRITE64 => self.pwrite(
-                low_word(args[0]),
-                args[1],
-                args[2],
-                args[3].cast_signed(),
-                mem,
-            ),
+            PREAD64 => Ok(self.pread(low_word(args[0]), buffer, args[3].cast_signed(), mem)),
+            PWRITE64 => self.pwrite(low_word(args[0]), buffer, args[3].cast_signed(), mem),
             _ => self.descriptor_call(nr, args, mem),
         }
     }
@@ -147,33 +137,28 @@ impl NativeKernel {
         ensures row { IfOk result (λ reply. IsQuiet (call_of_groups name_groups nr args self.old mem.old) reply self.new mem.new) }
         ensures clock { self.new.clock ≡ self.old.clock }
     {
+        let path = PathAt {
+            directory: low_word(args[0]),
+            address: args[1],
+        };
+        let new = PathAt {
+            directory: low_word(args[2]),
+            address: args[3],
+        };
         match nr {
-            MKDIRAT => self.mkdirat(low_word(args[0]), args[1], low_word(args[2]), mem),
-            UNLINKAT => self.unlinkat(low_word(args[0]), args[1], low_word(args[2]), mem),
-            SYMLINKAT => self.symlinkat(args[0], low_word(args[1]), args[2], mem),
-            LINKAT => self.linkat(
-                low_word(args[0]),
-                args[1],
-                low_word(args[2]),
-                args[3],
-                low_word(args[4]),
-                mem,
-            ),
-            RENAMEAT => self.renameat(low_word(args[0]), args[1], low_word(args[2]), args[3], mem),
-            OPENAT => self.openat(
-                low_word(args[0]),
-                args[1],
-                low_word(args[2]),
-                low_word(args[3]),
-                mem,
-            ),
-            READLINKAT => self.readlinkat(
-                low_word(args[0]),
-                args[1],
-                args[2],
-                low_word(args[3]).cast_signed(),
-                mem,
-            ),
+            MKDIRAT => self.mkdirat(path, low_word(args[2]), mem),
+            UNLINKAT => self.unlinkat(path, low_word(args[2]), mem),
+            SYMLINKAT => {
+                let link = PathAt {
+                    directory: low_word(args[1]),
+                    address: args[2],
+                };
+                self.symlinkat(args[0], link, mem)
+            }
+            LINKAT => self.linkat(path, new, low_word(args[4]), mem),
+            RENAMEAT => self.renameat(path, new, mem),
+            OPENAT => self.openat(path, low_word(args[2]), low_word(args[3]), mem),
+            READLINKAT => self.readlinkat(path, args[2], low_word(args[3]).cast_signed(), mem),
             _ => self.node_call(nr, args, mem),
         }
     }
@@ -184,21 +169,21 @@ impl NativeKernel {
         ensures row { IfOk result (λ reply. IsQuiet (call_of_groups node_groups nr args self.old mem.old) reply self.new mem.new) }
         ensures clock { self.new.clock ≡ self.old.clock }
     {
+        let path = PathAt {
+            directory: low_word(args[0]),
+            address: args[1],
+        };
         match nr {
             GETCWD => self.getcwd(args[0], args[1], mem),
             TRUNCATE => self.truncate(args[0], args[1].cast_signed(), mem),
             FTRUNCATE => Ok(self.ftruncate(low_word(args[0]), args[1].cast_signed())),
-            FACCESSAT => self.faccessat(low_word(args[0]), args[1], low_word(args[2]), mem),
+            FACCESSAT => self.faccessat(path, low_word(args[2]), mem),
             CHDIR => self.chdir(args[0], mem),
             FCHDIR => Ok(self.fchdir(low_word(args[0]))),
             FCHMOD => Ok(self.fchmod(low_word(args[0]), low_word(args[1]))),
-            FCHMODAT => self.fchmodat(low_word(args[0]), args[1], low_word(args[2]), mem),
-            NEWFSTATAT => {
-                self.newfstatat(low_word(args[0]), args[1], args[2], low_word(args[3]), mem)
-            }
-            UTIMENSAT => {
-                self.utimensat(low_word(args[0]), args[1], args[2], low_word(args[3]), mem)
-            }
+            FCHMODAT => self.fchmodat(path, low_word(args[2]), mem),
+            NEWFSTATAT => self.newfstatat(path, args[2], low_word(args[3]), mem),
+            UTIMENSAT => self.utimensat(path, args[2], low_word(args[3]), mem),
             UMASK => Ok(self.umask(low_word(args[0]))),
             _ => self.system_call(nr, args, mem),
         }

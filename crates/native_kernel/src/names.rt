@@ -15,7 +15,7 @@ ghost use Rattle.number_tables.specs.OpenNumbers.{open_of_native};
 
 use crate::descriptors::has;
 use crate::kernel::NativeKernel;
-use crate::paths::{base_of, path_at};
+use crate::paths::{PathAt, base_of, path_at};
 use crate::replies::failure;
 use crate::structures::store_counted;
 use host_mem::HostMem;
@@ -32,20 +32,19 @@ impl NativeKernel {
     /// openat(2): the errors of the path; EINVAL for flags that are not listed, EMFILE, EEXIST, EISDIR, ENOTDIR, ELOOP, ENOSPC.
     pub(crate) fn openat(
         &mut self,
-        directory: u32,
-        path: u64,
+        path: PathAt,
         flags: u32,
         mode: u32,
         mem: &HostMem,
     ) -> Result<Reply, NoMemory>
-        ensures row { IfOk result (λ reply. Gives (marked self.old (λ files now. open_file files None now (base_of directory) (path_at mem.now path) (open_of_native flags) mode)) reply self.new) }
+        ensures row { IfOk result (λ reply. Gives (marked self.old (λ files now. open_file files None now (base_of path.directory) (path_at mem.now path.address) (open_of_native flags) mode)) reply self.new) }
         ensures clock { self.new.clock ≡ self.old.clock }
     {
         let now = self.real_time();
         match self.files.open_file(
             now,
-            base_of(directory),
-            path_at(mem, path),
+            base_of(path.directory),
+            path_at(mem, path.address),
             OpenFlags::of_native(u64::from(flags)),
             mode,
         ) {
@@ -58,19 +57,20 @@ impl NativeKernel {
     /// mkdirat(2): the errors of the path; EEXIST, ENOSPC.
     pub(crate) fn mkdirat(
         &mut self,
-        directory: u32,
-        path: u64,
+        path: PathAt,
         mode: u32,
         mem: &HostMem,
     ) -> Result<Reply, NoMemory>
-        ensures row { IfOk result (λ reply. Gives (told_zero (marked self.old (λ files now. rows.make_directory files now (base_of directory) (path_at mem.now path) mode))) reply self.new) }
+        ensures row { IfOk result (λ reply. Gives (told_zero (marked self.old (λ files now. rows.make_directory files now (base_of path.directory) (path_at mem.now path.address) mode))) reply self.new) }
         ensures clock { self.new.clock ≡ self.old.clock }
     {
         let now = self.real_time();
-        match self
-            .files
-            .make_directory(now, base_of(directory), path_at(mem, path), mode)
-        {
+        match self.files.make_directory(
+            now,
+            base_of(path.directory),
+            path_at(mem, path.address),
+            mode,
+        ) {
             Ok(()) => Ok(Reply::Done(0)),
             Err(CoreError::Refused(error)) => Ok(failure(error)),
             Err(CoreError::Stop(_)) => Err(NoMemory),
@@ -80,19 +80,18 @@ impl NativeKernel {
     /// unlinkat(2): the errors of the path; EINVAL for other flags than AT_REMOVEDIR, EISDIR, EBUSY, EINVAL, ENOTEMPTY.
     pub(crate) fn unlinkat(
         &mut self,
-        directory: u32,
-        path: u64,
+        path: PathAt,
         flags: u32,
         mem: &HostMem,
     ) -> Result<Reply, NoMemory>
-        ensures row { IfOk result (λ reply. Gives (told_zero (marked self.old (λ files now. rows.remove_name files now (base_of directory) (path_at mem.now path) (only_flag removedir_flag flags)))) reply self.new) }
+        ensures row { IfOk result (λ reply. Gives (told_zero (marked self.old (λ files now. rows.remove_name files now (base_of path.directory) (path_at mem.now path.address) (only_flag removedir_flag flags)))) reply self.new) }
         ensures clock { self.new.clock ≡ self.old.clock }
     {
         let now = self.real_time();
         match self.files.remove_name(
             now,
-            base_of(directory),
-            path_at(mem, path),
+            base_of(path.directory),
+            path_at(mem, path.address),
             only_flag(AT_REMOVEDIR, flags),
         ) {
             Ok(()) => Ok(Reply::Done(0)),
@@ -105,19 +104,18 @@ impl NativeKernel {
     pub(crate) fn symlinkat(
         &mut self,
         target: u64,
-        directory: u32,
-        path: u64,
+        path: PathAt,
         mem: &HostMem,
     ) -> Result<Reply, NoMemory>
-        ensures row { IfOk result (λ reply. Gives (told_zero (marked self.old (λ files now. rows.make_link files now (path_at mem.now target) (base_of directory) (path_at mem.now path)))) reply self.new) }
+        ensures row { IfOk result (λ reply. Gives (told_zero (marked self.old (λ files now. rows.make_link files now (path_at mem.now target) (base_of path.directory) (path_at mem.now path.address)))) reply self.new) }
         ensures clock { self.new.clock ≡ self.old.clock }
     {
         let now = self.real_time();
         match self.files.make_link(
             now,
             path_at(mem, target),
-            base_of(directory),
-            path_at(mem, path),
+            base_of(path.directory),
+            path_at(mem, path.address),
         ) {
             Ok(()) => Ok(Reply::Done(0)),
             Err(CoreError::Refused(error)) => Ok(failure(error)),
@@ -128,23 +126,21 @@ impl NativeKernel {
     /// linkat(2): the errors of both paths; EINVAL for other flags than AT_SYMLINK_FOLLOW, EPERM, EEXIST, ENOSPC.
     pub(crate) fn linkat(
         &mut self,
-        old_directory: u32,
-        old_path: u64,
-        new_directory: u32,
-        new_path: u64,
+        old: PathAt,
+        new: PathAt,
         flags: u32,
         mem: &HostMem,
     ) -> Result<Reply, NoMemory>
-        ensures row { IfOk result (λ reply. Gives (told_zero (marked self.old (λ files now. rows.link files now (base_of old_directory) (path_at mem.now old_path) (base_of new_directory) (path_at mem.now new_path) (only_flag follow_flag flags)))) reply self.new) }
+        ensures row { IfOk result (λ reply. Gives (told_zero (marked self.old (λ files now. rows.link files now (base_of old.directory) (path_at mem.now old.address) (base_of new.directory) (path_at mem.now new.address) (only_flag follow_flag flags)))) reply self.new) }
         ensures clock { self.new.clock ≡ self.old.clock }
     {
         let now = self.real_time();
         match self.files.link(
             now,
-            base_of(old_directory),
-            path_at(mem, old_path),
-            base_of(new_directory),
-            path_at(mem, new_path),
+            base_of(old.directory),
+            path_at(mem, old.address),
+            base_of(new.directory),
+            path_at(mem, new.address),
             only_flag(AT_SYMLINK_FOLLOW, flags),
         ) {
             Ok(()) => Ok(Reply::Done(0)),
@@ -156,22 +152,20 @@ impl NativeKernel {
     /// renameat(2): the errors of both paths; EBUSY, EINVAL, EISDIR, ENOTEMPTY, ENOSPC.
     pub(crate) fn renameat(
         &mut self,
-        old_directory: u32,
-        old_path: u64,
-        new_directory: u32,
-        new_path: u64,
+        old: PathAt,
+        new: PathAt,
         mem: &HostMem,
     ) -> Result<Reply, NoMemory>
-        ensures row { IfOk result (λ reply. Gives (told_zero (marked self.old (λ files now. rows.rename files now (base_of old_directory) (path_at mem.now old_path) (base_of new_directory) (path_at mem.now new_path)))) reply self.new) }
+        ensures row { IfOk result (λ reply. Gives (told_zero (marked self.old (λ files now. rows.rename files now (base_of old.directory) (path_at mem.now old.address) (base_of new.directory) (path_at mem.now new.address)))) reply self.new) }
         ensures clock { self.new.clock ≡ self.old.clock }
     {
         let now = self.real_time();
         match self.files.rename(
             now,
-            base_of(old_directory),
-            path_at(mem, old_path),
-            base_of(new_directory),
-            path_at(mem, new_path),
+            base_of(old.directory),
+            path_at(mem, old.address),
+            base_of(new.directory),
+            path_at(mem, new.address),
         ) {
             Ok(()) => Ok(Reply::Done(0)),
             Err(CoreError::Refused(error)) => Ok(failure(error)),
@@ -183,18 +177,18 @@ impl NativeKernel {
     /// can't be stored.
     pub(crate) fn readlinkat(
         &self,
-        directory: u32,
-        path: u64,
+        path: PathAt,
         buffer: u64,
         size: i32,
         mem: &mut HostMem,
     ) -> Result<Reply, NoMemory>
-        ensures { IfOk result (λ reply. Counts (on_files self.now (rows.read_link self.now.files (base_of directory) (path_at mem.old path) size)) buffer reply self.now mem.old mem.new) }
+        ensures { IfOk result (λ reply. Counts (on_files self.now (rows.read_link self.now.files (base_of path.directory) (path_at mem.old path.address) size)) buffer reply self.now mem.old mem.new) }
     {
-        match self
-            .files
-            .read_link(base_of(directory), path_at(mem, path), i64::from(size))
-        {
+        match self.files.read_link(
+            base_of(path.directory),
+            path_at(mem, path.address),
+            i64::from(size),
+        ) {
             Ok(text) => Ok(store_counted(mem, buffer, text)),
             Err(CoreError::Refused(error)) => Ok(failure(error)),
             Err(CoreError::Stop(_)) => Err(NoMemory),

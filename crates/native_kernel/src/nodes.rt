@@ -17,7 +17,7 @@ ghost use Rattle.native_kernel.specs.inside.Quiet.{Gives, Stores};
 use crate::descriptors::has;
 use crate::kernel::NativeKernel;
 use crate::names::only_flag;
-use crate::paths::{base_of, path_at};
+use crate::paths::{PathAt, base_of, path_at};
 use crate::replies::{failure, zero};
 use crate::status::status_bytes;
 use crate::structures::store;
@@ -78,16 +78,15 @@ impl NativeKernel {
     /// faccessat(2): the errors of the path; EINVAL for other bits, EACCES.
     pub(crate) fn faccessat(
         &self,
-        directory: u32,
-        path: u64,
+        path: PathAt,
         mode: u32,
         mem: &HostMem,
     ) -> Result<Reply, NoMemory>
-        ensures { IfOk result (λ reply. Gives (told_zero (on_files self.now (rows.access self.now.files (base_of directory) (path_at mem.now path) mode))) reply self.now) }
+        ensures { IfOk result (λ reply. Gives (told_zero (on_files self.now (rows.access self.now.files (base_of path.directory) (path_at mem.now path.address) mode))) reply self.now) }
     {
         match self
             .files
-            .access(base_of(directory), path_at(mem, path), mode)
+            .access(base_of(path.directory), path_at(mem, path.address), mode)
         {
             Ok(()) => Ok(Reply::Done(0)),
             Err(CoreError::Refused(error)) => Ok(failure(error)),
@@ -107,19 +106,20 @@ impl NativeKernel {
     /// fchmodat(2): the errors of the path.
     pub(crate) fn fchmodat(
         &mut self,
-        directory: u32,
-        path: u64,
+        path: PathAt,
         mode: u32,
         mem: &HostMem,
     ) -> Result<Reply, NoMemory>
-        ensures row { IfOk result (λ reply. Gives (told_zero (marked self.old (λ files now. rows.change_mode files now (base_of directory) (path_at mem.now path) mode))) reply self.new) }
+        ensures row { IfOk result (λ reply. Gives (told_zero (marked self.old (λ files now. rows.change_mode files now (base_of path.directory) (path_at mem.now path.address) mode))) reply self.new) }
         ensures clock { self.new.clock ≡ self.old.clock }
     {
         let now = self.real_time();
-        match self
-            .files
-            .change_mode(now, base_of(directory), path_at(mem, path), mode)
-        {
+        match self.files.change_mode(
+            now,
+            base_of(path.directory),
+            path_at(mem, path.address),
+            mode,
+        ) {
             Ok(()) => Ok(Reply::Done(0)),
             Err(CoreError::Refused(error)) => Ok(failure(error)),
             Err(CoreError::Stop(_)) => Err(NoMemory),
@@ -130,17 +130,16 @@ impl NativeKernel {
     /// stored.
     pub(crate) fn newfstatat(
         &self,
-        directory: u32,
-        path: u64,
+        path: PathAt,
         address: u64,
         flags: u32,
         mem: &mut HostMem,
     ) -> Result<Reply, NoMemory>
-        ensures { IfOk result (λ reply. Stores (told_as status_bytes (on_files self.now (rows.status_at_path self.now.files (base_of directory) (path_at mem.old path) (status_flags flags)))) address reply self.now mem.old mem.new) }
+        ensures { IfOk result (λ reply. Stores (told_as status_bytes (on_files self.now (rows.status_at_path self.now.files (base_of path.directory) (path_at mem.old path.address) (status_flags flags)))) address reply self.now mem.old mem.new) }
     {
         match self.files.status_at_path(
-            base_of(directory),
-            path_at(mem, path),
+            base_of(path.directory),
+            path_at(mem, path.address),
             status_flags(flags),
         ) {
             Ok(status) => Ok(store(mem, address, &status_bytes(status))),
@@ -153,20 +152,19 @@ impl NativeKernel {
     /// other flags than AT_SYMLINK_NOFOLLOW; EBADF where a null path leaves no descriptor.
     pub(crate) fn utimensat(
         &mut self,
-        directory: u32,
-        path: u64,
+        path: PathAt,
         times: u64,
         flags: u32,
         mem: &HostMem,
     ) -> Result<Reply, NoMemory>
-        ensures row { IfOk result (λ reply. Gives (told_zero (marked self.old (λ files now. rows.set_times files now (base_of directory) (unless_null path (path_at mem.now path)) (unless_null times (times_at mem.now times)) (follow_of flags)))) reply self.new) }
+        ensures row { IfOk result (λ reply. Gives (told_zero (marked self.old (λ files now. rows.set_times files now (base_of path.directory) (unless_null path.address (path_at mem.now path.address)) (unless_null times (times_at mem.now times)) (follow_of flags)))) reply self.new) }
         ensures clock { self.new.clock ≡ self.old.clock }
     {
         let now = self.real_time();
         match self.files.set_times(
             now,
-            base_of(directory),
-            path_unless_null(mem, path),
+            base_of(path.directory),
+            path_unless_null(mem, path.address),
             times_unless_null(mem, times),
             follow_of(flags),
         ) {

@@ -15,6 +15,13 @@ const PATH_LIMIT: u64 = 4096;
 /// AT_FDCWD, -100 as an int (Linux `include/uapi/linux/fcntl.h`).
 const AT_FDCWD: u32 = 0xFFFF_FF9C;
 
+/// A path as a call gives it: the directory that a relative one begins at, and its address.
+#[derive(Clone, Copy)]
+pub(crate) struct PathAt {
+    pub(crate) directory: u32,
+    pub(crate) address: u64,
+}
+
 /// Where a path begins that does not begin with a slash.
 pub(crate) fn base_of(directory: u32) -> Base
     ensures { base_of result ≡ paths.base_of directory }

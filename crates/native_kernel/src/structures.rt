@@ -14,6 +14,13 @@ use host_mem::{FIRST_ADDRESS, HostMem};
 use kernel_core::{Errno, Reply};
 use layouts::{NativeStructure, native_layout, put_record};
 
+/// A part of memory: where it begins, and how many bytes it has room for.
+#[derive(Clone, Copy)]
+pub(crate) struct Part {
+    pub(crate) place: usize,
+    pub(crate) room: usize,
+}
+
 /// Stores a structure, or answers EFAULT where there is no room for it.
 pub(crate) fn store(mem: &mut HostMem, address: u64, bytes: &[u8]) -> Reply
     ensures reply { result ≡ stored mem.old address bytes.now }

@@ -19,7 +19,7 @@ ghost use Rattle.native_kernel.specs.inside.Quiet.{Fills, IsQuiet};
 use crate::ids::OWN_ID;
 use crate::kernel::NativeKernel;
 use crate::replies::{counted, failure, settled};
-use crate::structures::{accessible, loadable, part_place};
+use crate::structures::{Part, accessible, loadable, part_place};
 use host_mem::HostMem;
 use kernel_core::{CoreError, Errno, Info, NoMemory, Reply, Sig, Stop};
 use native_files::{Files, Progress};
@@ -28,33 +28,34 @@ use outside::{Sink, Source};
 /// Who sends SIGPIPE: the process itself, by kill(2) (SI_USER).
 const SENT_BY_KILL: i32 = 0;
 
+/// A buffer as a call names it: its address, and how many bytes it has.
+#[derive(Clone, Copy)]
+pub(crate) struct Buffer {
+    pub(crate) address: u64,
+    pub(crate) count: u64,
+}
+
 impl NativeKernel {
     /// read(2): EBADF, EFAULT, and the refusals of what is open.
     #[tactic(auto, unfolding(native_calls::specs::Transfers::read_row, kernel_model::specs::Whole::kernel_read))]
     pub(crate) fn read<I: Source>(
         &mut self,
         fd: u32,
-        buffer: u64,
-        count: u64,
+        buffer: Buffer,
         mem: &mut HostMem,
         input: &mut I,
     ) -> Result<Reply, Stop>
-        ensures row { IsReading (read_row self.old mem.old fd buffer count) result self.new mem.new (I.left input.old) (I.left input.new) }
+        ensures row { IsReading (read_row self.old mem.old fd buffer.address buffer.count) result self.new mem.new (I.left input.old) (I.left input.new) }
         ensures stops { ReadingStops result (I.faults input.old) (I.faults input.new) }
         ensures later { I.faults input.old ≤ I.faults input.new }
         ensures clock { self.new.clock ≡ self.old.clock }
     {
-        let room = accessible(mem, buffer, count);
-        let place = part_place(mem, buffer, room);
-        let came = read_part(
-            &mut self.files,
-            fd,
-            count,
-            mem.as_mut_slice(),
-            place,
-            room,
-            input,
-        );
+        let Buffer { address, count } = buffer;
+        let room = accessible(mem, address, count);
+        let place = part_place(mem, address, room);
+        let part = Part { place, room };
+        let memory = mem.as_mut_slice();
+        let came = read_part(&mut self.files, fd, count, memory, part, input);
         settled(came)
     }
 
@@ -63,38 +64,33 @@ impl NativeKernel {
     pub(crate) fn write<O: Sink, E: Sink>(
         &mut self,
         fd: u32,
-        buffer: u64,
-        count: u64,
+        buffer: Buffer,
         mem: &HostMem,
         out: &mut O,
         err: &mut E,
     ) -> Result<Reply, Stop>
-        ensures row { IsWriting (write_row self.old mem.now fd buffer count) result self.new mem.now
+        ensures row { IsWriting (write_row self.old mem.now fd buffer.address buffer.count) result self.new mem.now
             (O.written out.old) (O.written out.new) (E.written err.old) (E.written err.new) }
         ensures stops { WritingStops result (O.faults out.old) (O.faults out.new) (E.faults err.old) (E.faults err.new) }
         ensures out_later { O.faults out.old ≤ O.faults out.new }
         ensures err_later { E.faults err.old ≤ E.faults err.new }
         ensures clock { self.new.clock ≡ self.old.clock }
     {
-        self.send(fd, Ok(count), loadable(mem, buffer, count), out, err)
+        let Buffer { address, count } = buffer;
+        self.send(fd, Ok(count), loadable(mem, address, count), out, err)
     }
 
     /// pread(2): EBADF, EINVAL below 0, ESPIPE, EFAULT, EISDIR.
-    pub(crate) fn pread(
-        &self,
-        fd: u32,
-        buffer: u64,
-        count: u64,
-        at: i64,
-        mem: &mut HostMem,
-    ) -> Reply
-        ensures { Fills (written mem.old buffer) (on_files self.now (read_at self.now.files fd at (Ok count) (accessible mem.old buffer count)))
+    pub(crate) fn pread(&self, fd: u32, buffer: Buffer, at: i64, mem: &mut HostMem) -> Reply
+        ensures { Fills (written mem.old buffer.address) (on_files self.now (read_at self.now.files fd at (Ok buffer.count) (accessible mem.old buffer.address buffer.count)))
             result self.now mem.old mem.new }
     {
-        let room = accessible(mem, buffer, count);
-        let place = part_place(mem, buffer, room);
+        let Buffer { address, count } = buffer;
+        let room = accessible(mem, address, count);
+        let place = part_place(mem, address, room);
+        let part = Part { place, room };
         let memory = mem.as_mut_slice();
-        counted(read_part_at(&self.files, fd, at, count, memory, place, room))
+        counted(read_part_at(&self.files, fd, at, count, memory, part))
     }
 
     /// pwrite(2): EBADF, EINVAL below 0, ESPIPE, EFAULT, EFBIG, ENOSPC.
@@ -102,18 +98,18 @@ impl NativeKernel {
     pub(crate) fn pwrite(
         &mut self,
         fd: u32,
-        buffer: u64,
-        count: u64,
+        buffer: Buffer,
         at: i64,
         mem: &HostMem,
     ) -> Result<Reply, NoMemory>
-        ensures row { IfOk result (λ reply. IsQuiet (pwrite_row self.old mem.now fd buffer count at) reply self.new mem.now) }
+        ensures row { IfOk result (λ reply. IsQuiet (pwrite_row self.old mem.now fd buffer.address buffer.count at) reply self.new mem.now) }
         ensures clock { self.new.clock ≡ self.old.clock }
     {
+        let Buffer { address, count } = buffer;
         let now = self.real_time();
         match self
             .files
-            .write_at(now, fd, at, Ok(count), loadable(mem, buffer, count))
+            .write_at(now, fd, at, Ok(count), loadable(mem, address, count))
         {
             Ok(count) => Ok(Reply::Done(count as i64)),
             Err(CoreError::Refused(error)) => Ok(failure(error)),
@@ -174,17 +170,17 @@ fn read_part<I: Source>(
     fd: u32,
     count: u64,
     memory: &mut [u8],
-    place: usize,
-    room: usize,
+    part: Part,
     input: &mut I,
 ) -> Result<Progress, CoreError>
-    requires { place + room ≤ length memory.old }
-    ensures row { (left : List ℕ) → I.left input.old ≡ Some left → ReadsInto (read files.old left fd (Ok count) room) (moved result) files.new
-        (I.left input.old) (I.left input.new) memory.old place room memory.new }
+    requires { part.place + part.room ≤ length memory.old }
+    ensures row { (left : List ℕ) → I.left input.old ≡ Some left → ReadsInto (read files.old left fd (Ok count) part.room) (moved result) files.new
+        (I.left input.old) (I.left input.new) memory.old part.place part.room memory.new }
     ensures within { MovesWithin transfer_limit (moved result) }
     ensures stops { ReadStops result (I.faults input.old) (I.faults input.new) }
     ensures later { I.faults input.old ≤ I.faults input.new }
 {
+    let Part { place, room } = part;
     files.read(fd, Ok(count), &mut memory[place..place + room], input)
 }
 
@@ -195,15 +191,15 @@ fn read_part_at(
     at: i64,
     count: u64,
     memory: &mut [u8],
-    place: usize,
-    room: usize,
+    part: Part,
 ) -> Result<usize, Errno>
-    requires { place + room ≤ length memory.old }
-    ensures came { came_of result ≡ came_as length (read_at files.now fd at (Ok count) room).came }
-    ensures state { (read_at files.now fd at (Ok count) room).state ≡ files.now }
-    ensures stored { FillsPart (read_at files.now fd at (Ok count) room).came memory.old place room memory.new }
+    requires { part.place + part.room ≤ length memory.old }
+    ensures came { came_of result ≡ came_as length (read_at files.now fd at (Ok count) part.room).came }
+    ensures state { (read_at files.now fd at (Ok count) part.room).state ≡ files.now }
+    ensures stored { FillsPart (read_at files.now fd at (Ok count) part.room).came memory.old part.place part.room memory.new }
     ensures within { IfOk result (λ moved. moved ≤ transfer_limit) }
 {
+    let Part { place, room } = part;
     files.read_at(fd, at, Ok(count), &mut memory[place..place + room])
 }
 

@@ -27,23 +27,29 @@ const SUM_LIMIT: u128 = (1 << 63) - 1;
 /// How many bytes a buffer takes in a vector (struct iovec).
 const RANGE_SIZE: usize = 16;
 
+/// A vector of buffers as a call names it: the address of its structures, and how many they are.
+#[derive(Clone, Copy)]
+pub(crate) struct BufferVector {
+    pub(crate) address: u64,
+    pub(crate) count: u64,
+}
+
 impl NativeKernel {
     /// readv(2): EBADF, then EINVAL, EFAULT and EINVAL of the vector, and the refusals of what is open.
     #[tactic(auto, unfolding(native_calls::specs::Transfers::readv_row))]
     pub(crate) fn readv<I: Source>(
         &mut self,
         fd: u32,
-        address: u64,
-        count: u64,
+        buffers: BufferVector,
         mem: &mut HostMem,
         input: &mut I,
     ) -> Result<Reply, Stop>
-        ensures row { IsReading (readv_row self.old mem.old fd address count) result self.new mem.new (I.left input.old) (I.left input.new) }
+        ensures row { IsReading (readv_row self.old mem.old fd buffers.address buffers.count) result self.new mem.new (I.left input.old) (I.left input.new) }
         ensures stops { ReadingStops result (I.faults input.old) (I.faults input.new) }
         ensures later { I.faults input.old ≤ I.faults input.new }
         ensures clock { self.new.clock ≡ self.old.clock }
     {
-        match vector(self.alloc, mem, address, count) {
+        match vector(self.alloc, mem, buffers.address, buffers.count) {
             Ok(ranges) => {
                 let asked = total(ranges.as_slice());
                 self.read_ranges(fd, Ok(asked), ranges.as_slice(), mem, input)
@@ -81,20 +87,19 @@ impl NativeKernel {
     pub(crate) fn writev<O: Sink, E: Sink>(
         &mut self,
         fd: u32,
-        address: u64,
-        count: u64,
+        buffers: BufferVector,
         mem: &HostMem,
         out: &mut O,
         err: &mut E,
     ) -> Result<Reply, Stop>
-        ensures row { IsWriting (writev_row self.old mem.now fd address count) result self.new mem.now
+        ensures row { IsWriting (writev_row self.old mem.now fd buffers.address buffers.count) result self.new mem.now
             (O.written out.old) (O.written out.new) (E.written err.old) (E.written err.new) }
         ensures stops { WritingStops result (O.faults out.old) (O.faults out.new) (E.faults err.old) (E.faults err.new) }
         ensures out_later { O.faults out.old ≤ O.faults out.new }
         ensures err_later { E.faults err.old ≤ E.faults err.new }
         ensures clock { self.new.clock ≡ self.old.clock }
     {
-        match vector(self.alloc, mem, address, count) {
+        match vector(self.alloc, mem, buffers.address, buffers.count) {
             Ok(ranges) => {
                 let asked = total(ranges.as_slice());
                 match gather(self.alloc, mem, ranges.as_slice()) {
