@@ -1,15 +1,15 @@
 -- The row of alarm(2), as setting the timer.
-use Rattle.std.proofs.Common.{◌≡◌, ℕ, ◌+◌, ◌*◌, ◌%◌, ◌^◌, Bool, true, false, List, Option, Some, Err, Ok, refl, sym, ap, subst, ◌∙◌, arith, if◌then◌else◌}
+use Rattle.std.proofs.Common.{◌≡◌, ℕ, ◌+◌, ◌*◌, ◌%◌, ◌^◌, Bool, false, List, Some, Err, Ok, sym, ap, ◌∙◌, arith, if◌then◌else◌}
 use Rattle.std.specs.Prelude.{◌||◌, int_lt, pos}
 use Rattle.std.proofs.lemmas.Bool.Decides.{nat_tests}
 use Rattle.std.proofs.lemmas.Int.{ints}
 use Rattle.kernel_core.specs.declared.error.Errno.TheVariants.{EINVAL}
-use Rattle.kernel_model.specs.Came.{Done, Did, Given, done, with_given}
+use Rattle.kernel_model.specs.Came.{Did, Given, done, with_given}
 use Rattle.kernel_model.specs.Clock.{TimerSetting, alarm, arm_timer, armed, left_until, length_of_val, rounded_seconds, timer_value}
 use Rattle.kernel_model.specs.State.{Kernel}
 use Rattle.kernel_model.specs.declared.time.TimerValue.{TimerValue}
 use Rattle.o32_model.specs.Sleeps as o32
-use Rattle.o32_model.specs.Step.{Guest, O32Step, value}
+use Rattle.o32_model.specs.Step.{Guest, value}
 use Rattle.bridge_timer.specs.inside.Endings.{ended, leaves}
 
 -- to go off once after so many seconds

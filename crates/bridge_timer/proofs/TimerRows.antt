@@ -16,14 +16,12 @@ use Rattle.native_calls.specs.HostBytes as host
 use Rattle.native_calls.specs.Step as native_step
 use Rattle.native_calls.specs.Table.{native_call}
 use Rattle.o32_model.specs.Sleeps as o32
-use Rattle.o32_model.specs.Small as small
 use Rattle.o32_model.specs.Step as o32_step
 use Rattle.o32_model.specs.Step.{Guest, O32Step, value}
 use Rattle.o32_model.specs.Times.{seconds_field}
-use Rattle.o32_model.specs.declared.outcome.Outcome.{Outcome}
 use Rattle.bridge_timer.specs.declared.shown.Shown.{Shown}
 use Rattle.bridge_timer.specs.inside.Acts.{IsAct}
-use Rattle.bridge_timer.specs.inside.Endings.{Ending, ended, leaves, set_ending, shown_ending, stores}
+use Rattle.bridge_timer.specs.inside.Endings.{ended, leaves, set_ending, shown_ending, stores}
 use Rattle.bridge_timer.specs.inside.Shown.{shown_at, shown_bytes, shown_of}
 
 -- The bytes of what is shown
