@@ -10,5 +10,5 @@ mod untraced;
 
 // Passed on, so that who runs an emulator names this crate alone.
 pub use o32_machine::Emulator;
-pub use told::{Names, run_told};
+pub use told::{Names, Texts, run_told};
 pub use untraced::{Ran, run};

@@ -1,16 +1,16 @@
 //! A run that writes its texts, the trace, the native log and the journal.
-ghost use Rattle.std.specs.Prelude.{ℕ, List, ◌≡◌, ◌+◌, ◌<◌, ◌≤◌, ◌++◌, ◌⊎◌, [], IfOk, IsOk, OnOk, OnErr, None, Some, false};
+ghost use Rattle.std.specs.Prelude.{ℕ, List, ◌≡◌, ◌+◌, ◌<◌, ◌≤◌, ◌⊎◌, [], IfOk, IsOk, OnOk, OnErr, None, Some, false};
 ghost use Rattle.std.specs.Option.{option_copied};
 ghost use Rattle.kernel_core.specs.declared.event.Event.TheVariants as event;
 ghost use Rattle.o32_machine.specs.Answered.{is_end, turns_of};
-ghost use Rattle.o32_runner.specs.JournalText.{front_to_come, records_text};
+ghost use Rattle.o32_runner.specs.JournalText.{front_to_come};
 ghost use Rattle.o32_runner.specs.Making.{Makes, MakesAll, MakesBoth, MakesNone, MakesNotAll, MakesNotBoth, StopsBehind};
 ghost use Rattle.o32_runner.specs.NativeText.{entry_lines};
 ghost use Rattle.o32_runner.specs.Runs.{IsFresh, KeepsTexts, RunsAs, WithinBudget, no_turn_follows};
 ghost use Rattle.stored_files.specs.Stored.{Stored, stored_of};
 ghost use Rattle.o32_runner.specs.Texts.{AllDiffer, BeginsJournal, BeginsLog, WritesTexts};
 ghost use Rattle.o32_runner.specs.Traced.{StopsOnlyIfAnyRose};
-ghost use Rattle.o32_runner.specs.inside.Told.{Adds, AddsAll, AddsBoth, AddsPart, AddsPartOfAll, AddsPartOfBoth, EndsBudget, IsMade, TakesAll, WritesOnlyIfRose, budget_record, journal_of, native_of, number_of, stop_in, stop_of, told_lines, told_records, trace_of};
+ghost use Rattle.o32_runner.specs.inside.Told.{Adds, AddsAll, AddsBoth, AddsPart, AddsPartOfAll, AddsPartOfBoth, EndsBudget, IsMade, TakesAll, WritesOnlyIfRose, budget_record, journal_of, native_of, stop_in, stop_of, told_lines, trace_of};
 ghost use Rattle.outside.specs.Causes.{FailsOnlyIfRose};
 ghost use Rattle.outside.specs.Streams.{NoCountFell, contents};
 ghost use Rattle.trace_text.specs.Trace.{trace_line};
@@ -18,7 +18,7 @@ ghost use Rattle.trace_text.specs.Trace.{trace_line};
 use crate::lines::{entry_lines, told_lines};
 use crate::records::{budget_record, told_records};
 use crate::untraced::Ran;
-use kernel_core::{Event, Finish, LogEntry, Record, Stop};
+use kernel_core::{Event, Finish, LogEntry, Stop};
 use o32_machine::{Emulator, Turn};
 use outside::{DevError, Devices, Sink, Source, Store};
 use std::alloc::Global;
@@ -33,6 +33,15 @@ pub struct Names<'a> {
     pub native: Option<&'a str>,
     /// The file of the journal.
     pub journal: Option<&'a str>,
+}
+
+/// The texts that a run writes.
+#[derive(Clone, Copy)]
+pub struct Texts<'a> {
+    /// The names of their files.
+    pub names: Names<'a>,
+    /// What the journal begins with.
+    pub front: &'a [u8],
 }
 
 /// Where a run stopped early.
@@ -198,17 +207,16 @@ fn tell_records<F: Store>(
     alloc: Global,
     name: Option<&str>,
     front: &[u8],
-    records: &[Record],
-    turns: u64,
+    emulator: &Emulator,
     turn: Turn,
     files: &mut F,
 ) -> Result<(), DevError>
-    requires few { turns ≤ 1_000_000_000_000 }
+    requires few { emulator.now.turns ≤ 1_000_000_000_000 }
     requires made { IsMade (F.created files.old) (option_copied name) }
-    ensures added { OnOk result (Adds (option_copied name.entry) (front.now ++ records_text (told_records turns turn records.now))
+    ensures added { OnOk result (Adds (option_copied name.entry) (journal_of front.now emulator.now turn)
         (stored_of F.files F.created F.loads F.turned_away F.write_faults files.old)
         (stored_of F.files F.created F.loads F.turned_away F.write_faults files.new)) }
-    ensures part { OnErr result (AddsPart (option_copied name.entry) (front.now ++ records_text (told_records turns turn records.now))
+    ensures part { OnErr result (AddsPart (option_copied name.entry) (journal_of front.now emulator.now turn)
         (stored_of F.files F.created F.loads F.turned_away F.write_faults files.old)
         (stored_of F.files F.created F.loads F.turned_away F.write_faults files.new)) }
     ensures created { F.created files.new ≡ F.created files.old }
@@ -219,7 +227,7 @@ fn tell_records<F: Store>(
     let Some(name) = name else {
         return Ok(());
     };
-    match told_records(alloc, front, records, turns, turn) {
+    match told_records(alloc, front, emulator.records(), emulator.turns(), turn) {
         Ok(text) => add_text(name, &text, files),
         Err(_) => Err(DevError::NoMemory),
     }
@@ -345,37 +353,28 @@ fn tell_all<F: Store>(
     ensures loads { F.load_faults files.new ≡ F.load_faults files.old }
 {
     tell(alloc, names, emulator, turn, files)?;
-    tell_records(
-        alloc,
-        names.journal,
-        front,
-        emulator.records(),
-        emulator.turns(),
-        turn,
-        files,
-    )
+    tell_records(alloc, names.journal, front, emulator, turn, files)
 }
 
-/// Takes turns up to the first that does more than an instruction, at most `limit`, and adds its texts to the files. `front` is
-/// what the journal begins with, as long as it stands in no file.
+/// Takes turns up to the first that does more than an instruction, at most `limit`, and adds its texts to the files. What the
+/// journal begins with is empty once it stands in the file.
 fn take_turns<F: Store, I: Source, O: Sink, E: Sink>(
     alloc: Global,
     emulator: &mut Emulator,
     limit: u64,
-    names: Names<'_>,
-    front: &[u8],
+    texts: Texts<'_>,
     files: &mut F,
     dev: &mut Devices<I, O, E>,
 ) -> Result<Turn, Cut>
     requires on { emulator.old.over ≡ false }
     requires some { 0 < limit }
     requires few { emulator.old.turns + limit ≤ 1_000_000_000_000 }
-    requires trace { IsMade (F.created files.old) (option_copied names.trace) }
-    requires native { IsMade (F.created files.old) (option_copied names.native) }
-    requires journal { IsMade (F.created files.old) (option_copied names.journal) }
-    ensures turns { TakesAll front.now limit result emulator.old emulator.new
+    requires trace { IsMade (F.created files.old) (option_copied texts.names.trace) }
+    requires native { IsMade (F.created files.old) (option_copied texts.names.native) }
+    requires journal { IsMade (F.created files.old) (option_copied texts.names.journal) }
+    ensures turns { TakesAll texts.entry.front.now limit result emulator.old emulator.new
         (contents I.left O.written E.written dev.old) (contents I.left O.written E.written dev.new)
-        (option_copied names.entry.trace) (option_copied names.entry.native) (option_copied names.entry.journal)
+        (option_copied texts.entry.names.trace) (option_copied texts.entry.names.native) (option_copied texts.entry.names.journal)
         (stored_of F.files F.created F.loads F.turned_away F.write_faults files.old)
         (stored_of F.files F.created F.loads F.turned_away F.write_faults files.new) }
     ensures quantum { emulator.new.quantum ≡ emulator.old.quantum }
@@ -387,7 +386,7 @@ fn take_turns<F: Store, I: Source, O: Sink, E: Sink>(
     ensures loads { F.load_faults files.new ≡ F.load_faults files.old }
 {
     match emulator.next_turns(limit, dev) {
-        Ok(turn) => match tell_all(alloc, names, front, emulator, turn, files) {
+        Ok(turn) => match tell_all(alloc, texts.names, texts.front, emulator, turn, files) {
             Ok(()) => Ok(turn),
             Err(error) => Err(Cut {
                 stop: stop_of(error),
@@ -460,7 +459,7 @@ pub fn run_told<F: Store, I: Source, O: Sink, E: Sink>(
     ensures loads { F.load_faults files.new ≡ F.load_faults files.old }
 {
     match make_all(names, files) {
-        Ok(()) => run_made(alloc, emulator, budget, names, front, files, dev),
+        Ok(()) => run_made(alloc, emulator, budget, Texts { names, front }, files, dev),
         Err(error) => Ran {
             end: Err(stop_of(error)),
             turns: 0,
@@ -473,27 +472,26 @@ fn run_made<F: Store, I: Source, O: Sink, E: Sink>(
     alloc: Global,
     emulator: &mut Emulator,
     budget: u64,
-    names: Names<'_>,
-    front: &[u8],
+    texts: Texts<'_>,
     files: &mut F,
     dev: &mut Devices<I, O, E>,
 ) -> Ran
     requires fresh { IsFresh emulator.old }
-    requires log { BeginsLog (option_copied names.native) emulator.old.native }
-    requires records { BeginsJournal (option_copied names.journal) emulator.old.records }
+    requires log { BeginsLog (option_copied texts.names.native) emulator.old.native }
+    requires records { BeginsJournal (option_copied texts.names.journal) emulator.old.records }
     requires budget { budget ≤ 1_000_000_000_000 }
-    requires differ { AllDiffer (option_copied names.trace) (option_copied names.native) (option_copied names.journal) }
-    requires trace { IsMade (F.created files.old) (option_copied names.trace) }
-    requires native { IsMade (F.created files.old) (option_copied names.native) }
-    requires journal { IsMade (F.created files.old) (option_copied names.journal) }
+    requires differ { AllDiffer (option_copied texts.names.trace) (option_copied texts.names.native) (option_copied texts.names.journal) }
+    requires trace { IsMade (F.created files.old) (option_copied texts.names.trace) }
+    requires native { IsMade (F.created files.old) (option_copied texts.names.native) }
+    requires journal { IsMade (F.created files.old) (option_copied texts.names.journal) }
     ensures run { RunsAs emulator.old.quantum emulator.old.machine budget result.turns result.end
         (contents I.left O.written E.written dev.old) (contents I.left O.written E.written dev.new) emulator.new.machine }
-    ensures texts { (start : Stored) → MakesAll (option_copied names.entry.trace) (option_copied names.entry.native) (option_copied names.entry.journal) start (stored_of F.files F.created F.loads F.turned_away F.write_faults files.old)
-        → WritesTexts (option_copied names.entry.trace) (option_copied names.entry.native) (option_copied names.entry.journal) front.now emulator.old.quantum emulator.old.machine budget result.turns result.end
+    ensures texts { (start : Stored) → MakesAll (option_copied texts.entry.names.trace) (option_copied texts.entry.names.native) (option_copied texts.entry.names.journal) start (stored_of F.files F.created F.loads F.turned_away F.write_faults files.old)
+        → WritesTexts (option_copied texts.entry.names.trace) (option_copied texts.entry.names.native) (option_copied texts.entry.names.journal) texts.entry.front.now emulator.old.quantum emulator.old.machine budget result.turns result.end
         (contents I.left O.written E.written dev.old) (contents I.left O.written E.written dev.new) start
         (stored_of F.files F.created F.loads F.turned_away F.write_faults files.new) }
     ensures within { result.turns ≤ budget }
-    ensures early { (option_copied names.entry.trace ≡ None) → (option_copied names.entry.journal ≡ None) → WithinBudget result.end result.turns budget }
+    ensures early { (option_copied texts.entry.names.trace ≡ None) → (option_copied texts.entry.names.journal ≡ None) → WithinBudget result.end result.turns budget }
     ensures behind { StopsBehind result.end result.turns budget (F.write_faults files.old) (F.write_faults files.new) }
     ensures turns { IfOk result.end (λ finish. emulator.new.turns ≡ result.turns) }
     ensures quantum { emulator.new.quantum ≡ emulator.old.quantum }
@@ -504,11 +502,16 @@ fn run_made<F: Store, I: Source, O: Sink, E: Sink>(
     ensures later { F.write_faults files.old ≤ F.write_faults files.new }
     ensures loads { F.load_faults files.new ≡ F.load_faults files.old }
 {
+    let Texts { names, front } = texts;
     while emulator.turns() < budget {
         let turns = emulator.turns();
         let coming = front_to_come(front, turns);
         let limit = limit_of(coming, budget - turns);
-        match take_turns(alloc, emulator, limit, names, coming, files, dev) {
+        let texts = Texts {
+            names,
+            front: coming,
+        };
+        match take_turns(alloc, emulator, limit, texts, files, dev) {
             Ok(Turn::Went) => {}
             Ok(Turn::Ended(finish)) => {
                 return Ran {

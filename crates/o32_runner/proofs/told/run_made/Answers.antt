@@ -31,7 +31,7 @@ loop-emulator-init g c = record {
       subst (λ (n : ℕ). IsSoFar e.quantum e.machine left n at at e.machine) (sym c.requires.fresh.none) (at_start e.quantum e.machine left at told);
   keeps = λ left told. keeps_first c.args.emulator.now;
   texts = λ start made.
-      all_first (option_copied c.args.names.trace) (option_copied c.args.names.native) (option_copied c.args.names.journal) c.args.front.now c.args.emulator.now.quantum (g.I.Source.left c.args.dev.now.input) c.args.emulator.now c.requires.fresh.none c.requires.log c.requires.records start
+      all_first (option_copied c.args.texts.names.trace) (option_copied c.args.texts.names.native) (option_copied c.args.texts.names.journal) c.args.texts.front.now c.args.emulator.now.quantum (g.I.Source.left c.args.dev.now.input) c.args.emulator.now c.requires.fresh.none c.requires.log c.requires.records start
       (stored_of g.F.Store.files g.F.Store.created g.F.Store.loads g.F.Store.turned_away g.F.Store.write_faults c.args.files.now) made;
   trace = c.requires.trace;
   native = c.requires.native;
@@ -45,8 +45,8 @@ loop-emulator-init g c = record {
 pub loop-emulator-preserved : goal.loop-emulator-preserved
 loop-emulator-preserved g c =
     let i = c.loop-emulator.invariant in
-    let is_coming : c.front_to_come-coming.result.now ≡ front_to_come c.loop-emulator.emulator.turns c.args.front.now =
-    coming_is c.front_to_come-coming.result.now c.args.front.now c.turns-turns.result c.loop-emulator.emulator.turns c.front_to_come-coming.ensures c.turns-turns.ensures in
+    let is_coming : c.front_to_come-coming.result.now ≡ front_to_come c.loop-emulator.emulator.turns c.args.texts.front.now =
+    coming_is c.front_to_come-coming.result.now c.args.texts.front.now c.turns-turns.result c.loop-emulator.emulator.turns c.front_to_come-coming.ensures c.turns-turns.ensures in
     let takes = c.in-Ok-Went.ensures.turns in
     let turned = takes.0.turned in
     let counts : c.take_turns.new.emulator.turns ≡ c.loop-emulator.emulator.turns + turned.quiet + 1 =
@@ -55,16 +55,16 @@ loop-emulator-preserved g c =
       most = omega (arith, turned.within, counts, c.limit_of-limit.ensures.few, c.turns-turns.ensures);
       on = c.in-Ok-Went.ensures.over ∙ ap is_end c.in-Ok-Went.field-0-is;
       long = c.take_turns.ensures.quantum ∙ i.long;
-      so = all_go_on (option_copied c.args.names.trace) (option_copied c.args.names.native) (option_copied c.args.names.journal) c.requires.differ c.args.front.now c.args.emulator.now.quantum c.args.emulator.now.machine c.args.budget c.limit_of-limit.result (contents g.I.Source.left g.O.Sink.written g.E.Sink.written c.args.dev.now) (contents g.I.Source.left g.O.Sink.written g.E.Sink.written c.loop-emulator.dev) (contents g.I.Source.left g.O.Sink.written g.E.Sink.written c.take_turns.new.dev) c.loop-emulator.emulator c.take_turns.new.emulator i.long i.so c.front_to_come-coming.result.now is_coming c.limit_of-limit.ensures.first
+      so = all_go_on (option_copied c.args.texts.names.trace) (option_copied c.args.texts.names.native) (option_copied c.args.texts.names.journal) c.requires.differ c.args.texts.front.now c.args.emulator.now.quantum c.args.emulator.now.machine c.args.budget c.limit_of-limit.result (contents g.I.Source.left g.O.Sink.written g.E.Sink.written c.args.dev.now) (contents g.I.Source.left g.O.Sink.written g.E.Sink.written c.loop-emulator.dev) (contents g.I.Source.left g.O.Sink.written g.E.Sink.written c.take_turns.new.dev) c.loop-emulator.emulator c.take_turns.new.emulator i.long i.so c.front_to_come-coming.result.now is_coming c.limit_of-limit.ensures.first
           (stored_of g.F.Store.files g.F.Store.created g.F.Store.loads g.F.Store.turned_away g.F.Store.write_faults c.loop-emulator.files) (stored_of g.F.Store.files g.F.Store.created g.F.Store.loads g.F.Store.turned_away g.F.Store.write_faults c.take_turns.new.files) c.in-Ok-Went.field-0 takes c.in-Ok-Went.field-0-is;
       texts = λ start made.
-          all_on (option_copied c.args.names.trace) (option_copied c.args.names.native) (option_copied c.args.names.journal) c.requires.differ c.args.front.now c.args.emulator.now.quantum c.args.emulator.now.machine c.args.budget c.limit_of-limit.result (contents g.I.Source.left g.O.Sink.written g.E.Sink.written c.args.dev.now) (contents g.I.Source.left g.O.Sink.written g.E.Sink.written c.loop-emulator.dev) (contents g.I.Source.left g.O.Sink.written g.E.Sink.written c.take_turns.new.dev) c.loop-emulator.emulator c.take_turns.new.emulator i.long i.so c.front_to_come-coming.result.now is_coming c.limit_of-limit.ensures.first
+          all_on (option_copied c.args.texts.names.trace) (option_copied c.args.texts.names.native) (option_copied c.args.texts.names.journal) c.requires.differ c.args.texts.front.now c.args.emulator.now.quantum c.args.emulator.now.machine c.args.budget c.limit_of-limit.result (contents g.I.Source.left g.O.Sink.written g.E.Sink.written c.args.dev.now) (contents g.I.Source.left g.O.Sink.written g.E.Sink.written c.loop-emulator.dev) (contents g.I.Source.left g.O.Sink.written g.E.Sink.written c.take_turns.new.dev) c.loop-emulator.emulator c.take_turns.new.emulator i.long i.so c.front_to_come-coming.result.now is_coming c.limit_of-limit.ensures.first
           (stored_of g.F.Store.files g.F.Store.created g.F.Store.loads g.F.Store.turned_away g.F.Store.write_faults c.loop-emulator.files) (stored_of g.F.Store.files g.F.Store.created g.F.Store.loads g.F.Store.turned_away g.F.Store.write_faults c.take_turns.new.files) c.in-Ok-Went.field-0 takes start (i.texts start made) c.in-Ok-Went.field-0-is;
       keeps = λ left told.
           keeps_behind c.args.emulator.now c.loop-emulator.emulator c.take_turns.new.emulator c.in-Ok-Went.field-0 _ (contents g.I.Source.left g.O.Sink.written g.E.Sink.written c.loop-emulator.dev) (i.so left told).rest (i.keeps left told) takes.0.logged takes.0.recorded;
-      trace = subst (λ (names : List (List ℕ)). IsMade names (option_copied c.args.names.trace)) (sym c.take_turns.ensures.created) i.trace;
-      native = subst (λ (names : List (List ℕ)). IsMade names (option_copied c.args.names.native)) (sym c.take_turns.ensures.created) i.native;
-      journal = subst (λ (names : List (List ℕ)). IsMade names (option_copied c.args.names.journal)) (sym c.take_turns.ensures.created) i.journal;
+      trace = subst (λ (names : List (List ℕ)). IsMade names (option_copied c.args.texts.names.trace)) (sym c.take_turns.ensures.created) i.trace;
+      native = subst (λ (names : List (List ℕ)). IsMade names (option_copied c.args.texts.names.native)) (sym c.take_turns.ensures.created) i.native;
+      journal = subst (λ (names : List (List ℕ)). IsMade names (option_copied c.args.texts.names.journal)) (sym c.take_turns.ensures.created) i.journal;
       later = record {
         input_later = omega (arith, i.later.input_later, c.take_turns.ensures.counts.input_later);
         out_later = omega (arith, i.later.out_later, c.take_turns.ensures.counts.out_later);
@@ -85,66 +85,66 @@ loop-emulator-smaller g c =
 pub returns-in-Ok-Ended-clause-run : goal.returns-in-Ok-Ended-clause-run
 returns-in-Ok-Ended-clause-run g c = λ left told.
     let i = c.loop-emulator.invariant in
-    let is_coming : c.front_to_come-coming.result.now ≡ front_to_come c.loop-emulator.emulator.turns c.args.front.now =
-    coming_is c.front_to_come-coming.result.now c.args.front.now c.turns-turns.result c.loop-emulator.emulator.turns c.front_to_come-coming.ensures c.turns-turns.ensures in
+    let is_coming : c.front_to_come-coming.result.now ≡ front_to_come c.loop-emulator.emulator.turns c.args.texts.front.now =
+    coming_is c.front_to_come-coming.result.now c.args.texts.front.now c.turns-turns.result c.loop-emulator.emulator.turns c.front_to_come-coming.ensures c.turns-turns.ensures in
     let below : c.loop-emulator.emulator.turns < c.args.budget = omega arith in
     let room : c.limit_of-limit.result ≤ c.args.budget - c.loop-emulator.emulator.turns = omega (arith, c.limit_of-limit.ensures.few, c.turns-turns.ensures) in
     subst (λ (n : ℕ). IsOver c.args.emulator.now.quantum c.args.emulator.now.machine left c.args.budget n c.in-Ok-Ended.finish (contents g.I.Source.left g.O.Sink.written g.E.Sink.written c.args.dev.now) (contents g.I.Source.left g.O.Sink.written g.E.Sink.written c.take_turns.new.dev) c.take_turns.new.emulator.machine) (sym c.turns-in-Ok-Ended.ensures)
-    (all_end (option_copied c.args.names.trace) (option_copied c.args.names.native) (option_copied c.args.names.journal) c.requires.differ c.args.front.now c.args.emulator.now.quantum c.args.emulator.now.machine c.args.budget c.limit_of-limit.result (contents g.I.Source.left g.O.Sink.written g.E.Sink.written c.args.dev.now) (contents g.I.Source.left g.O.Sink.written g.E.Sink.written c.loop-emulator.dev) (contents g.I.Source.left g.O.Sink.written g.E.Sink.written c.take_turns.new.dev) c.loop-emulator.emulator c.take_turns.new.emulator i.long i.so c.front_to_come-coming.result.now is_coming c.limit_of-limit.ensures.first
+    (all_end (option_copied c.args.texts.names.trace) (option_copied c.args.texts.names.native) (option_copied c.args.texts.names.journal) c.requires.differ c.args.texts.front.now c.args.emulator.now.quantum c.args.emulator.now.machine c.args.budget c.limit_of-limit.result (contents g.I.Source.left g.O.Sink.written g.E.Sink.written c.args.dev.now) (contents g.I.Source.left g.O.Sink.written g.E.Sink.written c.loop-emulator.dev) (contents g.I.Source.left g.O.Sink.written g.E.Sink.written c.take_turns.new.dev) c.loop-emulator.emulator c.take_turns.new.emulator i.long i.so c.front_to_come-coming.result.now is_coming c.limit_of-limit.ensures.first
     (stored_of g.F.Store.files g.F.Store.created g.F.Store.loads g.F.Store.turned_away g.F.Store.write_faults c.loop-emulator.files) (stored_of g.F.Store.files g.F.Store.created g.F.Store.loads g.F.Store.turned_away g.F.Store.write_faults c.take_turns.new.files) c.in-Ok-Ended.field-0 c.in-Ok-Ended.ensures.turns c.in-Ok-Ended.finish c.in-Ok-Ended.field-0-is below room left told)
 
 pub returns-in-Ok-Ended-clause-texts : goal.returns-in-Ok-Ended-clause-texts
 returns-in-Ok-Ended-clause-texts g c = λ start made.
     let i = c.loop-emulator.invariant in
-    let is_coming : c.front_to_come-coming.result.now ≡ front_to_come c.loop-emulator.emulator.turns c.args.front.now =
-    coming_is c.front_to_come-coming.result.now c.args.front.now c.turns-turns.result c.loop-emulator.emulator.turns c.front_to_come-coming.ensures c.turns-turns.ensures in
+    let is_coming : c.front_to_come-coming.result.now ≡ front_to_come c.loop-emulator.emulator.turns c.args.texts.front.now =
+    coming_is c.front_to_come-coming.result.now c.args.texts.front.now c.turns-turns.result c.loop-emulator.emulator.turns c.front_to_come-coming.ensures c.turns-turns.ensures in
     let below : c.loop-emulator.emulator.turns < c.args.budget = omega arith in
     let room : c.limit_of-limit.result ≤ c.args.budget - c.loop-emulator.emulator.turns = omega (arith, c.limit_of-limit.ensures.few, c.turns-turns.ensures) in
-    all_written (option_copied c.args.names.trace) (option_copied c.args.names.native) (option_copied c.args.names.journal) c.args.front.now c.args.emulator.now.quantum c.args.emulator.now.machine c.args.budget c.turns-in-Ok-Ended.result (Ok c.in-Ok-Ended.finish) (contents g.I.Source.left g.O.Sink.written g.E.Sink.written c.args.dev.now) (contents g.I.Source.left g.O.Sink.written g.E.Sink.written c.take_turns.new.dev) start (stored_of g.F.Store.files g.F.Store.created g.F.Store.loads g.F.Store.turned_away g.F.Store.write_faults c.take_turns.new.files)
-    (subst (λ (n : ℕ). AllAs (option_copied c.args.names.trace) (option_copied c.args.names.native) (option_copied c.args.names.journal) c.args.front.now c.args.emulator.now.quantum c.args.emulator.now.machine c.args.budget n (Ok c.in-Ok-Ended.finish) (g.I.Source.left c.args.dev.now.input) start (stored_of g.F.Store.files g.F.Store.created g.F.Store.loads g.F.Store.turned_away g.F.Store.write_faults c.take_turns.new.files)) (sym c.turns-in-Ok-Ended.ensures)
-    (all_whole (option_copied c.args.names.trace) (option_copied c.args.names.native) (option_copied c.args.names.journal) c.requires.differ c.args.front.now c.args.emulator.now.quantum c.args.emulator.now.machine c.args.budget c.limit_of-limit.result (contents g.I.Source.left g.O.Sink.written g.E.Sink.written c.args.dev.now) (contents g.I.Source.left g.O.Sink.written g.E.Sink.written c.loop-emulator.dev) (contents g.I.Source.left g.O.Sink.written g.E.Sink.written c.take_turns.new.dev) c.loop-emulator.emulator c.take_turns.new.emulator i.long i.so c.front_to_come-coming.result.now is_coming c.limit_of-limit.ensures.first
+    all_written (option_copied c.args.texts.names.trace) (option_copied c.args.texts.names.native) (option_copied c.args.texts.names.journal) c.args.texts.front.now c.args.emulator.now.quantum c.args.emulator.now.machine c.args.budget c.turns-in-Ok-Ended.result (Ok c.in-Ok-Ended.finish) (contents g.I.Source.left g.O.Sink.written g.E.Sink.written c.args.dev.now) (contents g.I.Source.left g.O.Sink.written g.E.Sink.written c.take_turns.new.dev) start (stored_of g.F.Store.files g.F.Store.created g.F.Store.loads g.F.Store.turned_away g.F.Store.write_faults c.take_turns.new.files)
+    (subst (λ (n : ℕ). AllAs (option_copied c.args.texts.names.trace) (option_copied c.args.texts.names.native) (option_copied c.args.texts.names.journal) c.args.texts.front.now c.args.emulator.now.quantum c.args.emulator.now.machine c.args.budget n (Ok c.in-Ok-Ended.finish) (g.I.Source.left c.args.dev.now.input) start (stored_of g.F.Store.files g.F.Store.created g.F.Store.loads g.F.Store.turned_away g.F.Store.write_faults c.take_turns.new.files)) (sym c.turns-in-Ok-Ended.ensures)
+    (all_whole (option_copied c.args.texts.names.trace) (option_copied c.args.texts.names.native) (option_copied c.args.texts.names.journal) c.requires.differ c.args.texts.front.now c.args.emulator.now.quantum c.args.emulator.now.machine c.args.budget c.limit_of-limit.result (contents g.I.Source.left g.O.Sink.written g.E.Sink.written c.args.dev.now) (contents g.I.Source.left g.O.Sink.written g.E.Sink.written c.loop-emulator.dev) (contents g.I.Source.left g.O.Sink.written g.E.Sink.written c.take_turns.new.dev) c.loop-emulator.emulator c.take_turns.new.emulator i.long i.so c.front_to_come-coming.result.now is_coming c.limit_of-limit.ensures.first
     (stored_of g.F.Store.files g.F.Store.created g.F.Store.loads g.F.Store.turned_away g.F.Store.write_faults c.loop-emulator.files) (stored_of g.F.Store.files g.F.Store.created g.F.Store.loads g.F.Store.turned_away g.F.Store.write_faults c.take_turns.new.files) c.in-Ok-Ended.field-0 c.in-Ok-Ended.ensures.turns start (i.texts start made) c.in-Ok-Ended.finish c.in-Ok-Ended.field-0-is below room))
 
 pub returns-in-Err-clause-run : goal.returns-in-Err-clause-run
 returns-in-Err-clause-run g c =
     let i = c.loop-emulator.invariant in
-    let is_coming : c.front_to_come-coming.result.now ≡ front_to_come c.loop-emulator.emulator.turns c.args.front.now =
-    coming_is c.front_to_come-coming.result.now c.args.front.now c.turns-turns.result c.loop-emulator.emulator.turns c.front_to_come-coming.ensures c.turns-turns.ensures in
+    let is_coming : c.front_to_come-coming.result.now ≡ front_to_come c.loop-emulator.emulator.turns c.args.texts.front.now =
+    coming_is c.front_to_come-coming.result.now c.args.texts.front.now c.turns-turns.result c.loop-emulator.emulator.turns c.front_to_come-coming.ensures c.turns-turns.ensures in
     let below : c.loop-emulator.emulator.turns < c.args.budget = omega arith in
     let room : c.limit_of-limit.result ≤ c.args.budget - c.loop-emulator.emulator.turns = omega (arith, c.limit_of-limit.ensures.few, c.turns-turns.ensures) in
-    all_cut (option_copied c.args.names.trace) (option_copied c.args.names.native) (option_copied c.args.names.journal) c.requires.differ c.args.front.now c.args.emulator.now.quantum c.args.emulator.now.machine c.args.budget c.limit_of-limit.result (contents g.I.Source.left g.O.Sink.written g.E.Sink.written c.args.dev.now) (contents g.I.Source.left g.O.Sink.written g.E.Sink.written c.loop-emulator.dev) (contents g.I.Source.left g.O.Sink.written g.E.Sink.written c.take_turns.new.dev) c.loop-emulator.emulator c.take_turns.new.emulator i.long i.so c.front_to_come-coming.result.now is_coming c.limit_of-limit.ensures.first
+    all_cut (option_copied c.args.texts.names.trace) (option_copied c.args.texts.names.native) (option_copied c.args.texts.names.journal) c.requires.differ c.args.texts.front.now c.args.emulator.now.quantum c.args.emulator.now.machine c.args.budget c.limit_of-limit.result (contents g.I.Source.left g.O.Sink.written g.E.Sink.written c.args.dev.now) (contents g.I.Source.left g.O.Sink.written g.E.Sink.written c.loop-emulator.dev) (contents g.I.Source.left g.O.Sink.written g.E.Sink.written c.take_turns.new.dev) c.loop-emulator.emulator c.take_turns.new.emulator i.long i.so c.front_to_come-coming.result.now is_coming c.limit_of-limit.ensures.first
     (stored_of g.F.Store.files g.F.Store.created g.F.Store.loads g.F.Store.turned_away g.F.Store.write_faults c.loop-emulator.files) (stored_of g.F.Store.files g.F.Store.created g.F.Store.loads g.F.Store.turned_away g.F.Store.write_faults c.take_turns.new.files) c.in-Err.cut below room c.in-Err.ensures.turns
 
 pub returns-in-Err-clause-texts : goal.returns-in-Err-clause-texts
 returns-in-Err-clause-texts g c = λ start made.
     let i = c.loop-emulator.invariant in
-    let is_coming : c.front_to_come-coming.result.now ≡ front_to_come c.loop-emulator.emulator.turns c.args.front.now =
-    coming_is c.front_to_come-coming.result.now c.args.front.now c.turns-turns.result c.loop-emulator.emulator.turns c.front_to_come-coming.ensures c.turns-turns.ensures in
+    let is_coming : c.front_to_come-coming.result.now ≡ front_to_come c.loop-emulator.emulator.turns c.args.texts.front.now =
+    coming_is c.front_to_come-coming.result.now c.args.texts.front.now c.turns-turns.result c.loop-emulator.emulator.turns c.front_to_come-coming.ensures c.turns-turns.ensures in
     let below : c.loop-emulator.emulator.turns < c.args.budget = omega arith in
     let room : c.limit_of-limit.result ≤ c.args.budget - c.loop-emulator.emulator.turns = omega (arith, c.limit_of-limit.ensures.few, c.turns-turns.ensures) in
-    all_written (option_copied c.args.names.trace) (option_copied c.args.names.native) (option_copied c.args.names.journal) c.args.front.now c.args.emulator.now.quantum c.args.emulator.now.machine c.args.budget c.in-Err.cut.turns (Err c.in-Err.cut.stop) (contents g.I.Source.left g.O.Sink.written g.E.Sink.written c.args.dev.now) (contents g.I.Source.left g.O.Sink.written g.E.Sink.written c.take_turns.new.dev) start (stored_of g.F.Store.files g.F.Store.created g.F.Store.loads g.F.Store.turned_away g.F.Store.write_faults c.take_turns.new.files)
-    (all_partly (option_copied c.args.names.trace) (option_copied c.args.names.native) (option_copied c.args.names.journal) c.requires.differ c.args.front.now c.args.emulator.now.quantum c.args.emulator.now.machine c.args.budget c.limit_of-limit.result (contents g.I.Source.left g.O.Sink.written g.E.Sink.written c.args.dev.now) (contents g.I.Source.left g.O.Sink.written g.E.Sink.written c.loop-emulator.dev) (contents g.I.Source.left g.O.Sink.written g.E.Sink.written c.take_turns.new.dev) c.loop-emulator.emulator c.take_turns.new.emulator i.long i.so c.front_to_come-coming.result.now is_coming c.limit_of-limit.ensures.first
+    all_written (option_copied c.args.texts.names.trace) (option_copied c.args.texts.names.native) (option_copied c.args.texts.names.journal) c.args.texts.front.now c.args.emulator.now.quantum c.args.emulator.now.machine c.args.budget c.in-Err.cut.turns (Err c.in-Err.cut.stop) (contents g.I.Source.left g.O.Sink.written g.E.Sink.written c.args.dev.now) (contents g.I.Source.left g.O.Sink.written g.E.Sink.written c.take_turns.new.dev) start (stored_of g.F.Store.files g.F.Store.created g.F.Store.loads g.F.Store.turned_away g.F.Store.write_faults c.take_turns.new.files)
+    (all_partly (option_copied c.args.texts.names.trace) (option_copied c.args.texts.names.native) (option_copied c.args.texts.names.journal) c.requires.differ c.args.texts.front.now c.args.emulator.now.quantum c.args.emulator.now.machine c.args.budget c.limit_of-limit.result (contents g.I.Source.left g.O.Sink.written g.E.Sink.written c.args.dev.now) (contents g.I.Source.left g.O.Sink.written g.E.Sink.written c.loop-emulator.dev) (contents g.I.Source.left g.O.Sink.written g.E.Sink.written c.take_turns.new.dev) c.loop-emulator.emulator c.take_turns.new.emulator i.long i.so c.front_to_come-coming.result.now is_coming c.limit_of-limit.ensures.first
     (stored_of g.F.Store.files g.F.Store.created g.F.Store.loads g.F.Store.turned_away g.F.Store.write_faults c.loop-emulator.files) (stored_of g.F.Store.files g.F.Store.created g.F.Store.loads g.F.Store.turned_away g.F.Store.write_faults c.take_turns.new.files) c.in-Err.cut below room start (i.texts start made) c.in-Err.ensures.turns)
 
 pub returns-in-Err-clause-early : goal.returns-in-Err-clause-early
 returns-in-Err-clause-early g c = λ none unkept.
     let i = c.loop-emulator.invariant in
-    let is_coming : c.front_to_come-coming.result.now ≡ front_to_come c.loop-emulator.emulator.turns c.args.front.now =
-    coming_is c.front_to_come-coming.result.now c.args.front.now c.turns-turns.result c.loop-emulator.emulator.turns c.front_to_come-coming.ensures c.turns-turns.ensures in
+    let is_coming : c.front_to_come-coming.result.now ≡ front_to_come c.loop-emulator.emulator.turns c.args.texts.front.now =
+    coming_is c.front_to_come-coming.result.now c.args.texts.front.now c.turns-turns.result c.loop-emulator.emulator.turns c.front_to_come-coming.ensures c.turns-turns.ensures in
     let below : c.loop-emulator.emulator.turns < c.args.budget = omega arith in
     let room : c.limit_of-limit.result ≤ c.args.budget - c.loop-emulator.emulator.turns = omega (arith, c.limit_of-limit.ensures.few, c.turns-turns.ensures) in
-    all_below (option_copied c.args.names.trace) (option_copied c.args.names.native) (option_copied c.args.names.journal) c.requires.differ c.args.front.now c.args.emulator.now.quantum c.args.emulator.now.machine c.args.budget c.limit_of-limit.result (contents g.I.Source.left g.O.Sink.written g.E.Sink.written c.args.dev.now) (contents g.I.Source.left g.O.Sink.written g.E.Sink.written c.loop-emulator.dev) (contents g.I.Source.left g.O.Sink.written g.E.Sink.written c.take_turns.new.dev) c.loop-emulator.emulator c.take_turns.new.emulator i.long i.so c.front_to_come-coming.result.now is_coming c.limit_of-limit.ensures.first
+    all_below (option_copied c.args.texts.names.trace) (option_copied c.args.texts.names.native) (option_copied c.args.texts.names.journal) c.requires.differ c.args.texts.front.now c.args.emulator.now.quantum c.args.emulator.now.machine c.args.budget c.limit_of-limit.result (contents g.I.Source.left g.O.Sink.written g.E.Sink.written c.args.dev.now) (contents g.I.Source.left g.O.Sink.written g.E.Sink.written c.loop-emulator.dev) (contents g.I.Source.left g.O.Sink.written g.E.Sink.written c.take_turns.new.dev) c.loop-emulator.emulator c.take_turns.new.emulator i.long i.so c.front_to_come-coming.result.now is_coming c.limit_of-limit.ensures.first
     (stored_of g.F.Store.files g.F.Store.created g.F.Store.loads g.F.Store.turned_away g.F.Store.write_faults c.loop-emulator.files) (stored_of g.F.Store.files g.F.Store.created g.F.Store.loads g.F.Store.turned_away g.F.Store.write_faults c.take_turns.new.files) c.in-Err.cut below room c.in-Err.ensures.turns
 
 pub returns-in-Err-clause-behind : goal.returns-in-Err-clause-behind
 returns-in-Err-clause-behind g c = λ done.
     let i = c.loop-emulator.invariant in
-    let is_coming : c.front_to_come-coming.result.now ≡ front_to_come c.loop-emulator.emulator.turns c.args.front.now =
-    coming_is c.front_to_come-coming.result.now c.args.front.now c.turns-turns.result c.loop-emulator.emulator.turns c.front_to_come-coming.ensures c.turns-turns.ensures in
+    let is_coming : c.front_to_come-coming.result.now ≡ front_to_come c.loop-emulator.emulator.turns c.args.texts.front.now =
+    coming_is c.front_to_come-coming.result.now c.args.texts.front.now c.turns-turns.result c.loop-emulator.emulator.turns c.front_to_come-coming.ensures c.turns-turns.ensures in
     let below : c.loop-emulator.emulator.turns < c.args.budget = omega arith in
     let room : c.limit_of-limit.result ≤ c.args.budget - c.loop-emulator.emulator.turns = omega (arith, c.limit_of-limit.ensures.few, c.turns-turns.ensures) in
     let under : c.in-Err.cut.turns < c.args.budget =
-    all_below (option_copied c.args.names.trace) (option_copied c.args.names.native) (option_copied c.args.names.journal) c.requires.differ c.args.front.now c.args.emulator.now.quantum c.args.emulator.now.machine c.args.budget c.limit_of-limit.result (contents g.I.Source.left g.O.Sink.written g.E.Sink.written c.args.dev.now) (contents g.I.Source.left g.O.Sink.written g.E.Sink.written c.loop-emulator.dev) (contents g.I.Source.left g.O.Sink.written g.E.Sink.written c.take_turns.new.dev) c.loop-emulator.emulator c.take_turns.new.emulator i.long i.so c.front_to_come-coming.result.now is_coming c.limit_of-limit.ensures.first
+    all_below (option_copied c.args.texts.names.trace) (option_copied c.args.texts.names.native) (option_copied c.args.texts.names.journal) c.requires.differ c.args.texts.front.now c.args.emulator.now.quantum c.args.emulator.now.machine c.args.budget c.limit_of-limit.result (contents g.I.Source.left g.O.Sink.written g.E.Sink.written c.args.dev.now) (contents g.I.Source.left g.O.Sink.written g.E.Sink.written c.loop-emulator.dev) (contents g.I.Source.left g.O.Sink.written g.E.Sink.written c.take_turns.new.dev) c.loop-emulator.emulator c.take_turns.new.emulator i.long i.so c.front_to_come-coming.result.now is_coming c.limit_of-limit.ensures.first
     (stored_of g.F.Store.files g.F.Store.created g.F.Store.loads g.F.Store.turned_away g.F.Store.write_faults c.loop-emulator.files) (stored_of g.F.Store.files g.F.Store.created g.F.Store.loads g.F.Store.turned_away g.F.Store.write_faults c.take_turns.new.files) c.in-Err.cut below room c.in-Err.ensures.turns in
     absurd (omega (arith, under, done))
 
@@ -157,19 +157,19 @@ returns-clause-early g c = λ none unkept.
 pub returns-clause-run : goal.returns-clause-run
 returns-clause-run g c =
     let i = c.loop-emulator.invariant in
-    let is_coming : c.front_to_come.result.now ≡ front_to_come c.loop-emulator.emulator.turns c.args.front.now =
-    coming_is c.front_to_come.result.now c.args.front.now c.turns-turns-2.result c.loop-emulator.emulator.turns c.front_to_come.ensures c.turns-turns-2.ensures in
+    let is_coming : c.front_to_come.result.now ≡ front_to_come c.loop-emulator.emulator.turns c.args.texts.front.now =
+    coming_is c.front_to_come.result.now c.args.texts.front.now c.turns-turns-2.result c.loop-emulator.emulator.turns c.front_to_come.ensures c.turns-turns-2.ensures in
     let full : c.loop-emulator.emulator.turns ≡ c.args.budget = omega (arith, i.most) in
-    all_done (option_copied c.args.names.trace) (option_copied c.args.names.native) (option_copied c.args.names.journal) c.requires.differ c.args.front.now c.args.emulator.now.quantum c.args.emulator.now.machine c.args.budget c.turns-turns-2.result c.end_of_budget.result.turns (contents g.I.Source.left g.O.Sink.written g.E.Sink.written c.args.dev.now) (contents g.I.Source.left g.O.Sink.written g.E.Sink.written c.loop-emulator.dev) c.loop-emulator.emulator i.so c.front_to_come.result.now is_coming (stored_of g.F.Store.files g.F.Store.created g.F.Store.loads g.F.Store.turned_away g.F.Store.write_faults c.loop-emulator.files) (stored_of g.F.Store.files g.F.Store.created g.F.Store.loads g.F.Store.turned_away g.F.Store.write_faults c.end_of_budget.new.files) full c.turns-turns-2.ensures c.end_of_budget.ensures.turns c.end_of_budget.result.end c.end_of_budget.ensures.end
+    all_done (option_copied c.args.texts.names.trace) (option_copied c.args.texts.names.native) (option_copied c.args.texts.names.journal) c.requires.differ c.args.texts.front.now c.args.emulator.now.quantum c.args.emulator.now.machine c.args.budget c.turns-turns-2.result c.end_of_budget.result.turns (contents g.I.Source.left g.O.Sink.written g.E.Sink.written c.args.dev.now) (contents g.I.Source.left g.O.Sink.written g.E.Sink.written c.loop-emulator.dev) c.loop-emulator.emulator i.so c.front_to_come.result.now is_coming (stored_of g.F.Store.files g.F.Store.created g.F.Store.loads g.F.Store.turned_away g.F.Store.write_faults c.loop-emulator.files) (stored_of g.F.Store.files g.F.Store.created g.F.Store.loads g.F.Store.turned_away g.F.Store.write_faults c.end_of_budget.new.files) full c.turns-turns-2.ensures c.end_of_budget.ensures.turns c.end_of_budget.result.end c.end_of_budget.ensures.end
 
 pub returns-clause-texts : goal.returns-clause-texts
 returns-clause-texts g c = λ start made.
     let i = c.loop-emulator.invariant in
-    let is_coming : c.front_to_come.result.now ≡ front_to_come c.loop-emulator.emulator.turns c.args.front.now =
-    coming_is c.front_to_come.result.now c.args.front.now c.turns-turns-2.result c.loop-emulator.emulator.turns c.front_to_come.ensures c.turns-turns-2.ensures in
+    let is_coming : c.front_to_come.result.now ≡ front_to_come c.loop-emulator.emulator.turns c.args.texts.front.now =
+    coming_is c.front_to_come.result.now c.args.texts.front.now c.turns-turns-2.result c.loop-emulator.emulator.turns c.front_to_come.ensures c.turns-turns-2.ensures in
     let full : c.loop-emulator.emulator.turns ≡ c.args.budget = omega (arith, i.most) in
-    all_written (option_copied c.args.names.trace) (option_copied c.args.names.native) (option_copied c.args.names.journal) c.args.front.now c.args.emulator.now.quantum c.args.emulator.now.machine c.args.budget c.end_of_budget.result.turns c.end_of_budget.result.end (contents g.I.Source.left g.O.Sink.written g.E.Sink.written c.args.dev.now) (contents g.I.Source.left g.O.Sink.written g.E.Sink.written c.loop-emulator.dev) start (stored_of g.F.Store.files g.F.Store.created g.F.Store.loads g.F.Store.turned_away g.F.Store.write_faults c.end_of_budget.new.files)
-    (all_ended (option_copied c.args.names.trace) (option_copied c.args.names.native) (option_copied c.args.names.journal) c.requires.differ c.args.front.now c.args.emulator.now.quantum c.args.emulator.now.machine c.args.budget c.turns-turns-2.result c.end_of_budget.result.turns (contents g.I.Source.left g.O.Sink.written g.E.Sink.written c.args.dev.now) (contents g.I.Source.left g.O.Sink.written g.E.Sink.written c.loop-emulator.dev) c.loop-emulator.emulator i.so c.front_to_come.result.now is_coming (stored_of g.F.Store.files g.F.Store.created g.F.Store.loads g.F.Store.turned_away g.F.Store.write_faults c.loop-emulator.files) (stored_of g.F.Store.files g.F.Store.created g.F.Store.loads g.F.Store.turned_away g.F.Store.write_faults c.end_of_budget.new.files) full c.turns-turns-2.ensures c.end_of_budget.ensures.turns start (i.texts start made) c.end_of_budget.result.end c.end_of_budget.ensures.end)
+    all_written (option_copied c.args.texts.names.trace) (option_copied c.args.texts.names.native) (option_copied c.args.texts.names.journal) c.args.texts.front.now c.args.emulator.now.quantum c.args.emulator.now.machine c.args.budget c.end_of_budget.result.turns c.end_of_budget.result.end (contents g.I.Source.left g.O.Sink.written g.E.Sink.written c.args.dev.now) (contents g.I.Source.left g.O.Sink.written g.E.Sink.written c.loop-emulator.dev) start (stored_of g.F.Store.files g.F.Store.created g.F.Store.loads g.F.Store.turned_away g.F.Store.write_faults c.end_of_budget.new.files)
+    (all_ended (option_copied c.args.texts.names.trace) (option_copied c.args.texts.names.native) (option_copied c.args.texts.names.journal) c.requires.differ c.args.texts.front.now c.args.emulator.now.quantum c.args.emulator.now.machine c.args.budget c.turns-turns-2.result c.end_of_budget.result.turns (contents g.I.Source.left g.O.Sink.written g.E.Sink.written c.args.dev.now) (contents g.I.Source.left g.O.Sink.written g.E.Sink.written c.loop-emulator.dev) c.loop-emulator.emulator i.so c.front_to_come.result.now is_coming (stored_of g.F.Store.files g.F.Store.created g.F.Store.loads g.F.Store.turned_away g.F.Store.write_faults c.loop-emulator.files) (stored_of g.F.Store.files g.F.Store.created g.F.Store.loads g.F.Store.turned_away g.F.Store.write_faults c.end_of_budget.new.files) full c.turns-turns-2.ensures c.end_of_budget.ensures.turns start (i.texts start made) c.end_of_budget.result.end c.end_of_budget.ensures.end)
 
 pub returns-clause-behind : goal.returns-clause-behind
 returns-clause-behind g c =
@@ -194,6 +194,6 @@ pub returns-clause-over : goal.returns-clause-over
 returns-clause-over g c = λ left told.
     over_however c.loop-emulator.emulator.over c.end_of_budget.result.end
     (λ finish is.
-    let budget : finish ≡ Budget = (subst (λ (e : Result Finish Stop). EndsBudget (option_copied c.args.names.trace) (option_copied c.args.names.journal) c.front_to_come.result.now c.turns-turns-2.result e
+    let budget : finish ≡ Budget = (subst (λ (e : Result Finish Stop). EndsBudget (option_copied c.args.texts.names.trace) (option_copied c.args.texts.names.journal) c.front_to_come.result.now c.turns-turns-2.result e
     (stored_of g.F.Store.files g.F.Store.created g.F.Store.loads g.F.Store.turned_away g.F.Store.write_faults c.loop-emulator.files) (stored_of g.F.Store.files g.F.Store.created g.F.Store.loads g.F.Store.turned_away g.F.Store.write_faults c.end_of_budget.new.files)) is c.end_of_budget.ensures.end).0 in
     c.loop-emulator.invariant.on ∙ sym (ap no_turn_follows budget))

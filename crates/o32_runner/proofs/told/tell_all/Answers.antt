@@ -1,9 +1,7 @@
-use Rattle.std.proofs.Common.{◌≡◌, ◌++◌, ℕ, List, ap, ◌∙◌}
+use Rattle.std.proofs.Common.{refl}
 use Rattle.std.specs.Option.{option_copied}
-use Rattle.kernel_core.specs.declared.record.Record.{Record}
-use Rattle.o32_runner.specs.JournalText.{records_text}
 use Rattle.stored_files.specs.Stored.{stored_of}
-use Rattle.o32_runner.specs.inside.Told.{journal_of, native_of, told_records, trace_of}
+use Rattle.o32_runner.specs.inside.Told.{journal_of, native_of, trace_of}
 use Rattle.o32_runner.proofs.Files.{lines_in_part, records_in_part}
 use Rattle.o32_runner.proofs.told.tell_all.Goals as goal
 
@@ -16,11 +14,8 @@ returns-in_err-tell-clause-part g c =
 
 pub returns-clause-part : goal.returns-clause-part
 returns-clause-part g c =
-    let kept : c.args.front.now ++ records_text (told_records c.turns.result c.args.turn c.records.result.now) ≡ journal_of c.args.front.now c.args.emulator.now c.args.turn =
-    ap (λ (n : ℕ). c.args.front.now ++ records_text (told_records n c.args.turn c.records.result.now)) c.turns.ensures
-    ∙ ap (λ (list : List Record). c.args.front.now ++ records_text (told_records c.args.emulator.now.turns c.args.turn list)) c.records.ensures in
     records_in_part c.tell_records.result (option_copied c.args.names.trace) (option_copied c.args.names.native) (option_copied c.args.names.journal)
-    (trace_of c.args.emulator.now c.args.turn) (native_of c.args.emulator.now c.args.turn) (c.args.front.now ++ records_text (told_records c.turns.result c.args.turn c.records.result.now)) (journal_of c.args.front.now c.args.emulator.now c.args.turn)
+    (trace_of c.args.emulator.now c.args.turn) (native_of c.args.emulator.now c.args.turn) (journal_of c.args.front.now c.args.emulator.now c.args.turn) (journal_of c.args.front.now c.args.emulator.now c.args.turn)
     (stored_of g.F.Store.files g.F.Store.created g.F.Store.loads g.F.Store.turned_away g.F.Store.write_faults c.args.files.now)
     (stored_of g.F.Store.files g.F.Store.created g.F.Store.loads g.F.Store.turned_away g.F.Store.write_faults c.tell.new.files)
-    (stored_of g.F.Store.files g.F.Store.created g.F.Store.loads g.F.Store.turned_away g.F.Store.write_faults c.tell_records.new.files) kept c.in_ok-tell.ensures.added c.tell_records.ensures.part
+    (stored_of g.F.Store.files g.F.Store.created g.F.Store.loads g.F.Store.turned_away g.F.Store.write_faults c.tell_records.new.files) refl c.in_ok-tell.ensures.added c.tell_records.ensures.part
