@@ -104,7 +104,7 @@ fn a_cut_leaves_zeros(rt: HostRuntime) -> Result<(), Fail> {
 }
 
 #[test]
-fn a_block_between_two_joins_them(rt: HostRuntime) -> Result<(), Fail> {
+fn a_block_between_two_is_read_with_both(rt: HostRuntime) -> Result<(), Fail> {
     let mut content = with_writes(rt.alloc(), &[(0, &[1u8; 4096]), (8192, &[3u8; 4096])])?;
     assert_eq!(rt; content.blocks(), 2);
     assert_eq!(rt; write(&mut content, 4096, &[2u8; 4096], 1)?, 4096);
