@@ -6,7 +6,7 @@ use Rattle.kernel_core.specs.declared.core_error.Stop.{Stop}
 use Rattle.kernel_model.specs.State.{Kernel}
 use Rattle.mips_exec.specs.Processor.{Processor}
 use Rattle.o32_model.specs.Answered.{Answers}
-use Rattle.o32_model.specs.Step.{Guest, O32Call}
+use Rattle.o32_model.specs.Step.{Guest, O32Row}
 use Rattle.o32_model.specs.Table.{o32_call, step_of, call_of, is_io_call}
 use Rattle.o32_model.specs.declared.outcome.Outcome.{Outcome}
 use Rattle.outside.specs.Streams.{Contents}
@@ -19,7 +19,7 @@ by_number number kernel guest left result became memory processor before after s
 
 -- each of its numbers, and no other
 
-one_of : (b0 b1 b2 b3 b4 b5 b6 b7 b8 b9 b10 b11 b12 b13 b14 : Bool) (c0 c1 c2 c3 c4 c5 c6 c7 c8 c9 c10 c11 c12 c13 c14 : O32Call) → is_some (if b0 then Some c0 else (if b1 then Some c1 else (if b2 then Some c2 else (if b3 then Some c3 else (if b4 then Some c4 else (if b5 then Some c5 else (if b6 then Some c6 else (if b7 then Some c7 else (if b8 then Some c8 else (if b9 then Some c9 else (if b10 then Some c10 else (if b11 then Some c11 else (if b12 then Some c12 else (if b13 then Some c13 else (if b14 then Some c14 else None))))))))))))))) ≡ true → (b0 || b1 || b2 || b3 || b4 || b5 || b6 || b7 || b8 || b9 || b10 || b11 || b12 || b13 || b14) ≡ true
+one_of : (b0 b1 b2 b3 b4 b5 b6 b7 b8 b9 b10 b11 b12 b13 b14 : Bool) (c0 c1 c2 c3 c4 c5 c6 c7 c8 c9 c10 c11 c12 c13 c14 : O32Row) → is_some (if b0 then Some c0 else (if b1 then Some c1 else (if b2 then Some c2 else (if b3 then Some c3 else (if b4 then Some c4 else (if b5 then Some c5 else (if b6 then Some c6 else (if b7 then Some c7 else (if b8 then Some c8 else (if b9 then Some c9 else (if b10 then Some c10 else (if b11 then Some c11 else (if b12 then Some c12 else (if b13 then Some c13 else (if b14 then Some c14 else None))))))))))))))) ≡ true → (b0 || b1 || b2 || b3 || b4 || b5 || b6 || b7 || b8 || b9 || b10 || b11 || b12 || b13 || b14) ≡ true
 one_of true b1 b2 b3 b4 b5 b6 b7 b8 b9 b10 b11 b12 b13 b14 c0 c1 c2 c3 c4 c5 c6 c7 c8 c9 c10 c11 c12 c13 c14 there = refl
 one_of false true b2 b3 b4 b5 b6 b7 b8 b9 b10 b11 b12 b13 b14 c0 c1 c2 c3 c4 c5 c6 c7 c8 c9 c10 c11 c12 c13 c14 there = refl
 one_of false false true b3 b4 b5 b6 b7 b8 b9 b10 b11 b12 b13 b14 c0 c1 c2 c3 c4 c5 c6 c7 c8 c9 c10 c11 c12 c13 c14 there = refl

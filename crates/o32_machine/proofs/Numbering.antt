@@ -19,13 +19,13 @@ use Rattle.o32_model.specs.NodeCalls.{node_calls}
 use Rattle.o32_model.specs.Opening.{opening_calls}
 use Rattle.o32_model.specs.Polling.{poll_calls}
 use Rattle.o32_model.specs.Returns.{return_calls}
-use Rattle.o32_model.specs.Seeing.{SeeingCall}
+use Rattle.o32_model.specs.Seeing.{SeeingRow}
 use Rattle.o32_model.specs.Selecting.{select_calls}
 use Rattle.o32_model.specs.Sending.{sending_calls}
 use Rattle.o32_model.specs.Sleeps.{sleep_calls}
 use Rattle.o32_model.specs.Small.{small_calls}
 use Rattle.o32_model.specs.Status.{status_calls}
-use Rattle.o32_model.specs.Step.{Guest, O32Call}
+use Rattle.o32_model.specs.Step.{Guest, O32Row}
 use Rattle.o32_model.specs.Suspending.{suspending_calls}
 use Rattle.o32_model.specs.Table.{call_in, call_of, file_call_or, is_file_call, is_io_call, is_map_call, machine_call, o32_call, seeing_call_of, seeing_step_of, signal_call_or, step_of, wait_call_or}
 use Rattle.o32_model.specs.Terminal.{terminal_calls}
@@ -34,43 +34,43 @@ use Rattle.o32_model.specs.declared.wait.Seen.{Seen}
 
 -- A number that is found in a list is found, whatever stands behind it.
 
-found_first : (call : O32Call) (rest other : Option O32Call) (b : Bool) → is_some (if b then Some call else rest) ≡ true → (is_some rest ≡ true → is_some other ≡ true)
+found_first : (call : O32Row) (rest other : Option O32Row) (b : Bool) → is_some (if b then Some call else rest) ≡ true → (is_some rest ≡ true → is_some other ≡ true)
     → is_some (if b then Some call else other) ≡ true
 found_first call rest other true there more = refl
 found_first call rest other false there more = more there
 
-found_in : (calls : List O32Call) (rest other : Option O32Call) (number : ℕ) → (is_some rest ≡ true → is_some other ≡ true)
+found_in : (calls : List O32Row) (rest other : Option O32Row) (number : ℕ) → (is_some rest ≡ true → is_some other ≡ true)
     → is_some (call_in calls rest number) ≡ true → is_some (call_in calls other number) ≡ true
 found_in [] rest other number behind there = behind there
 found_in (call ∷ calls) rest other number behind there =
     found_first call (call_in calls rest number) (call_in calls other number) (number == call.number) there (found_in calls rest other number behind)
 
 -- one that is found behind a list is found
-found_first_or : (call : O32Call) (rest : Option O32Call) (b : Bool) → is_some rest ≡ true → is_some (if b then Some call else rest) ≡ true
+found_first_or : (call : O32Row) (rest : Option O32Row) (b : Bool) → is_some rest ≡ true → is_some (if b then Some call else rest) ≡ true
 found_first_or call rest true there = refl
 found_first_or call rest false there = there
 
-behind : (calls : List O32Call) (rest : Option O32Call) (number : ℕ) → is_some rest ≡ true → is_some (call_in calls rest number) ≡ true
+behind : (calls : List O32Row) (rest : Option O32Row) (number : ℕ) → is_some rest ≡ true → is_some (call_in calls rest number) ≡ true
 behind [] rest number there = there
 behind (call ∷ calls) rest number there = found_first_or call (call_in calls rest number) (number == call.number) (behind calls rest number there)
 
-nowhere : (other : Option O32Call) → false ≡ true → is_some other ≡ true
+nowhere : (other : Option O32Row) → false ≡ true → is_some other ≡ true
 nowhere other wrong = absurd cc
 
 -- what is so of each number of a list
 
-abbrev EachIs : (ℕ → Type 0) → List O32Call → Type 0
+abbrev EachIs : (ℕ → Type 0) → List O32Row → Type 0
 EachIs P [] = ⊤
 EachIs P (call ∷ calls) = P call.number × EachIs P calls
 
 -- a number that is found is one of the list, or stands behind it
 
-one_or : (call : O32Call) (rest : Option O32Call) (number : ℕ) (P : ℕ → Type 0) → P call.number → (is_some rest ≡ true → P number) → (b : Bool) → (number == call.number) ≡ b
+one_or : (call : O32Row) (rest : Option O32Row) (number : ℕ) (P : ℕ → Type 0) → P call.number → (is_some rest ≡ true → P number) → (b : Bool) → (number == call.number) ≡ b
     → is_some (if b then Some call else rest) ≡ true → P number
 one_or call rest number P at more true e there = subst P (sym (eqb-true number call.number e)) at
 one_or call rest number P at more false e there = more there
 
-in_list : (calls : List O32Call) (otherwise : Option O32Call) (number : ℕ) (P : ℕ → Type 0) → EachIs P calls → (is_some otherwise ≡ true → P number)
+in_list : (calls : List O32Row) (otherwise : Option O32Row) (number : ℕ) (P : ℕ → Type 0) → EachIs P calls → (is_some otherwise ≡ true → P number)
     → is_some (call_in calls otherwise number) ≡ true → P number
 in_list [] otherwise number P each behind there = behind there
 in_list (call ∷ calls) otherwise number P each behind there =
@@ -78,20 +78,20 @@ in_list (call ∷ calls) otherwise number P each behind there =
 
 -- one that is not found is none of the list, and stands nowhere behind it
 
-abbrev IsNot : Option O32Call → Option O32Call → Option O32Call → Type 0
+abbrev IsNot : Option O32Row → Option O32Row → Option O32Row → Type 0
 IsNot found otherwise other = (found ≡ other) × (is_some otherwise ≡ false)
 
-not_one : (call : O32Call) (rest found otherwise other : Option O32Call) (b : Bool) → is_some (if b then Some call else rest) ≡ false → (is_some rest ≡ false → IsNot found otherwise other)
+not_one : (call : O32Row) (rest found otherwise other : Option O32Row) (b : Bool) → is_some (if b then Some call else rest) ≡ false → (is_some rest ≡ false → IsNot found otherwise other)
     → IsNot (if b then Some call else found) otherwise other
 not_one call rest found otherwise other true none more = absurd cc
 not_one call rest found otherwise other false none more = more none
 
-not_in : (calls : List O32Call) (otherwise other : Option O32Call) (number : ℕ) → is_some (call_in calls otherwise number) ≡ false → IsNot (call_in calls other number) otherwise other
+not_in : (calls : List O32Row) (otherwise other : Option O32Row) (number : ℕ) → is_some (call_in calls otherwise number) ≡ false → IsNot (call_in calls other number) otherwise other
 not_in [] otherwise other number none = (refl, none)
 not_in (call ∷ calls) otherwise other number none =
     not_one call (call_in calls otherwise number) (call_in calls other number) otherwise other (number == call.number) none (not_in calls otherwise other number)
 
-none_of : (found : Option O32Call) → is_some found ≡ false → found ≡ None
+none_of : (found : Option O32Row) → is_some found ≡ false → found ≡ None
 none_of None none = refl
 none_of (Some call) none = absurd cc
 
@@ -107,7 +107,7 @@ io_there number there =
     (found_in descriptor_calls (call_in terminal_calls None number) (call_in terminal_calls others number) number
     (found_in terminal_calls None others number (nowhere others))) there
 
-behind_small : (rest : Option O32Call) (number : ℕ) → is_some rest ≡ true
+behind_small : (rest : Option O32Row) (number : ℕ) → is_some rest ≡ true
     → is_some (call_in transfer_calls (call_in descriptor_calls (call_in terminal_calls (call_in small_calls rest number) number) number) number) ≡ true
 behind_small rest number there =
     let small = call_in small_calls rest number in
@@ -149,7 +149,7 @@ map_there number there =
     (behind return_calls last number there)))))))))))))
 
 module _ (seen : Seen) (kernel : Kernel) (guest : Guest) (left : List ℕ) where
-  of_the_table : (found : Option O32Call) (other : Option SeeingCall) → is_some found ≡ true → step_of found kernel guest left ≡ seeing_step_of found other seen kernel guest left
+  of_the_table : (found : Option O32Row) (other : Option SeeingRow) → is_some found ≡ true → step_of found kernel guest left ≡ seeing_step_of found other seen kernel guest left
   of_the_table None other there = absurd cc
   of_the_table (Some call) other there = refl
 
@@ -174,7 +174,7 @@ is_poll_call number = (number == 4188) || (number == 4302)
 abbrev is_select_call : ℕ → Bool
 is_select_call number = (number == 4142) || (number == 4301)
 
-no_time : (number : ℕ) (otherwise : Option O32Call) → is_wait_there number ≡ false → timer.is_call_there number ≡ false → is_poll_call number ≡ false → is_select_call number ≡ false
+no_time : (number : ℕ) (otherwise : Option O32Row) → is_wait_there number ≡ false → timer.is_call_there number ≡ false → is_poll_call number ≡ false → is_select_call number ≡ false
     → (wait_call_or otherwise number ≡ otherwise) × ((number == 4263) ≡ false)
 no_time number otherwise no_wait no_timer no_poll no_select =
     let time_4265 = neither (number == 4013 || number == 4078 || number == 4166 || number == 4263 || number == 4264) (number == 4265) no_wait in
@@ -188,7 +188,7 @@ no_time number otherwise no_wait no_timer no_poll no_select =
     let select_4301 = neither (number == 4142) (number == 4301) no_select in
     (rw (time_4078.0, time_4078.1, time_4264.1, timer_4104.0, timer_4104.1, timer_4105.1, time_4166.1, time_4265.1, poll_4302.0, poll_4302.1, select_4301.0, select_4301.1) refl, time_4263.1)
 
-no_signal : (number : ℕ) (otherwise : Option O32Call) → signal.is_call_there number ≡ false → (number == 4197) ≡ false
+no_signal : (number : ℕ) (otherwise : Option O32Row) → signal.is_call_there number ≡ false → (number == 4197) ≡ false
     → (signal_call_or otherwise number ≡ otherwise) × ((number == 4253) ≡ false)
 no_signal number otherwise none not_accepted =
     let test_4266 = neither (number == 4029 || number == 4037 || number == 4119 || number == 4193 || number == 4194 || number == 4195 || number == 4196 || number == 4198 || number == 4199 || number == 4206 || number == 4236 || number == 4253) (number == 4266) none in
@@ -207,7 +207,7 @@ no_signal number otherwise none not_accepted =
 
 -- what is in none of these groups is looked for among the small calls alone
 
-no_file : (number : ℕ) (otherwise : Option O32Call) → is_file_call number ≡ false → file_call_or otherwise number ≡ otherwise
+no_file : (number : ℕ) (otherwise : Option O32Row) → is_file_call number ≡ false → file_call_or otherwise number ≡ otherwise
 no_file number otherwise none =
     let first = not_in opening_calls (call_in status_calls (call_in entry_calls (call_in name_calls (call_in node_calls None number) number) number) number)
     (call_in status_calls (call_in entry_calls (call_in name_calls (call_in node_calls otherwise number) number) number) number) number none in
@@ -218,7 +218,7 @@ no_file number otherwise none =
     let fifth = not_in node_calls None otherwise number fourth.1 in
     first.0 ∙ second.0 ∙ third.0 ∙ fourth.0 ∙ fifth.0
 
-no_io : (number : ℕ) (otherwise : Option O32Call) → is_io_call number ≡ false
+no_io : (number : ℕ) (otherwise : Option O32Row) → is_io_call number ≡ false
     → call_in transfer_calls (call_in descriptor_calls (call_in terminal_calls otherwise number) number) number ≡ otherwise
 no_io number otherwise none =
     let first = not_in transfer_calls (call_in descriptor_calls (call_in terminal_calls None number) number)
@@ -245,7 +245,7 @@ small_of number other =
     let signals = signal_call_or last number in
     let times = wait_call_or signals number in
     no_io number (call_in small_calls (file_call_or times number) number) other.io
-    ∙ ap (λ (o : Option O32Call). call_in small_calls o number)
+    ∙ ap (λ (o : Option O32Row). call_in small_calls o number)
     (no_file number times other.file
     ∙ (no_time number signals other.time other.timer other.poll other.select).0
     ∙ (no_signal number last other.signal other.accepted).0
@@ -255,7 +255,7 @@ none_seeing : (number : ℕ) → IsOther number → seeing_call_of number ≡ No
 none_seeing number other =
     rw ((no_time number None other.time other.timer other.poll other.select).1, (no_signal number None other.signal other.accepted).1) refl
 
-found_small : (seen : Seen) (kernel : Kernel) (guest : Guest) (left : List ℕ) (found : Option O32Call) → step_of found kernel guest left ≡ seeing_step_of found None seen kernel guest left
+found_small : (seen : Seen) (kernel : Kernel) (guest : Guest) (left : List ℕ) (found : Option O32Row) → step_of found kernel guest left ≡ seeing_step_of found None seen kernel guest left
 found_small seen kernel guest left None = refl
 found_small seen kernel guest left (Some call) = refl
 
@@ -263,8 +263,8 @@ pub small_call_same : (seen : Seen) (kernel : Kernel) (guest : Guest) (left : Li
     → step_of (call_in small_calls None guest.words.nr) kernel guest left ≡ machine_call seen kernel guest left
 small_call_same seen kernel guest left other =
     found_small seen kernel guest left (call_in small_calls None guest.words.nr)
-    ∙ ap (λ (o : Option O32Call). seeing_step_of o None seen kernel guest left) (sym (small_of guest.words.nr other))
-    ∙ ap (λ (o : Option SeeingCall). seeing_step_of (call_of guest.words.nr) o seen kernel guest left) (sym (none_seeing guest.words.nr other))
+    ∙ ap (λ (o : Option O32Row). seeing_step_of o None seen kernel guest left) (sym (small_of guest.words.nr other))
+    ∙ ap (λ (o : Option SeeingRow). seeing_step_of (call_of guest.words.nr) o seen kernel guest left) (sym (none_seeing guest.words.nr other))
 
 -- a call on files is made by one of four crates
 
