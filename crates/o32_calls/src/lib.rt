@@ -9,6 +9,7 @@ mod o32_call;
 mod process;
 mod signals;
 mod times;
+mod waiting;
 
 pub use descriptors::IoCall;
 pub use files::{EntriesCall, OpenCall, StatusCall};
@@ -18,3 +19,7 @@ pub use o32_call::O32Call;
 pub use process::{PlainCall, SystemCall};
 pub use signals::SignalCall;
 pub use times::{PollCall, SelectCall, TimeCall, TimerCall};
+pub use waiting::{
+    CLOCK_NANOSLEEP, NANOSLEEP, NEWSELECT, PAUSE, POLL, PPOLL, PSELECT6, READ, READV,
+    RESTART_SYSCALL, RT_SIGSUSPEND, RT_SIGTIMEDWAIT, WRITE, WRITEV,
+};
