@@ -1,6 +1,8 @@
 -- The numbers of the calls of an o32 program (Linux arch/mips/include/uapi/asm/unistd.h, the o32 table).
 use Rattle.std.specs.Prelude.{ℕ, Option, List, [], ◌∷◌}
 use Rattle.number_tables.specs.Numbered.{numbered}
+use Rattle.o32_calls.specs.declared.bridged_call.BridgedCall.TheVariants as group
+use Rattle.o32_calls.specs.declared.bridged_call.BridgedCall.{BridgedCall}
 use Rattle.o32_calls.specs.declared.descriptors.IoCall.TheVariants.{Read, Write, Close, Dup, Pipe, Ioctl, Fcntl, Dup2, Readv, Writev, Pread64, Pwrite64, Fcntl64, Dup3, Pipe2}
 use Rattle.o32_calls.specs.declared.descriptors.IoCall.{IoCall}
 use Rattle.o32_calls.specs.declared.files.EntriesCall.TheVariants.{Getdents, Getdents64}
@@ -23,7 +25,7 @@ use Rattle.o32_calls.specs.declared.names.SizeCall.TheVariants.{Truncate, Ftrunc
 use Rattle.o32_calls.specs.declared.names.SizeCall.{SizeCall}
 use Rattle.o32_calls.specs.declared.names.TextCall.TheVariants.{Readlink, Getcwd, Readlinkat}
 use Rattle.o32_calls.specs.declared.names.TextCall.{TextCall}
-use Rattle.o32_calls.specs.declared.o32_call.O32Call.TheVariants as group
+use Rattle.o32_calls.specs.declared.o32_call.O32Call.TheVariants.{Plain, Bridged}
 use Rattle.o32_calls.specs.declared.o32_call.O32Call.{O32Call}
 use Rattle.o32_calls.specs.declared.process.PlainCall.TheVariants.{Exit, Getpid, Getuid, Getgid, Geteuid, Getegid, Getppid, Cacheflush, SchedYield, Gettid, ExitGroup, SetTidAddress, SetThreadArea, SetRobustList}
 use Rattle.o32_calls.specs.declared.process.PlainCall.{PlainCall}
@@ -40,6 +42,7 @@ use Rattle.o32_calls.specs.declared.times.TimeCall.{TimeCall}
 use Rattle.o32_calls.specs.declared.times.TimerCall.TheVariants.{Alarm, Setitimer, Getitimer}
 use Rattle.o32_calls.specs.declared.times.TimerCall.{TimerCall}
 
+-- a call on descriptors and what they have open
 abbrev pub io_number : IoCall → ℕ
 io_number Read = 4003
 io_number Write = 4004
@@ -57,11 +60,13 @@ io_number Fcntl64 = 4220
 io_number Dup3 = 4327
 io_number Pipe2 = 4328
 
+-- a call that opens a file
 abbrev pub open_number : OpenCall → ℕ
 open_number Open = 4005
 open_number Creat = 4008
 open_number Openat = 4288
 
+-- a call that tells a status
 abbrev pub status_number : StatusCall → ℕ
 status_number Stat = 4106
 status_number Lstat = 4107
@@ -71,10 +76,12 @@ status_number Lstat64 = 4214
 status_number Fstat64 = 4215
 status_number Fstatat64 = 4293
 
+-- a call that lists a directory
 abbrev pub entries_number : EntriesCall → ℕ
 entries_number Getdents = 4141
 entries_number Getdents64 = 4219
 
+-- a call that makes, moves or removes a name
 abbrev pub name_number : NameCall → ℕ
 name_number Link = 4009
 name_number Unlink = 4010
@@ -88,6 +95,7 @@ name_number Renameat = 4295
 name_number Linkat = 4296
 name_number Symlinkat = 4297
 
+-- a call on a file itself, or on what a process keeps of files: its working directory and its mask
 abbrev pub node_number : NodeCall → ℕ
 node_number Chdir = 4012
 node_number Chmod = 4015
@@ -101,21 +109,25 @@ node_number Fchmodat = 4299
 node_number Faccessat = 4300
 node_number Utimensat = 4316
 
+-- a call that tells a path
 abbrev pub text_number : TextCall → ℕ
 text_number Readlink = 4085
 text_number Getcwd = 4203
 text_number Readlinkat = 4298
 
+-- a call that sets the size of a file
 abbrev pub size_number : SizeCall → ℕ
 size_number Truncate = 4092
 size_number Ftruncate = 4093
 size_number Truncate64 = 4211
 size_number Ftruncate64 = 4212
 
+-- a call that sets a file offset
 abbrev pub place_number : PlaceCall → ℕ
 place_number Lseek = 4019
 place_number Llseek = 4140
 
+-- a call on mappings, or on the break
 abbrev pub map_number : MapCall → ℕ
 map_number Brk = 4045
 map_number Mmap = 4090
@@ -126,6 +138,7 @@ map_number Mremap = 4167
 map_number Mmap2 = 4210
 map_number Madvise = 4218
 
+-- a call on clocks, or a sleep
 abbrev pub time_number : TimeCall → ℕ
 time_number Time = 4013
 time_number Gettimeofday = 4078
@@ -134,19 +147,23 @@ time_number ClockGettime = 4263
 time_number ClockGetres = 4264
 time_number ClockNanosleep = 4265
 
+-- a call on the interval timer
 abbrev pub timer_number : TimerCall → ℕ
 timer_number Alarm = 4027
 timer_number Setitimer = 4104
 timer_number Getitimer = 4105
 
+-- a call that asks which descriptors of an array are ready
 abbrev pub poll_number : PollCall → ℕ
 poll_number Poll = 4188
 poll_number Ppoll = 4302
 
+-- a call that asks which descriptors of sets are ready
 abbrev pub select_number : SelectCall → ℕ
 select_number Newselect = 4142
 select_number Pselect6 = 4301
 
+-- a call on signals, but for the one that accepts a signal
 abbrev pub signal_number : SignalCall → ℕ
 signal_number Pause = 4029
 signal_number Kill = 4037
@@ -162,12 +179,14 @@ signal_number Tkill = 4236
 signal_number RestartSyscall = 4253
 signal_number Tgkill = 4266
 
+-- a small call that asks the kernel, or the outside
 abbrev pub system_number : SystemCall → ℕ
 system_number Getrlimit = 4076
 system_number Uname = 4122
 system_number Prlimit64 = 4338
 system_number Getrandom = 4353
 
+-- a small call that asks the kernel for nothing
 abbrev pub plain_number : PlainCall → ℕ
 plain_number Exit = 4001
 plain_number Getpid = 4020
@@ -188,6 +207,7 @@ plain_number SetRobustList = 4309
 abbrev pub rt_sigtimedwait_number : ℕ
 rt_sigtimedwait_number = 4197
 
+-- a call on files by their names, or on their sizes, places and times
 abbrev pub file_number : FileCall → ℕ
 file_number (Name call) = name_number call
 file_number (Node call) = node_number call
@@ -195,137 +215,141 @@ file_number (Text call) = text_number call
 file_number (Size call) = size_number call
 file_number (Place call) = place_number call
 
+-- a call that a bridge makes
+abbrev pub bridged_number : BridgedCall → ℕ
+bridged_number (group.Io call) = io_number call
+bridged_number (group.Open call) = open_number call
+bridged_number (group.Status call) = status_number call
+bridged_number (group.Entries call) = entries_number call
+bridged_number (group.File call) = file_number call
+bridged_number (group.Map call) = map_number call
+bridged_number (group.Time call) = time_number call
+bridged_number (group.Timer call) = timer_number call
+bridged_number (group.Poll call) = poll_number call
+bridged_number (group.Select call) = select_number call
+bridged_number group.RtSigtimedwait = rt_sigtimedwait_number
+bridged_number (group.Signal call) = signal_number call
+bridged_number (group.System call) = system_number call
+
 -- the number of a call
 abbrev pub o32_number : O32Call → ℕ
-o32_number (group.Io call) = io_number call
-o32_number (group.Open call) = open_number call
-o32_number (group.Status call) = status_number call
-o32_number (group.Entries call) = entries_number call
-o32_number (group.File call) = file_number call
-o32_number (group.Map call) = map_number call
-o32_number (group.Time call) = time_number call
-o32_number (group.Timer call) = timer_number call
-o32_number (group.Poll call) = poll_number call
-o32_number (group.Select call) = select_number call
-o32_number group.RtSigtimedwait = rt_sigtimedwait_number
-o32_number (group.Signal call) = signal_number call
-o32_number (group.System call) = system_number call
-o32_number (group.Plain call) = plain_number call
+o32_number (Plain call) = plain_number call
+o32_number (Bridged call) = bridged_number call
 
 -- the calls
 abbrev pub calls : List O32Call
 calls =
-    group.Plain Exit
-    ∷ group.Io Read
-    ∷ group.Io Write
-    ∷ group.Open Open
-    ∷ group.Io Close
-    ∷ group.Open Creat
-    ∷ group.File (Name Link)
-    ∷ group.File (Name Unlink)
-    ∷ group.File (Node Chdir)
-    ∷ group.Time Time
-    ∷ group.File (Node Chmod)
-    ∷ group.File (Place Lseek)
-    ∷ group.Plain Getpid
-    ∷ group.Plain Getuid
-    ∷ group.Timer Alarm
-    ∷ group.Signal Pause
-    ∷ group.File (Node Access)
-    ∷ group.Signal Kill
-    ∷ group.File (Name Rename)
-    ∷ group.File (Name Mkdir)
-    ∷ group.File (Name Rmdir)
-    ∷ group.Io Dup
-    ∷ group.Io Pipe
-    ∷ group.Map Brk
-    ∷ group.Plain Getgid
-    ∷ group.Plain Geteuid
-    ∷ group.Plain Getegid
-    ∷ group.Io Ioctl
-    ∷ group.Io Fcntl
-    ∷ group.File (Node Umask)
-    ∷ group.Io Dup2
-    ∷ group.Plain Getppid
-    ∷ group.System Getrlimit
-    ∷ group.Time Gettimeofday
-    ∷ group.File (Name Symlink)
-    ∷ group.File (Text Readlink)
-    ∷ group.Map Mmap
-    ∷ group.Map Munmap
-    ∷ group.File (Size Truncate)
-    ∷ group.File (Size Ftruncate)
-    ∷ group.File (Node Fchmod)
-    ∷ group.Timer Setitimer
-    ∷ group.Timer Getitimer
-    ∷ group.Status Stat
-    ∷ group.Status Lstat
-    ∷ group.Status Fstat
-    ∷ group.File (Node Fsync)
-    ∷ group.Signal Sigreturn
-    ∷ group.System Uname
-    ∷ group.Map Mprotect
-    ∷ group.File (Node Fchdir)
-    ∷ group.File (Place Llseek)
-    ∷ group.Entries Getdents
-    ∷ group.Select Newselect
-    ∷ group.Map Msync
-    ∷ group.Io Readv
-    ∷ group.Io Writev
-    ∷ group.Plain Cacheflush
-    ∷ group.File (Node Fdatasync)
-    ∷ group.Plain SchedYield
-    ∷ group.Time Nanosleep
-    ∷ group.Map Mremap
-    ∷ group.Poll Poll
-    ∷ group.Signal RtSigreturn
-    ∷ group.Signal RtSigaction
-    ∷ group.Signal RtSigprocmask
-    ∷ group.Signal RtSigpending
-    ∷ group.RtSigtimedwait
-    ∷ group.Signal RtSigqueueinfo
-    ∷ group.Signal RtSigsuspend
-    ∷ group.Io Pread64
-    ∷ group.Io Pwrite64
-    ∷ group.File (Text Getcwd)
-    ∷ group.Signal Sigaltstack
-    ∷ group.Map Mmap2
-    ∷ group.File (Size Truncate64)
-    ∷ group.File (Size Ftruncate64)
-    ∷ group.Status Stat64
-    ∷ group.Status Lstat64
-    ∷ group.Status Fstat64
-    ∷ group.Map Madvise
-    ∷ group.Entries Getdents64
-    ∷ group.Io Fcntl64
-    ∷ group.Plain Gettid
-    ∷ group.Signal Tkill
-    ∷ group.Plain ExitGroup
-    ∷ group.Plain SetTidAddress
-    ∷ group.Signal RestartSyscall
-    ∷ group.Time ClockGettime
-    ∷ group.Time ClockGetres
-    ∷ group.Time ClockNanosleep
-    ∷ group.Signal Tgkill
-    ∷ group.Plain SetThreadArea
-    ∷ group.Open Openat
-    ∷ group.File (Name Mkdirat)
-    ∷ group.Status Fstatat64
-    ∷ group.File (Name Unlinkat)
-    ∷ group.File (Name Renameat)
-    ∷ group.File (Name Linkat)
-    ∷ group.File (Name Symlinkat)
-    ∷ group.File (Text Readlinkat)
-    ∷ group.File (Node Fchmodat)
-    ∷ group.File (Node Faccessat)
-    ∷ group.Select Pselect6
-    ∷ group.Poll Ppoll
-    ∷ group.Plain SetRobustList
-    ∷ group.File (Node Utimensat)
-    ∷ group.Io Dup3
-    ∷ group.Io Pipe2
-    ∷ group.System Prlimit64
-    ∷ group.System Getrandom
+    Plain Exit
+    ∷ Bridged (group.Io Read)
+    ∷ Bridged (group.Io Write)
+    ∷ Bridged (group.Open Open)
+    ∷ Bridged (group.Io Close)
+    ∷ Bridged (group.Open Creat)
+    ∷ Bridged (group.File (Name Link))
+    ∷ Bridged (group.File (Name Unlink))
+    ∷ Bridged (group.File (Node Chdir))
+    ∷ Bridged (group.Time Time)
+    ∷ Bridged (group.File (Node Chmod))
+    ∷ Bridged (group.File (Place Lseek))
+    ∷ Plain Getpid
+    ∷ Plain Getuid
+    ∷ Bridged (group.Timer Alarm)
+    ∷ Bridged (group.Signal Pause)
+    ∷ Bridged (group.File (Node Access))
+    ∷ Bridged (group.Signal Kill)
+    ∷ Bridged (group.File (Name Rename))
+    ∷ Bridged (group.File (Name Mkdir))
+    ∷ Bridged (group.File (Name Rmdir))
+    ∷ Bridged (group.Io Dup)
+    ∷ Bridged (group.Io Pipe)
+    ∷ Bridged (group.Map Brk)
+    ∷ Plain Getgid
+    ∷ Plain Geteuid
+    ∷ Plain Getegid
+    ∷ Bridged (group.Io Ioctl)
+    ∷ Bridged (group.Io Fcntl)
+    ∷ Bridged (group.File (Node Umask))
+    ∷ Bridged (group.Io Dup2)
+    ∷ Plain Getppid
+    ∷ Bridged (group.System Getrlimit)
+    ∷ Bridged (group.Time Gettimeofday)
+    ∷ Bridged (group.File (Name Symlink))
+    ∷ Bridged (group.File (Text Readlink))
+    ∷ Bridged (group.Map Mmap)
+    ∷ Bridged (group.Map Munmap)
+    ∷ Bridged (group.File (Size Truncate))
+    ∷ Bridged (group.File (Size Ftruncate))
+    ∷ Bridged (group.File (Node Fchmod))
+    ∷ Bridged (group.Timer Setitimer)
+    ∷ Bridged (group.Timer Getitimer)
+    ∷ Bridged (group.Status Stat)
+    ∷ Bridged (group.Status Lstat)
+    ∷ Bridged (group.Status Fstat)
+    ∷ Bridged (group.File (Node Fsync))
+    ∷ Bridged (group.Signal Sigreturn)
+    ∷ Bridged (group.System Uname)
+    ∷ Bridged (group.Map Mprotect)
+    ∷ Bridged (group.File (Node Fchdir))
+    ∷ Bridged (group.File (Place Llseek))
+    ∷ Bridged (group.Entries Getdents)
+    ∷ Bridged (group.Select Newselect)
+    ∷ Bridged (group.Map Msync)
+    ∷ Bridged (group.Io Readv)
+    ∷ Bridged (group.Io Writev)
+    ∷ Plain Cacheflush
+    ∷ Bridged (group.File (Node Fdatasync))
+    ∷ Plain SchedYield
+    ∷ Bridged (group.Time Nanosleep)
+    ∷ Bridged (group.Map Mremap)
+    ∷ Bridged (group.Poll Poll)
+    ∷ Bridged (group.Signal RtSigreturn)
+    ∷ Bridged (group.Signal RtSigaction)
+    ∷ Bridged (group.Signal RtSigprocmask)
+    ∷ Bridged (group.Signal RtSigpending)
+    ∷ Bridged group.RtSigtimedwait
+    ∷ Bridged (group.Signal RtSigqueueinfo)
+    ∷ Bridged (group.Signal RtSigsuspend)
+    ∷ Bridged (group.Io Pread64)
+    ∷ Bridged (group.Io Pwrite64)
+    ∷ Bridged (group.File (Text Getcwd))
+    ∷ Bridged (group.Signal Sigaltstack)
+    ∷ Bridged (group.Map Mmap2)
+    ∷ Bridged (group.File (Size Truncate64))
+    ∷ Bridged (group.File (Size Ftruncate64))
+    ∷ Bridged (group.Status Stat64)
+    ∷ Bridged (group.Status Lstat64)
+    ∷ Bridged (group.Status Fstat64)
+    ∷ Bridged (group.Map Madvise)
+    ∷ Bridged (group.Entries Getdents64)
+    ∷ Bridged (group.Io Fcntl64)
+    ∷ Plain Gettid
+    ∷ Bridged (group.Signal Tkill)
+    ∷ Plain ExitGroup
+    ∷ Plain SetTidAddress
+    ∷ Bridged (group.Signal RestartSyscall)
+    ∷ Bridged (group.Time ClockGettime)
+    ∷ Bridged (group.Time ClockGetres)
+    ∷ Bridged (group.Time ClockNanosleep)
+    ∷ Bridged (group.Signal Tgkill)
+    ∷ Plain SetThreadArea
+    ∷ Bridged (group.Open Openat)
+    ∷ Bridged (group.File (Name Mkdirat))
+    ∷ Bridged (group.Status Fstatat64)
+    ∷ Bridged (group.File (Name Unlinkat))
+    ∷ Bridged (group.File (Name Renameat))
+    ∷ Bridged (group.File (Name Linkat))
+    ∷ Bridged (group.File (Name Symlinkat))
+    ∷ Bridged (group.File (Text Readlinkat))
+    ∷ Bridged (group.File (Node Fchmodat))
+    ∷ Bridged (group.File (Node Faccessat))
+    ∷ Bridged (group.Select Pselect6)
+    ∷ Bridged (group.Poll Ppoll)
+    ∷ Plain SetRobustList
+    ∷ Bridged (group.File (Node Utimensat))
+    ∷ Bridged (group.Io Dup3)
+    ∷ Bridged (group.Io Pipe2)
+    ∷ Bridged (group.System Prlimit64)
+    ∷ Bridged (group.System Getrandom)
     ∷ []
 
 -- the one of this number

@@ -1,6 +1,7 @@
 //! The calls of an o32 program, by name.
 #![tactic(auto)]
 
+mod bridged_call;
 mod descriptors;
 mod files;
 mod mappings;
@@ -11,6 +12,7 @@ mod signals;
 mod times;
 mod waiting;
 
+pub use bridged_call::BridgedCall;
 pub use descriptors::IoCall;
 pub use files::{EntriesCall, OpenCall, StatusCall};
 pub use mappings::MapCall;
