@@ -1,11 +1,8 @@
--- Which calls there are so far, and whose waits (Linux arch/mips/include/uapi/asm/unistd.h, the o32 table). (That they come in steps is this
--- project's own.)
+-- Whose waits end here (Linux arch/mips/include/uapi/asm/unistd.h, the o32 table).
 use Rattle.std.specs.Prelude.{ℕ, Bool, ◌==◌, ◌||◌}
-
--- time, gettimeofday, nanosleep, clock_gettime, clock_getres, clock_nanosleep
-abbrev pub is_call_there : ℕ → Bool
-is_call_there number = number == 4013 || number == 4078 || number == 4166 || number == 4263 || number == 4264 || number == 4265
+use Rattle.o32_calls.specs.Numbers.{time_number}
+use Rattle.o32_calls.specs.declared.times.TimeCall.TheVariants.{Nanosleep, ClockNanosleep}
 
 -- nanosleep, clock_nanosleep
 abbrev pub is_sleep : ℕ → Bool
-is_sleep number = number == 4166 || number == 4265
+is_sleep number = number == time_number Nanosleep || number == time_number ClockNanosleep

@@ -14,7 +14,7 @@ use Rattle.o32_machine.proofs.Logging.{call_logged}
 use Rattle.o32_model.specs.Table.{machine_call}
 use Rattle.bridge_system.specs.Found.{found}
 use Rattle.outside.specs.Streams.{contents}
-use Rattle.o32_machine.proofs.process.Process.call.Goals as goal
+use Rattle.o32_machine.proofs.process.Process.call_bridged.Goals as goal
 
 pub returns-in_err-outcome-clause-turn : goal.returns-in_err-outcome-clause-turn
 returns-in_err-outcome-clause-turn g c = λ left told.
@@ -74,19 +74,3 @@ returns-clause-native g c = λ left told ready.
     (c.in_ok-outcome.ensures.kept left told).native) ready
     (λ first logged. c.in_ok-add.ensures.leads c.self.inside.core.kernel c.make_call.new.core.kernel left _ _ _ (ap (λ (p : ProcessState). p.kernel.clock) c.self.view_is ∙ c.requires.clock)
     (c.make_call.ensures.clock ∙ ap (λ (p : ProcessState). p.kernel.clock) c.self.view_is ∙ c.requires.clock) first logged))
-
--- a call that asks the kernel for nothing
-
-pub returns-then-asks_nothing-clause-turn : goal.returns-then-asks_nothing-clause-turn
-returns-then-asks_nothing-clause-turn g c = λ left told.
-    c.in_ok-plain.ensures.turn left (contents g.I.Source.left g.O.Sink.written g.E.Sink.written c.args.dev.now) told
-
-pub returns-in_err-plain-clause-turn : goal.returns-in_err-plain-clause-turn
-returns-in_err-plain-clause-turn g c = λ left told.
-    fails_before (called_of c.args.self.now left) c.from_residual.result _ _ (contents g.I.Source.left g.O.Sink.written g.E.Sink.written c.args.dev.now) c.from_residual.ensures.0
-
-pub returns-then-asks_nothing-clause-native : goal.returns-then-asks_nothing-clause-native
-returns-then-asks_nothing-clause-native g c = λ left told ready. c.in_ok-plain.ensures.native left
-
-pub returns-then-asks_nothing-clause-records : goal.returns-then-asks_nothing-clause-records
-returns-then-asks_nothing-clause-records g c = λ left told. c.in_ok-plain.ensures.records left
