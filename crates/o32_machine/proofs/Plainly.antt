@@ -1,9 +1,7 @@
 -- The calls that ask the kernel for nothing.
-use Rattle.std.proofs.Common.{◌≡◌, ◌∙◌, ℕ, Bool, true, false, List, [], ◌∷◌, None, refl, sym, ap, subst, eqb-true}
-use Rattle.std.specs.Prelude.{⊤, ◌==◌, ◌||◌}
+use Rattle.std.proofs.Common.{◌≡◌, ◌∙◌, ℕ, List, Option, refl, sym, ap, subst}
 use Rattle.bridge_system.specs.Found.{found}
-use Rattle.bridge_system.specs.Plain.{asks, leaves}
-use Rattle.bridge_system.specs.System.{small_call}
+use Rattle.bridge_system.specs.Plain.{leaves}
 use Rattle.kernel_model.specs.State.{Kernel}
 use Rattle.guest_space.specs.Memory.{Memory}
 use Rattle.mips_exec.specs.Processor.{Processor, register}
@@ -12,14 +10,15 @@ use Rattle.o32_machine.proofs.Logging.{nothing_logged}
 use Rattle.o32_machine.proofs.Turning.{its_turn}
 use Rattle.o32_machine.specs.Emulator.{ProcessState, machine_of}
 use Rattle.o32_machine.specs.inside.Logging.{LastLogged}
-use Rattle.o32_machine.specs.inside.Plainly.{called_of, is_plain_call, plain_numbers}
-use Rattle.o32_model.specs.Small.{small_calls}
-use Rattle.o32_model.specs.Step.{Guest, O32Step}
-use Rattle.o32_model.specs.Table.{call_in, call_of, machine_call, seeing_call_of, seeing_step_of, step_of}
+use Rattle.o32_machine.specs.inside.Plainly.{IsPlainly, called_of}
+use Rattle.o32_calls.specs.Numbers.{bridged_number}
+use Rattle.o32_calls.specs.declared.bridged_call.BridgedCall.{BridgedCall}
+use Rattle.o32_calls.specs.declared.process.PlainCall.{PlainCall}
+use Rattle.o32_model.specs.Step.{O32Step}
+use Rattle.o32_model.specs.Table.{machine_call}
 use Rattle.o32_model.specs.Words.{call_words, v0}
 use Rattle.o32_model.specs.declared.call_words.CallWords.{CallWords}
 use Rattle.o32_model.specs.declared.outcome.Outcome.{Outcome}
-use Rattle.o32_model.specs.declared.wait.Seen.{Seen}
 use Rattle.o32_turns.specs.Instruction.{after_call, seen_of}
 use Rattle.o32_turns.specs.Machine.{Turn}
 use Rattle.o32_turns.specs.Turn.{after_events}

@@ -697,8 +697,14 @@ impl Process {
     {
         match O32Call::of(self.core.cpu.register(V0)) {
             Some(O32Call::Bridged(call)) => self.call_bridged(call, clock, turn, kept, dev),
-            Some(O32Call::Plain(call)) => Ok(self.call_plainly(Some(call), turn, kept)?),
-            None => Ok(self.call_plainly(None, turn, kept)?),
+            Some(O32Call::Plain(call)) => {
+                let plain = self.call_plainly(Some(call), turn, kept)?;
+                Ok(plain)
+            }
+            None => {
+                let refused = self.call_plainly(None, turn, kept)?;
+                Ok(refused)
+            }
         }
     }
 
