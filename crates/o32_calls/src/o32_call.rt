@@ -22,6 +22,7 @@ pub enum O32Call {
 
 impl O32Call {
     /// The call of a number in the o32 table (Linux `arch/mips/include/uapi/asm/unistd.h`), if there is one.
+    #[inline(always)]
     pub fn of(number: u32) -> Option<O32Call>
         ensures named { result ≡ call_of_number number }
         ensures number { IfSome result (λ call. number ≡ o32_number call) }
