@@ -2,7 +2,7 @@
 ghost use Rattle.bridge_paths.specs.Passed.{KeepsCall};
 ghost use Rattle.std.specs.Prelude.{◌≡◌};
 ghost use Rattle.bridge_paths.specs.Found.{found};
-ghost use Rattle.bridge_status.specs.inside.PathStatuses.{from_directory, from_working};
+ghost use Rattle.bridge_status.specs.inside.StatusQueries.{from_directory, from_working};
 ghost use Rattle.kernel_model.specs.Stops.{StopsOnlyIfRose};
 ghost use Rattle.o32_calls.specs.Numbers.{status_number};
 ghost use Rattle.o32_model.specs.Answered.{IsCall};
@@ -10,7 +10,7 @@ ghost use Rattle.o32_model.specs.PathArguments.{nofollow_flag};
 ghost use Rattle.o32_model.specs.Table.{o32_call};
 ghost use Rattle.outside.specs.Streams.{NoCountFell, contents};
 
-use crate::status::{PathStatus, fstat, fstatat};
+use crate::status::{StatusQuery, fstat, fstatat};
 use crate::structures::Form;
 use crate::telling::StatusAt;
 use bridge_paths::{Below, NativeKernel};
@@ -70,25 +70,25 @@ pub fn status_call<I: Source, O: Sink, E: Sink>(
 }
 
 /// What stat(2) asks for, in one of the two structures.
-fn of_stat(words: &CallWords, form: Form) -> PathStatus
+fn of_stat(words: &CallWords, form: Form) -> StatusQuery
     ensures { result ≡ from_working words.now 0 form }
 {
     from_working(words, 0, form)
 }
 
 /// What lstat(2) asks for, in one of the two structures.
-fn of_lstat(words: &CallWords, form: Form) -> PathStatus
+fn of_lstat(words: &CallWords, form: Form) -> StatusQuery
     ensures { result ≡ from_working words.now nofollow_flag form }
 {
     from_working(words, NOFOLLOW, form)
 }
 
 /// What both ask for, whose path begins at the working directory.
-fn from_working(words: &CallWords, flags: u32, form: Form) -> PathStatus
+fn from_working(words: &CallWords, flags: u32, form: Form) -> StatusQuery
     ensures { result ≡ from_working words.now flags form }
 {
     let [address, buffer, _, _] = words.reg;
-    PathStatus {
+    StatusQuery {
         directory: WORKING,
         address,
         flags,
@@ -100,11 +100,11 @@ fn from_working(words: &CallWords, flags: u32, form: Form) -> PathStatus
 }
 
 /// What fstatat64 asks for.
-fn of_fstatat(words: &CallWords) -> PathStatus
+fn of_fstatat(words: &CallWords) -> StatusQuery
     ensures { result ≡ from_directory words.now }
 {
     let [directory, address, buffer, flags] = words.reg;
-    PathStatus {
+    StatusQuery {
         directory,
         address,
         flags,

@@ -761,7 +761,7 @@ impl Process {
         ensures turn { IfOk result (λ turn. (left : List ℕ) (at : Contents) → at.left ≡ Some left
             → Turned (called_of self.old left) turn (machine_of self.new) self.new.going.events at at) }
         ensures native { OnOk result ((left : List ℕ) → LastLogged self.old.kernel self.new.kernel left (called_of self.old left) kept.old.native kept.new.native) }
-        ensures told { kept.new.native.told ≡ kept.old.native.told }
+        ensures untold { kept.new.native ≡ kept.old.native }
         ensures records { OnOk result ((left : List ℕ)
             → Gains kept.old.records kept.new.records (IsOne (IsCallEntry turn ((self.old.processor.pc + (2 ^ 32 - 4)) % 2 ^ 32) (machine_of self.old) (called whole (machine_of self.old) left)))) }
         ensures counted { IfOk result (λ turn. turns_of turn ≡ 1) }
