@@ -4,7 +4,6 @@
 mod arguments;
 mod call;
 mod calls;
-mod groups;
 mod names;
 mod nodes;
 mod numbers;
@@ -16,4 +15,3 @@ mod texts;
 mod times;
 
 pub use call::file_call;
-pub use groups::is_call_there;
