@@ -1,11 +1,12 @@
 //! The calls by their words.
-ghost use Rattle.std.specs.Prelude.{◌≡◌, ◌==◌, ◌||◌, ◌⊎◌, Ok, Option, Some, None};
+ghost use Rattle.std.specs.Prelude.{◌≡◌, ◌==◌, ◌||◌, Ok, Option, Some, None};
 ghost use Rattle.bridge_limits.specs.Passed.{KeepsCall, LeadsOn};
 ghost use Rattle.bridge_poll.specs.Found.{found};
 ghost use Rattle.std.specs.Int.{cast_signed, w32};
 ghost use Rattle.kernel_model.specs.Readiness as readiness;
 ghost use Rattle.kernel_model.specs.Stops.{StopsOnlyIfRose};
 ghost use Rattle.o32_calls.specs.Numbers.{poll_number};
+ghost use Rattle.o32_calls.specs.declared.times.PollCall.TheVariants.{Poll, Ppoll};
 ghost use Rattle.o32_model.specs.Answered.{IsCall};
 ghost use Rattle.o32_model.specs.Polling.{poll_row, ppoll_row};
 ghost use Rattle.o32_model.specs.Step.{Guest};
@@ -20,7 +21,7 @@ use guest_space::Space;
 use host_mem::HostMem;
 use kernel_core::{Errno, Stop};
 use mips_exec::Cpu;
-use o32_calls::PollCall;
+use o32_calls::{POLL, PPOLL, PollCall};
 use o32_model::{CallWords, Log, Outcome, Seen};
 use outside::{Devices, Sink, Source};
 
@@ -28,9 +29,9 @@ const NANOSECONDS_PER_MILLISECOND: u64 = 1_000_000;
 
 /// Whether a number is that of one of these calls.
 pub fn is_poll_call(number: u32) -> bool
-    ensures { result ≡ ((number == 4188) || (number == 4302)) }
+    ensures { result ≡ ((number == poll_number Poll) || (number == poll_number Ppoll)) }
 {
-    matches!(number, 4188 | 4302)
+    matches!(number, POLL | PPOLL)
 }
 
 /// Makes the call poll(2) or ppoll(2) of the program, by its words: it tells of each entry which events there are, and
