@@ -1,10 +1,9 @@
 //! The calls by their words: select(2) and pselect(2).
 ghost use Rattle.bridge_limits.specs.Passed.{KeepsCall};
-ghost use Rattle.std.specs.Prelude.{◌≡◌, ◌==◌, ◌||◌};
+ghost use Rattle.std.specs.Prelude.{◌≡◌};
 ghost use Rattle.bridge_select.specs.Found.{found};
 ghost use Rattle.kernel_model.specs.Stops.{StopsOnlyIfRose};
 ghost use Rattle.o32_calls.specs.Numbers.{select_number};
-ghost use Rattle.o32_calls.specs.declared.times.SelectCall.TheVariants.{Newselect, Pselect6};
 ghost use Rattle.o32_model.specs.Answered.{IsCall};
 ghost use Rattle.o32_model.specs.Table.{machine_call};
 ghost use Rattle.outside.specs.Streams.{NoCountFell, contents};
@@ -16,16 +15,9 @@ use guest_space::Space;
 use host_mem::HostMem;
 use kernel_core::Stop;
 use mips_exec::Cpu;
-use o32_calls::{NEWSELECT, PSELECT6, SelectCall};
+use o32_calls::SelectCall;
 use o32_model::{CallWords, Log, Outcome, Seen};
 use outside::{Devices, Sink, Source};
-
-/// Whether a number is that of one of these calls.
-pub fn is_select_call(number: u32) -> bool
-    ensures { result ≡ ((number == select_number Newselect) || (number == select_number Pselect6)) }
-{
-    matches!(number, NEWSELECT | PSELECT6)
-}
 
 /// Makes the call of the program, select(2) or pselect(2), by its words: EFAULT where a word on its stack can't be read;
 /// for pselect the pair of the mask; the time; the mask; and then what the native kernel says of the descriptors. It stops

@@ -11,5 +11,5 @@ mod rooms;
 mod selecting;
 mod telling;
 
-pub use call::{is_select_call, select_call};
+pub use call::select_call;
 pub use ends::select_end;
