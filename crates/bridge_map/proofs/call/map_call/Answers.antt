@@ -14,8 +14,8 @@ use Rattle.bridge_map.proofs.call.map_call.Goals as goal
 pub memory_call-requires-clause-memory : goal.memory_call-requires-clause-memory
 memory_call-requires-clause-memory g c = of_memory_without_file c.args.call c.args.args.now c.requires (sym c.maps_no_file.ensures ∙ c.if-maps_no_file.true)
 
-pub memory_call-in-Brk-requires-clause-memory : goal.memory_call-in-Brk-requires-clause-memory
-memory_call-in-Brk-requires-clause-memory g c = of_memory c.args.call c.args.args.now c.requires c.in-Brk.is
+pub memory_call-requires-in-Brk-clause-memory : goal.memory_call-requires-in-Brk-clause-memory
+memory_call-requires-in-Brk-clause-memory g c = of_memory c.args.call c.args.args.now c.requires c.in-Brk.is
 
 pub returns-in_err-memory_call-clause-row : goal.returns-in_err-memory_call-clause-row
 returns-in_err-memory_call-clause-row g c = λ left told. fails_before _ c.from_residual.result _ _ _ _ c.from_residual.ensures.0
@@ -34,8 +34,7 @@ returns-then-maps_no_file-clause-kept g c = λ left told.
 
 pub returns-in_err-memory_call-in-Brk-clause-row : goal.returns-in_err-memory_call-in-Brk-clause-row
 returns-in_err-memory_call-in-Brk-clause-row g c = λ left told.
-    let row = fails_before _ c.from_residual-in_err-memory_call-in-Brk.result _ _ _ _ c.from_residual-in_err-memory_call-in-Brk.ensures.0 in
-    search rules
+    fails_before _ c.from_residual-in_err-memory_call-in-Brk.result _ _ _ _ c.from_residual-in_err-memory_call-in-Brk.ensures.0
 
 pub returns-in_ok-memory_call-in-Brk-clause-row : goal.returns-in_ok-memory_call-in-Brk-clause-row
 returns-in_ok-memory_call-in-Brk-clause-row g c = λ left told.
@@ -48,7 +47,6 @@ returns-in_ok-memory_call-in-Brk-clause-kept g c = λ left told.
     let row = memory_keeps c.args.args.now c.args.k.now c.args.cpu.now left c.in_ok-memory_call-in-Brk.field-0 c.args.space.now c.memory_call-in-Brk.new.space (c.in_ok-memory_call-in-Brk.ensures.row c.args.k.now c.args.cpu.now left)
     c.args.log.now c.memory_call-in-Brk.new.log c.memory_call-in-Brk.ensures.native c.in_ok-memory_call-in-Brk.ensures.effects in
     search rules
-
 
 -- with a file
 
