@@ -3,24 +3,31 @@ use Rattle.std.proofs.Common.{◌≡◌, ◌∙◌, List, Option, ap, refl, subs
 use Rattle.bridge_log.specs.Keeping.{Logged}
 use Rattle.kernel_core.specs.declared.log_entry.LogEntry.{LogEntry}
 use Rattle.native_calls.specs.History.{moment, opening}
+use Rattle.mips_exec.specs.Processor.{register}
+use Rattle.o32_machine.proofs.Plainly.{bridged_words}
 use Rattle.o32_machine.proofs.Recording.{call_recorded, looked}
 use Rattle.o32_machine.proofs.Turning.{call_goes, call_lacks, call_stops, fails_before, its_turn}
 use Rattle.o32_machine.specs.Emulator.{ProcessState, coming_of, machine_of}
 use Rattle.o32_machine.specs.inside.Logging.{LastLogged}
-use Rattle.o32_machine.specs.inside.Plainly.{called_of}
 use Rattle.o32_turns.specs.Instruction.{seen_of}
 use Rattle.o32_turns.specs.Machine.{Turn}
 use Rattle.o32_machine.proofs.Logging.{call_logged}
 use Rattle.o32_model.specs.Table.{machine_call}
+use Rattle.o32_model.specs.Words.{v0}
 use Rattle.bridge_system.specs.Found.{found}
 use Rattle.outside.specs.Streams.{contents}
 use Rattle.o32_machine.proofs.process.Process.call_bridged.Goals as goal
+
+pub make_call-requires : goal.make_call-requires
+make_call-requires g c =
+    bridged_words c.args.call c.args-words.result c.self.inside.core.cpu c.self.inside.core.space c.args-words.ensures
+    (ap (λ (p : ProcessState). register p.processor v0) c.self.view_is ∙ c.requires.named)
 
 pub returns-in_err-outcome-clause-turn : goal.returns-in_err-outcome-clause-turn
 returns-in_err-outcome-clause-turn g c = λ left told.
     let process : ProcessState = record { processor = c.self.inside.core.cpu; memory = c.self.inside.core.space; kernel = c.self.inside.core.kernel; going = c.self.inside.going; coming = coming_of c.self.inside.schedule; idle = c.self.inside.idle } in
     let sees : c.seen-seen.result ≡ seen_of (machine_of process) = c.seen-seen.ensures ∙ ap (λ (p : ProcessState). seen_of (machine_of p)) (sym c.self.view_is) in
-    call_stops c.args.self.now process c.seen-seen.result c.args-words.result left c.self.view_is sees c.args-words.ensures c.from_residual-in_err-outcome.result _ _ _ _ c.from_residual-in_err-outcome.ensures.0 (c.in_err-outcome.ensures.row left told)
+    call_stops c.args.self.now process c.seen-seen.result c.args-words.result left c.self.view_is sees c.args-words.ensures c.from_residual.result _ _ _ _ c.from_residual.ensures.0 (c.in_err-outcome.ensures.row left told)
 
 pub returns-in_err-ended-clause-turn : goal.returns-in_err-ended-clause-turn
 returns-in_err-ended-clause-turn g c = λ left told.

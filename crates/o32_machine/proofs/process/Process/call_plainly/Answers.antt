@@ -1,5 +1,5 @@
 -- The small call's row is that of the whole table.
-use Rattle.std.proofs.Common.{◌∙◌, Some, None, ap, refl, subst}
+use Rattle.std.proofs.Common.{◌∙◌, Some, None, ap, refl, subst, sym}
 use Rattle.std.specs.Prelude.{option_map}
 use Rattle.bridge_system.proofs.PlainCalls.{plain_called, plain_keeps}
 use Rattle.bridge_system.specs.Found.{found}
@@ -18,7 +18,7 @@ use Rattle.o32_machine.proofs.process.Process.call_plainly.Goals as goal
 pub answer-outcome-requires : goal.answer-outcome-requires
 answer-outcome-requires c =
     plain_words c.args.call c.args-words.result c.self.inside.core.cpu c.self.inside.core.space c.args-words.ensures
-    (subst (λ (p : ProcessState). IsPlainly c.args.call (register p.processor v0)) c.self.view_is c.requires)
+    (subst (λ (p : ProcessState). IsPlainly c.args.call (register p.processor v0)) (sym c.self.view_is) c.requires)
 
 pub returns-clause-turn : goal.returns-clause-turn
 returns-clause-turn c = λ left at told.
