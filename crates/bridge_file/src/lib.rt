@@ -6,7 +6,6 @@ mod call;
 mod calls;
 mod names;
 mod nodes;
-mod numbers;
 mod paths;
 mod seeking;
 mod sizes;

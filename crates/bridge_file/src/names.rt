@@ -12,11 +12,11 @@ ghost use Rattle.outside.specs.Streams.{NoCountFell, contents};
 
 use crate::arguments::fifth;
 use crate::calls::{TwoPaths, path_call, paths_call};
-use crate::numbers::{LINKAT, MKDIRAT, RENAMEAT, SYMLINKAT, UNLINKAT};
 use crate::paths::{Caller, PathAt};
 use bridge_paths::{Below, NativeWords};
 use host_mem::FIRST_ADDRESS;
 use kernel_core::{Errno, Stop};
+use native_numbers::{LINKAT, MKDIRAT, RENAMEAT, SYMLINKAT, UNLINKAT};
 use o32_model::Outcome;
 use outside::{Devices, Sink, Source};
 

@@ -11,11 +11,11 @@ ghost use Rattle.o32_model.specs.Step.{Guest};
 ghost use Rattle.outside.specs.Streams.{NoCountFell, contents};
 
 use crate::calls::path_call;
-use crate::numbers::{CHDIR, FACCESSAT, FCHDIR, FCHMOD, FCHMODAT, FDATASYNC, FSYNC, UMASK};
 use crate::paths::{Caller, PathAt};
 use bridge_paths::{Below, NativeWords};
 use host_mem::FIRST_ADDRESS;
 use kernel_core::Stop;
+use native_numbers::{CHDIR, FACCESSAT, FCHDIR, FCHMOD, FCHMODAT, FDATASYNC, FSYNC, UMASK};
 use o32_model::{CallWords, Outcome};
 use outside::{Devices, Sink, Source};
 

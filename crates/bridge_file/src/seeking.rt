@@ -12,11 +12,11 @@ ghost use Rattle.outside.specs.Streams.{NoCountFell, contents};
 ghost use Rattle.bridge_file.specs.inside.Places.{outcome_of_place, told_place};
 
 use crate::arguments::{fifth, pair, widened};
-use crate::numbers::LSEEK;
 use crate::telling::{Told, ToldAt, tell_call};
 use bridge_paths::{Below, NativeWords, outcome_of};
 use guest_space::Space;
 use kernel_core::{Errno, Reply, Stop};
+use native_numbers::LSEEK;
 use o32_model::{CallWords, Outcome};
 use outside::{Devices, Sink, Source};
 

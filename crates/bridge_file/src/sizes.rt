@@ -10,11 +10,11 @@ ghost use Rattle.o32_model.specs.Step.{Guest};
 ghost use Rattle.outside.specs.Streams.{NoCountFell, contents};
 
 use crate::calls::path_call;
-use crate::numbers::{FTRUNCATE, TRUNCATE};
 use crate::paths::Caller;
 use bridge_paths::{Below, NativeWords};
 use host_mem::FIRST_ADDRESS;
 use kernel_core::Stop;
+use native_numbers::{FTRUNCATE, TRUNCATE};
 use o32_model::{CallWords, Outcome};
 use outside::{Devices, Sink, Source};
 

@@ -12,13 +12,13 @@ ghost use Rattle.o32_model.specs.Step.{Guest};
 ghost use Rattle.outside.specs.Streams.{NoCountFell, contents};
 ghost use Rattle.bridge_file.specs.inside.Tells.{size_room};
 
-use crate::numbers::{GETCWD, READLINKAT};
 use crate::paths::PathAt;
 use crate::telling::{Told, ToldAt, tell_call};
 use bridge_paths::{Below, NativeWords, fresh_room, put_room, read_path};
 use guest_space::Space;
 use host_mem::FIRST_ADDRESS;
 use kernel_core::{Bytes, Stop};
+use native_numbers::{GETCWD, READLINKAT};
 use o32_model::{CallWords, Outcome};
 use outside::{Devices, Sink, Source};
 use std::alloc::Global;

@@ -14,12 +14,12 @@ ghost use Rattle.o32_model.specs.Step.{Guest, O32Step};
 ghost use Rattle.outside.specs.Streams.{NoCountFell, contents};
 
 use crate::commands::bit;
-use crate::numbers::PIPE2;
 use crate::structures::{GuestStructure, Structure, byte_at, store_call};
 use bridge_log::{Below, NativeWords, fresh_room, outcome_of};
 use guest_space::Space;
 use host_mem::{FIRST_ADDRESS, HostMem};
 use kernel_core::{Reply, Stop};
+use native_numbers::PIPE2;
 use o32_model::{CallWords, Outcome};
 use outside::{Devices, Sink, Source};
 

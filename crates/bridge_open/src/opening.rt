@@ -15,12 +15,12 @@ ghost use Rattle.o32_model.specs.Step.{Guest};
 ghost use Rattle.outside.specs.Streams.{NoCountFell, contents};
 
 use crate::large::too_large;
-use crate::numbers::OPENAT;
 use crate::sizes::size_led;
 use bridge_paths::{Below, put_one, read_path};
 use guest_space::Space;
 use host_mem::FIRST_ADDRESS;
 use kernel_core::{Bytes, Errno, OpenFlags, Stop};
+use native_numbers::OPENAT;
 use number_tables::{NativeNumber, O32Number};
 use o32_model::{CallWords, Outcome};
 use outside::{Devices, Sink, Source};

@@ -5,7 +5,6 @@ mod asked;
 mod call;
 mod ends;
 mod fd_sets;
-mod numbers;
 mod requests;
 mod rooms;
 mod selecting;

@@ -10,13 +10,13 @@ ghost use Rattle.o32_model.specs.Step.{Guest};
 ghost use Rattle.o32_model.specs.Words.{argument};
 ghost use Rattle.outside.specs.Streams.{NoCountFell, contents};
 
-use crate::numbers::{FSTAT, NEWFSTATAT};
 use crate::structures::Form;
 use crate::telling::{STATUS_SIZE, StatusAt, tell_call};
 use bridge_paths::{Below, NativeWords, fresh_room, put_behind, read_path};
 use guest_space::Space;
 use host_mem::FIRST_ADDRESS;
 use kernel_core::{Bytes, Errno, Stop};
+use native_numbers::{FSTAT, NEWFSTATAT};
 use o32_model::{CallWords, Outcome};
 use outside::{Devices, Sink, Source};
 use std::alloc::Global;
