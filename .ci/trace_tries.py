@@ -493,7 +493,8 @@ def try_streams(tries, box):
 # The tables and the definitions
 
 PARTS_OF_TOP = [
-    "tools", "docs/RULES.md", "docs/o32run.1", "README.md", "crates/o32_model/specs", "crates/o32_turns/specs", "crates/number_tables/specs",
+    "tools", "docs/RULES.md", "docs/o32run.1", "README.md", "crates/o32_calls/specs", "crates/o32_model/specs", "crates/o32_turns/specs",
+    "crates/number_tables/specs",
 ]
 
 
@@ -523,9 +524,9 @@ PLANTS = [
     ("tools/calls.txt", GETPID_ROW, GETPID_ROW * 2, "the numbers in tools/calls.txt don't rise"),
     ("tools/calls.txt", GETPID_ROW, GETPID_ROW.replace(" there  ", " part   "), "getpid: it is there in part, and no note says which"),
     ("tools/calls.txt", GETPID_ROW, "4020 getpid\n", "{top}/tools/calls.txt: line {line} is none of the table"),
-    ("crates/o32_model/specs/Small.antt", "    ∷ record { number = 4020;", "    ∷ record { number = 4021;",
+    ("crates/o32_calls/specs/Numbers.antt", "plain_number Getpid = 4020", "plain_number Getpid = 4021",
      "call 4021 is in the definition, and tools/calls.txt has it not or as missing"),
-    ("crates/o32_model/specs/Names.antt", "record { number = 4009;", "record { number = 4010;", "link (4009) is in tools/calls.txt, and the definition has it not"),
+    ("crates/o32_calls/specs/Numbers.antt", "name_number Link = 4009", "name_number Link = 4010", "link (4009) is in tools/calls.txt, and the definition has it not"),
     ("docs/RULES.md", "| getppid | 4064 |", "| getparent | 4064 |", "call 4064 is getparent in docs/RULES.md, and getppid in tools/calls.txt"),
     ("docs/o32run.1", "such as exit, getpid", "such as fork, getpid", "docs/o32run.1 names fork, which tools/calls.txt has not as there"),
     ("README.md", "{count} system calls", "99 system calls", "README.md doesn't say that there are {count} system calls"),

@@ -9,6 +9,7 @@ use Rattle.kernel_model.specs.SignalRows.{first_pending, pending_set, pends}
 use Rattle.kernel_model.specs.SignalSets.{SignalSet, blockable, has}
 use Rattle.kernel_model.specs.State.{Signals}
 use Rattle.native_calls.specs.Signals.{native_order}
+use Rattle.o32_calls.specs.Numbers.{rt_sigtimedwait_number}
 use Rattle.o32_model.specs.Masks.{set_at}
 use Rattle.o32_model.specs.SignalWaitEnds.{named_in, named_signals}
 use Rattle.o32_model.specs.Suspending.{all_signals}
@@ -86,7 +87,7 @@ some_by true (Err error) set some = absurd cc
 some_by true (Ok there) set some = ap (λ (s : SignalSet). filter (λ (signal : Sig). has (blockable s) signal) all_signals) (sym (set_is some))
 
 pub none_named : (memory : Memory) (wait : Wait) → None ≡ named_set memory wait → named_signals memory wait ≡ []
-none_named memory wait none = none_by (wait.nr == 4197) (set_at memory (wait_word wait 0)) none
+none_named memory wait none = none_by (wait.nr == rt_sigtimedwait_number) (set_at memory (wait_word wait 0)) none
 
 pub some_named : (memory : Memory) (wait : Wait) (set : SignalSet) → Some set ≡ named_set memory wait → named_signals memory wait ≡ filter (λ (signal : Sig). has (blockable set) signal) all_signals
-some_named memory wait set some = some_by (wait.nr == 4197) (set_at memory (wait_word wait 0)) set some
+some_named memory wait set some = some_by (wait.nr == rt_sigtimedwait_number) (set_at memory (wait_word wait 0)) set some

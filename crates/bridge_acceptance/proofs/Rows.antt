@@ -21,6 +21,7 @@ use Rattle.native_calls.specs.Table.{native_call}
 use Rattle.native_calls.specs.Times.{time_at}
 use Rattle.number_tables.specs.Signals.{native_signal}
 use Rattle.kernel_model.specs.Pipes.{nothing}
+use Rattle.o32_calls.specs.Numbers.{rt_sigtimedwait_number}
 use Rattle.o32_model.specs.GuestBytes.{is_storable, unless_null, with_stored}
 use Rattle.o32_model.specs.Masks.{set_at}
 use Rattle.o32_model.specs.Results.{stores_result, stores_result_unless_null, value_if}
@@ -231,7 +232,7 @@ end_closed kernel became wait memory stored set info time size came told is tell
 abbrev call_at : ℕ → Seen → Kernel → Guest → List ℕ → O32Step
 call_at number seen kernel guest left = seeing_step_of (call_of number) (seeing_call_of number) seen kernel guest left
 
-pub called_row : (seen : Seen) (kernel became : Kernel) (guest : Guest) (stored : Memory) (left : List ℕ) (came : Accepted) (told : Told) → guest.words.nr ≡ 4197
+pub called_row : (seen : Seen) (kernel became : Kernel) (guest : Guest) (stored : Memory) (left : List ℕ) (came : Accepted) (told : Told) → guest.words.nr ≡ rt_sigtimedwait_number
     → accept kernel all_signals blockable (set_at guest.memory (argument guest.words 0)) (unless_null (argument guest.words 2) (spec_at guest.memory (argument guest.words 2))) (argument guest.words 3) ≡ did became came
     → tells guest.memory (argument guest.words 1) came ≡ telling told stored → machine_call seen kernel guest left ≡ ended became guest left (telling told stored)
 called_row seen kernel became guest stored left came told number is tells_so =

@@ -1,8 +1,9 @@
 //! The call by its words.
-ghost use Rattle.bridge_signal_state.specs.Passed.{KeepsCall, LeadsOn};
+ghost use Rattle.bridge_signal_state.specs.Passed.{KeepsCall};
 ghost use Rattle.std.specs.Prelude.{◌≡◌};
 ghost use Rattle.bridge_acceptance.specs.Found.{found};
 ghost use Rattle.kernel_model.specs.Stops.{StopsOnlyIfRose};
+ghost use Rattle.o32_calls.specs.Numbers.{rt_sigtimedwait_number};
 ghost use Rattle.o32_model.specs.Answered.{IsCall};
 ghost use Rattle.o32_model.specs.Table.{machine_call};
 ghost use Rattle.outside.specs.Streams.{NoCountFell, contents};
@@ -31,7 +32,7 @@ pub fn acceptance_call<I: Source, O: Sink, E: Sink>(
     log: &mut Log,
     seen: &Seen,
 ) -> Result<Outcome, Stop>
-    requires { args.now.nr ≡ 4197 }
+    requires { args.now.nr ≡ rt_sigtimedwait_number }
     ensures row { IsCall (machine_call seen.now k.old (found args.now cpu.old space.old)) result k.new space.new cpu.new
         (contents I.left O.written E.written dev.old) (contents I.left O.written E.written dev.new) }
     ensures kept { KeepsCall (machine_call seen.now k.old (found args.now cpu.old space.old)) result k.old
@@ -45,28 +46,6 @@ pub fn acceptance_call<I: Source, O: Sink, E: Sink>(
         memory: mem,
         log,
     };
-    accept_and_tell(args, cpu, space, dev, seen, below)
-}
-
-/// The same with the kernel and what its calls are made with as one value.
-fn accept_and_tell<I: Source, O: Sink, E: Sink>(
-    args: &CallWords,
-    cpu: &mut Cpu,
-    space: &mut Space,
-    dev: &mut Devices<I, O, E>,
-    seen: &Seen,
-    below: &mut Below,
-) -> Result<Outcome, Stop>
-    requires { args.now.nr ≡ 4197 }
-    ensures row { IsCall (machine_call seen.now below.old.kernel.now (found args.now cpu.old space.old)) result below.new.kernel.now space.new cpu.new
-        (contents I.left O.written E.written dev.old) (contents I.left O.written E.written dev.new) }
-    ensures kept { KeepsCall (machine_call seen.now below.old.kernel.now (found args.now cpu.old space.old)) result below.old.kernel.now
-        (found args.now cpu.old space.old) (I.left dev.old.input) below.old.log.now below.new.log.now }
-    ensures cause { StopsOnlyIfRose I.faults O.faults E.faults result dev.old dev.new }
-    ensures counts { NoCountFell I.faults O.faults E.faults dev.old dev.new }
-    ensures clock { below.new.kernel.now.clock ≡ below.old.kernel.now.clock }
-    ensures same { LeadsOn below.old below.new }
-{
     let [set, info, time, size] = args.reg;
     let came = accept(set, time, size, space, dev, below)?;
     let told = tell(came, info, space, below.log)?;

@@ -7,6 +7,7 @@ ghost use Rattle.kernel_core.specs.declared.signal.Sig.{Sig};
 ghost use Rattle.kernel_model.specs.SignalRows.{pends};
 ghost use Rattle.kernel_model.specs.SignalSets.{place};
 ghost use Rattle.kernel_model.specs.Stops.{StopsOnlyIfRose};
+ghost use Rattle.o32_calls.specs.Numbers.{rt_sigtimedwait_number};
 ghost use Rattle.o32_model.specs.SignalWaitEnds.{named_signals};
 ghost use Rattle.outside.specs.Streams.{NoCountFell, contents};
 
@@ -15,16 +16,14 @@ use bridge_signal_state::{Below, NativeKernel, pending};
 use guest_space::Space;
 use host_mem::HostMem;
 use kernel_core::{Sig, Stop};
+use o32_calls::RT_SIGTIMEDWAIT;
 use o32_model::{Log, Wait};
 use outside::{Devices, Sink, Source};
 use signal_choice::{accepted, is_named};
 
-/// The number of rt_sigtimedwait(2) (Linux `arch/mips/include/uapi/asm/unistd.h`, the o32 table).
-const RT_SIGTIMEDWAIT: u32 = 4197;
-
 /// Whether a number is that of rt_sigtimedwait(2).
 pub fn is_acceptance_call(number: u32) -> bool
-    ensures { result ≡ (number == 4197) }
+    ensures { result ≡ (number == rt_sigtimedwait_number) }
 {
     number == RT_SIGTIMEDWAIT
 }

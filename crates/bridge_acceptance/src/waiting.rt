@@ -10,11 +10,12 @@ ghost use Rattle.outside.specs.Streams.{NoCountFell, contents};
 
 use crate::accepting::Accepted;
 use crate::asked::Wanted;
-use crate::numbers::{RT_SIGTIMEDWAIT, SIGSETSIZE};
+use crate::numbers::SIGSETSIZE;
 use crate::rooms::put_asked;
 use bridge_signal_state::Below;
 use host_mem::FIRST_ADDRESS;
 use kernel_core::{Errno, Reply, Stop};
+use native_numbers::RT_SIGTIMEDWAIT;
 use number_tables::NativeNumber;
 use outside::{Devices, Sink, Source};
 

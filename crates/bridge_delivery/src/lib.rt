@@ -12,8 +12,8 @@ mod taken;
 
 // Passed on: the turn ends waits, posts and delivers, and names one crate for it.
 pub use bridge_ends::{
-    acceptance_call, accepts, end_wait, event_info, is_acceptance_call, is_poll_call,
-    is_select_call, poll_call, post_event, post_timer, select_call, wait_call,
+    acceptance_call, accepts, end_wait, event_info, poll_call, post_event, post_timer, select_call,
+    wait_call,
 };
 pub use delivering::deliver;
 pub use quiet::is_quiet;

@@ -4,7 +4,6 @@ use Rattle.std.specs.Prelude.{◌==◌, ◌||◌, ◌&&◌, not, length, Option,
 use Rattle.bridge_poll.specs.Passed.{Keeps}
 use Rattle.bridge_poll.proofs.Passed.{logged_none}
 use Rattle.bridge_poll.specs.Passed.{Logged, reached}
-use Rattle.bridge_wait.specs.Numbers.{is_sleep}
 use Rattle.guest_space.specs.Memory.{Memory, Pages}
 use Rattle.kernel_core.specs.declared.log_entry.LogEntry.{LogEntry}
 use Rattle.kernel_model.specs.Clock.{left_until}
@@ -12,6 +11,8 @@ use Rattle.kernel_model.specs.Pipes.{Sent}
 use Rattle.kernel_model.specs.State.{Kernel}
 use Rattle.mips_exec.specs.Processor.{Processor}
 use Rattle.native_calls.specs.History.{moment}
+use Rattle.o32_calls.specs.Numbers.{time_number}
+use Rattle.o32_calls.specs.declared.times.TimeCall.TheVariants.{ClockNanosleep, Nanosleep}
 use Rattle.o32_model.specs.Effects.{Effected}
 use Rattle.o32_model.specs.GuestBytes.{is_storable}
 use Rattle.o32_model.specs.Logs.{Kept}
@@ -47,9 +48,9 @@ which true second some = inl refl
 which false true some = inr (refl, refl)
 which false false some = absurd cc
 
-leaves : (wait : Wait) (cause : Cause) (clock : ℕ) (kernel : Kernel) (memory : Memory) → is_sleep wait.nr ≡ true → (wait_ended wait cause clock kernel memory).kernel ≡ kernel
+leaves : (wait : Wait) (cause : Cause) (clock : ℕ) (kernel : Kernel) (memory : Memory) → ((wait.nr == time_number Nanosleep) || (wait.nr == time_number ClockNanosleep)) ≡ true → (wait_ended wait cause clock kernel memory).kernel ≡ kernel
 leaves wait cause clock kernel memory sleeps =
-    elim (which (wait.nr == 4166) (wait.nr == 4265) sleeps) [
+    elim (which (wait.nr == time_number Nanosleep) (wait.nr == time_number ClockNanosleep) sleeps) [
       | inl first ↦ simp first (sleep_leaves (record { relative = true; address = wait_word wait 1 }) wait cause clock kernel memory)
       | inr second ↦
           let other = second.0 in
@@ -57,7 +58,7 @@ leaves wait cause clock kernel memory sleeps =
           simp (other, this) (sleep_leaves (record { relative = wait_word wait 1 == 0; address = wait_word wait 3 }) wait cause clock kernel memory)
     ]
 
-pub sleep_keeps : (wait : Wait) (cause : Cause) (clock : ℕ) (kernel became : Kernel) (memory : Memory) (after : Pages) (left : List ℕ) (old new : Kept) → is_sleep wait.nr ≡ true
+pub sleep_keeps : (wait : Wait) (cause : Cause) (clock : ℕ) (kernel became : Kernel) (memory : Memory) (after : Pages) (left : List ℕ) (old new : Kept) → ((wait.nr == time_number Nanosleep) || (wait.nr == time_number ClockNanosleep)) ≡ true
     → became ≡ (wait_ended wait cause clock kernel memory).kernel → new.native ≡ old.native
     → ((processor : Processor) (sent : Sent) → Effected old.effects new.effects (reached processor memory.pages sent) (reached processor after sent))
     → Keeps kernel became memory.pages after left old new

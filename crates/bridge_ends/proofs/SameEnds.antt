@@ -4,10 +4,12 @@ use Rattle.std.specs.Prelude.{◌==◌, ◌||◌, Result, if◌then◌else◌}
 use Rattle.bridge_poll.specs.Passed.{Closes}
 use Rattle.bridge_ends.specs.inside.Endings.{old_mask, suspension_end}
 use Rattle.bridge_select.specs.Ends.{select_ended}
-use Rattle.bridge_wait.specs.Numbers.{is_sleep}
 use Rattle.guest_space.specs.Memory.{Memory}
 use Rattle.kernel_core.specs.declared.core_error.Stop.{Stop}
 use Rattle.kernel_model.specs.State.{Kernel}
+use Rattle.o32_calls.specs.Numbers.{poll_number, rt_sigtimedwait_number, time_number}
+use Rattle.o32_calls.specs.declared.times.PollCall.TheVariants.{Poll, Ppoll}
+use Rattle.o32_calls.specs.declared.times.TimeCall.TheVariants.{ClockNanosleep, Nanosleep}
 use Rattle.o32_model.specs.SignalWaitEnds.{acceptance_ended, signal_wait_ended, suspension_ended, transfer_ended}
 use Rattle.o32_model.specs.WaitEnds.{WaitEnd, ends_with, wait_ended, with_old_mask}
 use Rattle.o32_model.specs.declared.wait.Cause.{Cause}
@@ -56,21 +58,21 @@ neither true other none = absurd cc
 neither false other none = (refl, none)
 
 -- neither a sleep nor poll(2) or ppoll(2)
-pub by_select : (wait : Wait) (cause : Cause) (clock : ℕ) (kernel : Kernel) (memory : Memory) → is_sleep wait.nr ≡ false
-    → ((wait.nr == 4188) || (wait.nr == 4302)) ≡ false → wait_ended wait cause clock kernel memory ≡ select_ended wait cause clock kernel memory
+pub by_select : (wait : Wait) (cause : Cause) (clock : ℕ) (kernel : Kernel) (memory : Memory) → ((wait.nr == time_number Nanosleep) || (wait.nr == time_number ClockNanosleep)) ≡ false
+    → ((wait.nr == poll_number Poll) || (wait.nr == poll_number Ppoll)) ≡ false → wait_ended wait cause clock kernel memory ≡ select_ended wait cause clock kernel memory
 by_select wait cause clock kernel memory no_sleep no_poll =
-    let sleeps = neither (wait.nr == 4166) (wait.nr == 4265) no_sleep in
-    let polls = neither (wait.nr == 4188) (wait.nr == 4302) no_poll in
+    let sleeps = neither (wait.nr == time_number Nanosleep) (wait.nr == time_number ClockNanosleep) no_sleep in
+    let polls = neither (wait.nr == poll_number Poll) (wait.nr == poll_number Ppoll) no_poll in
     rw (sleeps.0, sleeps.1, polls.0, polls.1) refl
 
 -- one of rt_sigtimedwait(2), and another
 
-pub by_acceptance : (wait : Wait) (cause : Cause) (kernel : Kernel) (memory : Memory) → (wait.nr == 4197) ≡ true
+pub by_acceptance : (wait : Wait) (cause : Cause) (kernel : Kernel) (memory : Memory) → (wait.nr == rt_sigtimedwait_number) ≡ true
     → signal_wait_ended wait cause kernel memory ≡ acceptance_ended wait cause kernel memory
 by_acceptance wait cause kernel memory is =
     ap (λ (b : Bool). if b then acceptance_ended wait cause kernel memory else suspension_ended wait cause kernel memory) is
 
-pub by_suspension : (wait : Wait) (cause : Cause) (kernel : Kernel) (memory : Memory) → (wait.nr == 4197) ≡ false
+pub by_suspension : (wait : Wait) (cause : Cause) (kernel : Kernel) (memory : Memory) → (wait.nr == rt_sigtimedwait_number) ≡ false
     → signal_wait_ended wait cause kernel memory ≡ suspension_ended wait cause kernel memory
 by_suspension wait cause kernel memory is =
     ap (λ (b : Bool). if b then acceptance_ended wait cause kernel memory else suspension_ended wait cause kernel memory) is

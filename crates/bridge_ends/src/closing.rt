@@ -13,6 +13,7 @@ ghost use Rattle.schedule.specs.declared.events.Due.{Due};
 use kernel_core::{Event, NoMemory};
 use mips_exec::Cpu;
 use number_tables::O32Number;
+use o32_calls::RESTART_SYSCALL;
 use o32_model::{Close, Wait};
 use o32_turns::Going;
 
@@ -23,9 +24,6 @@ const V0: u8 = 2;
 
 /// Whether a call failed: 0, or 1 where it did.
 const A3: u8 = 7;
-
-/// The number of restart_syscall(2).
-const RESTART_SYSCALL: u32 = 4253;
 
 /// The bytes of a SYSCALL, past which the program counter stands while its call waits.
 const SYSCALL_SIZE: u32 = 4;

@@ -1,11 +1,12 @@
 //! How a wait ends.
-ghost use Rattle.std.specs.Prelude.{◌≡◌};
+ghost use Rattle.std.specs.Prelude.{◌≡◌, ◌==◌, ◌||◌};
 ghost use Rattle.bridge_poll.specs.Passed.{Closes, KeepsEnd, LeadsOn};
 ghost use Rattle.bridge_ends.specs.Ended.{ended_wait};
 ghost use Rattle.bridge_ends.specs.inside.Endings.{old_mask, suspension_end};
-ghost use Rattle.bridge_wait.specs.Numbers.{is_sleep};
 ghost use Rattle.guest_space.specs.Memory.{Memory, Pages};
 ghost use Rattle.kernel_model.specs.Stops.{StopsOnlyIfRose};
+ghost use Rattle.o32_calls.specs.Numbers.{time_number};
+ghost use Rattle.o32_calls.specs.declared.times.TimeCall.TheVariants.{ClockNanosleep, Nanosleep};
 ghost use Rattle.o32_model.specs.SignalWaitEnds.{signal_wait_ended, suspension_ended, transfer_ended};
 ghost use Rattle.o32_model.specs.WaitEnds.{ends_with, wait_ended, with_old_mask};
 ghost use Rattle.o32_turns.specs.Closing.{is_one_of, signal_waits, transfer_waits, whole_end};
@@ -21,6 +22,9 @@ use guest_space::Space;
 use host_mem::HostMem;
 use kernel_core::{Errno, Stop};
 use mips_exec::Cpu;
+use o32_calls::{
+    CLOCK_NANOSLEEP, NANOSLEEP, PAUSE, READ, READV, RT_SIGSUSPEND, RT_SIGTIMEDWAIT, WRITE, WRITEV,
+};
 use o32_model::{Cause, Close, Log, Wait};
 use o32_turns::Going;
 use outside::{Devices, Sink, Source};
@@ -137,7 +141,7 @@ fn wait_close<I: Source, O: Sink, E: Sink>(
 fn is_transfer(wait: &Wait) -> bool
     ensures { result ≡ is_one_of transfer_waits wait.now }
 {
-    matches!(wait.nr, 4003 | 4004 | 4145 | 4146)
+    matches!(wait.nr, READ | WRITE | READV | WRITEV)
 }
 
 /// The end of a transfer: the bytes that it has put already are its result. Without any it is carried out again, but
@@ -158,7 +162,7 @@ fn transfer_close(restarts: bool, wait: &Wait, cause: Cause) -> Close
 fn is_signal_wait(wait: &Wait) -> bool
     ensures { result ≡ is_one_of signal_waits wait.now }
 {
-    matches!(wait.nr, 4029 | 4197 | 4199)
+    matches!(wait.nr, PAUSE | RT_SIGTIMEDWAIT | RT_SIGSUSPEND)
 }
 
 /// The end of a sleep, or of a wait for descriptors.
@@ -189,9 +193,9 @@ fn timed_wait_close<I: Source, O: Sink, E: Sink>(
 
 /// Whether a call's wait is that of a sleep: nanosleep(2), clock_nanosleep(2).
 fn is_sleep(number: u32) -> bool
-    ensures { result ≡ is_sleep number }
+    ensures { result ≡ ((number == time_number Nanosleep) || (number == time_number ClockNanosleep)) }
 {
-    number == 4166 || number == 4265
+    matches!(number, NANOSLEEP | CLOCK_NANOSLEEP)
 }
 
 /// The end of a wait for signals: of sigtimedwait(2), pause(2) and sigsuspend(2).

@@ -6,12 +6,12 @@ mod ends;
 mod posting;
 
 // Passed on, so that who makes the calls that wait for descriptors or signals, and ends their waits, names one crate.
-pub use bridge_acceptance::{acceptance_call, accepts, is_acceptance_call};
+pub use bridge_acceptance::{acceptance_call, accepts};
 pub use bridge_poll::{
-    Below, NativeKernel, action, is_poll_call, mask, pending, poll_call, set_default, set_mask,
-    stack, take, wrote,
+    Below, NativeKernel, action, mask, pending, poll_call, set_default, set_mask, stack, take,
+    wrote,
 };
-pub use bridge_select::{is_select_call, select_call};
+pub use bridge_select::select_call;
 pub use bridge_wait::wait_call;
 pub use ends::end_wait;
 pub use posting::{event_info, post_event, post_timer};

@@ -1,10 +1,9 @@
 //! A call by its number.
-ghost use Rattle.bridge_log.specs.Leading.{LeadsOn};
-ghost use Rattle.std.specs.Prelude.{◌≡◌, IsTrue};
+ghost use Rattle.std.specs.Prelude.{◌≡◌};
 ghost use Rattle.bridge_entries.specs.Found.{found};
-ghost use Rattle.bridge_entries.specs.Numbers.{is_entries_call};
 ghost use Rattle.bridge_log.specs.Keeping.{KeepsCall};
 ghost use Rattle.kernel_model.specs.Stops.{StopsOnlyIfRose};
+ghost use Rattle.o32_calls.specs.Numbers.{entries_number};
 ghost use Rattle.o32_model.specs.Answered.{IsCall};
 ghost use Rattle.o32_model.specs.Table.{o32_call};
 ghost use Rattle.outside.specs.Streams.{NoCountFell, contents};
@@ -15,6 +14,7 @@ use guest_space::Space;
 use host_mem::HostMem;
 use kernel_core::Stop;
 use mips_exec::Cpu;
+use o32_calls::EntriesCall;
 use o32_model::{CallWords, Log, Outcome, Seen};
 use outside::{Devices, Sink, Source};
 use std::alloc::Global;
@@ -23,6 +23,7 @@ use std::alloc::Global;
 /// early for want of memory, or by a device.
 #[inline(never)]
 pub fn entries_call<I: Source, O: Sink, E: Sink>(
+    call: EntriesCall,
     alloc: Global,
     args: &CallWords,
     cpu: &mut Cpu,
@@ -33,7 +34,7 @@ pub fn entries_call<I: Source, O: Sink, E: Sink>(
     log: &mut Log,
     _seen: &Seen,
 ) -> Result<Outcome, Stop>
-    requires { IsTrue (is_entries_call args.now.nr) }
+    requires { args.now.nr ≡ entries_number call }
     ensures row { IsCall (o32_call k.old (found args.now cpu.old space.old)) result k.new space.new cpu.new
         (contents I.left O.written E.written dev.old) (contents I.left O.written E.written dev.new) }
     ensures kept { KeepsCall (o32_call k.old (found args.now cpu.old space.old)) result k.old
@@ -47,30 +48,8 @@ pub fn entries_call<I: Source, O: Sink, E: Sink>(
         memory: mem,
         log,
     };
-    by_number(alloc, args, cpu, space, dev, below)
-}
-
-/// The same by its number, with the kernel and what its calls are made with as one value.
-fn by_number<I: Source, O: Sink, E: Sink>(
-    alloc: Global,
-    args: &CallWords,
-    cpu: &mut Cpu,
-    space: &mut Space,
-    dev: &mut Devices<I, O, E>,
-    below: &mut Below,
-) -> Result<Outcome, Stop>
-    requires { IsTrue (is_entries_call args.now.nr) }
-    ensures row { IsCall (o32_call below.old.kernel.now (found args.now cpu.old space.old)) result below.new.kernel.now space.new cpu.new
-        (contents I.left O.written E.written dev.old) (contents I.left O.written E.written dev.new) }
-    ensures kept { KeepsCall (o32_call below.old.kernel.now (found args.now cpu.old space.old)) result below.old.kernel.now
-        (found args.now cpu.old space.old) (I.left dev.old.input) below.old.log.now below.new.log.now }
-    ensures cause { StopsOnlyIfRose I.faults O.faults E.faults result dev.old dev.new }
-    ensures counts { NoCountFell I.faults O.faults E.faults dev.old dev.new }
-    ensures clock { below.new.kernel.now.clock ≡ below.old.kernel.now.clock }
-    ensures same { LeadsOn below.old below.new }
-{
-    match args.nr {
-        4141 => getdents(alloc, args, space, dev, below),
-        _ => getdents64(alloc, args, space, dev, below),
+    match call {
+        EntriesCall::Getdents => getdents(alloc, args, space, dev, below),
+        EntriesCall::Getdents64 => getdents64(alloc, args, space, dev, below),
     }
 }

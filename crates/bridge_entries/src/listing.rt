@@ -20,7 +20,6 @@ ghost use Rattle.o32_model.specs.Words.{argument};
 ghost use Rattle.outside.specs.Streams.{NoCountFell, contents};
 
 use crate::answers::{Answer, Bounds, answer_to};
-use crate::numbers::GETDENTS64;
 use crate::passing::{list, position, put_position};
 use crate::records::Form;
 use crate::showing::show_all;
@@ -28,6 +27,7 @@ use bridge_log::{Below, fresh_room, outcome_of, put};
 use guest_space::Space;
 use host_mem::{FIRST_ADDRESS, HostMem};
 use kernel_core::{NoMemory, Reply, Stop};
+use native_numbers::GETDENTS64;
 use o32_model::{CallWords, Log, Outcome};
 use outside::{Devices, Sink, Source};
 use std::alloc::Global;

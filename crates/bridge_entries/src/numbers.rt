@@ -1,10 +1,6 @@
 //! The numbers of the native calls that are made (Linux `include/uapi/asm-generic/unistd.h`), and those of lseek(2)
 //! (`include/uapi/linux/fs.h`).
 
-pub(crate) const GETDENTS64: u64 = 61;
-
-pub(crate) const LSEEK: u64 = 62;
-
 /// From the beginning.
 pub(crate) const SEEK_SET: u64 = 0;
 

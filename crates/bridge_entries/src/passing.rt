@@ -17,10 +17,11 @@ ghost use Rattle.native_calls.specs.Table.{native_call};
 ghost use Rattle.bridge_log.specs.Built.{built_call};
 ghost use Rattle.outside.specs.Streams.{NoCountFell, contents};
 
-use crate::numbers::{GETDENTS64, LSEEK, SEEK_CUR, SEEK_SET};
+use crate::numbers::{SEEK_CUR, SEEK_SET};
 use bridge_log::{Below, fresh_room};
 use host_mem::FIRST_ADDRESS;
 use kernel_core::{Reply, Stop};
+use native_numbers::{GETDENTS64, LSEEK};
 use outside::{Devices, Sink, Source};
 
 /// Makes a native call that takes and sends nothing.

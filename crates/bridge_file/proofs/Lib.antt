@@ -1,4 +1,4 @@
-pub mod ByGroup
+pub mod ByWords
 pub mod NodeRows
 pub mod OptionalPaths
 pub mod Rows

@@ -10,19 +10,10 @@ ghost use Rattle.outside.specs.Streams.{NoCountFell, contents};
 ghost use Rattle.bridge_file.specs.inside.Paths.{MirrorsPath, MirrorsPaths};
 
 use crate::paths::Caller;
-use bridge_paths::{Below, put_one, put_two, read_path};
+use bridge_paths::{Below, NativeWords, put_one, put_two, read_path};
 use kernel_core::{Bytes, Stop};
 use o32_model::Outcome;
 use outside::{Devices, Sink, Source};
-
-/// A native call that is to be made.
-#[derive(Clone, Copy)]
-pub(crate) struct NativeCall {
-    /// Its number.
-    pub(crate) nr: u64,
-    /// Its arguments, 0 for each that it doesn't take.
-    pub(crate) args: [u64; 6],
-}
 
 /// Two paths of a call, of which the second stands behind the first in host memory.
 #[derive(Clone, Copy)]
@@ -41,7 +32,7 @@ pub(crate) struct TwoPaths {
 pub(crate) fn path_call<I: Source, O: Sink, E: Sink>(
     caller: &Caller,
     address: u32,
-    call: NativeCall,
+    call: NativeWords,
     dev: &mut Devices<I, O, E>,
     below: &mut Below,
 ) -> Result<Outcome, Stop>
@@ -73,7 +64,7 @@ pub(crate) fn path_call<I: Source, O: Sink, E: Sink>(
 pub(crate) fn paths_call<I: Source, O: Sink, E: Sink>(
     caller: &Caller,
     paths: TwoPaths,
-    call: NativeCall,
+    call: NativeWords,
     dev: &mut Devices<I, O, E>,
     below: &mut Below,
 ) -> Result<Outcome, Stop>
@@ -104,7 +95,7 @@ fn second_call<I: Source, O: Sink, E: Sink>(
     caller: &Caller,
     paths: TwoPaths,
     one: &Bytes,
-    call: NativeCall,
+    call: NativeWords,
     dev: &mut Devices<I, O, E>,
     below: &mut Below,
 ) -> Result<Outcome, Stop>

@@ -4,10 +4,8 @@
 mod arguments;
 mod call;
 mod calls;
-mod groups;
 mod names;
 mod nodes;
-mod numbers;
 mod paths;
 mod seeking;
 mod sizes;
@@ -16,4 +14,3 @@ mod texts;
 mod times;
 
 pub use call::file_call;
-pub use groups::is_call_there;

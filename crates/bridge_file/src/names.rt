@@ -11,12 +11,12 @@ ghost use Rattle.o32_model.specs.Words.{stack_word};
 ghost use Rattle.outside.specs.Streams.{NoCountFell, contents};
 
 use crate::arguments::fifth;
-use crate::calls::{NativeCall, TwoPaths, path_call, paths_call};
-use crate::numbers::{LINKAT, MKDIRAT, RENAMEAT, SYMLINKAT, UNLINKAT};
+use crate::calls::{TwoPaths, path_call, paths_call};
 use crate::paths::{Caller, PathAt};
-use bridge_paths::Below;
+use bridge_paths::{Below, NativeWords};
 use host_mem::FIRST_ADDRESS;
 use kernel_core::{Errno, Stop};
+use native_numbers::{LINKAT, MKDIRAT, RENAMEAT, SYMLINKAT, UNLINKAT};
 use o32_model::Outcome;
 use outside::{Devices, Sink, Source};
 
@@ -46,7 +46,7 @@ pub(crate) fn mkdir<I: Source, O: Sink, E: Sink>(
         0,
         0,
     ];
-    let call = NativeCall { nr: MKDIRAT, args };
+    let call = NativeWords { nr: MKDIRAT, args };
     path_call(caller, path.address, call, dev, below)
 }
 
@@ -77,7 +77,7 @@ pub(crate) fn remove<I: Source, O: Sink, E: Sink>(
         0,
         0,
     ];
-    let call = NativeCall { nr: UNLINKAT, args };
+    let call = NativeWords { nr: UNLINKAT, args };
     path_call(caller, path.address, call, dev, below)
 }
 
@@ -105,7 +105,7 @@ pub(crate) fn symlink<I: Source, O: Sink, E: Sink>(
         second: path.address,
         place: 2,
     };
-    let call = NativeCall {
+    let call = NativeWords {
         nr: SYMLINKAT,
         args,
     };
@@ -143,7 +143,7 @@ pub(crate) fn rename<I: Source, O: Sink, E: Sink>(
         second: new.address,
         place: 3,
     };
-    let call = NativeCall { nr: RENAMEAT, args };
+    let call = NativeWords { nr: RENAMEAT, args };
     paths_call(caller, paths, call, dev, below)
 }
 
@@ -180,7 +180,7 @@ pub(crate) fn link<I: Source, O: Sink, E: Sink>(
         second: new.address,
         place: 3,
     };
-    let call = NativeCall { nr: LINKAT, args };
+    let call = NativeWords { nr: LINKAT, args };
     paths_call(caller, paths, call, dev, below)
 }
 

@@ -10,12 +10,12 @@ ghost use Rattle.o32_model.specs.PathArguments.{base};
 ghost use Rattle.o32_model.specs.Step.{Guest};
 ghost use Rattle.outside.specs.Streams.{NoCountFell, contents};
 
-use crate::calls::{NativeCall, path_call};
-use crate::numbers::{CHDIR, FACCESSAT, FCHDIR, FCHMOD, FCHMODAT, FDATASYNC, FSYNC, UMASK};
+use crate::calls::path_call;
 use crate::paths::{Caller, PathAt};
-use bridge_paths::Below;
+use bridge_paths::{Below, NativeWords};
 use host_mem::FIRST_ADDRESS;
 use kernel_core::Stop;
+use native_numbers::{CHDIR, FACCESSAT, FCHDIR, FCHMOD, FCHMODAT, FDATASYNC, FSYNC, UMASK};
 use o32_model::{CallWords, Outcome};
 use outside::{Devices, Sink, Source};
 
@@ -45,7 +45,7 @@ pub(crate) fn access<I: Source, O: Sink, E: Sink>(
         0,
         0,
     ];
-    let call = NativeCall {
+    let call = NativeWords {
         nr: FACCESSAT,
         args,
     };
@@ -78,7 +78,7 @@ pub(crate) fn chmod<I: Source, O: Sink, E: Sink>(
         0,
         0,
     ];
-    let call = NativeCall { nr: FCHMODAT, args };
+    let call = NativeWords { nr: FCHMODAT, args };
     path_call(caller, path.address, call, dev, below)
 }
 
@@ -100,7 +100,7 @@ pub(crate) fn chdir<I: Source, O: Sink, E: Sink>(
     ensures same { LeadsOn below.old below.new }
 {
     let args = [FIRST_ADDRESS, 0, 0, 0, 0, 0];
-    let call = NativeCall { nr: CHDIR, args };
+    let call = NativeWords { nr: CHDIR, args };
     path_call(caller, address, call, dev, below)
 }
 

@@ -12,12 +12,11 @@ ghost use Rattle.outside.specs.Streams.{NoCountFell, contents};
 ghost use Rattle.bridge_file.specs.inside.Places.{outcome_of_place, told_place};
 
 use crate::arguments::{fifth, pair, widened};
-use crate::calls::NativeCall;
-use crate::numbers::LSEEK;
 use crate::telling::{Told, ToldAt, tell_call};
-use bridge_paths::{Below, outcome_of};
+use bridge_paths::{Below, NativeWords, outcome_of};
 use guest_space::Space;
 use kernel_core::{Errno, Reply, Stop};
+use native_numbers::LSEEK;
 use o32_model::{CallWords, Outcome};
 use outside::{Devices, Sink, Source};
 
@@ -46,14 +45,14 @@ pub(crate) fn lseek<I: Source, O: Sink, E: Sink>(
 {
     below.memory.clear();
     let args = [u64::from(fd), widened(offset), u64::from(origin), 0, 0, 0];
-    let call = NativeCall { nr: LSEEK, args };
+    let call = NativeWords { nr: LSEEK, args };
     place_call(words, call, dev, below)
 }
 
 /// Makes a native call whose number is a place, and EOVERFLOW where the result does not hold it.
 fn place_call<I: Source, O: Sink, E: Sink>(
     words: &CallWords,
-    call: NativeCall,
+    call: NativeWords,
     dev: &mut Devices<I, O, E>,
     below: &mut Below,
 ) -> Result<Outcome, Stop>
@@ -114,7 +113,7 @@ pub(crate) fn llseek<I: Source, O: Sink, E: Sink>(
                 what: Told::Place,
                 address,
             };
-            let call = NativeCall { nr: LSEEK, args };
+            let call = NativeWords { nr: LSEEK, args };
             tell_call(words, told, space, call, dev, below)
         }
     }

@@ -9,12 +9,12 @@ ghost use Rattle.o32_model.specs.NodeCalls.{ftruncate_row, truncate_row};
 ghost use Rattle.o32_model.specs.Step.{Guest};
 ghost use Rattle.outside.specs.Streams.{NoCountFell, contents};
 
-use crate::calls::{NativeCall, path_call};
-use crate::numbers::{FTRUNCATE, TRUNCATE};
+use crate::calls::path_call;
 use crate::paths::Caller;
-use bridge_paths::Below;
+use bridge_paths::{Below, NativeWords};
 use host_mem::FIRST_ADDRESS;
 use kernel_core::Stop;
+use native_numbers::{FTRUNCATE, TRUNCATE};
 use o32_model::{CallWords, Outcome};
 use outside::{Devices, Sink, Source};
 
@@ -38,7 +38,7 @@ pub(crate) fn truncate<I: Source, O: Sink, E: Sink>(
     ensures same { LeadsOn below.old below.new }
 {
     let args = [FIRST_ADDRESS, size, 0, 0, 0, 0];
-    let call = NativeCall { nr: TRUNCATE, args };
+    let call = NativeWords { nr: TRUNCATE, args };
     path_call(caller, address, call, dev, below)
 }
 

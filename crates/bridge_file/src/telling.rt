@@ -14,8 +14,7 @@ ghost use Rattle.o32_model.specs.Opening.{place_bytes};
 ghost use Rattle.o32_model.specs.Step.{Guest, O32Step};
 ghost use Rattle.outside.specs.Streams.{NoCountFell, contents};
 
-use crate::calls::NativeCall;
-use bridge_paths::{Below, outcome_of, put};
+use bridge_paths::{Below, NativeWords, outcome_of, put};
 use guest_space::Space;
 use host_mem::{FIRST_ADDRESS, HostMem};
 use kernel_core::{Errno, NoMemory, Reply, Stop};
@@ -47,7 +46,7 @@ pub(crate) fn tell_call<I: Source, O: Sink, E: Sink>(
     words: &CallWords,
     told: ToldAt,
     space: &mut Space,
-    call: NativeCall,
+    call: NativeWords,
     dev: &mut Devices<I, O, E>,
     below: &mut Below,
 ) -> Result<Outcome, Stop>

@@ -12,14 +12,13 @@ ghost use Rattle.o32_model.specs.Step.{Guest};
 ghost use Rattle.outside.specs.Streams.{NoCountFell, contents};
 ghost use Rattle.bridge_file.specs.inside.Tells.{size_room};
 
-use crate::calls::NativeCall;
-use crate::numbers::{GETCWD, READLINKAT};
 use crate::paths::PathAt;
 use crate::telling::{Told, ToldAt, tell_call};
-use bridge_paths::{Below, fresh_room, put_room, read_path};
+use bridge_paths::{Below, NativeWords, fresh_room, put_room, read_path};
 use guest_space::Space;
 use host_mem::FIRST_ADDRESS;
 use kernel_core::{Bytes, Stop};
+use native_numbers::{GETCWD, READLINKAT};
 use o32_model::{CallWords, Outcome};
 use outside::{Devices, Sink, Source};
 use std::alloc::Global;
@@ -100,7 +99,7 @@ fn link_text<I: Source, O: Sink, E: Sink>(
         what: Told::Text(at),
         address: query.buffer,
     };
-    let call = NativeCall {
+    let call = NativeWords {
         nr: READLINKAT,
         args,
     };
@@ -140,6 +139,6 @@ pub(crate) fn getcwd<I: Source, O: Sink, E: Sink>(
         what: Told::Text(FIRST_ADDRESS),
         address: buffer,
     };
-    let call = NativeCall { nr: GETCWD, args };
+    let call = NativeWords { nr: GETCWD, args };
     tell_call(words, told, space, call, dev, below)
 }

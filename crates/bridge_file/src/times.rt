@@ -24,7 +24,6 @@ ghost use Rattle.bridge_file.specs.inside.BothTimes.{
   times_read,
 };
 
-use crate::numbers::UTIMENSAT;
 use crate::paths::Caller;
 use bridge_paths::{Below, load_structure, put_path, read_path};
 use byteorder::{BigEndian, ByteOrder};
@@ -33,6 +32,7 @@ use host_mem::HostMem;
 use kernel_core::{Bytes, Errno, NoMemory, Stop};
 use kernel_model::TimeSpec;
 use layouts::{NativeStructure, native_layout, put_record};
+use native_numbers::UTIMENSAT;
 use o32_model::Outcome;
 use outside::{Devices, Sink, Source};
 use std::alloc::Global;

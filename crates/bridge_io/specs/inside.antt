@@ -2,7 +2,6 @@ pub mod Outcomes
 pub mod Plans
 pub mod Purposes
 pub mod Rooms
-pub mod Rows
 pub mod Stores
 pub mod Takes
 pub mod Written

@@ -16,9 +16,10 @@ ghost use Rattle.o32_model.specs.Descriptors.{fcntl_row};
 ghost use Rattle.o32_model.specs.Step.{Guest, O32Step};
 ghost use Rattle.outside.specs.Streams.{NoCountFell, contents};
 
-use crate::numbers::{F_GETFL, F_SETFL, FCNTL};
+use crate::numbers::{F_GETFL, F_SETFL};
 use bridge_log::{Below, outcome_of};
 use kernel_core::{Reply, Stop};
+use native_numbers::FCNTL;
 use o32_model::{CallWords, Outcome};
 use outside::{Devices, Sink, Source};
 

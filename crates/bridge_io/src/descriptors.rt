@@ -13,9 +13,10 @@ ghost use Rattle.o32_model.specs.Descriptors.{close_row, dup_row, dup2_row, dup3
 ghost use Rattle.o32_model.specs.Step.{Guest, O32Step};
 ghost use Rattle.outside.specs.Streams.{NoCountFell, contents};
 
-use crate::numbers::{CLOSE, DUP, DUP3, F_GETFD, FCNTL};
+use crate::numbers::F_GETFD;
 use bridge_log::{Below, outcome_of};
 use kernel_core::{Reply, Stop};
+use native_numbers::{CLOSE, DUP, DUP3, FCNTL};
 use o32_model::{CallWords, Outcome};
 use outside::{Devices, Sink, Source};
 

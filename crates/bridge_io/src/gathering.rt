@@ -11,12 +11,12 @@ ghost use Rattle.o32_model.specs.Words.{argument};
 ghost use Rattle.outside.specs.Streams.{NoCountFell, contents};
 
 use crate::looking::room;
-use crate::numbers::WRITEV;
 use crate::vectors::wrong_count;
 use crate::writing::{send_loaded, write_loaded};
 use bridge_log::{Below, Vector};
 use guest_space::Space;
 use kernel_core::Stop;
+use native_numbers::WRITEV;
 use o32_model::{CallWords, Outcome};
 use outside::{Devices, Sink, Source};
 

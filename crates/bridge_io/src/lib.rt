@@ -17,5 +17,7 @@ mod terminal;
 mod vectors;
 mod writing;
 
-pub use bridge_log::{Below, NativeKernel, fresh_room, load_structure, outcome_of, put};
+pub use bridge_log::{
+    Below, NativeKernel, NativeWords, fresh_room, load_structure, outcome_of, put,
+};
 pub use call::io_call;

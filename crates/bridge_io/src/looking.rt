@@ -15,12 +15,13 @@ ghost use Rattle.kernel_model.specs.Stops.{StopsOnlyIfRose};
 ghost use Rattle.o32_model.specs.Transfers.{small_file_limit};
 ghost use Rattle.outside.specs.Streams.{NoCountFell, contents};
 
-use crate::numbers::{F_GETFL, FCNTL, FIONREAD, FSTAT, IOCTL, LSEEK, SEEK_CUR};
+use crate::numbers::{F_GETFL, FIONREAD, SEEK_CUR};
 use crate::room::{Room, WriteFlags};
 use crate::telling::{flags_in, is_fault, number_in, size_in};
 use bridge_log::{Below, fresh_room};
 use host_mem::FIRST_ADDRESS;
 use kernel_core::Stop;
+use native_numbers::{FCNTL, FSTAT, IOCTL, LSEEK};
 use outside::{Devices, Sink, Source};
 
 /// How many bytes a status has (struct stat of Linux `include/uapi/asm-generic/stat.h`).

@@ -14,12 +14,12 @@ ghost use Rattle.o32_model.specs.Step.{Guest, O32Step};
 ghost use Rattle.outside.specs.Streams.{NoCountFell, contents};
 
 use crate::commands::bit;
-use crate::numbers::PIPE2;
-use crate::structures::{GuestStructure, NativeCall, Structure, byte_at, store_call};
-use bridge_log::{Below, fresh_room, outcome_of};
+use crate::structures::{GuestStructure, Structure, byte_at, store_call};
+use bridge_log::{Below, NativeWords, fresh_room, outcome_of};
 use guest_space::Space;
 use host_mem::{FIRST_ADDRESS, HostMem};
 use kernel_core::{Reply, Stop};
+use native_numbers::PIPE2;
 use o32_model::{CallWords, Outcome};
 use outside::{Devices, Sink, Source};
 
@@ -124,7 +124,7 @@ pub(crate) fn pipe2<I: Source, O: Sink, E: Sink>(
         address,
         structure: Structure::Pair,
     };
-    let call = NativeCall { nr: PIPE2, args };
+    let call = NativeWords { nr: PIPE2, args };
     store_call(words, to, space, call, dev, below)
 }
 

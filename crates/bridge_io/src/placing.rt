@@ -16,13 +16,13 @@ ghost use Rattle.o32_model.specs.Words.{argument, stack_pair};
 ghost use Rattle.outside.specs.Streams.{NoCountFell, contents};
 
 use crate::looking::{SMALL_FILE_LIMIT, is_ready, size, write_flags};
-use crate::numbers::PWRITE64;
 use crate::room::{Plan, WriteFlags};
 use crate::telling::past_outcome;
 use bridge_log::{Below, load_buffer, stack_pair};
 use guest_space::Space;
 use host_mem::FIRST_ADDRESS;
 use kernel_core::{Errno, Stop};
+use native_numbers::PWRITE64;
 use o32_model::{CallWords, Outcome};
 use outside::{Devices, Sink, Source};
 

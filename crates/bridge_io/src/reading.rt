@@ -9,11 +9,11 @@ ghost use Rattle.o32_model.specs.Transfers.{pread_row, read_row};
 ghost use Rattle.o32_model.specs.Words.{argument, stack_pair};
 ghost use Rattle.outside.specs.Streams.{NoCountFell, contents};
 
-use crate::numbers::{PREAD64, READ};
 use bridge_log::{Below, stack_pair};
 use guest_space::Space;
 use host_mem::FIRST_ADDRESS;
 use kernel_core::{Errno, Stop};
+use native_numbers::{PREAD64, READ};
 use o32_model::{CallWords, Outcome};
 use outside::{Devices, Sink, Source};
 

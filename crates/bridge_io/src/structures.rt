@@ -17,7 +17,7 @@ ghost use Rattle.o32_model.specs.GuestBytes.{with_stored};
 ghost use Rattle.o32_model.specs.Step.{Guest, O32Step};
 ghost use Rattle.outside.specs.Streams.{NoCountFell, contents};
 
-use bridge_log::{Below, fresh_room, outcome_of, put};
+use bridge_log::{Below, NativeWords, fresh_room, outcome_of, put};
 use guest_space::Space;
 use host_mem::HostMem;
 use kernel_core::{NoMemory, Reply, Stop};
@@ -210,15 +210,6 @@ pub(crate) struct GuestStructure {
     pub(crate) structure: Structure,
 }
 
-/// A native call that is to be made.
-#[derive(Clone, Copy)]
-pub(crate) struct NativeCall {
-    /// Its number.
-    pub(crate) nr: u64,
-    /// Its arguments, of which those that it doesn't take are 0.
-    pub(crate) args: [u64; 6],
-}
-
 /// Makes the native call that a call of the program is, where it gives a structure: over host memory with
 /// as many zeros as the structure has bytes, from where it then goes to the program's memory. `row` and
 /// `kept` hold of every o32 call that this native call stores for.
@@ -226,7 +217,7 @@ pub(crate) fn store_call<I: Source, O: Sink, E: Sink>(
     words: &CallWords,
     to: GuestStructure,
     space: &mut Space,
-    call: NativeCall,
+    call: NativeWords,
     dev: &mut Devices<I, O, E>,
     below: &mut Below,
 ) -> Result<Outcome, Stop>

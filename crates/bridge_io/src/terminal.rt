@@ -18,13 +18,13 @@ ghost use Rattle.o32_model.specs.Terminal.{ioctl_row};
 ghost use Rattle.o32_model.specs.Words.{argument};
 ghost use Rattle.outside.specs.Streams.{NoCountFell, contents};
 
-use crate::numbers::IOCTL;
 use crate::pipes::host_place;
-use crate::structures::{GuestStructure, NativeCall, Structure, rearrange, store_call};
-use bridge_log::{Below, load_structure};
+use crate::structures::{GuestStructure, Structure, rearrange, store_call};
+use bridge_log::{Below, NativeWords, load_structure};
 use guest_space::Space;
 use host_mem::HostMem;
 use kernel_core::{NoMemory, Request, Stop};
+use native_numbers::IOCTL;
 use number_tables::{NativeNumber, O32Number};
 use o32_model::{CallWords, Outcome};
 use outside::{Devices, Sink, Source};
@@ -161,7 +161,7 @@ fn show<I: Source, O: Sink, E: Sink>(
     let place = host_place(space, address, structure.size_for_program());
     let args = [u64::from(fd), number, place, 0, 0, 0];
     let to = GuestStructure { address, structure };
-    let call = NativeCall { nr: IOCTL, args };
+    let call = NativeWords { nr: IOCTL, args };
     store_call(words, to, space, call, dev, below)
 }
 

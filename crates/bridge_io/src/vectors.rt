@@ -15,11 +15,11 @@ ghost use Rattle.o32_model.specs.Transfers.{readv_row};
 ghost use Rattle.o32_model.specs.Words.{argument};
 ghost use Rattle.outside.specs.Streams.{NoCountFell, contents};
 
-use crate::numbers::{READ, READV};
 use bridge_log::{Below, Vector, fresh_room, outcome_of, put};
 use guest_space::Space;
 use host_mem::{FIRST_ADDRESS, HostMem};
 use kernel_core::{Errno, NoMemory, Reply, Stop};
+use native_numbers::{READ, READV};
 use o32_model::{CallWords, Log, Outcome, Range};
 use outside::{Devices, Sink, Source};
 

@@ -13,13 +13,13 @@ ghost use Rattle.o32_model.specs.Words.{argument};
 ghost use Rattle.outside.specs.Streams.{NoCountFell, contents};
 
 use crate::looking::room;
-use crate::numbers::WRITE;
 use crate::room::Room;
 use crate::telling::past_outcome;
 use bridge_log::{Below, load_buffer, outcome_of, sent_back};
 use guest_space::Space;
 use host_mem::FIRST_ADDRESS;
 use kernel_core::Stop;
+use native_numbers::WRITE;
 use o32_model::{CallWords, Outcome};
 use outside::{Devices, Sink, Source};
 

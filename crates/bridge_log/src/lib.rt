@@ -8,6 +8,7 @@ mod effects;
 mod filled;
 mod looks;
 mod mirrored;
+mod native_words;
 mod outcomes;
 mod storing;
 
@@ -18,5 +19,6 @@ pub use bridge_mem::{
 };
 pub use effects::{sent, wrote};
 pub use native_kernel::NativeKernel;
+pub use native_words::NativeWords;
 pub use outcomes::outcome_of;
 pub use storing::{put, sent_back};

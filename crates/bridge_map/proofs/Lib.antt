@@ -4,6 +4,7 @@ pub mod FileBytes
 pub mod Journal
 pub mod Looking
 pub mod Moving
+pub mod Naming
 pub mod Pages
 pub mod Pieces
 pub mod Placing

@@ -8,6 +8,8 @@ use Rattle.kernel_core.specs.declared.map_flags.MapFlags.{MapFlags}
 use Rattle.kernel_core.specs.Bits.{has}
 use Rattle.kernel_model.specs.State.{Files, Kernel}
 use Rattle.kernel_model.specs.Came.{Came, Done, Refused, Did, with_given}
+use Rattle.o32_calls.specs.Numbers.{map_number}
+use Rattle.o32_calls.specs.declared.mappings.MapCall.TheVariants.{Mmap, Mmap2, Mremap}
 use Rattle.o32_model.specs.Mappings.{first_bytes, mapped, place_for}
 use Rattle.o32_model.specs.Ranges.{page_size, with_new_pages}
 use Rattle.o32_model.specs.Step.{Guest, O32Step}
@@ -127,11 +129,11 @@ maps_no_file words = has (argument words 3) 0x800
 
 -- mmap(2) or mmap2(2)
 abbrev pub is_mmap : CallWords → Bool
-is_mmap words = words.nr == 4090 || words.nr == 4210
+is_mmap words = words.nr == map_number Mmap || words.nr == map_number Mmap2
 
 -- whether a call asks for pages, and the kernel for nothing: mmap(2) and mmap2(2) of no file, mremap(2)
 abbrev pub asks_for_room : CallWords → Bool
-asks_for_room words = (is_mmap words && maps_no_file words) || words.nr == 4167
+asks_for_room words = (is_mmap words && maps_no_file words) || words.nr == map_number Mremap
 
 -- whether a call on mappings asks the kernel for nothing: one that maps no file
 abbrev pub is_call_of_memory : CallWords → Bool

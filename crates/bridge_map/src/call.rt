@@ -1,11 +1,11 @@
-//! A call on mappings by its number.
-ghost use Rattle.bridge_log.specs.Leading.{LeadsOn};
-ghost use Rattle.std.specs.Prelude.{◌≡◌, true, false, IfOk, IsTrue, OnErr, OnOk};
+//! A call on mappings by its name.
+ghost use Rattle.std.specs.Prelude.{◌≡◌, true, false, IfOk, OnErr, OnOk};
 ghost use Rattle.bridge_log.specs.Keeping.{KeepsCall};
 ghost use Rattle.bridge_map.specs.Rows.{HasRoom, IsCallOfMemory, Leads, asks_for_room, guest_of, is_call_of_memory, is_mmap, maps_no_file};
 ghost use Rattle.kernel_model.specs.Stops.{StopsOnlyIfRose};
+ghost use Rattle.o32_calls.specs.Numbers.{map_number};
 ghost use Rattle.o32_model.specs.Answered.{IsCall};
-ghost use Rattle.o32_model.specs.Table.{is_map_call, o32_call};
+ghost use Rattle.o32_model.specs.Table.{o32_call};
 ghost use Rattle.outside.specs.Streams.{NoCountFell, contents};
 
 use crate::mmap::mmap;
@@ -19,6 +19,7 @@ use host_mem::HostMem;
 use kernel_core::address_space::PAGE_SIZE;
 use kernel_core::{NoMemory, Stop};
 use mips_exec::Cpu;
+use o32_calls::MapCall;
 use o32_model::{CallWords, Log, Outcome, Seen};
 use outside::{Devices, Sink, Source};
 
@@ -27,6 +28,7 @@ use outside::{Devices, Sink, Source};
 /// by a device; a new mapping of no file, or another size of a range, that is ENOMEM doesn't.
 #[inline(never)]
 pub fn map_call<I: Source, O: Sink, E: Sink>(
+    call: MapCall,
     args: &CallWords,
     cpu: &mut Cpu,
     space: &mut Space,
@@ -34,9 +36,9 @@ pub fn map_call<I: Source, O: Sink, E: Sink>(
     mem: &mut HostMem,
     dev: &mut Devices<I, O, E>,
     log: &mut Log,
-    seen: &Seen,
+    _seen: &Seen,
 ) -> Result<Outcome, Stop>
-    requires { IsTrue (is_map_call args.now.nr) }
+    requires { args.now.nr ≡ map_number call }
     ensures no_memory { OnErr result (asks_for_room args.now ≡ true → HasRoom args.now space.old) }
     ensures row { IsCall (o32_call k.old (guest_of args.now cpu.old space.old)) result k.new space.new cpu.new
         (contents I.left O.written E.written dev.old) (contents I.left O.written E.written dev.new) }
@@ -51,36 +53,18 @@ pub fn map_call<I: Source, O: Sink, E: Sink>(
         memory: mem,
         log,
     };
-    by_number(args, cpu, space, dev, seen, below)
-}
-
-/// The same by its number, with the kernel and what its calls are made with as one value.
-fn by_number<I: Source, O: Sink, E: Sink>(
-    args: &CallWords,
-    cpu: &mut Cpu,
-    space: &mut Space,
-    dev: &mut Devices<I, O, E>,
-    seen: &Seen,
-    below: &mut Below,
-) -> Result<Outcome, Stop>
-    requires { IsTrue (is_map_call args.now.nr) }
-    ensures no_memory { OnErr result (asks_for_room args.now ≡ true → HasRoom args.now space.old) }
-    ensures row { IsCall (o32_call below.old.kernel.now (guest_of args.now cpu.old space.old)) result below.new.kernel.now space.new cpu.new
-        (contents I.left O.written E.written dev.old) (contents I.left O.written E.written dev.new) }
-    ensures kept { KeepsCall (o32_call below.old.kernel.now (guest_of args.now cpu.old space.old)) result below.old.kernel.now
-        (guest_of args.now cpu.old space.old) (I.left dev.old.input) below.old.log.now below.new.log.now }
-    ensures cause { StopsOnlyIfRose I.faults O.faults E.faults result dev.old dev.new }
-    ensures counts { NoCountFell I.faults O.faults E.faults dev.old dev.new }
-    ensures clock { below.new.kernel.now.clock ≡ below.old.kernel.now.clock }
-    ensures same { LeadsOn below.old below.new }
-{
     if maps_no_file(args) {
-        return Ok(memory_call(args, space, below.log)?);
+        return Ok(memory_call(call, args, space, below.log)?);
     }
-    match args.nr {
-        4090 => mmap_file(args, 1, space, dev, below),
-        4210 => mmap_file(args, PAGE_SIZE, space, dev, below),
-        _ => Ok(memory_call(args, space, below.log)?),
+    match call {
+        MapCall::Mmap => mmap_file(args, 1, space, dev, below),
+        MapCall::Mmap2 => mmap_file(args, PAGE_SIZE, space, dev, below),
+        MapCall::Brk
+        | MapCall::Munmap
+        | MapCall::Mprotect
+        | MapCall::Msync
+        | MapCall::Mremap
+        | MapCall::Madvise => Ok(memory_call(call, args, space, below.log)?),
     }
 }
 
@@ -95,21 +79,27 @@ fn maps_no_file(args: &CallWords) -> bool
 /// mremap(2), madvise(2), and mmap(2) and mmap2(2) with MAP_ANONYMOUS. It gives what the call comes to, and
 /// keeps its effects on pages where effects are kept. After NoMemory nothing is promised of memory; a new mapping,
 /// or another size of a range, that is ENOMEM never answers it.
-pub fn memory_call(args: &CallWords, space: &mut Space, log: &mut Log) -> Result<Outcome, NoMemory>
-    requires { is_call_of_memory args.now ≡ true }
+pub fn memory_call(
+    call: MapCall,
+    args: &CallWords,
+    space: &mut Space,
+    log: &mut Log,
+) -> Result<Outcome, NoMemory>
+    requires call { args.now.nr ≡ map_number call }
+    requires memory { is_call_of_memory args.now ≡ true }
     ensures no_memory { OnErr result (asks_for_room args.now ≡ true → HasRoom args.now space.old) }
     ensures row { IfOk result (λ outcome. IsCallOfMemory args.now outcome space.old space.new) }
     ensures effects { OnOk result (Leads log.old.effects log.new.effects space.old.pages space.new.pages) }
     ensures native { log.new.native ≡ log.old.native }
 {
-    match args.nr {
-        4045 => brk(args, space, log),
-        4090 => mmap(args, 1, space, log),
-        4091 => munmap(args, space, log),
-        4125 => mprotect(args, space, log),
-        4144 => Ok(msync(args, space)),
-        4167 => mremap(args, space, log),
-        4218 => Ok(madvise(args, space)),
-        _ => mmap(args, PAGE_SIZE, space, log),
+    match call {
+        MapCall::Brk => brk(args, space, log),
+        MapCall::Mmap => mmap(args, 1, space, log),
+        MapCall::Munmap => munmap(args, space, log),
+        MapCall::Mprotect => mprotect(args, space, log),
+        MapCall::Msync => Ok(msync(args, space)),
+        MapCall::Mremap => mremap(args, space, log),
+        MapCall::Mmap2 => mmap(args, PAGE_SIZE, space, log),
+        MapCall::Madvise => Ok(madvise(args, space)),
     }
 }

@@ -7,11 +7,11 @@ ghost use Rattle.kernel_model.specs.Stops.{StopsOnlyIfRose};
 ghost use Rattle.kernel_model.specs.Transfers.{file_bytes};
 ghost use Rattle.outside.specs.Streams.{NoCountFell, contents};
 
-use crate::numbers::PREAD64;
 use bridge_log::Below;
 use guest_space::Space;
 use host_mem::FIRST_ADDRESS;
 use kernel_core::Stop;
+use native_numbers::PREAD64;
 use o32_model::{CallWords, Outcome};
 use outside::{Devices, Sink, Source};
 

@@ -7,10 +7,11 @@ ghost use Rattle.kernel_model.specs.Stops.{StopsOnlyIfRose};
 ghost use Rattle.kernel_model.specs.declared.descriptor.Description.{Description};
 ghost use Rattle.outside.specs.Streams.{NoCountFell, contents};
 
-use crate::numbers::{F_GETFL, FCNTL, O_WRONLY, PREAD64};
+use crate::numbers::{F_GETFL, O_WRONLY};
 use bridge_log::{Below, fresh_room};
 use host_mem::FIRST_ADDRESS;
 use kernel_core::{Errno, MapKind, Reply, Stop};
+use native_numbers::{FCNTL, PREAD64};
 use outside::{Devices, Sink, Source};
 
 /// Why a mapping may not show what a descriptor has open, by native calls that change nothing of the kernel:

@@ -1,19 +1,20 @@
 //! A call by its number.
-ghost use Rattle.bridge_paths.specs.Passed.{KeepsCall, LeadsOn};
-ghost use Rattle.std.specs.Prelude.{◌≡◌, IsTrue};
-ghost use Rattle.bridge_open.specs.Numbers.{is_open_call};
+ghost use Rattle.bridge_paths.specs.Passed.{KeepsCall};
+ghost use Rattle.std.specs.Prelude.{◌≡◌};
 ghost use Rattle.bridge_paths.specs.Found.{found};
 ghost use Rattle.kernel_model.specs.Stops.{StopsOnlyIfRose};
+ghost use Rattle.o32_calls.specs.Numbers.{open_number};
 ghost use Rattle.o32_model.specs.Answered.{IsCall};
 ghost use Rattle.o32_model.specs.Table.{o32_call};
 ghost use Rattle.outside.specs.Streams.{NoCountFell, contents};
 
-use crate::opening::{OpenCall, open};
+use crate::opening::{OpenRequest, open};
 use bridge_paths::{Below, NativeKernel};
 use guest_space::Space;
 use host_mem::HostMem;
 use kernel_core::Stop;
 use mips_exec::Cpu;
+use o32_calls::OpenCall;
 use o32_model::{CallWords, Log, Outcome, Seen};
 use outside::{Devices, Sink, Source};
 use std::alloc::Global;
@@ -28,6 +29,7 @@ const CREAT_FLAGS: u32 = 0x301;
 /// for want of memory, or by a device.
 #[inline(never)]
 pub fn open_call<I: Source, O: Sink, E: Sink>(
+    call: OpenCall,
     alloc: Global,
     args: &CallWords,
     cpu: &mut Cpu,
@@ -38,7 +40,7 @@ pub fn open_call<I: Source, O: Sink, E: Sink>(
     log: &mut Log,
     _seen: &Seen,
 ) -> Result<Outcome, Stop>
-    requires { IsTrue (is_open_call args.now.nr) }
+    requires { args.now.nr ≡ open_number call }
     ensures row { IsCall (o32_call k.old (found args.now cpu.old space.old)) result k.new space.new cpu.new
         (contents I.left O.written E.written dev.old) (contents I.left O.written E.written dev.new) }
     ensures kept { KeepsCall (o32_call k.old (found args.now cpu.old space.old)) result k.old
@@ -52,56 +54,34 @@ pub fn open_call<I: Source, O: Sink, E: Sink>(
         memory: mem,
         log,
     };
-    by_number(alloc, args, cpu, space, dev, below)
-}
-
-/// The same by its number, with the kernel and what its calls are made with as one value.
-fn by_number<I: Source, O: Sink, E: Sink>(
-    alloc: Global,
-    args: &CallWords,
-    cpu: &mut Cpu,
-    space: &mut Space,
-    dev: &mut Devices<I, O, E>,
-    below: &mut Below,
-) -> Result<Outcome, Stop>
-    requires { IsTrue (is_open_call args.now.nr) }
-    ensures row { IsCall (o32_call below.old.kernel.now (found args.now cpu.old space.old)) result below.new.kernel.now space.new cpu.new
-        (contents I.left O.written E.written dev.old) (contents I.left O.written E.written dev.new) }
-    ensures kept { KeepsCall (o32_call below.old.kernel.now (found args.now cpu.old space.old)) result below.old.kernel.now
-        (found args.now cpu.old space.old) (I.left dev.old.input) below.old.log.now below.new.log.now }
-    ensures cause { StopsOnlyIfRose I.faults O.faults E.faults result dev.old dev.new }
-    ensures counts { NoCountFell I.faults O.faults E.faults dev.old dev.new }
-    ensures clock { below.new.kernel.now.clock ≡ below.old.kernel.now.clock }
-    ensures same { LeadsOn below.old below.new }
-{
     let [a0, a1, a2, a3] = args.reg;
-    match args.nr {
-        4005 => {
-            let call = OpenCall {
+    match call {
+        OpenCall::Open => {
+            let request = OpenRequest {
                 directory: WORKING,
                 address: a0,
                 flags: a1,
                 mode: a2,
             };
-            open(alloc, args, call, space, dev, below)
+            open(alloc, args, request, space, dev, below)
         }
-        4008 => {
-            let call = OpenCall {
+        OpenCall::Creat => {
+            let request = OpenRequest {
                 directory: WORKING,
                 address: a0,
                 flags: CREAT_FLAGS,
                 mode: a1,
             };
-            open(alloc, args, call, space, dev, below)
+            open(alloc, args, request, space, dev, below)
         }
-        _ => {
-            let call = OpenCall {
+        OpenCall::Openat => {
+            let request = OpenRequest {
                 directory: a0,
                 address: a1,
                 flags: a2,
                 mode: a3,
             };
-            open(alloc, args, call, space, dev, below)
+            open(alloc, args, request, space, dev, below)
         }
     }
 }

@@ -11,10 +11,10 @@ ghost use Rattle.o32_model.specs.Paths.{path_at};
 ghost use Rattle.o32_model.specs.Step.{Guest};
 ghost use Rattle.outside.specs.Streams.{NoCountFell, contents};
 
-use crate::numbers::OPENAT;
 use bridge_paths::{Below, outcome_of};
 use host_mem::FIRST_ADDRESS;
 use kernel_core::{Errno, Reply, Stop};
+use native_numbers::OPENAT;
 use o32_model::{CallWords, Outcome};
 use outside::{Devices, Sink, Source};
 

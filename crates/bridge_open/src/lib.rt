@@ -3,7 +3,6 @@
 
 mod call;
 mod large;
-mod numbers;
 mod opening;
 mod sizes;
 

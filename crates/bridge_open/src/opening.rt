@@ -15,12 +15,12 @@ ghost use Rattle.o32_model.specs.Step.{Guest};
 ghost use Rattle.outside.specs.Streams.{NoCountFell, contents};
 
 use crate::large::too_large;
-use crate::numbers::OPENAT;
 use crate::sizes::size_led;
 use bridge_paths::{Below, put_one, read_path};
 use guest_space::Space;
 use host_mem::FIRST_ADDRESS;
 use kernel_core::{Bytes, Errno, OpenFlags, Stop};
+use native_numbers::OPENAT;
 use number_tables::{NativeNumber, O32Number};
 use o32_model::{CallWords, Outcome};
 use outside::{Devices, Sink, Source};
@@ -32,7 +32,7 @@ const SMALL_FILE_LIMIT: u64 = 0x7FFF_FFFF;
 
 /// What a call that opens a file asks for, by its words.
 #[derive(Clone, Copy)]
-pub(crate) struct OpenCall {
+pub(crate) struct OpenRequest {
     /// What a relative path counts from.
     pub(crate) directory: u32,
     /// The address of the path.
@@ -62,31 +62,31 @@ struct Opening {
 pub(crate) fn open<I: Source, O: Sink, E: Sink>(
     alloc: Global,
     words: &CallWords,
-    call: OpenCall,
+    request: OpenRequest,
     space: &Space,
     dev: &mut Devices<I, O, E>,
     below: &mut Below,
 ) -> Result<Outcome, Stop>
     ensures row { (guest : Guest) → guest.words ≡ words.now → guest.memory ≡ space.now
-        → IsCall (open_row below.old.kernel.now guest (base call.directory) call.address (open_of_o32 call.flags) call.mode) result
+        → IsCall (open_row below.old.kernel.now guest (base request.directory) request.address (open_of_o32 request.flags) request.mode) result
         below.new.kernel.now guest.memory guest.processor
         (contents I.left O.written E.written dev.old) (contents I.left O.written E.written dev.new) }
     ensures kept { (guest : Guest) → guest.words ≡ words.now → guest.memory ≡ space.now
-        → KeepsCall (open_row below.old.kernel.now guest (base call.directory) call.address (open_of_o32 call.flags) call.mode) result below.old.kernel.now guest
+        → KeepsCall (open_row below.old.kernel.now guest (base request.directory) request.address (open_of_o32 request.flags) request.mode) result below.old.kernel.now guest
         (I.left dev.old.input) below.old.log.now below.new.log.now }
     ensures cause { StopsOnlyIfRose I.faults O.faults E.faults result dev.old dev.new }
     ensures counts { NoCountFell I.faults O.faults E.faults dev.old dev.new }
     ensures clock { below.new.kernel.now.clock ≡ below.old.kernel.now.clock }
     ensures same { LeadsOn below.old below.new }
 {
-    match OpenFlags::of_o32(call.flags) {
+    match OpenFlags::of_o32(request.flags) {
         None => Ok(Outcome::Error(Errno::EINVAL)),
         Some(flags) => {
             let opening = Opening {
-                directory: call.directory,
-                address: call.address,
+                directory: request.directory,
+                address: request.address,
                 flags,
-                mode: call.mode,
+                mode: request.mode,
             };
             open_listed(alloc, words, opening, space, dev, below)
         }

@@ -8,11 +8,11 @@ ghost use Rattle.o32_model.specs.PathArguments.{base};
 ghost use Rattle.o32_model.specs.Paths.{is_nul, path_limit};
 ghost use Rattle.outside.specs.Streams.{NoCountFell, contents};
 
-use crate::numbers::NEWFSTATAT;
 use bridge_paths::{Below, put_behind};
 use byteorder::{ByteOrder, LittleEndian};
 use host_mem::{FIRST_ADDRESS, HostMem};
 use kernel_core::{Bytes, Reply, Stop};
+use native_numbers::NEWFSTATAT;
 use outside::{Devices, Sink, Source};
 
 /// How many bytes a status has (struct stat of Linux `include/uapi/asm-generic/stat.h`).

@@ -8,10 +8,10 @@ ghost use Rattle.outside.specs.Streams.{NoCountFell, contents};
 
 use crate::entries::{Entries, put_entries};
 use crate::limited::Limits;
-use crate::numbers::PPOLL;
 use bridge_limits::{Below, put_limits};
 use guest_space::Space;
 use kernel_core::{Errno, Reply, Stop};
+use native_numbers::PPOLL;
 use number_tables::NativeNumber;
 use outside::{Devices, Sink, Source};
 

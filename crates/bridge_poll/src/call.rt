@@ -1,10 +1,12 @@
 //! The calls by their words.
-ghost use Rattle.std.specs.Prelude.{◌≡◌, ◌==◌, ◌||◌, ◌⊎◌, Ok, Option, Some, None};
+ghost use Rattle.std.specs.Prelude.{◌≡◌, ◌==◌, ◌||◌, Ok, Option, Some, None};
 ghost use Rattle.bridge_limits.specs.Passed.{KeepsCall, LeadsOn};
 ghost use Rattle.bridge_poll.specs.Found.{found};
 ghost use Rattle.std.specs.Int.{cast_signed, w32};
 ghost use Rattle.kernel_model.specs.Readiness as readiness;
 ghost use Rattle.kernel_model.specs.Stops.{StopsOnlyIfRose};
+ghost use Rattle.o32_calls.specs.Numbers.{poll_number};
+ghost use Rattle.o32_calls.specs.declared.times.PollCall.TheVariants.{Poll, Ppoll};
 ghost use Rattle.o32_model.specs.Answered.{IsCall};
 ghost use Rattle.o32_model.specs.Polling.{poll_row, ppoll_row};
 ghost use Rattle.o32_model.specs.Step.{Guest};
@@ -19,6 +21,7 @@ use guest_space::Space;
 use host_mem::HostMem;
 use kernel_core::{Errno, Stop};
 use mips_exec::Cpu;
+use o32_calls::{POLL, PPOLL, PollCall};
 use o32_model::{CallWords, Log, Outcome, Seen};
 use outside::{Devices, Sink, Source};
 
@@ -26,9 +29,9 @@ const NANOSECONDS_PER_MILLISECOND: u64 = 1_000_000;
 
 /// Whether a number is that of one of these calls.
 pub fn is_poll_call(number: u32) -> bool
-    ensures { result ≡ ((number == 4188) || (number == 4302)) }
+    ensures { result ≡ ((number == poll_number Poll) || (number == poll_number Ppoll)) }
 {
-    matches!(number, 4188 | 4302)
+    matches!(number, POLL | PPOLL)
 }
 
 /// Makes the call poll(2) or ppoll(2) of the program, by its words: it tells of each entry which events there are, and
@@ -36,6 +39,7 @@ pub fn is_poll_call(number: u32) -> bool
 /// device.
 #[inline(never)]
 pub fn poll_call<I: Source, O: Sink, E: Sink>(
+    call: PollCall,
     args: &CallWords,
     cpu: &mut Cpu,
     space: &mut Space,
@@ -45,7 +49,7 @@ pub fn poll_call<I: Source, O: Sink, E: Sink>(
     log: &mut Log,
     seen: &Seen,
 ) -> Result<Outcome, Stop>
-    requires { (args.now.nr ≡ 4188) ⊎ (args.now.nr ≡ 4302) }
+    requires { args.now.nr ≡ poll_number call }
     ensures row { IsCall (machine_call seen.now k.old (found args.now cpu.old space.old)) result k.new space.new cpu.new
         (contents I.left O.written E.written dev.old) (contents I.left O.written E.written dev.new) }
     ensures kept { KeepsCall (machine_call seen.now k.old (found args.now cpu.old space.old)) result k.old
@@ -59,31 +63,9 @@ pub fn poll_call<I: Source, O: Sink, E: Sink>(
         memory: mem,
         log,
     };
-    by_number(args, cpu, space, dev, seen, below)
-}
-
-/// The same by its number, with the kernel and what its calls are made with as one value.
-fn by_number<I: Source, O: Sink, E: Sink>(
-    args: &CallWords,
-    cpu: &mut Cpu,
-    space: &mut Space,
-    dev: &mut Devices<I, O, E>,
-    seen: &Seen,
-    below: &mut Below,
-) -> Result<Outcome, Stop>
-    requires { (args.now.nr ≡ 4188) ⊎ (args.now.nr ≡ 4302) }
-    ensures row { IsCall (machine_call seen.now below.old.kernel.now (found args.now cpu.old space.old)) result below.new.kernel.now space.new cpu.new
-        (contents I.left O.written E.written dev.old) (contents I.left O.written E.written dev.new) }
-    ensures kept { KeepsCall (machine_call seen.now below.old.kernel.now (found args.now cpu.old space.old)) result below.old.kernel.now
-        (found args.now cpu.old space.old) (I.left dev.old.input) below.old.log.now below.new.log.now }
-    ensures cause { StopsOnlyIfRose I.faults O.faults E.faults result dev.old dev.new }
-    ensures counts { NoCountFell I.faults O.faults E.faults dev.old dev.new }
-    ensures clock { below.new.kernel.now.clock ≡ below.old.kernel.now.clock }
-    ensures same { LeadsOn below.old below.new }
-{
-    match args.nr {
-        4188 => poll(args, space, dev, below),
-        _ => ppoll(args, space, dev, below),
+    match call {
+        PollCall::Poll => poll(args, space, dev, below),
+        PollCall::Ppoll => ppoll(args, space, dev, below),
     }
 }
 

@@ -7,6 +7,8 @@ ghost use Rattle.kernel_model.specs.Pipes.{Sent};
 ghost use Rattle.kernel_model.specs.State.{Kernel};
 ghost use Rattle.kernel_model.specs.Stops.{StopsOnlyIfRose};
 ghost use Rattle.mips_exec.specs.Processor.{Processor};
+ghost use Rattle.o32_calls.specs.Numbers.{poll_number};
+ghost use Rattle.o32_calls.specs.declared.times.PollCall.TheVariants.{Poll, Ppoll};
 ghost use Rattle.o32_model.specs.Effects.{Effected};
 ghost use Rattle.o32_model.specs.Times.{spec_bytes};
 ghost use Rattle.o32_model.specs.WaitEnds.{ends_with, entries_told, limited_ended, told, wait_ended, wait_word};
@@ -17,6 +19,7 @@ use crate::telling::store_told;
 use bridge_limits::{Below, TimeForm, TimePlace, again_or_interrupted, end_limited};
 use guest_space::Space;
 use kernel_core::{Errno, NoMemory, Stop};
+use o32_calls::POLL;
 use o32_model::{Cause, Close, Log, Wait};
 use outside::{Devices, Sink, Source};
 
@@ -32,7 +35,7 @@ pub fn poll_end<I: Source, O: Sink, E: Sink>(
     dev: &mut Devices<I, O, E>,
     below: &mut Below,
 ) -> Result<Close, Stop>
-    requires { (wait.now.nr ≡ 4188) ⊎ (wait.now.nr ≡ 4302) }
+    requires { (wait.now.nr ≡ poll_number Poll) ⊎ (wait.now.nr ≡ poll_number Ppoll) }
     ensures ends { Closes (wait_ended wait.now cause clock below.old.kernel.now space.old) result below.new.kernel.now space.new
         (contents I.left O.written E.written dev.old) (contents I.left O.written E.written dev.new) }
     ensures kept { KeepsEnd result (I.left dev.old.input) below.old.kernel.now below.new.kernel.now space.old.pages space.new.pages below.old.log.now below.new.log.now }
@@ -42,7 +45,7 @@ pub fn poll_end<I: Source, O: Sink, E: Sink>(
     ensures same { LeadsOn below.old below.new }
 {
     match wait.nr {
-        4188 => {
+        POLL => {
             let close = end(wait, cause, Close::Restart, space, below.log)?;
             Ok(close)
         }

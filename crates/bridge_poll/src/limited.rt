@@ -70,7 +70,7 @@ pub(crate) fn limited<I: Source, O: Sink, E: Sink>(
 /// Where a call stores what it came to.
 #[derive(Clone, Copy)]
 struct Places {
-    /// Its entries, of each of which it is told what is there.
+    /// Its entries (struct pollfd of poll(2)), of each of which revents is stored.
     entries: Entries,
     /// Where the time that is left is stored; nowhere where it is None.
     left: Option<TimePlace>,

@@ -9,6 +9,8 @@ use Rattle.kernel_model.specs.Pipes.{Sent}
 use Rattle.kernel_model.specs.State.{Kernel}
 use Rattle.mips_exec.specs.Processor.{Processor}
 use Rattle.native_calls.specs.History.{moment}
+use Rattle.o32_calls.specs.Numbers.{select_number}
+use Rattle.o32_calls.specs.declared.times.SelectCall.TheVariants.{Newselect}
 use Rattle.o32_model.specs.Effects.{Effected}
 use Rattle.o32_model.specs.Logs.{Kept}
 use Rattle.o32_model.specs.TimeLeft.{LeftForm}
@@ -37,7 +39,7 @@ form_if wait micro = record { address = wait_word wait 4; bytes = if micro then 
 
 pub select_ended_is : (wait : Wait) (cause : Cause) (clock : ℕ) (kernel : Kernel) (memory : Memory)
     → select_ended wait cause clock kernel memory ≡ with_left (time_form wait) wait clock memory (closing (time_form wait) wait cause clock kernel memory)
-select_ended_is wait cause clock kernel memory = by (wait.nr == 4142) where
+select_ended_is wait cause clock kernel memory = by (wait.nr == select_number Newselect) where
   by : (micro : Bool)
       → (if micro then limited_ended (record { address = wait_word wait 4; bytes = val_bytes }) (sets_told wait) wait cause clock kernel memory
       else limited_ended (record { address = wait_word wait 4; bytes = spec_bytes }) (sets_told wait) wait cause clock kernel memory)

@@ -1,6 +1,6 @@
 -- The rows by what is asked for.
-use Rattle.std.proofs.Common.{◌≡◌, ◌⊎◌, ℕ, List, refl, sym, ap, ◌∙◌, inl, inr}
-use Rattle.std.specs.Prelude.{◌==◌, Option, Some, None, Ok, Err, if◌then◌else◌}
+use Rattle.std.proofs.Common.{◌≡◌, ℕ, List, refl, sym, ap, ◌∙◌}
+use Rattle.std.specs.Prelude.{Option, Some, None, Ok, Err}
 use Rattle.bridge_limits.proofs.LimitedRows.{limited, limited_kernel, limited_memory, limited_outcome, step_of, with_came}
 use Rattle.bridge_limits.specs.Limits.{length_at}
 use Rattle.bridge_limits.specs.declared.times.TimeForm.TheVariants.{Microseconds, Nanoseconds}
@@ -8,6 +8,9 @@ use Rattle.kernel_model.specs.Came.{Did, Given}
 use Rattle.kernel_model.specs.Clock.{left_of_wait}
 use Rattle.kernel_model.specs.Readiness.{Sets, select, set_count}
 use Rattle.kernel_model.specs.State.{Kernel}
+use Rattle.o32_calls.specs.Numbers.{select_number}
+use Rattle.o32_calls.specs.declared.times.SelectCall.{SelectCall}
+use Rattle.o32_calls.specs.declared.times.SelectCall.TheVariants.{Newselect, Pselect6}
 use Rattle.o32_model.specs.Masks.{with_own_mask}
 use Rattle.o32_model.specs.Results.{stores_pieces}
 use Rattle.o32_model.specs.Selecting.{Asked, OwnMask, mask_at, newselect_row, newselected, no_mask, pselect6_row, pselected, selected, sets_pieces, with_pair}
@@ -67,25 +70,18 @@ pselect6_law kernel guest asked (Some time) (Some pair) left = pair_law kernel g
 abbrev call_at : ℕ → Seen → Kernel → Guest → List ℕ → O32Step
 call_at number seen kernel guest left = seeing_step_of (call_of number) (seeing_call_of number) seen kernel guest left
 
-abbrev request_at : ℕ → Guest → Given Requested
-request_at number guest =
-    if number == 4142 then select_requested guest.memory (asked_words guest.words.reg) (stack_word guest.words 0)
-    else pselect_requested guest.memory (asked_words guest.words.reg) (stack_word guest.words 0) (stack_word guest.words 1)
-
-by_number : (seen : Seen) (kernel : Kernel) (guest : Guest) (left : List ℕ) → (guest.words.nr ≡ 4142) ⊎ (guest.words.nr ≡ 4301)
-    → machine_call seen kernel guest left ≡ does kernel guest left (requested_by guest.words guest.memory)
-by_number seen kernel guest left (inl number) =
+by_name : (call : SelectCall) (seen : Seen) (kernel : Kernel) (guest : Guest) (left : List ℕ) → guest.words.nr ≡ select_number call
+    → machine_call seen kernel guest left ≡ does kernel guest left (requested_by call guest.words guest.memory)
+by_name Newselect seen kernel guest left number =
     ap (λ (n : ℕ). call_at n seen kernel guest left) number
     ∙ newselect_law kernel guest (asked_words guest.words.reg) (stack_word guest.words 0) left
-    ∙ ap (λ (n : ℕ). does kernel guest left (request_at n guest)) (sym number)
-by_number seen kernel guest left (inr number) =
+by_name Pselect6 seen kernel guest left number =
     ap (λ (n : ℕ). call_at n seen kernel guest left) number
     ∙ pselect6_law kernel guest (asked_words guest.words.reg) (stack_word guest.words 0) (stack_word guest.words 1) left
-    ∙ ap (λ (n : ℕ). does kernel guest left (request_at n guest)) (sym number)
 
-pub called_row : (seen : Seen) (kernel : Kernel) (guest : Guest) (left : List ℕ) (given : Given Requested) → (guest.words.nr ≡ 4142) ⊎ (guest.words.nr ≡ 4301) → given ≡ requested_by guest.words guest.memory
+pub called_row : (call : SelectCall) (seen : Seen) (kernel : Kernel) (guest : Guest) (left : List ℕ) (given : Given Requested) → guest.words.nr ≡ select_number call → given ≡ requested_by call guest.words guest.memory
     → machine_call seen kernel guest left ≡ does kernel guest left given
-called_row seen kernel guest left given number is = by_number seen kernel guest left number ∙ sym (ap (does kernel guest left) is)
+called_row call seen kernel guest left given number is = by_name call seen kernel guest left number ∙ sym (ap (does kernel guest left) is)
 
 -- What the call then does, by what its row came to
 

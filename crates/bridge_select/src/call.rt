@@ -1,13 +1,13 @@
 //! The calls by their words: select(2) and pselect(2).
-ghost use Rattle.bridge_limits.specs.Passed.{KeepsCall, LeadsOn};
-ghost use Rattle.std.specs.Prelude.{◌≡◌, ◌==◌, ◌||◌, ◌⊎◌};
+ghost use Rattle.bridge_limits.specs.Passed.{KeepsCall};
+ghost use Rattle.std.specs.Prelude.{◌≡◌};
 ghost use Rattle.bridge_select.specs.Found.{found};
 ghost use Rattle.kernel_model.specs.Stops.{StopsOnlyIfRose};
+ghost use Rattle.o32_calls.specs.Numbers.{select_number};
 ghost use Rattle.o32_model.specs.Answered.{IsCall};
 ghost use Rattle.o32_model.specs.Table.{machine_call};
 ghost use Rattle.outside.specs.Streams.{NoCountFell, contents};
 
-use crate::numbers::{NEWSELECT, PSELECT6};
 use crate::requests::read_request;
 use crate::selecting::select;
 use bridge_limits::{Below, NativeKernel};
@@ -15,21 +15,16 @@ use guest_space::Space;
 use host_mem::HostMem;
 use kernel_core::Stop;
 use mips_exec::Cpu;
+use o32_calls::SelectCall;
 use o32_model::{CallWords, Log, Outcome, Seen};
 use outside::{Devices, Sink, Source};
-
-/// Whether a number is that of one of these calls.
-pub fn is_select_call(number: u32) -> bool
-    ensures { result ≡ ((number == 4142) || (number == 4301)) }
-{
-    number == NEWSELECT || number == PSELECT6
-}
 
 /// Makes the call of the program, select(2) or pselect(2), by its words: EFAULT where a word on its stack can't be read;
 /// for pselect the pair of the mask; the time; the mask; and then what the native kernel says of the descriptors. It stops
 /// early for want of memory, or by a device.
 #[inline(never)]
 pub fn select_call<I: Source, O: Sink, E: Sink>(
+    call: SelectCall,
     args: &CallWords,
     cpu: &mut Cpu,
     space: &mut Space,
@@ -39,7 +34,7 @@ pub fn select_call<I: Source, O: Sink, E: Sink>(
     log: &mut Log,
     seen: &Seen,
 ) -> Result<Outcome, Stop>
-    requires { (args.now.nr ≡ 4142) ⊎ (args.now.nr ≡ 4301) }
+    requires { args.now.nr ≡ select_number call }
     ensures row { IsCall (machine_call seen.now k.old (found args.now cpu.old space.old)) result k.new space.new cpu.new
         (contents I.left O.written E.written dev.old) (contents I.left O.written E.written dev.new) }
     ensures kept { KeepsCall (machine_call seen.now k.old (found args.now cpu.old space.old)) result k.old
@@ -53,29 +48,7 @@ pub fn select_call<I: Source, O: Sink, E: Sink>(
         memory: mem,
         log,
     };
-    by_number(args, cpu, space, dev, seen, below)
-}
-
-/// The same by its number, with the kernel and what its calls are made with as one value.
-fn by_number<I: Source, O: Sink, E: Sink>(
-    args: &CallWords,
-    cpu: &mut Cpu,
-    space: &mut Space,
-    dev: &mut Devices<I, O, E>,
-    seen: &Seen,
-    below: &mut Below,
-) -> Result<Outcome, Stop>
-    requires { (args.now.nr ≡ 4142) ⊎ (args.now.nr ≡ 4301) }
-    ensures row { IsCall (machine_call seen.now below.old.kernel.now (found args.now cpu.old space.old)) result below.new.kernel.now space.new cpu.new
-        (contents I.left O.written E.written dev.old) (contents I.left O.written E.written dev.new) }
-    ensures kept { KeepsCall (machine_call seen.now below.old.kernel.now (found args.now cpu.old space.old)) result below.old.kernel.now
-        (found args.now cpu.old space.old) (I.left dev.old.input) below.old.log.now below.new.log.now }
-    ensures cause { StopsOnlyIfRose I.faults O.faults E.faults result dev.old dev.new }
-    ensures counts { NoCountFell I.faults O.faults E.faults dev.old dev.new }
-    ensures clock { below.new.kernel.now.clock ≡ below.old.kernel.now.clock }
-    ensures same { LeadsOn below.old below.new }
-{
-    match read_request(args, space) {
+    match read_request(call, args, space) {
         Err(error) => Ok(Outcome::Error(error)),
         Ok(request) => select(args, &request, space, dev, below),
     }

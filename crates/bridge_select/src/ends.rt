@@ -20,11 +20,11 @@ ghost use Rattle.outside.specs.Streams.{NoCountFell, contents};
 
 use crate::asked::Asked;
 use crate::fd_sets::WORDS;
-use crate::numbers::NEWSELECT;
 use crate::telling::{FdSets, store_sets};
 use bridge_limits::{Below, TimeForm, TimePlace, again_or_interrupted, end_limited};
 use guest_space::Space;
 use kernel_core::{Errno, NoMemory, Stop};
+use o32_calls::NEWSELECT;
 use o32_model::{Cause, Close, Log, Wait};
 use outside::{Devices, Sink, Source};
 

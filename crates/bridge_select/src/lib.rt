@@ -5,11 +5,10 @@ mod asked;
 mod call;
 mod ends;
 mod fd_sets;
-mod numbers;
 mod requests;
 mod rooms;
 mod selecting;
 mod telling;
 
-pub use call::{is_select_call, select_call};
+pub use call::select_call;
 pub use ends::select_end;

@@ -8,11 +8,11 @@ ghost use Rattle.o32_model.specs.Selecting as selecting;
 ghost use Rattle.o32_model.specs.Words.{stack_word};
 
 use crate::asked::Asked;
-use crate::numbers::NEWSELECT;
 use bridge_limits::{OwnMask, TimeForm, TimePlace, load_structure, mask_at, wait_at};
 use byteorder::{BigEndian, ByteOrder};
 use guest_space::Space;
 use kernel_core::Errno;
+use o32_calls::SelectCall;
 use o32_model::CallWords;
 
 /// How many bytes the mask's address and its size have (pselect(2)).
@@ -38,13 +38,16 @@ pub(crate) struct SizedMask {
 
 /// What the call with these words asks for: EFAULT where a word on the stack can't be read, or the pair of the mask;
 /// then the error of the time.
-pub(crate) fn read_request(words: &CallWords, space: &Space) -> Result<Request, Errno>
-    ensures { read_as requested result ≡ requested_by words.now space.now }
+pub(crate) fn read_request(
+    call: SelectCall,
+    words: &CallWords,
+    space: &Space,
+) -> Result<Request, Errno>
+    ensures { read_as requested result ≡ requested_by call words.now space.now }
 {
-    if words.nr == NEWSELECT {
-        select_request(words, space)
-    } else {
-        pselect_request(words, space)
+    match call {
+        SelectCall::Newselect => select_request(words, space),
+        SelectCall::Pselect6 => pselect_request(words, space),
     }
 }
 

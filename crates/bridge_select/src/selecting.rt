@@ -10,13 +10,13 @@ ghost use Rattle.mips_exec.specs.Processor.{Processor};
 ghost use Rattle.o32_model.specs.Answered.{IsCall};
 ghost use Rattle.outside.specs.Streams.{NoCountFell, contents};
 
-use crate::numbers::NATIVE_PSELECT6;
 use crate::requests::Request;
 use crate::rooms::put_request;
 use crate::telling::{Answer, tell};
 use bridge_limits::{Below, sleep};
 use guest_space::Space;
 use kernel_core::{Reply, Stop};
+use native_numbers::PSELECT6;
 use o32_model::{CallWords, Outcome};
 use outside::{Devices, Sink, Source};
 
@@ -71,7 +71,7 @@ fn ask<I: Source, O: Sink, E: Sink>(
         places.time,
         places.pair,
     ];
-    let reply = below.look(NATIVE_PSELECT6, args, dev)?;
+    let reply = below.look(PSELECT6, args, dev)?;
     Ok(Answer { reply, places })
 }
 

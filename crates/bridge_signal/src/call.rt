@@ -1,9 +1,9 @@
 //! A call on signals by its number.
-ghost use Rattle.bridge_signal_state.specs.Passed.{KeepsCall, LeadsOn};
-ghost use Rattle.std.specs.Prelude.{◌≡◌, IsTrue};
+ghost use Rattle.bridge_signal_state.specs.Passed.{KeepsCall};
+ghost use Rattle.std.specs.Prelude.{◌≡◌};
 ghost use Rattle.bridge_signal.specs.Found.{found};
-ghost use Rattle.bridge_signal.specs.Numbers.{is_call_there};
 ghost use Rattle.kernel_model.specs.Stops.{StopsOnlyIfRose};
+ghost use Rattle.o32_calls.specs.Numbers.{signal_number};
 ghost use Rattle.o32_model.specs.Answered.{IsCall};
 ghost use Rattle.o32_model.specs.Table.{machine_call};
 ghost use Rattle.outside.specs.Streams.{NoCountFell, contents};
@@ -17,6 +17,7 @@ use guest_space::Space;
 use host_mem::HostMem;
 use kernel_core::Stop;
 use mips_exec::Cpu;
+use o32_calls::SignalCall;
 use o32_model::{CallWords, Log, Outcome, Seen};
 use outside::{Devices, Sink, Source};
 
@@ -26,6 +27,7 @@ use outside::{Devices, Sink, Source};
 /// device.
 #[inline(never)]
 pub fn signal_call<I: Source, O: Sink, E: Sink>(
+    call: SignalCall,
     args: &CallWords,
     cpu: &mut Cpu,
     space: &mut Space,
@@ -35,7 +37,7 @@ pub fn signal_call<I: Source, O: Sink, E: Sink>(
     log: &mut Log,
     seen: &Seen,
 ) -> Result<Outcome, Stop>
-    requires { IsTrue (is_call_there args.now.nr) }
+    requires { args.now.nr ≡ signal_number call }
     ensures row { IsCall (machine_call seen.now k.old (found args.now cpu.old space.old)) result k.new space.new cpu.new
         (contents I.left O.written E.written dev.old) (contents I.left O.written E.written dev.new) }
     ensures kept { KeepsCall (machine_call seen.now k.old (found args.now cpu.old space.old)) result k.old
@@ -49,42 +51,20 @@ pub fn signal_call<I: Source, O: Sink, E: Sink>(
         memory: mem,
         log,
     };
-    by_number(args, cpu, space, dev, seen, below)
-}
-
-/// The same by its number, with the kernel and what its calls are made with as one value.
-fn by_number<I: Source, O: Sink, E: Sink>(
-    args: &CallWords,
-    cpu: &mut Cpu,
-    space: &mut Space,
-    dev: &mut Devices<I, O, E>,
-    seen: &Seen,
-    below: &mut Below,
-) -> Result<Outcome, Stop>
-    requires { IsTrue (is_call_there args.now.nr) }
-    ensures row { IsCall (machine_call seen.now below.old.kernel.now (found args.now cpu.old space.old)) result below.new.kernel.now space.new cpu.new
-        (contents I.left O.written E.written dev.old) (contents I.left O.written E.written dev.new) }
-    ensures kept { KeepsCall (machine_call seen.now below.old.kernel.now (found args.now cpu.old space.old)) result below.old.kernel.now
-        (found args.now cpu.old space.old) (I.left dev.old.input) below.old.log.now below.new.log.now }
-    ensures cause { StopsOnlyIfRose I.faults O.faults E.faults result dev.old dev.new }
-    ensures counts { NoCountFell I.faults O.faults E.faults dev.old dev.new }
-    ensures clock { below.new.kernel.now.clock ≡ below.old.kernel.now.clock }
-    ensures same { LeadsOn below.old below.new }
-{
     let [a0, a1, a2, _] = args.reg;
-    match args.nr {
-        4029 => pause(args, dev, below),
-        4037 => kill(args, a0, a1, dev, below),
-        4119 => sigreturn(cpu, space, dev, below),
-        4193 => rt_sigreturn(cpu, space, dev, below),
-        4194 => rt_sigaction(args, space, dev, below),
-        4195 => rt_sigprocmask(args, space, dev, below),
-        4196 => rt_sigpending(a0, a1, space, dev, below),
-        4198 => rt_sigqueueinfo(args, space, dev, below),
-        4199 => rt_sigsuspend(args, a0, a1, space, dev, below),
-        4206 => sigaltstack(cpu, a0, a1, space, dev, below),
-        4236 => tkill(args, a0, a1, dev, below),
-        4253 => Ok(restart_syscall(seen.restart)),
-        _ => tgkill(args, a0, a1, a2, dev, below),
+    match call {
+        SignalCall::Pause => pause(args, dev, below),
+        SignalCall::Kill => kill(args, a0, a1, dev, below),
+        SignalCall::Sigreturn => sigreturn(cpu, space, dev, below),
+        SignalCall::RtSigreturn => rt_sigreturn(cpu, space, dev, below),
+        SignalCall::RtSigaction => rt_sigaction(args, space, dev, below),
+        SignalCall::RtSigprocmask => rt_sigprocmask(args, space, dev, below),
+        SignalCall::RtSigpending => rt_sigpending(a0, a1, space, dev, below),
+        SignalCall::RtSigqueueinfo => rt_sigqueueinfo(args, space, dev, below),
+        SignalCall::RtSigsuspend => rt_sigsuspend(args, a0, a1, space, dev, below),
+        SignalCall::Sigaltstack => sigaltstack(cpu, a0, a1, space, dev, below),
+        SignalCall::Tkill => tkill(args, a0, a1, dev, below),
+        SignalCall::RestartSyscall => Ok(restart_syscall(seen.restart)),
+        SignalCall::Tgkill => tgkill(args, a0, a1, a2, dev, below),
     }
 }

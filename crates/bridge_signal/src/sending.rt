@@ -11,10 +11,10 @@ ghost use Rattle.outside.specs.Streams.{NoCountFell, contents};
 
 use crate::infos::take_info;
 use crate::named::native_number;
-use crate::numbers::{KILL, RT_SIGQUEUEINFO, TGKILL, TKILL};
 use bridge_signal_state::Below;
 use guest_space::Space;
 use kernel_core::Stop;
+use native_numbers::{KILL, RT_SIGQUEUEINFO, TGKILL, TKILL};
 use o32_model::{CallWords, Outcome};
 use outside::{Devices, Sink, Source};
 

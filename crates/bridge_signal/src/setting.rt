@@ -15,12 +15,13 @@ ghost use Rattle.number_tables.specs.SaNumbers.{native_sa};
 ghost use Rattle.outside.specs.Streams.{NoCountFell, contents};
 ghost use Rattle.signal_sets.specs.NativeSets.{native_of};
 
-use crate::numbers::{RT_SIGACTION, SIGSETSIZE};
+use crate::numbers::SIGSETSIZE;
 use bridge_signal_state::Below;
 use host_mem::{FIRST_ADDRESS, HostMem};
 use kernel_core::{NoMemory, Reply, Sig, Stop};
 use kernel_model::Action;
 use layouts::{NativeStructure, native_layout, put_record};
+use native_numbers::RT_SIGACTION;
 use number_tables::NativeNumber;
 use outside::{Devices, Sink, Source};
 use signal_sets::to_native;

@@ -11,12 +11,13 @@ ghost use Rattle.o32_model.specs.Suspending.{pause_row, rt_sigsuspend_row};
 ghost use Rattle.outside.specs.Streams.{NoCountFell, contents};
 
 use crate::asked::asked_mask;
-use crate::numbers::{RT_SIGSUSPEND, SIGSETSIZE};
+use crate::numbers::SIGSETSIZE;
 use crate::sets::put_set;
 use bridge_signal_state::{Below, mask, outcome_of, set_mask};
 use guest_space::Space;
 use host_mem::FIRST_ADDRESS;
 use kernel_core::{Errno, Stop};
+use native_numbers::RT_SIGSUSPEND;
 use o32_model::{CallWords, Outcome, Wait};
 use outside::{Devices, Sink, Source};
 

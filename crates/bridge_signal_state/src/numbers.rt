@@ -1,16 +1,6 @@
 //! The native numbers (Linux `include/uapi/asm-generic/unistd.h`), and the sizes of structures there
 //! (`include/uapi/asm-generic/signal.h` and `siginfo.h`).
 
-pub(crate) const SIGALTSTACK: u64 = 132;
-
-pub(crate) const RT_SIGACTION: u64 = 134;
-
-pub(crate) const RT_SIGPROCMASK: u64 = 135;
-
-pub(crate) const RT_SIGPENDING: u64 = 136;
-
-pub(crate) const RT_SIGTIMEDWAIT: u64 = 137;
-
 /// SIG_SETMASK: the mask becomes the set.
 pub(crate) const SIG_SETMASK: u64 = 2;
 

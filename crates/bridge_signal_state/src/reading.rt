@@ -6,15 +6,13 @@ ghost use Rattle.kernel_model.specs.SignalRows.{action_at, pending_set};
 ghost use Rattle.kernel_model.specs.Stops.{StopsOnlyIfRose};
 ghost use Rattle.outside.specs.Streams.{NoCountFell, contents};
 
-use crate::numbers::{
-    ACTION_SIZE, RT_SIGACTION, RT_SIGPENDING, RT_SIGPROCMASK, SET_SIZE, SIGALTSTACK, SIGSETSIZE,
-    STACK_SIZE,
-};
+use crate::numbers::{ACTION_SIZE, SET_SIZE, SIGSETSIZE, STACK_SIZE};
 use crate::showing::{action_shown, set_shown, stack_shown};
 use bridge_log::{Below, fresh_room};
 use host_mem::FIRST_ADDRESS;
 use kernel_core::{Sig, Stop};
 use kernel_model::{Action, SigStack};
+use native_numbers::{RT_SIGACTION, RT_SIGPENDING, RT_SIGPROCMASK, SIGALTSTACK};
 use number_tables::NativeNumber;
 use outside::{Devices, Sink, Source};
 

@@ -9,15 +9,14 @@ ghost use Rattle.outside.specs.Streams.{NoCountFell, contents};
 
 use crate::acting::act;
 use crate::filling::{put_set, put_stack};
-use crate::numbers::{
-    ACTION_SIZE, RT_SIGACTION, RT_SIGPROCMASK, SIG_SETMASK, SIGALTSTACK, SIGSETSIZE,
-};
+use crate::numbers::{ACTION_SIZE, SIG_SETMASK, SIGSETSIZE};
 use crate::showing::is_fine;
 use crate::words::{is_set, stack_fits};
 use bridge_log::{Below, fresh_room};
 use host_mem::FIRST_ADDRESS;
 use kernel_core::{Sig, Stop};
 use kernel_model::SigStack;
+use native_numbers::{RT_SIGACTION, RT_SIGPROCMASK, SIGALTSTACK};
 use number_tables::NativeNumber;
 use outside::{Devices, Sink, Source};
 

@@ -8,11 +8,12 @@ ghost use Rattle.outside.specs.Streams.{NoCountFell, contents};
 
 use crate::acting::act;
 use crate::filling::put_taking;
-use crate::numbers::{INFO_SIZE, RT_SIGTIMEDWAIT, SIGSETSIZE};
+use crate::numbers::{INFO_SIZE, SIGSETSIZE};
 use crate::showing::{INFO_PLACE, info_shown};
 use bridge_log::Below;
 use host_mem::FIRST_ADDRESS;
 use kernel_core::{Info, Sig, Stop};
+use native_numbers::RT_SIGTIMEDWAIT;
 use outside::{Devices, Sink, Source};
 
 /// Where the time lies, behind what is known of a signal.

@@ -1,4 +1,4 @@
-pub mod PathStatuses
+pub mod StatusQueries
 pub mod StatusCalls
 pub mod Statuses
 pub mod Tells

@@ -1,16 +1,16 @@
 //! A call by its number.
-ghost use Rattle.bridge_paths.specs.Passed.{KeepsCall, LeadsOn};
-ghost use Rattle.std.specs.Prelude.{◌≡◌, IsTrue};
+ghost use Rattle.bridge_paths.specs.Passed.{KeepsCall};
+ghost use Rattle.std.specs.Prelude.{◌≡◌};
 ghost use Rattle.bridge_paths.specs.Found.{found};
-ghost use Rattle.bridge_status.specs.Numbers.{is_status_call};
-ghost use Rattle.bridge_status.specs.inside.PathStatuses.{from_directory, from_working};
+ghost use Rattle.bridge_status.specs.inside.StatusQueries.{from_directory, from_working};
 ghost use Rattle.kernel_model.specs.Stops.{StopsOnlyIfRose};
+ghost use Rattle.o32_calls.specs.Numbers.{status_number};
 ghost use Rattle.o32_model.specs.Answered.{IsCall};
 ghost use Rattle.o32_model.specs.PathArguments.{nofollow_flag};
 ghost use Rattle.o32_model.specs.Table.{o32_call};
 ghost use Rattle.outside.specs.Streams.{NoCountFell, contents};
 
-use crate::status::{PathStatus, fstat, fstatat};
+use crate::status::{StatusQuery, fstat, fstatat};
 use crate::structures::Form;
 use crate::telling::StatusAt;
 use bridge_paths::{Below, NativeKernel};
@@ -18,6 +18,7 @@ use guest_space::Space;
 use host_mem::HostMem;
 use kernel_core::Stop;
 use mips_exec::Cpu;
+use o32_calls::StatusCall;
 use o32_model::{CallWords, Log, Outcome, Seen};
 use outside::{Devices, Sink, Source};
 use std::alloc::Global;
@@ -32,6 +33,7 @@ const NOFOLLOW: u32 = 0x100;
 /// stat64, lstat64, fstat64, fstatat64 in that of 64 bits. It stops early for want of memory, or by a device.
 #[inline(never)]
 pub fn status_call<I: Source, O: Sink, E: Sink>(
+    call: StatusCall,
     alloc: Global,
     args: &CallWords,
     cpu: &mut Cpu,
@@ -42,7 +44,7 @@ pub fn status_call<I: Source, O: Sink, E: Sink>(
     log: &mut Log,
     _seen: &Seen,
 ) -> Result<Outcome, Stop>
-    requires { IsTrue (is_status_call args.now.nr) }
+    requires { args.now.nr ≡ status_number call }
     ensures row { IsCall (o32_call k.old (found args.now cpu.old space.old)) result k.new space.new cpu.new
         (contents I.left O.written E.written dev.old) (contents I.left O.written E.written dev.new) }
     ensures kept { KeepsCall (o32_call k.old (found args.now cpu.old space.old)) result k.old
@@ -56,59 +58,37 @@ pub fn status_call<I: Source, O: Sink, E: Sink>(
         memory: mem,
         log,
     };
-    by_number(alloc, args, cpu, space, dev, below)
-}
-
-/// The same by its number, with the kernel and what its calls are made with as one value.
-fn by_number<I: Source, O: Sink, E: Sink>(
-    alloc: Global,
-    args: &CallWords,
-    cpu: &mut Cpu,
-    space: &mut Space,
-    dev: &mut Devices<I, O, E>,
-    below: &mut Below,
-) -> Result<Outcome, Stop>
-    requires { IsTrue (is_status_call args.now.nr) }
-    ensures row { IsCall (o32_call below.old.kernel.now (found args.now cpu.old space.old)) result below.new.kernel.now space.new cpu.new
-        (contents I.left O.written E.written dev.old) (contents I.left O.written E.written dev.new) }
-    ensures kept { KeepsCall (o32_call below.old.kernel.now (found args.now cpu.old space.old)) result below.old.kernel.now
-        (found args.now cpu.old space.old) (I.left dev.old.input) below.old.log.now below.new.log.now }
-    ensures cause { StopsOnlyIfRose I.faults O.faults E.faults result dev.old dev.new }
-    ensures counts { NoCountFell I.faults O.faults E.faults dev.old dev.new }
-    ensures clock { below.new.kernel.now.clock ≡ below.old.kernel.now.clock }
-    ensures same { LeadsOn below.old below.new }
-{
-    match args.nr {
-        4106 => fstatat(alloc, args, of_stat(args, Form::Old), space, dev, below),
-        4107 => fstatat(alloc, args, of_lstat(args, Form::Old), space, dev, below),
-        4108 => fstat(args, Form::Old, space, dev, below),
-        4213 => fstatat(alloc, args, of_stat(args, Form::Wide), space, dev, below),
-        4214 => fstatat(alloc, args, of_lstat(args, Form::Wide), space, dev, below),
-        4215 => fstat(args, Form::Wide, space, dev, below),
-        _ => fstatat(alloc, args, of_fstatat(args), space, dev, below),
+    match call {
+        StatusCall::Stat => fstatat(alloc, args, of_stat(args, Form::Old), space, dev, below),
+        StatusCall::Lstat => fstatat(alloc, args, of_lstat(args, Form::Old), space, dev, below),
+        StatusCall::Fstat => fstat(args, Form::Old, space, dev, below),
+        StatusCall::Stat64 => fstatat(alloc, args, of_stat(args, Form::Wide), space, dev, below),
+        StatusCall::Lstat64 => fstatat(alloc, args, of_lstat(args, Form::Wide), space, dev, below),
+        StatusCall::Fstat64 => fstat(args, Form::Wide, space, dev, below),
+        StatusCall::Fstatat64 => fstatat(alloc, args, of_fstatat(args), space, dev, below),
     }
 }
 
 /// What stat(2) asks for, in one of the two structures.
-fn of_stat(words: &CallWords, form: Form) -> PathStatus
+fn of_stat(words: &CallWords, form: Form) -> StatusQuery
     ensures { result ≡ from_working words.now 0 form }
 {
     from_working(words, 0, form)
 }
 
 /// What lstat(2) asks for, in one of the two structures.
-fn of_lstat(words: &CallWords, form: Form) -> PathStatus
+fn of_lstat(words: &CallWords, form: Form) -> StatusQuery
     ensures { result ≡ from_working words.now nofollow_flag form }
 {
     from_working(words, NOFOLLOW, form)
 }
 
 /// What both ask for, whose path begins at the working directory.
-fn from_working(words: &CallWords, flags: u32, form: Form) -> PathStatus
+fn from_working(words: &CallWords, flags: u32, form: Form) -> StatusQuery
     ensures { result ≡ from_working words.now flags form }
 {
     let [address, buffer, _, _] = words.reg;
-    PathStatus {
+    StatusQuery {
         directory: WORKING,
         address,
         flags,
@@ -120,11 +100,11 @@ fn from_working(words: &CallWords, flags: u32, form: Form) -> PathStatus
 }
 
 /// What fstatat64 asks for.
-fn of_fstatat(words: &CallWords) -> PathStatus
+fn of_fstatat(words: &CallWords) -> StatusQuery
     ensures { result ≡ from_directory words.now }
 {
     let [directory, address, buffer, flags] = words.reg;
-    PathStatus {
+    StatusQuery {
         directory,
         address,
         flags,

@@ -2,7 +2,6 @@
 #![tactic(auto)]
 
 mod call;
-mod numbers;
 mod status;
 mod structures;
 mod telling;

@@ -10,13 +10,13 @@ ghost use Rattle.o32_model.specs.Step.{Guest};
 ghost use Rattle.o32_model.specs.Words.{argument};
 ghost use Rattle.outside.specs.Streams.{NoCountFell, contents};
 
-use crate::numbers::{FSTAT, NEWFSTATAT};
 use crate::structures::Form;
-use crate::telling::{NativeCall, STATUS_SIZE, StatusAt, tell_call};
-use bridge_paths::{Below, fresh_room, put_behind, read_path};
+use crate::telling::{STATUS_SIZE, StatusAt, tell_call};
+use bridge_paths::{Below, NativeWords, fresh_room, put_behind, read_path};
 use guest_space::Space;
 use host_mem::FIRST_ADDRESS;
 use kernel_core::{Bytes, Errno, Stop};
+use native_numbers::{FSTAT, NEWFSTATAT};
 use o32_model::{CallWords, Outcome};
 use outside::{Devices, Sink, Source};
 use std::alloc::Global;
@@ -26,7 +26,7 @@ const FLAGS: u32 = 0x1900;
 
 /// What a call asks for that tells the status of what a path leads to.
 #[derive(Clone, Copy)]
-pub(crate) struct PathStatus {
+pub(crate) struct StatusQuery {
     /// What a relative path counts from.
     pub(crate) directory: u32,
     /// The address of the path.
@@ -58,7 +58,7 @@ pub(crate) fn fstat<I: Source, O: Sink, E: Sink>(
     below.kernel.files_valid();
     let [fd, address, _, _] = words.reg;
     fresh_room(below.memory, STATUS_SIZE)?;
-    let call = NativeCall {
+    let call = NativeWords {
         nr: FSTAT,
         args: [u64::from(fd), FIRST_ADDRESS, 0, 0, 0, 0],
     };
@@ -71,7 +71,7 @@ pub(crate) fn fstat<I: Source, O: Sink, E: Sink>(
 pub(crate) fn fstatat<I: Source, O: Sink, E: Sink>(
     alloc: Global,
     words: &CallWords,
-    asked: PathStatus,
+    asked: StatusQuery,
     space: &mut Space,
     dev: &mut Devices<I, O, E>,
     below: &mut Below,
@@ -105,7 +105,7 @@ fn is_listed(flags: u32) -> bool
 /// The same once the path is read.
 fn path_status<I: Source, O: Sink, E: Sink>(
     words: &CallWords,
-    asked: PathStatus,
+    asked: StatusQuery,
     path: &Bytes,
     space: &mut Space,
     dev: &mut Devices<I, O, E>,
@@ -126,7 +126,7 @@ fn path_status<I: Source, O: Sink, E: Sink>(
 {
     below.kernel.files_valid();
     let at = put_behind(below.memory, STATUS_SIZE, path)?;
-    let call = NativeCall {
+    let call = NativeWords {
         nr: NEWFSTATAT,
         args: [
             u64::from(asked.directory),

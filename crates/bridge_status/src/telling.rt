@@ -14,7 +14,7 @@ ghost use Rattle.o32_model.specs.Step.{Guest, O32Step, stored};
 ghost use Rattle.outside.specs.Streams.{NoCountFell, contents};
 
 use crate::structures::{Form, is_too_wide, old_bytes, wide_bytes};
-use bridge_paths::{Below, outcome_of, put};
+use bridge_paths::{Below, NativeWords, outcome_of, put};
 use guest_space::Space;
 use host_mem::{FIRST_ADDRESS, HostMem};
 use kernel_core::{Errno, NoMemory, Reply, Stop};
@@ -33,15 +33,6 @@ pub(crate) struct StatusAt {
     pub(crate) form: Form,
 }
 
-/// A native call that is to be made.
-#[derive(Clone, Copy)]
-pub(crate) struct NativeCall {
-    /// Its number.
-    pub(crate) nr: u64,
-    /// Its arguments.
-    pub(crate) args: [u64; 6],
-}
-
 /// Makes the native call that a call of the program is, where it tells a status at the first address of host memory,
 /// from where it then goes to the program's memory, whole or with EFAULT; one that the structure can't hold is
 /// EOVERFLOW. `row` and `kept` hold of every o32 call that this native call tells for.
@@ -49,7 +40,7 @@ pub(crate) fn tell_call<I: Source, O: Sink, E: Sink>(
     words: &CallWords,
     to: StatusAt,
     space: &mut Space,
-    call: NativeCall,
+    call: NativeWords,
     dev: &mut Devices<I, O, E>,
     below: &mut Below,
 ) -> Result<Outcome, Stop>

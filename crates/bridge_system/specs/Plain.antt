@@ -1,5 +1,5 @@
 -- The small calls that ask the kernel for nothing. (The form is this project's own.)
-use Rattle.std.specs.Prelude.{◌≡◌, ◌==◌, ◌||◌, ℕ, Bool, List}
+use Rattle.std.specs.Prelude.{◌≡◌, ℕ, List}
 use Rattle.guest_space.specs.Memory.{Memory}
 use Rattle.kernel_model.specs.Pipes.{nothing}
 use Rattle.kernel_model.specs.State.{Kernel}
@@ -21,7 +21,3 @@ leaves kernel left outcome memory processor = record {
 -- what is said of such a row, whatever the kernel and the input
 abbrev pub IsPlain : (Kernel → List ℕ → O32Step) → Outcome → Memory → Processor → Type 0
 IsPlain row outcome memory processor = (kernel : Kernel) (left : List ℕ) → row kernel left ≡ leaves kernel left outcome memory processor
-
--- those small calls that ask the kernel: getrlimit(2), uname(2), prlimit(2), getrandom(2)
-abbrev pub asks : ℕ → Bool
-asks number = (number == 4076) || (number == 4122) || (number == 4338) || (number == 4353)

@@ -8,11 +8,11 @@ ghost use Rattle.o32_model.specs.Step.{Guest};
 ghost use Rattle.o32_model.specs.Words.{argument};
 ghost use Rattle.outside.specs.Streams.{NoCountFell, contents};
 
-use crate::numbers::GETRANDOM;
 use bridge_io::Below;
 use guest_space::Space;
 use host_mem::FIRST_ADDRESS;
 use kernel_core::Stop;
+use native_numbers::GETRANDOM;
 use o32_model::{CallWords, Outcome};
 use outside::{Devices, Sink, Source};
 

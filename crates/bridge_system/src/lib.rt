@@ -4,7 +4,6 @@
 mod chance;
 mod limits;
 mod names;
-mod numbers;
 mod plain;
 mod rlimit;
 mod small;

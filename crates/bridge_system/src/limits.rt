@@ -10,13 +10,13 @@ ghost use Rattle.o32_model.specs.Words.{argument};
 ghost use Rattle.std.specs.Int.{cast_signed, w32};
 ghost use Rattle.outside.specs.Streams.{NoCountFell, contents};
 
-use crate::numbers::PRLIMIT64;
 use crate::rlimit::{limit_in, native_limit_bytes, native_number};
-use crate::telling::{NativeCall, Told, ToldAt, tell_call};
-use bridge_io::{Below, fresh_room, load_structure};
+use crate::telling::{Told, ToldAt, tell_call};
+use bridge_io::{Below, NativeWords, fresh_room, load_structure};
 use guest_space::Space;
 use host_mem::{FIRST_ADDRESS, HostMem};
 use kernel_core::{NoMemory, Stop};
+use native_numbers::PRLIMIT64;
 use o32_model::{CallWords, Outcome};
 use outside::{Devices, Sink, Source};
 
@@ -52,7 +52,7 @@ pub(crate) fn getrlimit<I: Source, O: Sink, E: Sink>(
         address,
         told: Told::Limits,
     };
-    let call = NativeCall {
+    let call = NativeWords {
         nr: PRLIMIT64,
         args,
     };
@@ -97,7 +97,7 @@ pub(crate) fn prlimit<I: Source, O: Sink, E: Sink>(
         address: old,
         told: Told::WideLimits,
     };
-    let call = NativeCall {
+    let call = NativeWords {
         nr: PRLIMIT64,
         args,
     };

@@ -7,12 +7,12 @@ ghost use Rattle.o32_model.specs.Small.{uname_row};
 ghost use Rattle.o32_model.specs.Step.{Guest};
 ghost use Rattle.outside.specs.Streams.{NoCountFell, contents};
 
-use crate::numbers::UNAME;
-use crate::telling::{NativeCall, Told, ToldAt, tell_call};
-use bridge_io::{Below, fresh_room};
+use crate::telling::{Told, ToldAt, tell_call};
+use bridge_io::{Below, NativeWords, fresh_room};
 use guest_space::Space;
 use host_mem::FIRST_ADDRESS;
 use kernel_core::Stop;
+use native_numbers::UNAME;
 use o32_model::{CallWords, Outcome};
 use outside::{Devices, Sink, Source};
 
@@ -43,6 +43,6 @@ pub(crate) fn uname<I: Source, O: Sink, E: Sink>(
         address,
         told: Told::Names,
     };
-    let call = NativeCall { nr: UNAME, args };
+    let call = NativeWords { nr: UNAME, args };
     tell_call(words, to, space, call, dev, below)
 }

@@ -1,17 +1,19 @@
 //! The small calls that ask the kernel for nothing.
-ghost use Rattle.std.specs.Prelude.{◌≡◌, false};
+ghost use Rattle.std.specs.Prelude.{◌≡◌};
 ghost use Rattle.bridge_system.specs.Found.{found};
 ghost use Rattle.bridge_system.specs.System.{small_call};
-ghost use Rattle.bridge_system.specs.Plain.{IsPlain, asks};
+ghost use Rattle.bridge_system.specs.Plain.{IsPlain};
 ghost use Rattle.guest_space.specs.Memory.{Memory};
 ghost use Rattle.kernel_model.specs.SignalRows as signals;
 ghost use Rattle.kernel_model.specs.System as system;
 ghost use Rattle.mips_exec.specs.Processor.{Processor};
+ghost use Rattle.o32_calls.specs.Numbers.{plain_number};
 ghost use Rattle.o32_model.specs.Small.{exit_row, number_row, set_robust_list_row, set_thread_area_row};
 ghost use Rattle.o32_model.specs.declared.call_words.CallWords.{CallWords};
 
 use kernel_core::Errno;
 use mips_exec::Cpu;
+use o32_calls::PlainCall;
 use o32_model::{CallWords, Outcome};
 
 /// The process's own id, which is its thread's too. (The number is this project's own.)
@@ -28,30 +30,28 @@ const USER_ID: u32 = 0;
 const ROBUST_LIST_SIZE: u32 = 12;
 
 /// Makes a small call that asks the kernel for nothing, by its words: exit(2), exit_group(2), the ids, cacheflush(2),
-/// sched_yield(2), set_tid_address(2), set_thread_area(2), set_robust_list(2). Any other number is ENOSYS. It takes no
-/// memory.
+/// sched_yield(2), set_tid_address(2), set_thread_area(2), set_robust_list(2). It takes no memory.
 #[inline(always)]
-pub fn plain_call(args: &CallWords, cpu: &mut Cpu) -> Outcome
-    requires { asks args.now.nr ≡ false }
+pub fn plain_call(call: PlainCall, args: &CallWords, cpu: &mut Cpu) -> Outcome
+    requires { args.now.nr ≡ plain_number call }
     ensures { (memory : Memory) → IsPlain (small_call (found args.now cpu.old memory)) result memory cpu.new }
 {
     let [a0, a1, _, _] = args.reg;
-    match args.nr {
-        4001 => exit(a0),
-        4020 => own_id(),
-        4024 => user_id(),
-        4047 => user_id(),
-        4049 => user_id(),
-        4050 => user_id(),
-        4064 => parent_id(),
-        4147 => nothing_to_do(),
-        4162 => nothing_to_do(),
-        4222 => own_id(),
-        4246 => exit(a0),
-        4252 => own_id(),
-        4283 => set_thread_area(a0, cpu),
-        4309 => set_robust_list(a1),
-        _ => Outcome::Error(Errno::ENOSYS),
+    match call {
+        PlainCall::Exit => exit(a0),
+        PlainCall::Getpid => own_id(),
+        PlainCall::Getuid => user_id(),
+        PlainCall::Getgid => user_id(),
+        PlainCall::Geteuid => user_id(),
+        PlainCall::Getegid => user_id(),
+        PlainCall::Getppid => parent_id(),
+        PlainCall::Cacheflush => nothing_to_do(),
+        PlainCall::SchedYield => nothing_to_do(),
+        PlainCall::Gettid => own_id(),
+        PlainCall::ExitGroup => exit(a0),
+        PlainCall::SetTidAddress => own_id(),
+        PlainCall::SetThreadArea => set_thread_area(a0, cpu),
+        PlainCall::SetRobustList => set_robust_list(a1),
     }
 }
 

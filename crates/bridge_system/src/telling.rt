@@ -13,7 +13,7 @@ ghost use Rattle.o32_model.specs.Step.{Guest, O32Step, stored};
 ghost use Rattle.outside.specs.Streams.{NoCountFell, contents};
 
 use crate::rlimit::{limit_bytes, limit_there, shown_bytes};
-use bridge_io::{Below, outcome_of, put};
+use bridge_io::{Below, NativeWords, outcome_of, put};
 use guest_space::Space;
 use host_mem::HostMem;
 use kernel_core::{Errno, NoMemory, Reply, Stop};
@@ -40,15 +40,6 @@ pub(crate) struct ToldAt {
     pub(crate) told: Told,
 }
 
-/// A native call that is to be made.
-#[derive(Clone, Copy)]
-pub(crate) struct NativeCall {
-    /// Its number.
-    pub(crate) nr: u64,
-    /// Its arguments, of which those that it doesn't take are 0.
-    pub(crate) args: [u64; 6],
-}
-
 /// Makes the native call that a call of the program is, where it gives names or a limit over host memory of their
 /// size, from where they then go to the program's memory, whole or with EFAULT. `row` and `kept` hold of every o32
 /// call that this native call tells for.
@@ -56,7 +47,7 @@ pub(crate) fn tell_call<I: Source, O: Sink, E: Sink>(
     words: &CallWords,
     to: ToldAt,
     space: &mut Space,
-    call: NativeCall,
+    call: NativeWords,
     dev: &mut Devices<I, O, E>,
     below: &mut Below,
 ) -> Result<Outcome, Stop>

@@ -1,10 +1,9 @@
 //! A call on the timer by its number.
-ghost use Rattle.std.specs.Prelude.{◌≡◌, IsTrue};
-ghost use Rattle.bridge_log.specs.Leading.{LeadsOn};
+ghost use Rattle.std.specs.Prelude.{◌≡◌};
 ghost use Rattle.bridge_log.specs.Keeping.{KeepsCall};
 ghost use Rattle.bridge_timer.specs.Found.{found};
-ghost use Rattle.bridge_timer.specs.Numbers.{is_call_there};
 ghost use Rattle.kernel_model.specs.Stops.{StopsOnlyIfRose};
+ghost use Rattle.o32_calls.specs.Numbers.{timer_number};
 ghost use Rattle.o32_model.specs.Answered.{IsCall};
 ghost use Rattle.o32_model.specs.Table.{machine_call};
 ghost use Rattle.outside.specs.Streams.{NoCountFell, contents};
@@ -16,6 +15,7 @@ use guest_space::Space;
 use host_mem::HostMem;
 use kernel_core::Stop;
 use mips_exec::Cpu;
+use o32_calls::TimerCall;
 use o32_model::{CallWords, Log, Outcome, Seen};
 use outside::{Devices, Sink, Source};
 
@@ -23,6 +23,7 @@ use outside::{Devices, Sink, Source};
 /// early for want of memory, or by a device.
 #[inline(never)]
 pub fn timer_call<I: Source, O: Sink, E: Sink>(
+    call: TimerCall,
     args: &CallWords,
     cpu: &mut Cpu,
     space: &mut Space,
@@ -32,7 +33,7 @@ pub fn timer_call<I: Source, O: Sink, E: Sink>(
     log: &mut Log,
     seen: &Seen,
 ) -> Result<Outcome, Stop>
-    requires { IsTrue (is_call_there args.now.nr) }
+    requires { args.now.nr ≡ timer_number call }
     ensures row { IsCall (machine_call seen.now k.old (found args.now cpu.old space.old)) result k.new space.new cpu.new
         (contents I.left O.written E.written dev.old) (contents I.left O.written E.written dev.new) }
     ensures kept { KeepsCall (machine_call seen.now k.old (found args.now cpu.old space.old)) result k.old
@@ -46,32 +47,10 @@ pub fn timer_call<I: Source, O: Sink, E: Sink>(
         memory: mem,
         log,
     };
-    by_number(args, cpu, space, dev, seen, below)
-}
-
-/// The same by its number, with the kernel and what its calls are made with as one value.
-fn by_number<I: Source, O: Sink, E: Sink>(
-    args: &CallWords,
-    cpu: &mut Cpu,
-    space: &mut Space,
-    dev: &mut Devices<I, O, E>,
-    seen: &Seen,
-    below: &mut Below,
-) -> Result<Outcome, Stop>
-    requires { IsTrue (is_call_there args.now.nr) }
-    ensures row { IsCall (machine_call seen.now below.old.kernel.now (found args.now cpu.old space.old)) result below.new.kernel.now space.new cpu.new
-        (contents I.left O.written E.written dev.old) (contents I.left O.written E.written dev.new) }
-    ensures kept { KeepsCall (machine_call seen.now below.old.kernel.now (found args.now cpu.old space.old)) result below.old.kernel.now
-        (found args.now cpu.old space.old) (I.left dev.old.input) below.old.log.now below.new.log.now }
-    ensures cause { StopsOnlyIfRose I.faults O.faults E.faults result dev.old dev.new }
-    ensures counts { NoCountFell I.faults O.faults E.faults dev.old dev.new }
-    ensures clock { below.new.kernel.now.clock ≡ below.old.kernel.now.clock }
-    ensures same { LeadsOn below.old below.new }
-{
     let [a0, a1, _, _] = args.reg;
-    match args.nr {
-        4027 => alarm(a0, dev, below),
-        4104 => setitimer(args, space, dev, below),
-        _ => getitimer(a0, a1, space, dev, below),
+    match call {
+        TimerCall::Alarm => alarm(a0, dev, below),
+        TimerCall::Setitimer => setitimer(args, space, dev, below),
+        TimerCall::Getitimer => getitimer(a0, a1, space, dev, below),
     }
 }

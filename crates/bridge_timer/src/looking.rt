@@ -6,12 +6,12 @@ ghost use Rattle.bridge_timer.specs.inside.Shown.{shown_at, shown_in, time_in, w
 ghost use Rattle.kernel_model.specs.Stops.{StopsOnlyIfRose};
 ghost use Rattle.outside.specs.Streams.{NoCountFell, contents};
 
-use crate::numbers::GETITIMER;
 use crate::shown::{MicroTime, Shown};
 use bridge_log::{Below, fresh_room};
 use byteorder::{ByteOrder, LittleEndian};
 use host_mem::{FIRST_ADDRESS, HostMem};
 use kernel_core::{Reply, Stop};
+use native_numbers::GETITIMER;
 use outside::{Devices, Sink, Source};
 
 /// How many bytes a value of the timer has in host memory (struct itimerval).

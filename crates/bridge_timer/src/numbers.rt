@@ -1,9 +1,5 @@
 //! The native numbers (Linux `include/uapi/asm-generic/unistd.h`), and that of the timer (Linux
 //! `include/uapi/linux/time.h`), which is the same for a program.
 
-pub(crate) const GETITIMER: u64 = 102;
-
-pub(crate) const SETITIMER: u64 = 103;
-
 /// The timer of real time, which is the only one that is there.
 pub(crate) const ITIMER_REAL: u32 = 0;

@@ -8,9 +8,10 @@ ghost use Rattle.native_calls.specs.Clocks.{setting_at};
 ghost use Rattle.native_calls.specs.HostBytes.{unless_null};
 ghost use Rattle.outside.specs.Streams.{NoCountFell, contents};
 
-use crate::numbers::{ITIMER_REAL, SETITIMER};
+use crate::numbers::ITIMER_REAL;
 use bridge_log::Below;
 use kernel_core::{Reply, Stop};
+use native_numbers::SETITIMER;
 use outside::{Devices, Sink, Source};
 
 /// Sets the timer to the setting at a place in host memory, or disarms it where that is 0 (setitimer(2)): EFAULT

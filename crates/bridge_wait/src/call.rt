@@ -1,10 +1,9 @@
 //! A call on time by its number.
-ghost use Rattle.bridge_log.specs.Leading.{LeadsOn};
-ghost use Rattle.std.specs.Prelude.{◌≡◌, IsTrue};
+ghost use Rattle.std.specs.Prelude.{◌≡◌};
 ghost use Rattle.bridge_log.specs.Keeping.{KeepsCall};
 ghost use Rattle.bridge_wait.specs.Found.{found};
-ghost use Rattle.bridge_wait.specs.Numbers.{is_call_there};
 ghost use Rattle.kernel_model.specs.Stops.{StopsOnlyIfRose};
+ghost use Rattle.o32_calls.specs.Numbers.{time_number};
 ghost use Rattle.o32_model.specs.Answered.{IsCall};
 ghost use Rattle.o32_model.specs.Table.{machine_call};
 ghost use Rattle.outside.specs.Streams.{NoCountFell, contents};
@@ -16,6 +15,7 @@ use guest_space::Space;
 use host_mem::HostMem;
 use kernel_core::Stop;
 use mips_exec::Cpu;
+use o32_calls::TimeCall;
 use o32_model::{CallWords, Log, Outcome, Seen};
 use outside::{Devices, Sink, Source};
 
@@ -24,6 +24,7 @@ use outside::{Devices, Sink, Source};
 /// alone. It stops early for want of memory, or by a device.
 #[inline(never)]
 pub fn wait_call<I: Source, O: Sink, E: Sink>(
+    call: TimeCall,
     args: &CallWords,
     cpu: &mut Cpu,
     space: &mut Space,
@@ -33,7 +34,7 @@ pub fn wait_call<I: Source, O: Sink, E: Sink>(
     log: &mut Log,
     seen: &Seen,
 ) -> Result<Outcome, Stop>
-    requires { IsTrue (is_call_there args.now.nr) }
+    requires { args.now.nr ≡ time_number call }
     ensures row { IsCall (machine_call seen.now k.old (found args.now cpu.old space.old)) result k.new space.new cpu.new
         (contents I.left O.written E.written dev.old) (contents I.left O.written E.written dev.new) }
     ensures kept { KeepsCall (machine_call seen.now k.old (found args.now cpu.old space.old)) result k.old
@@ -47,35 +48,13 @@ pub fn wait_call<I: Source, O: Sink, E: Sink>(
         memory: mem,
         log,
     };
-    by_number(args, cpu, space, dev, seen, below)
-}
-
-/// The same by its number, with the kernel and what its calls are made with as one value.
-fn by_number<I: Source, O: Sink, E: Sink>(
-    args: &CallWords,
-    cpu: &mut Cpu,
-    space: &mut Space,
-    dev: &mut Devices<I, O, E>,
-    seen: &Seen,
-    below: &mut Below,
-) -> Result<Outcome, Stop>
-    requires { IsTrue (is_call_there args.now.nr) }
-    ensures row { IsCall (machine_call seen.now below.old.kernel.now (found args.now cpu.old space.old)) result below.new.kernel.now space.new cpu.new
-        (contents I.left O.written E.written dev.old) (contents I.left O.written E.written dev.new) }
-    ensures kept { KeepsCall (machine_call seen.now below.old.kernel.now (found args.now cpu.old space.old)) result below.old.kernel.now
-        (found args.now cpu.old space.old) (I.left dev.old.input) below.old.log.now below.new.log.now }
-    ensures cause { StopsOnlyIfRose I.faults O.faults E.faults result dev.old dev.new }
-    ensures counts { NoCountFell I.faults O.faults E.faults dev.old dev.new }
-    ensures clock { below.new.kernel.now.clock ≡ below.old.kernel.now.clock }
-    ensures same { LeadsOn below.old below.new }
-{
     let [a0, a1, _, _] = args.reg;
-    match args.nr {
-        4013 => time(a0, space, dev, below),
-        4078 => gettimeofday(a0, a1, space, dev, below),
-        4166 => nanosleep(args, a0, space, dev, below),
-        4263 => clock_gettime(a0, a1, seen.quanta, space, dev, below),
-        4264 => clock_getres(a0, a1, space, dev, below),
-        _ => clock_nanosleep(args, space, dev, below),
+    match call {
+        TimeCall::Time => time(a0, space, dev, below),
+        TimeCall::Gettimeofday => gettimeofday(a0, a1, space, dev, below),
+        TimeCall::Nanosleep => nanosleep(args, a0, space, dev, below),
+        TimeCall::ClockGettime => clock_gettime(a0, a1, seen.quanta, space, dev, below),
+        TimeCall::ClockGetres => clock_getres(a0, a1, space, dev, below),
+        TimeCall::ClockNanosleep => clock_nanosleep(args, space, dev, below),
     }
 }

@@ -1,13 +1,14 @@
 //! How the waits of sleeps end.
-ghost use Rattle.std.specs.Prelude.{◌≡◌, IfErr, IfOk, IsTrue, OnOk};
+ghost use Rattle.std.specs.Prelude.{◌≡◌, ◌⊎◌, IfErr, IfOk, OnOk};
 ghost use Rattle.bridge_log.specs.Leading.{LeadsOn};
 ghost use Rattle.bridge_log.specs.Keeping.{reached};
-ghost use Rattle.bridge_wait.specs.Numbers.{is_sleep};
 ghost use Rattle.bridge_wait.specs.inside.Endings.{interrupted_if};
 ghost use Rattle.kernel_model.specs.Clock.{left_until};
 ghost use Rattle.kernel_model.specs.Pipes.{Sent};
 ghost use Rattle.kernel_model.specs.State.{Kernel};
 ghost use Rattle.mips_exec.specs.Processor.{Processor};
+ghost use Rattle.o32_calls.specs.Numbers.{time_number};
+ghost use Rattle.o32_calls.specs.declared.times.TimeCall.TheVariants.{ClockNanosleep, Nanosleep};
 ghost use Rattle.o32_model.specs.Effects.{Effected};
 ghost use Rattle.o32_model.specs.WaitEnds.{ends_with, sleep_ended, sleep_interrupted, wait_ended};
 
@@ -15,6 +16,7 @@ use crate::clock_times::ClockTime;
 use bridge_log::{Below, put};
 use guest_space::Space;
 use kernel_core::{Errno, NoMemory, Stop};
+use o32_calls::NANOSLEEP;
 use o32_model::{Cause, Close, Log, Wait};
 
 /// What a call that sleeps asked for.
@@ -38,7 +40,7 @@ pub fn wait_end(
     space: &mut Space,
     below: &mut Below,
 ) -> Result<Close, Stop>
-    requires { IsTrue (is_sleep wait.now.nr) }
+    requires { (wait.now.nr ≡ time_number Nanosleep) ⊎ (wait.now.nr ≡ time_number ClockNanosleep) }
     ensures ends { IfOk result (λ close. wait_ended wait.now cause clock below.old.kernel.now space.old ≡ ends_with close below.new.kernel.now space.new) }
     ensures host { below.new.memory.now ≡ below.old.memory.now }
     ensures effects { OnOk result ((processor : Processor) (sent : Sent)
@@ -60,14 +62,14 @@ fn closed(
     space: &mut Space,
     log: &mut Log,
 ) -> Result<Close, NoMemory>
-    requires { IsTrue (is_sleep wait.now.nr) }
+    requires { (wait.now.nr ≡ time_number Nanosleep) ⊎ (wait.now.nr ≡ time_number ClockNanosleep) }
     ensures ends { IfOk result (λ close. (kernel : Kernel) → wait_ended wait.now cause clock kernel space.old ≡ ends_with close kernel space.new) }
     ensures effects { OnOk result ((processor : Processor) (sent : Sent)
         → Effected log.old.effects log.new.effects (reached processor space.old.pages sent) (reached processor space.new.pages sent)) }
     ensures native { log.new.native ≡ log.old.native }
 {
     match wait.nr {
-        4166 => {
+        NANOSLEEP => {
             let sleeping = Sleeping {
                 relative: true,
                 address: wait.words[1],

@@ -10,14 +10,13 @@ ghost use Rattle.o32_model.specs.Clocks.{is_late};
 ghost use Rattle.outside.specs.Streams.{NoCountFell, contents};
 
 use crate::clock_times::ClockTime;
-use crate::numbers::{
-    CLOCK_GETRES, CLOCK_GETTIME, CLOCK_MONOTONIC, CLOCK_NANOSLEEP, CLOCK_REALTIME, TIMER_ABSTIME,
-};
+use crate::numbers::{CLOCK_MONOTONIC, CLOCK_REALTIME, TIMER_ABSTIME};
 use crate::times::push_time;
 use bridge_log::{Below, fresh_room};
 use byteorder::{ByteOrder, LittleEndian};
 use host_mem::{FIRST_ADDRESS, HostMem};
 use kernel_core::{Reply, Stop};
+use native_numbers::{CLOCK_GETRES, CLOCK_GETTIME, CLOCK_NANOSLEEP};
 use outside::{Devices, Sink, Source};
 
 /// How many bytes a time has in host memory (struct timespec).

@@ -1,14 +1,6 @@
 //! The native numbers (Linux `include/uapi/asm-generic/unistd.h`), and those of clocks and flags (Linux
 //! `include/uapi/linux/time.h`), which are the same for a program.
 
-pub(crate) const NANOSLEEP: u64 = 101;
-
-pub(crate) const CLOCK_GETTIME: u64 = 113;
-
-pub(crate) const CLOCK_GETRES: u64 = 114;
-
-pub(crate) const CLOCK_NANOSLEEP: u64 = 115;
-
 pub(crate) const CLOCK_REALTIME: u32 = 0;
 
 pub(crate) const CLOCK_MONOTONIC: u32 = 1;

@@ -9,11 +9,11 @@ ghost use Rattle.o32_model.specs.Step.{Guest};
 ghost use Rattle.o32_model.specs.Words.{argument};
 ghost use Rattle.outside.specs.Streams.{NoCountFell, contents};
 
-use crate::numbers::{CLOCK_NANOSLEEP, NANOSLEEP};
 use crate::times::take_time;
 use bridge_log::Below;
 use guest_space::Space;
 use kernel_core::Stop;
+use native_numbers::{CLOCK_NANOSLEEP, NANOSLEEP};
 use o32_model::{CallWords, Outcome};
 use outside::{Devices, Sink, Source};
 

@@ -33,8 +33,8 @@ use Rattle.o32_model.specs.Mappings.{map_calls}
 use Rattle.o32_model.specs.GuestBytes.{unless_null}
 use Rattle.o32_model.specs.Masks.{masked, set_at, waiting_with, with_own_mask}
 use Rattle.o32_model.specs.Results.{stores_result, stores_result_unless_null}
-use Rattle.o32_model.specs.Seeing.{SeeingCall, restart_syscall_row}
-use Rattle.o32_model.specs.Step.{Guest, O32Call, O32Step, comes_to, gives, stores}
+use Rattle.o32_model.specs.Seeing.{SeeingRow, restart_syscall_row}
+use Rattle.o32_model.specs.Step.{Guest, O32Row, O32Step, comes_to, gives, stores}
 use Rattle.o32_model.specs.Table.{call_in, call_of, machine_call, seeing_call_of, seeing_step_of}
 use Rattle.o32_model.specs.TimeLeft.{LeftForm, at_end, with_left_of, with_time_left}
 use Rattle.o32_model.specs.Times.{spec_at, spec_bytes, val_at, val_bytes}
@@ -167,22 +167,22 @@ rt_frame_keeps kernel guest (Ok bytes) left = record { slot = refl; link = refl 
 
 -- Calls of the table
 
-record CallKeeps (call : O32Call) : Type 0 where
+record CallKeeps (call : O32Row) : Type 0 where
   keeps : (kernel : Kernel) (guest : Guest) (left : List ℕ) → Keeps guest (call.step kernel guest left).processor
 
-abbrev CallsKeep : List O32Call → Type 0
+abbrev CallsKeep : List O32Row → Type 0
 CallsKeep [] = ⊤
 CallsKeep (call ∷ calls) = CallKeeps call × CallsKeep calls
 
-abbrev KeepsIfAny : Option O32Call → Type 0
+abbrev KeepsIfAny : Option O32Row → Type 0
 KeepsIfAny None = ⊤
 KeepsIfAny (Some call) = CallKeeps call
 
-found_keeps : (found : Bool) (call : O32Call) (otherwise : Option O32Call) → CallKeeps call → KeepsIfAny otherwise → KeepsIfAny (if found then Some call else otherwise)
+found_keeps : (found : Bool) (call : O32Row) (otherwise : Option O32Row) → CallKeeps call → KeepsIfAny otherwise → KeepsIfAny (if found then Some call else otherwise)
 found_keeps true call otherwise keeps others = keeps
 found_keeps false call otherwise keeps others = others
 
-in_keeps : (calls : List O32Call) (otherwise : Option O32Call) (number : ℕ) → CallsKeep calls → KeepsIfAny otherwise → KeepsIfAny (call_in calls otherwise number)
+in_keeps : (calls : List O32Row) (otherwise : Option O32Row) (number : ℕ) → CallsKeep calls → KeepsIfAny otherwise → KeepsIfAny (call_in calls otherwise number)
 in_keeps [] otherwise number keeps others = others
 in_keeps (call ∷ calls) otherwise number keeps others =
     found_keeps (number == call.number) call (call_in calls otherwise number) keeps.0 (in_keeps calls otherwise number keeps.1 others)
@@ -280,14 +280,14 @@ call_keeps number =
 
 -- Calls that see more
 
-record SeeingKeeps (call : SeeingCall) : Type 0 where
+record SeeingKeeps (call : SeeingRow) : Type 0 where
   keeps : (seen : Seen) (kernel : Kernel) (guest : Guest) (left : List ℕ) → Keeps guest (call.step seen kernel guest left).processor
 
-abbrev SeeingKeepsIfAny : Option SeeingCall → Type 0
+abbrev SeeingKeepsIfAny : Option SeeingRow → Type 0
 SeeingKeepsIfAny None = ⊤
 SeeingKeepsIfAny (Some call) = SeeingKeeps call
 
-found_seeing : (found : Bool) (call : SeeingCall) (otherwise : Option SeeingCall) → SeeingKeeps call → SeeingKeepsIfAny otherwise → SeeingKeepsIfAny (if found then Some call else otherwise)
+found_seeing : (found : Bool) (call : SeeingRow) (otherwise : Option SeeingRow) → SeeingKeeps call → SeeingKeepsIfAny otherwise → SeeingKeepsIfAny (if found then Some call else otherwise)
 found_seeing true call otherwise keeps others = keeps
 found_seeing false call otherwise keeps others = others
 
@@ -299,7 +299,7 @@ seeing_keeps number =
 
 -- A call of a machine
 
-machine_by : (call : Option O32Call) (other : Option SeeingCall) → KeepsIfAny call → SeeingKeepsIfAny other → (seen : Seen) (kernel : Kernel) (guest : Guest) (left : List ℕ)
+machine_by : (call : Option O32Row) (other : Option SeeingRow) → KeepsIfAny call → SeeingKeepsIfAny other → (seen : Seen) (kernel : Kernel) (guest : Guest) (left : List ℕ)
     → Keeps guest (seeing_step_of call other seen kernel guest left).processor
 machine_by (Some call) other keeps others seen kernel guest left = keeps.keeps kernel guest left
 machine_by None None keeps others seen kernel guest left = same guest

@@ -40,8 +40,8 @@ use Rattle.o32_model.specs.Mappings.{map_calls}
 use Rattle.o32_model.specs.GuestBytes.{is_storable, unless_null}
 use Rattle.o32_model.specs.Masks.{masked, set_at, waiting_with, with_own_mask}
 use Rattle.o32_model.specs.Results.{stores_result, stores_result_unless_null}
-use Rattle.o32_model.specs.Seeing.{SeeingCall, restart_syscall_row, restarted}
-use Rattle.o32_model.specs.Step.{Guest, O32Call, O32Step, comes_to, gives, stores}
+use Rattle.o32_model.specs.Seeing.{SeeingRow, restart_syscall_row, restarted}
+use Rattle.o32_model.specs.Step.{Guest, O32Row, O32Step, comes_to, gives, stores}
 use Rattle.o32_model.specs.Table.{call_in, call_of, machine_call, seeing_call_of, seeing_step_of}
 use Rattle.o32_model.specs.TimeLeft.{LeftForm, at_end, with_left_of, with_time_left}
 use Rattle.o32_model.specs.Times.{spec_at, spec_bytes, val_at, val_bytes}
@@ -223,22 +223,22 @@ restarted_few kernel (Some wait) few = few
 
 -- Calls of the table
 
-record CallFew (call : O32Call) : Type 0 where
+record CallFew (call : O32Row) : Type 0 where
   few : (kernel : Kernel) (guest : Guest) (left : List ℕ) → Few kernel → Few (call.step kernel guest left).kernel
 
-abbrev CallsFew : List O32Call → Type 0
+abbrev CallsFew : List O32Row → Type 0
 CallsFew [] = ⊤
 CallsFew (call ∷ calls) = CallFew call × CallsFew calls
 
-abbrev FewIfAny : Option O32Call → Type 0
+abbrev FewIfAny : Option O32Row → Type 0
 FewIfAny None = ⊤
 FewIfAny (Some call) = CallFew call
 
-found_few : (found : Bool) (call : O32Call) (otherwise : Option O32Call) → CallFew call → FewIfAny otherwise → FewIfAny (if found then Some call else otherwise)
+found_few : (found : Bool) (call : O32Row) (otherwise : Option O32Row) → CallFew call → FewIfAny otherwise → FewIfAny (if found then Some call else otherwise)
 found_few true call otherwise few others = few
 found_few false call otherwise few others = others
 
-in_few : (calls : List O32Call) (otherwise : Option O32Call) (number : ℕ) → CallsFew calls → FewIfAny otherwise → FewIfAny (call_in calls otherwise number)
+in_few : (calls : List O32Row) (otherwise : Option O32Row) (number : ℕ) → CallsFew calls → FewIfAny otherwise → FewIfAny (call_in calls otherwise number)
 in_few [] otherwise number few others = others
 in_few (call ∷ calls) otherwise number few others =
     found_few (number == call.number) call (call_in calls otherwise number) few.0 (in_few calls otherwise number few.1 others)
@@ -336,14 +336,14 @@ call_few number =
 
 -- Calls that see more
 
-record SeeingFew (call : SeeingCall) : Type 0 where
+record SeeingFew (call : SeeingRow) : Type 0 where
   few : (seen : Seen) (kernel : Kernel) (guest : Guest) (left : List ℕ) → Few kernel → Few (call.step seen kernel guest left).kernel
 
-abbrev SeeingFewIfAny : Option SeeingCall → Type 0
+abbrev SeeingFewIfAny : Option SeeingRow → Type 0
 SeeingFewIfAny None = ⊤
 SeeingFewIfAny (Some call) = SeeingFew call
 
-found_seeing : (found : Bool) (call : SeeingCall) (otherwise : Option SeeingCall) → SeeingFew call → SeeingFewIfAny otherwise → SeeingFewIfAny (if found then Some call else otherwise)
+found_seeing : (found : Bool) (call : SeeingRow) (otherwise : Option SeeingRow) → SeeingFew call → SeeingFewIfAny otherwise → SeeingFewIfAny (if found then Some call else otherwise)
 found_seeing true call otherwise few others = few
 found_seeing false call otherwise few others = others
 
@@ -355,7 +355,7 @@ seeing_few number =
 
 -- A call of a machine
 
-machine_by : (call : Option O32Call) (other : Option SeeingCall) → FewIfAny call → SeeingFewIfAny other → (seen : Seen) (kernel : Kernel) (guest : Guest) (left : List ℕ) → Few kernel
+machine_by : (call : Option O32Row) (other : Option SeeingRow) → FewIfAny call → SeeingFewIfAny other → (seen : Seen) (kernel : Kernel) (guest : Guest) (left : List ℕ) → Few kernel
     → Few (seeing_step_of call other seen kernel guest left).kernel
 machine_by (Some call) other few others seen kernel guest left start = few.few kernel guest left start
 machine_by None None few others seen kernel guest left start = start

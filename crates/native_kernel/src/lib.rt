@@ -14,7 +14,6 @@ mod kernel;
 mod masks;
 mod names;
 mod nodes;
-mod numbers;
 mod paths;
 mod pipes;
 mod readiness;

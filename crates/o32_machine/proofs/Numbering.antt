@@ -1,14 +1,34 @@
--- A call's number in the groups, and in the whole table.
+-- A call's row in its group's definition is its row in the whole table; and where no call has a number, no row has it.
 use Rattle.std.proofs.Common.{◌≡◌, ℕ, Bool, true, false, List, [], ◌∷◌, Option, Some, None, refl, sym, ap, subst, ◌∙◌, eqb-true}
-use Rattle.std.specs.Prelude.{⊤, is_some, ◌==◌, ◌||◌, if◌then◌else◌}
-use Rattle.bridge_entries.specs.Numbers.{is_entries_call}
-use Rattle.bridge_file.specs.Numbers.{is_call_there}
-use Rattle.bridge_open.specs.Numbers.{is_open_call}
-use Rattle.bridge_signal.specs.Numbers as signal
-use Rattle.bridge_status.specs.Numbers.{is_status_call}
-use Rattle.bridge_timer.specs.Numbers as timer
-use Rattle.bridge_delivery.specs.Passed.{is_call_there as is_wait_there}
+use Rattle.std.specs.Prelude.{⊤, is_some, ◌==◌}
 use Rattle.kernel_model.specs.State.{Kernel}
+use Rattle.o32_calls.specs.Numbers.{call_of_number, entries_number, file_number, io_number, map_number, name_number, node_number, open_number, place_number, plain_number, size_number, status_number, system_number, text_number}
+use Rattle.o32_calls.specs.declared.descriptors.IoCall.TheVariants.{Read}
+use Rattle.o32_calls.specs.declared.descriptors.IoCall.{IoCall}
+use Rattle.o32_calls.specs.declared.files.EntriesCall.TheVariants.{Getdents}
+use Rattle.o32_calls.specs.declared.files.EntriesCall.{EntriesCall}
+use Rattle.o32_calls.specs.declared.files.OpenCall.TheVariants.{Open}
+use Rattle.o32_calls.specs.declared.files.OpenCall.{OpenCall}
+use Rattle.o32_calls.specs.declared.files.StatusCall.TheVariants.{Stat}
+use Rattle.o32_calls.specs.declared.files.StatusCall.{StatusCall}
+use Rattle.o32_calls.specs.declared.mappings.MapCall.TheVariants.{Brk}
+use Rattle.o32_calls.specs.declared.mappings.MapCall.{MapCall}
+use Rattle.o32_calls.specs.declared.names.FileCall.TheVariants.{Name, Node, Text, Size, Place}
+use Rattle.o32_calls.specs.declared.names.FileCall.{FileCall}
+use Rattle.o32_calls.specs.declared.names.NameCall.TheVariants.{Link}
+use Rattle.o32_calls.specs.declared.names.NameCall.{NameCall}
+use Rattle.o32_calls.specs.declared.names.NodeCall.TheVariants.{Chdir}
+use Rattle.o32_calls.specs.declared.names.NodeCall.{NodeCall}
+use Rattle.o32_calls.specs.declared.names.PlaceCall.TheVariants.{Lseek}
+use Rattle.o32_calls.specs.declared.names.PlaceCall.{PlaceCall}
+use Rattle.o32_calls.specs.declared.names.SizeCall.TheVariants.{Truncate}
+use Rattle.o32_calls.specs.declared.names.SizeCall.{SizeCall}
+use Rattle.o32_calls.specs.declared.names.TextCall.TheVariants.{Readlink}
+use Rattle.o32_calls.specs.declared.names.TextCall.{TextCall}
+use Rattle.o32_calls.specs.declared.process.PlainCall.TheVariants.{Exit}
+use Rattle.o32_calls.specs.declared.process.PlainCall.{PlainCall}
+use Rattle.o32_calls.specs.declared.process.SystemCall.TheVariants.{Getrlimit}
+use Rattle.o32_calls.specs.declared.process.SystemCall.{SystemCall}
 use Rattle.o32_model.specs.Actions.{action_calls}
 use Rattle.o32_model.specs.Clocks.{clock_calls}
 use Rattle.o32_model.specs.Descriptors.{descriptor_calls}
@@ -19,278 +39,171 @@ use Rattle.o32_model.specs.NodeCalls.{node_calls}
 use Rattle.o32_model.specs.Opening.{opening_calls}
 use Rattle.o32_model.specs.Polling.{poll_calls}
 use Rattle.o32_model.specs.Returns.{return_calls}
-use Rattle.o32_model.specs.Seeing.{SeeingCall}
+use Rattle.o32_model.specs.Seeing.{SeeingRow}
 use Rattle.o32_model.specs.Selecting.{select_calls}
 use Rattle.o32_model.specs.Sending.{sending_calls}
 use Rattle.o32_model.specs.Sleeps.{sleep_calls}
 use Rattle.o32_model.specs.Small.{small_calls}
 use Rattle.o32_model.specs.Status.{status_calls}
-use Rattle.o32_model.specs.Step.{Guest, O32Call}
+use Rattle.o32_model.specs.Step.{Guest, O32Row}
 use Rattle.o32_model.specs.Suspending.{suspending_calls}
-use Rattle.o32_model.specs.Table.{call_in, call_of, file_call_or, is_file_call, is_io_call, is_map_call, machine_call, o32_call, seeing_call_of, seeing_step_of, signal_call_or, step_of, wait_call_or}
+use Rattle.o32_model.specs.Table.{call_in, call_of, file_call_or, io_call_or, machine_call, o32_call, seeing_call_of, seeing_step_of, signal_call_or, step_of, wait_call_or}
 use Rattle.o32_model.specs.Terminal.{terminal_calls}
 use Rattle.o32_model.specs.Transfers.{transfer_calls}
 use Rattle.o32_model.specs.declared.wait.Seen.{Seen}
 
--- A number that is found in a list is found, whatever stands behind it.
+-- each call of a group has a row in the table
 
-found_first : (call : O32Call) (rest other : Option O32Call) (b : Bool) → is_some (if b then Some call else rest) ≡ true → (is_some rest ≡ true → is_some other ≡ true)
-    → is_some (if b then Some call else other) ≡ true
-found_first call rest other true there more = refl
-found_first call rest other false there more = more there
+pub io_there : (call : IoCall) → is_some (call_of (io_number call)) ≡ true
+io_there Read = refl
+io_there _ = refl
 
-found_in : (calls : List O32Call) (rest other : Option O32Call) (number : ℕ) → (is_some rest ≡ true → is_some other ≡ true)
-    → is_some (call_in calls rest number) ≡ true → is_some (call_in calls other number) ≡ true
-found_in [] rest other number behind there = behind there
-found_in (call ∷ calls) rest other number behind there =
-    found_first call (call_in calls rest number) (call_in calls other number) (number == call.number) there (found_in calls rest other number behind)
+pub open_there : (call : OpenCall) → is_some (call_of (open_number call)) ≡ true
+open_there Open = refl
+open_there _ = refl
 
--- one that is found behind a list is found
-found_first_or : (call : O32Call) (rest : Option O32Call) (b : Bool) → is_some rest ≡ true → is_some (if b then Some call else rest) ≡ true
-found_first_or call rest true there = refl
-found_first_or call rest false there = there
+pub status_there : (call : StatusCall) → is_some (call_of (status_number call)) ≡ true
+status_there Stat = refl
+status_there _ = refl
 
-behind : (calls : List O32Call) (rest : Option O32Call) (number : ℕ) → is_some rest ≡ true → is_some (call_in calls rest number) ≡ true
-behind [] rest number there = there
-behind (call ∷ calls) rest number there = found_first_or call (call_in calls rest number) (number == call.number) (behind calls rest number there)
+pub entries_there : (call : EntriesCall) → is_some (call_of (entries_number call)) ≡ true
+entries_there Getdents = refl
+entries_there _ = refl
 
-nowhere : (other : Option O32Call) → false ≡ true → is_some other ≡ true
-nowhere other wrong = absurd cc
+name_there : (call : NameCall) → is_some (call_of (name_number call)) ≡ true
+name_there Link = refl
+name_there _ = refl
 
--- what is so of each number of a list
+node_there : (call : NodeCall) → is_some (call_of (node_number call)) ≡ true
+node_there Chdir = refl
+node_there _ = refl
 
-abbrev EachIs : (ℕ → Type 0) → List O32Call → Type 0
-EachIs P [] = ⊤
-EachIs P (call ∷ calls) = P call.number × EachIs P calls
+text_there : (call : TextCall) → is_some (call_of (text_number call)) ≡ true
+text_there Readlink = refl
+text_there _ = refl
 
--- a number that is found is one of the list, or stands behind it
+size_there : (call : SizeCall) → is_some (call_of (size_number call)) ≡ true
+size_there Truncate = refl
+size_there _ = refl
 
-one_or : (call : O32Call) (rest : Option O32Call) (number : ℕ) (P : ℕ → Type 0) → P call.number → (is_some rest ≡ true → P number) → (b : Bool) → (number == call.number) ≡ b
-    → is_some (if b then Some call else rest) ≡ true → P number
-one_or call rest number P at more true e there = subst P (sym (eqb-true number call.number e)) at
-one_or call rest number P at more false e there = more there
+place_there : (call : PlaceCall) → is_some (call_of (place_number call)) ≡ true
+place_there Lseek = refl
+place_there _ = refl
 
-in_list : (calls : List O32Call) (otherwise : Option O32Call) (number : ℕ) (P : ℕ → Type 0) → EachIs P calls → (is_some otherwise ≡ true → P number)
-    → is_some (call_in calls otherwise number) ≡ true → P number
-in_list [] otherwise number P each behind there = behind there
-in_list (call ∷ calls) otherwise number P each behind there =
-    one_or call (call_in calls otherwise number) number P each.0 (in_list calls otherwise number P each.1 behind) (number == call.number) refl there
+pub file_there : (call : FileCall) → is_some (call_of (file_number call)) ≡ true
+file_there (Name call) = name_there call
+file_there (Node call) = node_there call
+file_there (Text call) = text_there call
+file_there (Size call) = size_there call
+file_there (Place call) = place_there call
 
--- one that is not found is none of the list, and stands nowhere behind it
+pub map_there : (call : MapCall) → is_some (call_of (map_number call)) ≡ true
+map_there Brk = refl
+map_there _ = refl
 
-abbrev IsNot : Option O32Call → Option O32Call → Option O32Call → Type 0
-IsNot found otherwise other = (found ≡ other) × (is_some otherwise ≡ false)
-
-not_one : (call : O32Call) (rest found otherwise other : Option O32Call) (b : Bool) → is_some (if b then Some call else rest) ≡ false → (is_some rest ≡ false → IsNot found otherwise other)
-    → IsNot (if b then Some call else found) otherwise other
-not_one call rest found otherwise other true none more = absurd cc
-not_one call rest found otherwise other false none more = more none
-
-not_in : (calls : List O32Call) (otherwise other : Option O32Call) (number : ℕ) → is_some (call_in calls otherwise number) ≡ false → IsNot (call_in calls other number) otherwise other
-not_in [] otherwise other number none = (refl, none)
-not_in (call ∷ calls) otherwise other number none =
-    not_one call (call_in calls otherwise number) (call_in calls other number) otherwise other (number == call.number) none (not_in calls otherwise other number)
-
-none_of : (found : Option O32Call) → is_some found ≡ false → found ≡ None
-none_of None none = refl
-none_of (Some call) none = absurd cc
-
--- The groups have what the whole table has.
-
--- a number of a group, in the whole table
-
-io_there : (number : ℕ) → is_io_call number ≡ true → is_some (call_of number) ≡ true
-io_there number there =
-    let signals = signal_call_or (call_in map_calls None number) number in
-    let others = call_in small_calls (file_call_or (wait_call_or signals number) number) number in
-    found_in transfer_calls (call_in descriptor_calls (call_in terminal_calls None number) number) (call_in descriptor_calls (call_in terminal_calls others number) number) number
-    (found_in descriptor_calls (call_in terminal_calls None number) (call_in terminal_calls others number) number
-    (found_in terminal_calls None others number (nowhere others))) there
-
-behind_small : (rest : Option O32Call) (number : ℕ) → is_some rest ≡ true
-    → is_some (call_in transfer_calls (call_in descriptor_calls (call_in terminal_calls (call_in small_calls rest number) number) number) number) ≡ true
-behind_small rest number there =
-    let small = call_in small_calls rest number in
-    behind transfer_calls (call_in descriptor_calls (call_in terminal_calls small number) number) number
-    (behind descriptor_calls (call_in terminal_calls small number) number
-    (behind terminal_calls small number
-    (behind small_calls rest number there)))
-
-file_there : (number : ℕ) → is_file_call number ≡ true → is_some (call_of number) ≡ true
-file_there number there =
-    let others = wait_call_or (signal_call_or (call_in map_calls None number) number) number in
-    behind_small (file_call_or others number) number
-    (found_in opening_calls (call_in status_calls (call_in entry_calls (call_in name_calls (call_in node_calls None number) number) number) number)
-    (call_in status_calls (call_in entry_calls (call_in name_calls (call_in node_calls others number) number) number) number) number
-    (found_in status_calls (call_in entry_calls (call_in name_calls (call_in node_calls None number) number) number)
-    (call_in entry_calls (call_in name_calls (call_in node_calls others number) number) number) number
-    (found_in entry_calls (call_in name_calls (call_in node_calls None number) number) (call_in name_calls (call_in node_calls others number) number) number
-    (found_in name_calls (call_in node_calls None number) (call_in node_calls others number) number
-    (found_in node_calls None others number (nowhere others))))) there)
-
-map_there : (number : ℕ) → is_map_call number ≡ true → is_some (call_of number) ≡ true
-map_there number there =
-    let last = call_in map_calls None number in
-    let signals = signal_call_or last number in
-    let times = wait_call_or signals number in
-    behind_small (file_call_or times number) number
-    (behind opening_calls (call_in status_calls (call_in entry_calls (call_in name_calls (call_in node_calls times number) number) number) number) number
-    (behind status_calls (call_in entry_calls (call_in name_calls (call_in node_calls times number) number) number) number
-    (behind entry_calls (call_in name_calls (call_in node_calls times number) number) number
-    (behind name_calls (call_in node_calls times number) number
-    (behind node_calls times number
-    (behind clock_calls (call_in sleep_calls (call_in poll_calls (call_in select_calls signals number) number) number) number
-    (behind sleep_calls (call_in poll_calls (call_in select_calls signals number) number) number
-    (behind poll_calls (call_in select_calls signals number) number
-    (behind select_calls signals number
-    (behind sending_calls (call_in action_calls (call_in suspending_calls (call_in return_calls last number) number) number) number
-    (behind action_calls (call_in suspending_calls (call_in return_calls last number) number) number
-    (behind suspending_calls (call_in return_calls last number) number
-    (behind return_calls last number there)))))))))))))
+-- it is that of the whole table
 
 module _ (seen : Seen) (kernel : Kernel) (guest : Guest) (left : List ℕ) where
-  of_the_table : (found : Option O32Call) (other : Option SeeingCall) → is_some found ≡ true → step_of found kernel guest left ≡ seeing_step_of found other seen kernel guest left
+  of_the_table : (found : Option O32Row) (other : Option SeeingRow) → is_some found ≡ true → step_of found kernel guest left ≡ seeing_step_of found other seen kernel guest left
   of_the_table None other there = absurd cc
   of_the_table (Some call) other there = refl
 
-  pub io_call_same : is_io_call guest.words.nr ≡ true → o32_call kernel guest left ≡ machine_call seen kernel guest left
-  io_call_same there = of_the_table (call_of guest.words.nr) (seeing_call_of guest.words.nr) (io_there guest.words.nr there)
+  pub same : (number : ℕ) → is_some (call_of number) ≡ true → guest.words.nr ≡ number → o32_call kernel guest left ≡ machine_call seen kernel guest left
+  same number there is =
+      of_the_table (call_of guest.words.nr) (seeing_call_of guest.words.nr) (subst (λ (n : ℕ). is_some (call_of n) ≡ true) (sym is) there)
 
-  pub file_call_same : is_file_call guest.words.nr ≡ true → o32_call kernel guest left ≡ machine_call seen kernel guest left
-  file_call_same there = of_the_table (call_of guest.words.nr) (seeing_call_of guest.words.nr) (file_there guest.words.nr there)
+  -- a small call's row, which is looked up among the small calls alone
 
-  pub map_call_same : is_map_call guest.words.nr ≡ true → o32_call kernel guest left ≡ machine_call seen kernel guest left
-  map_call_same there = of_the_table (call_of guest.words.nr) (seeing_call_of guest.words.nr) (map_there guest.words.nr there)
+  abbrev SmallSame : ℕ → Type 0
+  SmallSame number = step_of (call_in small_calls None number) kernel guest left ≡ seeing_step_of (call_of number) (seeing_call_of number) seen kernel guest left
 
--- Calls on time and readiness, and on signals: a number that none of them has.
+  of_system : (call : SystemCall) → SmallSame (system_number call)
+  of_system Getrlimit = refl
+  of_system _ = refl
 
-neither : (one other : Bool) → (one || other) ≡ false → (one ≡ false) × (other ≡ false)
-neither true other none = absurd cc
-neither false other none = (refl, none)
+  of_plain : (call : PlainCall) → SmallSame (plain_number call)
+  of_plain Exit = refl
+  of_plain _ = refl
 
-abbrev is_poll_call : ℕ → Bool
-is_poll_call number = (number == 4188) || (number == 4302)
+  pub system_same : (call : SystemCall) → guest.words.nr ≡ system_number call → step_of (call_in small_calls None guest.words.nr) kernel guest left ≡ machine_call seen kernel guest left
+  system_same call is = subst SmallSame (sym is) (of_system call)
 
-abbrev is_select_call : ℕ → Bool
-is_select_call number = (number == 4142) || (number == 4301)
+  pub plain_same : (call : PlainCall) → guest.words.nr ≡ plain_number call → step_of (call_in small_calls None guest.words.nr) kernel guest left ≡ machine_call seen kernel guest left
+  plain_same call is = subst SmallSame (sym is) (of_plain call)
 
-no_time : (number : ℕ) (otherwise : Option O32Call) → is_wait_there number ≡ false → timer.is_call_there number ≡ false → is_poll_call number ≡ false → is_select_call number ≡ false
-    → (wait_call_or otherwise number ≡ otherwise) × ((number == 4263) ≡ false)
-no_time number otherwise no_wait no_timer no_poll no_select =
-    let time_4265 = neither (number == 4013 || number == 4078 || number == 4166 || number == 4263 || number == 4264) (number == 4265) no_wait in
-    let time_4264 = neither (number == 4013 || number == 4078 || number == 4166 || number == 4263) (number == 4264) time_4265.0 in
-    let time_4263 = neither (number == 4013 || number == 4078 || number == 4166) (number == 4263) time_4264.0 in
-    let time_4166 = neither (number == 4013 || number == 4078) (number == 4166) time_4263.0 in
-    let time_4078 = neither (number == 4013) (number == 4078) time_4166.0 in
-    let timer_4105 = neither (number == 4027 || number == 4104) (number == 4105) no_timer in
-    let timer_4104 = neither (number == 4027) (number == 4104) timer_4105.0 in
-    let poll_4302 = neither (number == 4188) (number == 4302) no_poll in
-    let select_4301 = neither (number == 4142) (number == 4301) no_select in
-    (rw (time_4078.0, time_4078.1, time_4264.1, timer_4104.0, timer_4104.1, timer_4105.1, time_4166.1, time_4265.1, poll_4302.0, poll_4302.1, select_4301.0, select_4301.1) refl, time_4263.1)
+-- a number that no call has is not that of a call
+no_number : (number other : ℕ) → is_some (call_of_number other) ≡ true → call_of_number number ≡ None → (number == other) ≡ false
+no_number number other there none = by (number == other) refl where
+  by : (b : Bool) → (number == other) ≡ b → b ≡ false
+  by false is = refl
+  by true is =
+      let found : is_some (call_of_number number) ≡ true = subst (λ (n : ℕ). is_some (call_of_number n) ≡ true) (sym (eqb-true number other is)) there in
+      absurd (let wrong : false ≡ true = sym (ap is_some none) ∙ found in cc)
 
-no_signal : (number : ℕ) (otherwise : Option O32Call) → signal.is_call_there number ≡ false → (number == 4197) ≡ false
-    → (signal_call_or otherwise number ≡ otherwise) × ((number == 4253) ≡ false)
-no_signal number otherwise none not_accepted =
-    let test_4266 = neither (number == 4029 || number == 4037 || number == 4119 || number == 4193 || number == 4194 || number == 4195 || number == 4196 || number == 4198 || number == 4199 || number == 4206 || number == 4236 || number == 4253) (number == 4266) none in
-    let test_4253 = neither (number == 4029 || number == 4037 || number == 4119 || number == 4193 || number == 4194 || number == 4195 || number == 4196 || number == 4198 || number == 4199 || number == 4206 || number == 4236) (number == 4253) test_4266.0 in
-    let test_4236 = neither (number == 4029 || number == 4037 || number == 4119 || number == 4193 || number == 4194 || number == 4195 || number == 4196 || number == 4198 || number == 4199 || number == 4206) (number == 4236) test_4253.0 in
-    let test_4206 = neither (number == 4029 || number == 4037 || number == 4119 || number == 4193 || number == 4194 || number == 4195 || number == 4196 || number == 4198 || number == 4199) (number == 4206) test_4236.0 in
-    let test_4199 = neither (number == 4029 || number == 4037 || number == 4119 || number == 4193 || number == 4194 || number == 4195 || number == 4196 || number == 4198) (number == 4199) test_4206.0 in
-    let test_4198 = neither (number == 4029 || number == 4037 || number == 4119 || number == 4193 || number == 4194 || number == 4195 || number == 4196) (number == 4198) test_4199.0 in
-    let test_4196 = neither (number == 4029 || number == 4037 || number == 4119 || number == 4193 || number == 4194 || number == 4195) (number == 4196) test_4198.0 in
-    let test_4195 = neither (number == 4029 || number == 4037 || number == 4119 || number == 4193 || number == 4194) (number == 4195) test_4196.0 in
-    let test_4194 = neither (number == 4029 || number == 4037 || number == 4119 || number == 4193) (number == 4194) test_4195.0 in
-    let test_4193 = neither (number == 4029 || number == 4037 || number == 4119) (number == 4193) test_4194.0 in
-    let test_4119 = neither (number == 4029 || number == 4037) (number == 4119) test_4193.0 in
-    let test_4037 = neither (number == 4029) (number == 4037) test_4119.0 in
-    (rw (test_4037.1, test_4198.1, test_4236.1, test_4266.1, test_4194.1, test_4195.1, test_4196.1, test_4206.1, test_4037.0, not_accepted, test_4199.1, test_4119.1, test_4193.1) refl, test_4253.1)
+-- the calls of a list are named
+abbrev Named : List O32Row → Type 0
+Named [] = ⊤
+Named (row ∷ rows) = is_some (call_of_number row.number) ≡ true × Named rows
 
--- what is in none of these groups is looked for among the small calls alone
+-- a number that no call has is in none of these lists
+none_in : (rows : List O32Row) (otherwise : Option O32Row) (number : ℕ) → Named rows → call_of_number number ≡ None → call_in rows otherwise number ≡ otherwise
+none_in [] otherwise number named none = refl
+none_in (row ∷ rows) otherwise number named none = rw (no_number number row.number named.0 none) (none_in rows otherwise number named.1 none)
 
-no_file : (number : ℕ) (otherwise : Option O32Call) → is_file_call number ≡ false → file_call_or otherwise number ≡ otherwise
-no_file number otherwise none =
-    let first = not_in opening_calls (call_in status_calls (call_in entry_calls (call_in name_calls (call_in node_calls None number) number) number) number)
-    (call_in status_calls (call_in entry_calls (call_in name_calls (call_in node_calls otherwise number) number) number) number) number none in
-    let second = not_in status_calls (call_in entry_calls (call_in name_calls (call_in node_calls None number) number) number)
-    (call_in entry_calls (call_in name_calls (call_in node_calls otherwise number) number) number) number first.1 in
-    let third = not_in entry_calls (call_in name_calls (call_in node_calls None number) number) (call_in name_calls (call_in node_calls otherwise number) number) number second.1 in
-    let fourth = not_in name_calls (call_in node_calls None number) (call_in node_calls otherwise number) number third.1 in
-    let fifth = not_in node_calls None otherwise number fourth.1 in
-    first.0 ∙ second.0 ∙ third.0 ∙ fourth.0 ∙ fifth.0
+module _ (number : ℕ) (none : call_of_number number ≡ None) where
+  no_io : (otherwise : Option O32Row) → io_call_or otherwise number ≡ otherwise
+  no_io otherwise =
+      none_in transfer_calls (call_in descriptor_calls (call_in terminal_calls otherwise number) number) number (refl, (refl, (refl, (refl, (refl, (refl, tt)))))) none
+      ∙ none_in descriptor_calls (call_in terminal_calls otherwise number) number (refl, (refl, (refl, (refl, (refl, (refl, (refl, (refl, tt)))))))) none
+      ∙ none_in terminal_calls otherwise number (refl, tt) none
 
-no_io : (number : ℕ) (otherwise : Option O32Call) → is_io_call number ≡ false
-    → call_in transfer_calls (call_in descriptor_calls (call_in terminal_calls otherwise number) number) number ≡ otherwise
-no_io number otherwise none =
-    let first = not_in transfer_calls (call_in descriptor_calls (call_in terminal_calls None number) number)
-    (call_in descriptor_calls (call_in terminal_calls otherwise number) number) number none in
-    let second = not_in descriptor_calls (call_in terminal_calls None number) (call_in terminal_calls otherwise number) number first.1 in
-    let third = not_in terminal_calls None otherwise number second.1 in
-    first.0 ∙ second.0 ∙ third.0
+  no_small : (otherwise : Option O32Row) → call_in small_calls otherwise number ≡ otherwise
+  no_small otherwise =
+      none_in small_calls otherwise number
+      (refl, (refl, (refl, (refl, (refl, (refl, (refl, (refl, (refl, (refl, (refl, (refl, (refl, (refl, (refl, (refl, (refl, (refl, tt)))))))))))))))))) none
 
--- a number that is none of these
-pub record IsOther (number : ℕ) : Type 0 where
-  pub io : is_io_call number ≡ false
-  pub file : is_file_call number ≡ false
-  pub map : is_map_call number ≡ false
-  pub time : is_wait_there number ≡ false
-  pub timer : timer.is_call_there number ≡ false
-  pub poll : is_poll_call number ≡ false
-  pub select : is_select_call number ≡ false
-  pub accepted : (number == 4197) ≡ false
-  pub signal : signal.is_call_there number ≡ false
+  no_file : (otherwise : Option O32Row) → file_call_or otherwise number ≡ otherwise
+  no_file otherwise =
+      none_in opening_calls (call_in status_calls (call_in entry_calls (call_in name_calls (call_in node_calls otherwise number) number) number) number) number
+      (refl, (refl, (refl, (refl, (refl, tt))))) none
+      ∙ none_in status_calls (call_in entry_calls (call_in name_calls (call_in node_calls otherwise number) number) number) number
+      (refl, (refl, (refl, (refl, (refl, (refl, (refl, tt))))))) none
+      ∙ none_in entry_calls (call_in name_calls (call_in node_calls otherwise number) number) number (refl, (refl, tt)) none
+      ∙ none_in name_calls (call_in node_calls otherwise number) number
+      (refl, (refl, (refl, (refl, (refl, (refl, (refl, (refl, (refl, (refl, (refl, (refl, (refl, tt))))))))))))) none
+      ∙ none_in node_calls otherwise number
+      (refl, (refl, (refl, (refl, (refl, (refl, (refl, (refl, (refl, (refl, (refl, (refl, (refl, (refl, (refl, (refl, tt)))))))))))))))) none
 
-small_of : (number : ℕ) → IsOther number → call_of number ≡ call_in small_calls None number
-small_of number other =
-    let last = call_in map_calls None number in
-    let signals = signal_call_or last number in
-    let times = wait_call_or signals number in
-    no_io number (call_in small_calls (file_call_or times number) number) other.io
-    ∙ ap (λ (o : Option O32Call). call_in small_calls o number)
-    (no_file number times other.file
-    ∙ (no_time number signals other.time other.timer other.poll other.select).0
-    ∙ (no_signal number last other.signal other.accepted).0
-    ∙ none_of last other.map)
+  no_wait : (otherwise : Option O32Row) → wait_call_or otherwise number ≡ otherwise
+  no_wait otherwise =
+      none_in clock_calls (call_in sleep_calls (call_in poll_calls (call_in select_calls otherwise number) number) number) number (refl, (refl, (refl, tt))) none
+      ∙ none_in sleep_calls (call_in poll_calls (call_in select_calls otherwise number) number) number (refl, (refl, (refl, (refl, (refl, tt))))) none
+      ∙ none_in poll_calls (call_in select_calls otherwise number) number (refl, (refl, tt)) none
+      ∙ none_in select_calls otherwise number (refl, (refl, tt)) none
 
-none_seeing : (number : ℕ) → IsOther number → seeing_call_of number ≡ None
-none_seeing number other =
-    rw ((no_time number None other.time other.timer other.poll other.select).1, (no_signal number None other.signal other.accepted).1) refl
+  no_signal : (otherwise : Option O32Row) → signal_call_or otherwise number ≡ otherwise
+  no_signal otherwise =
+      none_in sending_calls (call_in action_calls (call_in suspending_calls (call_in return_calls otherwise number) number) number) number (refl, (refl, (refl, (refl, tt)))) none
+      ∙ none_in action_calls (call_in suspending_calls (call_in return_calls otherwise number) number) number (refl, (refl, (refl, (refl, tt)))) none
+      ∙ none_in suspending_calls (call_in return_calls otherwise number) number (refl, (refl, (refl, tt))) none
+      ∙ none_in return_calls otherwise number (refl, (refl, tt)) none
 
-found_small : (seen : Seen) (kernel : Kernel) (guest : Guest) (left : List ℕ) (found : Option O32Call) → step_of found kernel guest left ≡ seeing_step_of found None seen kernel guest left
-found_small seen kernel guest left None = refl
-found_small seen kernel guest left (Some call) = refl
+  no_map : (otherwise : Option O32Row) → call_in map_calls otherwise number ≡ otherwise
+  no_map otherwise = none_in map_calls otherwise number (refl, (refl, (refl, (refl, (refl, (refl, (refl, (refl, tt)))))))) none
 
-pub small_call_same : (seen : Seen) (kernel : Kernel) (guest : Guest) (left : List ℕ) → IsOther guest.words.nr
-    → step_of (call_in small_calls None guest.words.nr) kernel guest left ≡ machine_call seen kernel guest left
-small_call_same seen kernel guest left other =
-    found_small seen kernel guest left (call_in small_calls None guest.words.nr)
-    ∙ ap (λ (o : Option O32Call). seeing_step_of o None seen kernel guest left) (sym (small_of guest.words.nr other))
-    ∙ ap (λ (o : Option SeeingCall). seeing_step_of (call_of guest.words.nr) o seen kernel guest left) (sym (none_seeing guest.words.nr other))
+  no_call : call_of number ≡ None
+  no_call =
+      let last = call_in map_calls None number in
+      let signals = signal_call_or last number in
+      let times = wait_call_or signals number in
+      let files = file_call_or times number in
+      no_io (call_in small_calls files number) ∙ no_small files ∙ no_file times ∙ no_wait signals ∙ no_signal last ∙ no_map None
 
--- a call on files is made by one of four crates
+  no_seeing_call : seeing_call_of number ≡ None
+  no_seeing_call = rw (no_number number 4263 refl none, no_number number 4253 refl none) refl
 
-abbrev IsMade : ℕ → Type 0
-IsMade number = (is_open_call number || (is_status_call number || (is_entries_call number || is_call_there number))) ≡ true
-
-file_made : (number : ℕ) → is_file_call number ≡ true → IsMade number
-file_made number there =
-    in_list opening_calls (call_in status_calls (call_in entry_calls (call_in name_calls (call_in node_calls None number) number) number) number) number IsMade
-    (refl, (refl, (refl, (refl, (refl, tt))))) (λ second.
-    in_list status_calls (call_in entry_calls (call_in name_calls (call_in node_calls None number) number) number) number IsMade
-    (refl, (refl, (refl, (refl, (refl, (refl, (refl, tt))))))) (λ third.
-    in_list entry_calls (call_in name_calls (call_in node_calls None number) number) number IsMade
-    (refl, (refl, tt)) (λ fourth.
-    in_list name_calls (call_in node_calls None number) number IsMade
-    (refl, (refl, (refl, (refl, (refl, (refl, (refl, (refl, (refl, (refl, (refl, (refl, (refl, tt))))))))))))) (λ fifth.
-    in_list node_calls None number IsMade
-    (refl, (refl, (refl, (refl, (refl, (refl, (refl, (refl, (refl, (refl, (refl, (refl, (refl, (refl, (refl, (refl, tt)))))))))))))))) (λ none. absurd (let wrong : false ≡ true = none in cc))
-    fifth) fourth) third) second) there
-
-last_of : (one two three four : Bool) → (one || (two || (three || four))) ≡ true → one ≡ false → two ≡ false → three ≡ false → four ≡ true
-last_of false false false four made a b c = made
-last_of true two three four made a b c = absurd cc
-last_of false true three four made a b c = absurd cc
-last_of false false true four made a b c = absurd cc
-
-pub path_call_there : (number : ℕ) → is_file_call number ≡ true → is_open_call number ≡ false → is_status_call number ≡ false → is_entries_call number ≡ false → is_call_there number ≡ true
-path_call_there number there no_open no_status no_entries =
-    last_of (is_open_call number) (is_status_call number) (is_entries_call number) (is_call_there number) (file_made number there) no_open no_status no_entries
+-- such a call is ENOSYS
+pub unlisted : (seen : Seen) (kernel : Kernel) (guest : Guest) (left : List ℕ) → call_of_number guest.words.nr ≡ None → step_of None kernel guest left ≡ machine_call seen kernel guest left
+unlisted seen kernel guest left none =
+    ap (λ (row : Option O32Row). seeing_step_of row None seen kernel guest left) (sym (no_call guest.words.nr none))
+    ∙ ap (λ (row : Option SeeingRow). seeing_step_of (call_of guest.words.nr) row seen kernel guest left) (sym (no_seeing_call guest.words.nr none))

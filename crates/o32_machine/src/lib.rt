@@ -3,9 +3,7 @@
 
 mod calls;
 mod emulator;
-mod files;
 mod kept;
-mod numbers;
 mod posting;
 mod process;
 mod process_core;

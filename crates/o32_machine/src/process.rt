@@ -1,6 +1,9 @@
 //! The process of an o32 program: its processor and memory, the kernel that it calls, and the steps of its turns.
 ghost use Rattle.std.specs.Prelude.{◌≡◌, ◌+◌, List, true, ◌-◌, ◌*◌, ◌%◌, ◌<◌, ◌^◌, ◌≤◌, ◌↔◌, ◌++◌, ◌||◌, [], ◌∷◌, max, ℕ, Contains, false, if◌then◌else◌, IfErr, IfOk, IfSome, None, OnOk, is_some, option_map};
 ghost use Rattle.bridge_delivery.specs.Ended.{ended_wait};
+ghost use Rattle.bridge_system.specs.Found.{found};
+ghost use Rattle.bridge_system.specs.Plain.{IsPlain};
+ghost use Rattle.guest_space.specs.Memory.{Memory};
 ghost use Rattle.kernel_core.specs.LoadedTree.{saved};
 ghost use Rattle.kernel_core.specs.ValidTree.{IsReached, IsValidTree, numbers};
 ghost use Rattle.kernel_core.specs.declared.event.Event.TheVariants as events;
@@ -13,7 +16,7 @@ ghost use Rattle.o32_machine.specs.Emulator.{at_clock, coming_of, first_process,
 ghost use Rattle.native_log.specs.NativeLog.{IsReady};
 ghost use Rattle.o32_machine.specs.inside.Finishing.{finished};
 ghost use Rattle.o32_machine.specs.inside.Logging.{KeepsNative, LastLogged, LogsLast, LogsSettled, PostsLogged};
-ghost use Rattle.o32_machine.specs.inside.Plainly.{called_of, is_plain_call};
+ghost use Rattle.o32_machine.specs.inside.Plainly.{IsPlainly, called_of};
 ghost use Rattle.o32_machine.specs.Records.{RecordsCall};
 ghost use Rattle.o32_machine.specs.inside.Quieting.{goes, next_due};
 ghost use Rattle.o32_machine.specs.inside.Recording.{KeepsEffects, RecordsBefore, RecordsBehind, RecordsStep};
@@ -23,8 +26,11 @@ ghost use Rattle.o32_turns.specs.Instruction.{after_step, called, fault_info, re
 ghost use Rattle.o32_turns.specs.Machine.{Machine, begin};
 ghost use Rattle.o32_turns.specs.Posting.{posted};
 ghost use Rattle.o32_turns.specs.Turn.{after_events, next_event, next_for, second_step, sixth_step, third_step, whole};
+ghost use Rattle.o32_calls.specs.Numbers.{bridged_number};
+ghost use Rattle.o32_model.specs.Table.{machine_call};
 ghost use Rattle.o32_model.specs.Words.{a3, v0, with_result};
 ghost use Rattle.o32_model.specs.declared.call_words.CallWords.{CallWords};
+ghost use Rattle.o32_model.specs.declared.wait.Seen.{Seen};
 ghost use Rattle.turn_records.specs.Entry.{IsOne};
 ghost use Rattle.turn_records.specs.Keeping.{Gains};
 ghost use Rattle.turn_records.specs.Turn.{IsCallEntry};
@@ -33,7 +39,6 @@ ghost use Rattle.schedule.specs.Ranges.{IsGivenSchedule};
 
 use crate::calls::make_call;
 use crate::kept::Kept;
-use crate::numbers::is_plain_call;
 use crate::posting::post_due;
 use crate::process_core::Core;
 use crate::times::{deadline_in, if_comes, is_over_at, later, sooner};
@@ -42,11 +47,12 @@ use bridge_delivery::{accepts, deliver, end_wait, is_quiet, post_timer};
 use bridge_mem::args;
 use bridge_system::plain_call;
 use host_mem::HostMem;
-use kernel_core::{Effect, Event, Finish, Info, NoMemory, Sig, Stop, Tree};
-use mips_exec::{Ran, Stepped, run};
+use kernel_core::{Effect, Errno, Event, Finish, Info, NoMemory, Sig, Stop, Tree};
+use mips_exec::{Cpu, Ran, Stepped, run};
 use native_kernel::NativeKernel;
 use native_log::NativeLog;
 use number_tables::O32Number;
+use o32_calls::{BridgedCall, O32Call, PlainCall, RESTART_SYSCALL};
 use o32_model::{CallWords, Cause, Log, Outcome, Seen};
 use o32_turns::Going;
 use outside::{Devices, Sink, Source};
@@ -65,9 +71,6 @@ const V1: u8 = 3;
 
 /// Whether a call failed: 0, or 1 where it did.
 const A3: u8 = 7;
-
-/// The number of restart_syscall(2).
-const RESTART_SYSCALL: u32 = 4253;
 
 /// Who sends the signal of a frame that can't be read: the kernel (SI_KERNEL).
 const SENT_BY_KERNEL: i32 = 0x80;
@@ -692,15 +695,51 @@ impl Process {
         ensures cause { StopsOnlyIfRose I.faults O.faults E.faults result dev.old dev.new }
         ensures counts { NoCountFell I.faults O.faults E.faults dev.old dev.new }
     {
-        if self.asks_nothing() {
-            let plain = self.call_plainly(turn, kept)?;
-            return Ok(plain);
+        match O32Call::of(self.core.cpu.register(V0)) {
+            Some(O32Call::Bridged(call)) => self.call_bridged(call, clock, turn, kept, dev),
+            Some(O32Call::Plain(call)) => {
+                let plain = self.call_plainly(Some(call), turn, kept)?;
+                Ok(plain)
+            }
+            None => {
+                let refused = self.call_plainly(None, turn, kept)?;
+                Ok(refused)
+            }
         }
+    }
+
+    /// Makes a call by a bridge.
+    #[inline(always)]
+    fn call_bridged<I: Source, O: Sink, E: Sink>(
+        &mut self,
+        call: BridgedCall,
+        clock: u64,
+        turn: u64,
+        kept: &mut Kept,
+        dev: &mut Devices<I, O, E>,
+    ) -> Result<Turn, Stop>
+        requires named { register self.old.processor v0 ≡ bridged_number call }
+        requires clock { self.old.kernel.clock ≡ clock }
+        requires told { kept.old.native.told ≤ clock }
+        ensures turn { IsTurn (λ left. after_events self.old.going.events (called whole (machine_of self.old) left)) result
+            (machine_of self.new) self.new.going.events
+            (contents I.left O.written E.written dev.old) (contents I.left O.written E.written dev.new) }
+        ensures native { LogsLast (λ left. after_events self.old.going.events (called whole (machine_of self.old) left)) clock result self.old.kernel self.new.kernel kept.old.native kept.new.native
+            (contents I.left O.written E.written dev.old) }
+        ensures records { RecordsCall result turn (machine_of self.old) kept.old.records kept.new.records
+            (contents I.left O.written E.written dev.old) }
+        ensures told { kept.new.native.told ≤ clock }
+        ensures clock { self.new.kernel.clock ≡ clock }
+        ensures counted { IfOk result (λ turn. turns_of turn ≡ 1) }
+        ensures idle { self.new.idle ≡ self.old.idle }
+        ensures cause { StopsOnlyIfRose I.faults O.faults E.faults result dev.old dev.new }
+        ensures counts { NoCountFell I.faults O.faults E.faults dev.old dev.new }
+    {
         let words = args(&self.core.space, &self.core.cpu);
         let seen = self.seen(clock);
         kept.records.look(&self.core.cpu, &mut kept.was);
         let mut log = kept.part();
-        let outcome = make_call(&words, &seen, &mut self.core, dev, &mut log)?;
+        let outcome = make_call(call, &words, &seen, &mut self.core, dev, &mut log)?;
         let (calls, effects) = halves(log);
         kept.native.add(calls, clock)?;
         let ended = self.finish(&words, &outcome)?;
@@ -709,23 +748,20 @@ impl Process {
         Ok(ended)
     }
 
-    /// Whether the SYSCALL that was just executed makes a call that asks the kernel for nothing.
+    /// Makes a call that is answered at once, or answers one whose number no call has. It stands apart from the others since
+    /// it wants no buffer, no log and nothing that they see of the machine.
     #[inline(always)]
-    fn asks_nothing(&self) -> bool
-        ensures { result ≡ is_plain_call (register self.now.processor v0) }
-    {
-        is_plain_call(self.core.cpu.register(V0))
-    }
-
-    /// Makes such a call. It stands apart from the others since it wants no buffer, no log and nothing that they see of the
-    /// machine.
-    #[inline(always)]
-    fn call_plainly(&mut self, turn: u64, kept: &mut Kept) -> Result<Turn, NoMemory>
-        requires { is_plain_call (register self.old.processor v0) ≡ true }
+    fn call_plainly(
+        &mut self,
+        call: Option<PlainCall>,
+        turn: u64,
+        kept: &mut Kept,
+    ) -> Result<Turn, NoMemory>
+        requires { IsPlainly call (register self.old.processor v0) }
         ensures turn { IfOk result (λ turn. (left : List ℕ) (at : Contents) → at.left ≡ Some left
             → Turned (called_of self.old left) turn (machine_of self.new) self.new.going.events at at) }
         ensures native { OnOk result ((left : List ℕ) → LastLogged self.old.kernel self.new.kernel left (called_of self.old left) kept.old.native kept.new.native) }
-        ensures told { kept.new.native.told ≡ kept.old.native.told }
+        ensures untold { kept.new.native ≡ kept.old.native }
         ensures records { OnOk result ((left : List ℕ)
             → Gains kept.old.records kept.new.records (IsOne (IsCallEntry turn ((self.old.processor.pc + (2 ^ 32 - 4)) % 2 ^ 32) (machine_of self.old) (called whole (machine_of self.old) left)))) }
         ensures counted { IfOk result (λ turn. turns_of turn ≡ 1) }
@@ -735,7 +771,7 @@ impl Process {
         let words = args(&self.core.space, &self.core.cpu);
         kept.records.look(&self.core.cpu, &mut kept.was);
         let effects = kept.records.part();
-        let outcome = plain_call(&words, &mut self.core.cpu);
+        let outcome = answer(call, &words, &mut self.core.cpu);
         let ended = self.finish(&words, &outcome)?;
         kept.records
             .add_call(turn, &kept.was, &self.core.cpu, effects)?;
@@ -877,6 +913,18 @@ impl Process {
     {
         self.going.events.push(event)?;
         Ok(())
+    }
+}
+
+/// What a call comes to that is answered at once: ENOSYS where no call has the number (syscalls(2)).
+#[inline(always)]
+fn answer(call: Option<PlainCall>, words: &CallWords, cpu: &mut Cpu) -> Outcome
+    requires { IsPlainly call words.now.nr }
+    ensures { (seen : Seen) (memory : Memory) → IsPlain (λ kernel left. machine_call seen kernel (found words.now cpu.old memory) left) result memory cpu.new }
+{
+    match call {
+        Some(call) => plain_call(call, words, cpu),
+        None => Outcome::Error(Errno::ENOSYS),
     }
 }
 

@@ -28,7 +28,7 @@ use Rattle.o32_model.specs.NodeCalls.{node_calls, access_row, chmod_row, fchmod_
 use Rattle.o32_model.specs.Opening.{opening_calls, open_row}
 use Rattle.o32_model.specs.Small.{small_calls, exit_row, set_thread_area_row, set_robust_list_row, uname_row, getrlimit_row, getrandom_row, robust_list_size}
 use Rattle.o32_model.specs.Status.{status_calls, stat_row, fstat_row, stat64_row, fstat64_row, fstatat64_row}
-use Rattle.o32_model.specs.Step.{Guest, O32Step, O32Call, value, outcome_of, comes_to, gives, stores, fills}
+use Rattle.o32_model.specs.Step.{Guest, O32Step, O32Row, value, outcome_of, comes_to, gives, stores, fills}
 use Rattle.o32_model.specs.Table.{call_in, call_of, step_of, o32_call}
 use Rattle.o32_model.specs.Terminal.{terminal_calls, ioctl_row, requested}
 use Rattle.o32_model.specs.Transfers.{transfer_calls, after_read, read_row, readv_row, pread_row, pwrite_row}
@@ -164,19 +164,19 @@ robust_list_keeps kernel guest size left =
 
 -- The calls of the table, each where it is meant
 
-record CallKeeps (call : O32Call) : Type 0 where
+record CallKeeps (call : O32Row) : Type 0 where
   pub keeps : (kernel : Kernel) (guest : Guest) (left : List ℕ) → KeepsKernel kernel (call.step kernel guest left)
 
-abbrev KeepsIfAny : Option O32Call → Type 0
+abbrev KeepsIfAny : Option O32Row → Type 0
 KeepsIfAny None = ⊤
 KeepsIfAny (Some call) = CallKeeps call
 
-abbrev KeptWhereMeant : ℕ → List O32Call → Type 0
+abbrev KeptWhereMeant : ℕ → List O32Row → Type 0
 KeptWhereMeant number [] = ⊤
 KeptWhereMeant number (call ∷ calls) = (number ≡ call.number → CallKeeps call) × KeptWhereMeant number calls
 
 -- of a number that is found in a list or in `inner`, whatever comes behind that
-found_keeps : (calls : List O32Call) (otherwise inner : Option O32Call) (number : ℕ) → KeptWhereMeant number calls → (is_some inner ≡ true → KeepsIfAny otherwise)
+found_keeps : (calls : List O32Row) (otherwise inner : Option O32Row) (number : ℕ) → KeptWhereMeant number calls → (is_some inner ≡ true → KeepsIfAny otherwise)
     → is_some (call_in calls inner number) ≡ true → KeepsIfAny (call_in calls otherwise number)
 found_keeps [] otherwise inner number kept others found = others found
 found_keeps (call ∷ calls) otherwise inner number kept others found =
@@ -467,7 +467,7 @@ call_keeps number listed whole =
     (found_keeps name_calls _ _ number (names_keep number whole)
     (found_keeps node_calls _ None number (nodes_keep number whole) (λ none. absurd (cc)))))))))) listed
 
-step_keeps : (call : Option O32Call) → KeepsIfAny call → (kernel : Kernel) (guest : Guest) (left : List ℕ) → KeepsKernel kernel (step_of call kernel guest left)
+step_keeps : (call : Option O32Row) → KeepsIfAny call → (kernel : Kernel) (guest : Guest) (left : List ℕ) → KeepsKernel kernel (step_of call kernel guest left)
 step_keeps None keeps kernel guest left = λ failed. refl
 step_keeps (Some call) keeps kernel guest left = keeps.keeps kernel guest left
 

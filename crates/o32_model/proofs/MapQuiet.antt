@@ -12,7 +12,7 @@ use Rattle.o32_model.proofs.Quiet.{Quiet, CallQuiet, QuietIfAny}
 use Rattle.o32_model.specs.Laws.{IsFailure, mprotect_number}
 use Rattle.o32_model.specs.Mappings.{Wish, brk, maps, mapped_as, mmap, mmap_in, munmap, msync, madvise, at_page, mremap, map_calls}
 use Rattle.o32_model.specs.Ranges.{page_size, enlarged, resized}
-use Rattle.o32_model.specs.Step.{Guest, O32Call, value, outcome_of}
+use Rattle.o32_model.specs.Step.{Guest, O32Row, value, outcome_of}
 use Rattle.o32_model.specs.Table.{call_in}
 use Rattle.o32_model.specs.declared.call_words.CallWords.{CallWords}
 
@@ -79,11 +79,11 @@ mremap_stays memory address old new flags = search (stays, at_page_stays, resize
 
 -- The calls of the table, each where it is meant
 
-abbrev QuietWhereMeant : ℕ → List O32Call → Type 0
+abbrev QuietWhereMeant : ℕ → List O32Row → Type 0
 QuietWhereMeant number [] = ⊤
 QuietWhereMeant number (call ∷ calls) = (number ≡ call.number → CallQuiet call) × QuietWhereMeant number calls
 
-meant_quiet : (calls : List O32Call) (number : ℕ) → QuietWhereMeant number calls → QuietIfAny (call_in calls None number)
+meant_quiet : (calls : List O32Row) (number : ℕ) → QuietWhereMeant number calls → QuietIfAny (call_in calls None number)
 meant_quiet [] number quiet = tt
 meant_quiet (call ∷ calls) number quiet = by_test (number == call.number) refl (meant_quiet calls number quiet.1)
   where

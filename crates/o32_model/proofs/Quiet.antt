@@ -19,7 +19,7 @@ use Rattle.o32_model.specs.Descriptors.{descriptor_calls, both_ends, no_pipe_fla
 use Rattle.o32_model.specs.GuestBytes.{is_storable, with_stored}
 use Rattle.o32_model.specs.Laws.{IsFailure, MovesNothing}
 use Rattle.o32_model.specs.Small.{small_calls, names_bytes, number_row, exit_row, set_thread_area_row, set_robust_list_row, uname_row, getrlimit_row, prlimit_row, getrandom_row, stores_unless_null}
-use Rattle.o32_model.specs.Step.{Guest, O32Step, O32Call, value, failure, outcome_of, memory_after, comes_to, gives, stored, stores, fills}
+use Rattle.o32_model.specs.Step.{Guest, O32Step, O32Row, value, failure, outcome_of, memory_after, comes_to, gives, stored, stores, fills}
 use Rattle.o32_model.specs.Table.{call_in}
 use Rattle.o32_model.specs.Terminal.{terminal_calls, ioctl_row, requested}
 use Rattle.o32_model.specs.Transfers.{transfer_calls, after_read, after_write, read_row, readv_row, pread_row, write_row, writev_row, pwrite_row, small_file_limit}
@@ -133,23 +133,23 @@ requested_quiet kernel guest fd address left (Some requests.Fionclex) = gives_qu
 
 -- Calls of the table
 
-pub record CallQuiet (call : O32Call) : Type 0 where
+pub record CallQuiet (call : O32Row) : Type 0 where
   pub quiet : (kernel : Kernel) (guest : Guest) (left : List ℕ) → Quiet guest left (call.step kernel guest left)
 
-abbrev pub CallsQuiet : List O32Call → Type 0
+abbrev pub CallsQuiet : List O32Row → Type 0
 CallsQuiet [] = ⊤
 CallsQuiet (call ∷ calls) = CallQuiet call × CallsQuiet calls
 
-abbrev pub QuietIfAny : Option O32Call → Type 0
+abbrev pub QuietIfAny : Option O32Row → Type 0
 QuietIfAny None = ⊤
 QuietIfAny (Some call) = CallQuiet call
 
-found_quiet : (found : Bool) (call : O32Call) (otherwise : Option O32Call) → CallQuiet call → QuietIfAny otherwise
+found_quiet : (found : Bool) (call : O32Row) (otherwise : Option O32Row) → CallQuiet call → QuietIfAny otherwise
     → QuietIfAny (if found then Some call else otherwise)
 found_quiet true call otherwise quiet others = quiet
 found_quiet false call otherwise quiet others = others
 
-pub in_quiet : (calls : List O32Call) (otherwise : Option O32Call) (number : ℕ) → CallsQuiet calls → QuietIfAny otherwise
+pub in_quiet : (calls : List O32Row) (otherwise : Option O32Row) (number : ℕ) → CallsQuiet calls → QuietIfAny otherwise
     → QuietIfAny (call_in calls otherwise number)
 in_quiet [] otherwise number quiet others = others
 in_quiet (call ∷ calls) otherwise number quiet others =

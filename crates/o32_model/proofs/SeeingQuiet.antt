@@ -6,15 +6,15 @@ use Rattle.kernel_model.specs.Came.{refused}
 use Rattle.kernel_model.specs.State.{Kernel}
 use Rattle.o32_model.proofs.Quiet.{Quiet, comes_to_quiet, gives_quiet, stores_quiet}
 use Rattle.o32_model.specs.Clocks.{clock_gettime_row}
-use Rattle.o32_model.specs.Seeing.{SeeingCall, restarted, restart_syscall_row}
-use Rattle.o32_model.specs.Step.{Guest, O32Call}
+use Rattle.o32_model.specs.Seeing.{SeeingRow, restarted, restart_syscall_row}
+use Rattle.o32_model.specs.Step.{Guest, O32Row}
 use Rattle.o32_model.specs.Table.{call_of, seeing_call_of, step_of, seeing_step_of, o32_call, machine_call}
 use Rattle.o32_model.specs.declared.outcome.Outcome.TheVariants.{Sleep}
 use Rattle.o32_model.specs.declared.wait.Seen.{Seen}
 
 -- the table comes first
 
-row_of : (call : Option O32Call) (other : Option SeeingCall) (seen : Seen) (kernel : Kernel) (guest : Guest) (left : List ℕ) → is_some call ≡ true
+row_of : (call : Option O32Row) (other : Option SeeingRow) (seen : Seen) (kernel : Kernel) (guest : Guest) (left : List ℕ) → is_some call ≡ true
     → seeing_step_of call other seen kernel guest left ≡ step_of call kernel guest left
 row_of None other seen kernel guest left is = absurd (subst T (sym is) tt)
 row_of (Some call) other seen kernel guest left is = refl
@@ -25,14 +25,14 @@ machine_call_is seen kernel guest left is = row_of (call_of guest.words.nr) (see
 
 -- Calls that see more
 
-record SeeingQuiet (call : SeeingCall) : Type 0 where
+record SeeingQuiet (call : SeeingRow) : Type 0 where
   quiet : (seen : Seen) (kernel : Kernel) (guest : Guest) (left : List ℕ) → Quiet guest left (call.step seen kernel guest left)
 
-abbrev SeeingQuietIfAny : Option SeeingCall → Type 0
+abbrev SeeingQuietIfAny : Option SeeingRow → Type 0
 SeeingQuietIfAny None = ⊤
 SeeingQuietIfAny (Some call) = SeeingQuiet call
 
-found_quiet : (found : Bool) (call : SeeingCall) (otherwise : Option SeeingCall) → SeeingQuiet call → SeeingQuietIfAny otherwise
+found_quiet : (found : Bool) (call : SeeingRow) (otherwise : Option SeeingRow) → SeeingQuiet call → SeeingQuietIfAny otherwise
     → SeeingQuietIfAny (if found then Some call else otherwise)
 found_quiet true call otherwise quiet others = quiet
 found_quiet false call otherwise quiet others = others
@@ -44,7 +44,7 @@ seeing_quiet number =
     (found_quiet (number == 4253) _ None
     (record { quiet = λ seen kernel guest left. comes_to_quiet Sleep guest (restarted kernel seen.restart) left }) tt)
 
-step_quiet : (call : Option O32Call) (other : Option SeeingCall) → is_some call ≡ false → SeeingQuietIfAny other → (seen : Seen) (kernel : Kernel)
+step_quiet : (call : Option O32Row) (other : Option SeeingRow) → is_some call ≡ false → SeeingQuietIfAny other → (seen : Seen) (kernel : Kernel)
     (guest : Guest) (left : List ℕ) → Quiet guest left (seeing_step_of call other seen kernel guest left)
 step_quiet (Some call) other is quiet seen kernel guest left = absurd (subst T is tt)
 step_quiet None None is quiet seen kernel guest left = gives_quiet guest (refused kernel ENOSYS) left

@@ -11,7 +11,7 @@ use Rattle.o32_model.specs.Actions.{action_calls, rt_sigaction_row, rt_sigprocma
 use Rattle.o32_model.specs.Masks.{masked, set_at, waiting_with}
 use Rattle.o32_model.specs.Returns.{return_calls, after_frame, after_rt_frame, sigreturn_row, rt_sigreturn_row}
 use Rattle.o32_model.specs.Sending.{sending_calls, kill_row, tkill_row, tgkill_row, rt_sigqueueinfo_row}
-use Rattle.o32_model.specs.Step.{Guest, O32Step, O32Call, gives}
+use Rattle.o32_model.specs.Step.{Guest, O32Step, O32Row, gives}
 use Rattle.o32_model.specs.Suspending.{suspending_calls, info_bytes, accepted_number, pause_row, rt_sigsuspend_row, rt_sigtimedwait_row}
 use Rattle.o32_model.specs.Table.{signal_call_or}
 use Rattle.o32_model.specs.declared.outcome.Outcome.{Outcome}
@@ -71,7 +71,7 @@ returns_quiet : CallsQuiet return_calls
 unfolding sigreturn_row rt_sigreturn_row
 returns_quiet = (record { quiet = λ kernel guest left. frame_quiet kernel guest _ left }, (record { quiet = λ kernel guest left. rt_frame_quiet kernel guest _ left }, tt))
 
-pub signals_quiet : (number : ℕ) (otherwise : Option O32Call) → QuietIfAny otherwise → QuietIfAny (signal_call_or otherwise number)
+pub signals_quiet : (number : ℕ) (otherwise : Option O32Row) → QuietIfAny otherwise → QuietIfAny (signal_call_or otherwise number)
 signals_quiet number otherwise others =
     in_quiet sending_calls _ number sending_quiet
     (in_quiet action_calls _ number actions_quiet

@@ -16,12 +16,12 @@ use Rattle.o32_model.specs.NodeCalls.{node_calls}
 use Rattle.o32_model.specs.Opening.{opening_calls}
 use Rattle.o32_model.specs.Small.{small_calls}
 use Rattle.o32_model.specs.Status.{status_calls}
-use Rattle.o32_model.specs.Step.{Guest, O32Call}
+use Rattle.o32_model.specs.Step.{Guest, O32Row}
 use Rattle.o32_model.specs.Table.{call_of, file_call_or, step_of, o32_call}
 use Rattle.o32_model.specs.Terminal.{terminal_calls}
 use Rattle.o32_model.specs.Transfers.{transfer_calls}
 
-file_quiet : (number : ℕ) (otherwise : Option O32Call) → QuietIfAny otherwise → QuietIfAny (file_call_or otherwise number)
+file_quiet : (number : ℕ) (otherwise : Option O32Row) → QuietIfAny otherwise → QuietIfAny (file_call_or otherwise number)
 file_quiet number otherwise others =
     in_quiet opening_calls _ number opening_quiet
     (in_quiet status_calls _ number status_quiet
@@ -37,7 +37,7 @@ call_quiet number other whole =
     (in_quiet small_calls _ number small_quiet
     (file_quiet number _ (waits_quiet number _ whole (signals_quiet number _ (mappings_quiet number other)))))))
 
-step_quiet : (call : Option O32Call) → QuietIfAny call → (kernel : Kernel) (guest : Guest) (left : List ℕ) → Quiet guest left (step_of call kernel guest left)
+step_quiet : (call : Option O32Row) → QuietIfAny call → (kernel : Kernel) (guest : Guest) (left : List ℕ) → Quiet guest left (step_of call kernel guest left)
 step_quiet None quiet kernel guest left = gives_quiet guest (refused kernel ENOSYS) left
 step_quiet (Some call) quiet kernel guest left = quiet.quiet kernel guest left
 

@@ -10,16 +10,16 @@ use Rattle.o32_model.specs.Laws.{stores_in_parts}
 use Rattle.o32_model.specs.Polling.{poll_calls}
 use Rattle.o32_model.specs.Selecting.{select_calls}
 use Rattle.o32_model.specs.Sleeps.{sleep_calls, alarm_row, setitimer_row, getitimer_row, nanosleep_row, clock_nanosleep_row}
-use Rattle.o32_model.specs.Step.{O32Call}
+use Rattle.o32_model.specs.Step.{O32Row}
 use Rattle.o32_model.specs.Table.{call_in, wait_call_or}
 
 -- Each call where it is meant
 
-abbrev QuietWhereMeant : ℕ → List O32Call → Type 0
+abbrev QuietWhereMeant : ℕ → List O32Row → Type 0
 QuietWhereMeant number [] = ⊤
 QuietWhereMeant number (call ∷ calls) = (number ≡ call.number → CallQuiet call) × QuietWhereMeant number calls
 
-meant_in : (calls : List O32Call) (otherwise : Option O32Call) (number : ℕ) → QuietWhereMeant number calls → QuietIfAny otherwise
+meant_in : (calls : List O32Row) (otherwise : Option O32Row) (number : ℕ) → QuietWhereMeant number calls → QuietIfAny otherwise
     → QuietIfAny (call_in calls otherwise number)
 meant_in [] otherwise number quiet others = others
 meant_in (call ∷ calls) otherwise number quiet others = by_test (number == call.number) refl (meant_in calls otherwise number quiet.1 others)
@@ -30,7 +30,7 @@ meant_in (call ∷ calls) otherwise number quiet others = by_test (number == cal
     by_test false other rest = rest
 
 -- a call that stores in parts is not meant
-in_parts : (number part : ℕ) {call : O32Call} → number ≡ part → stores_in_parts number ≡ false → stores_in_parts part ≡ true → CallQuiet call
+in_parts : (number part : ℕ) {call : O32Row} → number ≡ part → stores_in_parts number ≡ false → stores_in_parts part ≡ true → CallQuiet call
 in_parts number part same whole parts =
     absurd (subst T (λ i. whole_part i) tt)
   where
@@ -51,7 +51,7 @@ polls_quiet number whole = (λ same. in_parts number _ same whole refl, (λ same
 selects_quiet : (number : ℕ) → stores_in_parts number ≡ false → QuietWhereMeant number select_calls
 selects_quiet number whole = (λ same. in_parts number _ same whole refl, (λ same. in_parts number _ same whole refl, tt))
 
-pub waits_quiet : (number : ℕ) (otherwise : Option O32Call) → stores_in_parts number ≡ false → QuietIfAny otherwise
+pub waits_quiet : (number : ℕ) (otherwise : Option O32Row) → stores_in_parts number ≡ false → QuietIfAny otherwise
     → QuietIfAny (wait_call_or otherwise number)
 waits_quiet number otherwise whole others =
     meant_in clock_calls _ number (clocks_quiet number whole)

@@ -12,10 +12,12 @@ use Rattle.mips_exec.specs.Processor.{register}
 use Rattle.number_tables.specs.MaskChanges.{mask_change_of_o32}
 use Rattle.number_tables.specs.SaNumbers.{o32_sa, o32_sa_read}
 use Rattle.number_tables.specs.Signals.{signal_of_o32}
+use Rattle.o32_calls.specs.Numbers.{signal_number}
+use Rattle.o32_calls.specs.declared.signals.SignalCall.TheVariants.{RtSigaction, RtSigprocmask, RtSigpending, Sigaltstack}
 use Rattle.o32_model.specs.GuestBytes.{structure, read_as, unless_null}
 use Rattle.o32_model.specs.Masks.{set_at, set_bytes}
 use Rattle.o32_model.specs.Small.{stores_unless_null}
-use Rattle.o32_model.specs.Step.{Guest, O32Step, O32Call, stores}
+use Rattle.o32_model.specs.Step.{Guest, O32Step, O32Row, stores}
 use Rattle.o32_model.specs.Words.{argument, sp}
 
 -- Actions: flags, the handler and a mask of four words. Bits of flags that are not listed are dropped.
@@ -67,10 +69,10 @@ sigaltstack_row kernel guest new old left =
     (told_as stack_bytes (set_stack kernel (Some (register guest.processor sp)) (stack_at guest.memory new))) left
 
 -- The numbers (Linux arch/mips/include/uapi/asm/unistd.h, the o32 table)
-abbrev pub action_calls : List O32Call
+abbrev pub action_calls : List O32Row
 action_calls =
-    record { number = 4194; step = λ kernel guest. rt_sigaction_row kernel guest (argument guest.words 0) (argument guest.words 1) (argument guest.words 2) (argument guest.words 3) }
-    ∷ record { number = 4195; step = λ kernel guest. rt_sigprocmask_row kernel guest (argument guest.words 0) (argument guest.words 1) (argument guest.words 2) (argument guest.words 3) }
-    ∷ record { number = 4196; step = λ kernel guest. rt_sigpending_row kernel guest (argument guest.words 0) (argument guest.words 1) }
-    ∷ record { number = 4206; step = λ kernel guest. sigaltstack_row kernel guest (argument guest.words 0) (argument guest.words 1) }
+    record { number = signal_number RtSigaction; step = λ kernel guest. rt_sigaction_row kernel guest (argument guest.words 0) (argument guest.words 1) (argument guest.words 2) (argument guest.words 3) }
+    ∷ record { number = signal_number RtSigprocmask; step = λ kernel guest. rt_sigprocmask_row kernel guest (argument guest.words 0) (argument guest.words 1) (argument guest.words 2) (argument guest.words 3) }
+    ∷ record { number = signal_number RtSigpending; step = λ kernel guest. rt_sigpending_row kernel guest (argument guest.words 0) (argument guest.words 1) }
+    ∷ record { number = signal_number Sigaltstack; step = λ kernel guest. sigaltstack_row kernel guest (argument guest.words 0) (argument guest.words 1) }
     ∷ []

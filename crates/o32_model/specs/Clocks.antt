@@ -4,10 +4,12 @@ use Rattle.kernel_model.specs.Came.{Did, told_as}
 use Rattle.kernel_model.specs.Clock.{second, read_clock, resolution}
 use Rattle.kernel_model.specs.State.{Kernel}
 use Rattle.layouts.specs.Number.{bytes_of}
+use Rattle.o32_calls.specs.Numbers.{time_number}
+use Rattle.o32_calls.specs.declared.times.TimeCall.TheVariants.{Time, Gettimeofday, ClockGetres}
 use Rattle.o32_model.specs.Narrow.{narrowed}
 use Rattle.o32_model.specs.Results.{Piece, piece_unless_null, stores_result_unless_null, stores_pieces}
 use Rattle.o32_model.specs.Small.{stores_unless_null}
-use Rattle.o32_model.specs.Step.{Guest, O32Step, O32Call, stores}
+use Rattle.o32_model.specs.Step.{Guest, O32Step, O32Row, stores}
 use Rattle.o32_model.specs.Times.{spec_bytes, val_bytes}
 use Rattle.o32_model.specs.Words.{argument}
 
@@ -53,9 +55,9 @@ clock_getres_row kernel guest clock address left = stores_unless_null guest addr
 
 -- The numbers (Linux arch/mips/include/uapi/asm/unistd.h, the o32 table) but that of clock_gettime(2), which sees what is no part of the
 -- kernel
-abbrev pub clock_calls : List O32Call
+abbrev pub clock_calls : List O32Row
 clock_calls =
-    record { number = 4013; step = λ kernel guest. time_row kernel guest (argument guest.words 0) }
-    ∷ record { number = 4078; step = λ kernel guest. gettimeofday_row kernel guest (argument guest.words 0) (argument guest.words 1) }
-    ∷ record { number = 4264; step = λ kernel guest. clock_getres_row kernel guest (argument guest.words 0) (argument guest.words 1) }
+    record { number = time_number Time; step = λ kernel guest. time_row kernel guest (argument guest.words 0) }
+    ∷ record { number = time_number Gettimeofday; step = λ kernel guest. gettimeofday_row kernel guest (argument guest.words 0) (argument guest.words 1) }
+    ∷ record { number = time_number ClockGetres; step = λ kernel guest. clock_getres_row kernel guest (argument guest.words 0) (argument guest.words 1) }
     ∷ []

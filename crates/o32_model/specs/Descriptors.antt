@@ -9,8 +9,10 @@ use Rattle.layouts.specs.Number.{bytes_of}
 use Rattle.number_tables.specs.Flags.{stands_for}
 use Rattle.number_tables.specs.Numbered.{numbered}
 use Rattle.number_tables.specs.OpenNumbers.{o32_open}
+use Rattle.o32_calls.specs.Numbers.{io_number}
+use Rattle.o32_calls.specs.declared.descriptors.IoCall.TheVariants.{Close, Dup, Pipe, Fcntl, Dup2, Fcntl64, Dup3, Pipe2}
 use Rattle.o32_model.specs.GuestBytes.{is_storable}
-use Rattle.o32_model.specs.Step.{Guest, O32Step, O32Call, comes_to, gives, stores}
+use Rattle.o32_model.specs.Step.{Guest, O32Step, O32Row, comes_to, gives, stores}
 use Rattle.o32_model.specs.Words.{argument}
 use Rattle.o32_model.specs.declared.outcome.Outcome.{Outcome}
 use Rattle.o32_model.specs.declared.outcome.Outcome.TheVariants.{Pair}
@@ -150,14 +152,14 @@ fcntl_row kernel guest fd command argument left =
     gives guest (commanded kernel fd argument (numbered (λ (command : Command). command.number) commands command)) left
 
 -- The numbers (Linux arch/mips/include/uapi/asm/unistd.h, the o32 table). fcntl64 is fcntl: the commands on locks are not listed.
-abbrev pub descriptor_calls : List O32Call
+abbrev pub descriptor_calls : List O32Row
 descriptor_calls =
-    record { number = 4006; step = λ kernel guest. close_row kernel guest (argument guest.words 0) }
-    ∷ record { number = 4041; step = λ kernel guest. dup_row kernel guest (argument guest.words 0) }
-    ∷ record { number = 4042; step = λ kernel guest. pipe_row kernel guest }
-    ∷ record { number = 4055; step = λ kernel guest. fcntl_row kernel guest (argument guest.words 0) (argument guest.words 1) (argument guest.words 2) }
-    ∷ record { number = 4063; step = λ kernel guest. dup2_row kernel guest (argument guest.words 0) (argument guest.words 1) }
-    ∷ record { number = 4220; step = λ kernel guest. fcntl_row kernel guest (argument guest.words 0) (argument guest.words 1) (argument guest.words 2) }
-    ∷ record { number = 4327; step = λ kernel guest. dup3_row kernel guest (argument guest.words 0) (argument guest.words 1) (argument guest.words 2) }
-    ∷ record { number = 4328; step = λ kernel guest. pipe2_row kernel guest (argument guest.words 0) (argument guest.words 1) }
+    record { number = io_number Close; step = λ kernel guest. close_row kernel guest (argument guest.words 0) }
+    ∷ record { number = io_number Dup; step = λ kernel guest. dup_row kernel guest (argument guest.words 0) }
+    ∷ record { number = io_number Pipe; step = λ kernel guest. pipe_row kernel guest }
+    ∷ record { number = io_number Fcntl; step = λ kernel guest. fcntl_row kernel guest (argument guest.words 0) (argument guest.words 1) (argument guest.words 2) }
+    ∷ record { number = io_number Dup2; step = λ kernel guest. dup2_row kernel guest (argument guest.words 0) (argument guest.words 1) }
+    ∷ record { number = io_number Fcntl64; step = λ kernel guest. fcntl_row kernel guest (argument guest.words 0) (argument guest.words 1) (argument guest.words 2) }
+    ∷ record { number = io_number Dup3; step = λ kernel guest. dup3_row kernel guest (argument guest.words 0) (argument guest.words 1) (argument guest.words 2) }
+    ∷ record { number = io_number Pipe2; step = λ kernel guest. pipe2_row kernel guest (argument guest.words 0) (argument guest.words 1) }
     ∷ []

@@ -10,9 +10,11 @@ use Rattle.kernel_model.specs.Whole.{on_files}
 use Rattle.layouts.specs.Dirents.{type_number, dirent_length, dirent64_length, dirent_bytes, dirent64_bytes}
 use Rattle.layouts.specs.declared.dirent.EntryType.{EntryType}
 use Rattle.layouts.specs.declared.dirent.EntryType.TheVariants as types
+use Rattle.o32_calls.specs.Numbers.{entries_number}
+use Rattle.o32_calls.specs.declared.files.EntriesCall.TheVariants.{Getdents, Getdents64}
 use Rattle.o32_model.specs.GuestBytes.{accessible}
 use Rattle.o32_model.specs.Status.{greatest_node}
-use Rattle.o32_model.specs.Step.{Guest, O32Step, O32Call, fills}
+use Rattle.o32_model.specs.Step.{Guest, O32Step, O32Row, fills}
 use Rattle.o32_model.specs.Words.{argument}
 
 abbrev pub entry_type : NodeKind → EntryType
@@ -46,8 +48,8 @@ getdents_row form kernel guest fd buffer size left =
     (on_files kernel (entries kernel.files fd form.records size (accessible guest.memory buffer size)))) left
 
 -- The numbers (Linux arch/mips/include/uapi/asm/unistd.h, the o32 table)
-abbrev pub entry_calls : List O32Call
+abbrev pub entry_calls : List O32Row
 entry_calls =
-    record { number = 4141; step = λ kernel guest. getdents_row entry_form kernel guest (argument guest.words 0) (argument guest.words 1) (argument guest.words 2) }
-    ∷ record { number = 4219; step = λ kernel guest. getdents_row entry64_form kernel guest (argument guest.words 0) (argument guest.words 1) (argument guest.words 2) }
+    record { number = entries_number Getdents; step = λ kernel guest. getdents_row entry_form kernel guest (argument guest.words 0) (argument guest.words 1) (argument guest.words 2) }
+    ∷ record { number = entries_number Getdents64; step = λ kernel guest. getdents_row entry64_form kernel guest (argument guest.words 0) (argument guest.words 1) (argument guest.words 2) }
     ∷ []

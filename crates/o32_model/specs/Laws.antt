@@ -5,6 +5,14 @@ use Rattle.std.specs.FinMap.{get}
 use Rattle.std.specs.List.{list_any}
 use Rattle.kernel_model.specs.Pipes.{nothing}
 use Rattle.kernel_model.specs.State.{Kernel}
+use Rattle.o32_calls.specs.Numbers.{io_number, map_number, place_number, poll_number, select_number, system_number, time_number}
+use Rattle.o32_calls.specs.declared.descriptors.IoCall.TheVariants.{Write, Writev, Pipe2}
+use Rattle.o32_calls.specs.declared.mappings.MapCall.TheVariants.{Mprotect}
+use Rattle.o32_calls.specs.declared.names.PlaceCall.TheVariants.{Lseek, Llseek}
+use Rattle.o32_calls.specs.declared.process.SystemCall.TheVariants.{Prlimit64}
+use Rattle.o32_calls.specs.declared.times.PollCall.TheVariants.{Poll, Ppoll}
+use Rattle.o32_calls.specs.declared.times.SelectCall.TheVariants.{Newselect, Pselect6}
+use Rattle.o32_calls.specs.declared.times.TimeCall.TheVariants.{Gettimeofday}
 use Rattle.o32_model.specs.Small.{small_calls}
 use Rattle.o32_model.specs.Step.{Guest, O32Step}
 use Rattle.o32_model.specs.Table.{call_in, io_call_or, file_call_or}
@@ -30,7 +38,7 @@ pub record MovesNothing (guest : Guest) (left : List ℕ) (step : O32Step) : Typ
 
 -- the call that may fail with a part of the protections changed
 abbrev pub mprotect_number : ℕ
-mprotect_number = 4125
+mprotect_number = map_number Mprotect
 
 -- a page but for its protection
 abbrev pub unprotected : MappedPage → MappedPage
@@ -49,7 +57,7 @@ pub record ChangesProtections (kernel : Kernel) (guest : Guest) (left : List ℕ
 -- the calls that may fail with a part stored: gettimeofday, _newselect, poll, pselect6 and ppoll, which store several pieces in order, or what
 -- is left of a time
 abbrev pub part_numbers : List ℕ
-part_numbers = 4078 ∷ 4142 ∷ 4188 ∷ 4301 ∷ 4302 ∷ []
+part_numbers = time_number Gettimeofday ∷ select_number Newselect ∷ poll_number Poll ∷ select_number Pselect6 ∷ poll_number Ppoll ∷ []
 
 abbrev pub stores_in_parts : ℕ → Bool
 stores_in_parts number = list_any (λ part. number == part) part_numbers
@@ -68,7 +76,7 @@ is_listed_call number = is_some (io_call_or (call_in small_calls (file_call_or N
 -- the place is too wide or can't be stored; pipe2(2) closes both ends again where they can't be stored; and prlimit(2) has set the new limit
 -- where the old one can't be stored.
 abbrev pub part_done_numbers : List ℕ
-part_done_numbers = 4004 ∷ 4019 ∷ 4140 ∷ 4146 ∷ 4328 ∷ 4338 ∷ []
+part_done_numbers = io_number Write ∷ place_number Lseek ∷ place_number Llseek ∷ io_number Writev ∷ io_number Pipe2 ∷ system_number Prlimit64 ∷ []
 
 abbrev pub is_part_done : ℕ → Bool
 is_part_done number = list_any (λ part. number == part) part_done_numbers

@@ -21,8 +21,10 @@ use Rattle.kernel_model.specs.State.{Kernel, Files}
 use Rattle.kernel_model.specs.Transfers.{file_bytes}
 use Rattle.kernel_model.specs.declared.descriptor.Description.{Description}
 use Rattle.number_tables.specs.MapNumbers.{map_flags_in}
+use Rattle.o32_calls.specs.Numbers.{map_number}
+use Rattle.o32_calls.specs.declared.mappings.MapCall.TheVariants.{Brk, Mmap, Munmap, Mprotect, Msync, Mremap, Mmap2, Madvise}
 use Rattle.o32_model.specs.Ranges.{page_size, is_aligned, page_of, page_count, is_beyond, is_mapped, with_new_pages, takes_hint, greatest_place, resized}
-use Rattle.o32_model.specs.Step.{Guest, O32Step, O32Call, value, outcome_of}
+use Rattle.o32_model.specs.Step.{Guest, O32Step, O32Row, value, outcome_of}
 use Rattle.o32_model.specs.Words.{argument, stack_word}
 
 -- A row over memory, as a call: the kernel stays, and the row's number is the result.
@@ -189,14 +191,14 @@ mremap memory address old new flags =
     at_page memory (resized memory.pages (page_of address) (page_count old) (page_count new) (flags == 1))))
 
 -- The numbers (Linux arch/mips/include/uapi/asm/unistd.h, the o32 table). mmap2 counts its offset in pages.
-abbrev pub map_calls : List O32Call
+abbrev pub map_calls : List O32Row
 map_calls =
-    record { number = 4045; step = λ kernel guest. maps kernel guest (brk guest.memory (argument guest.words 0)) }
-    ∷ record { number = 4090; step = λ kernel guest. maps kernel guest (mmap_in 1 kernel guest) }
-    ∷ record { number = 4091; step = λ kernel guest. maps kernel guest (munmap guest.memory (argument guest.words 0) (argument guest.words 1)) }
-    ∷ record { number = 4125; step = λ kernel guest. maps kernel guest (mprotect guest.memory (argument guest.words 0) (argument guest.words 1) (argument guest.words 2)) }
-    ∷ record { number = 4144; step = λ kernel guest. maps kernel guest (msync guest.memory (argument guest.words 0) (argument guest.words 1) (argument guest.words 2)) }
-    ∷ record { number = 4167; step = λ kernel guest. maps kernel guest (mremap guest.memory (argument guest.words 0) (argument guest.words 1) (argument guest.words 2) (argument guest.words 3)) }
-    ∷ record { number = 4210; step = λ kernel guest. maps kernel guest (mmap_in page_size kernel guest) }
-    ∷ record { number = 4218; step = λ kernel guest. maps kernel guest (madvise guest.memory (argument guest.words 0) (argument guest.words 2)) }
+    record { number = map_number Brk; step = λ kernel guest. maps kernel guest (brk guest.memory (argument guest.words 0)) }
+    ∷ record { number = map_number Mmap; step = λ kernel guest. maps kernel guest (mmap_in 1 kernel guest) }
+    ∷ record { number = map_number Munmap; step = λ kernel guest. maps kernel guest (munmap guest.memory (argument guest.words 0) (argument guest.words 1)) }
+    ∷ record { number = map_number Mprotect; step = λ kernel guest. maps kernel guest (mprotect guest.memory (argument guest.words 0) (argument guest.words 1) (argument guest.words 2)) }
+    ∷ record { number = map_number Msync; step = λ kernel guest. maps kernel guest (msync guest.memory (argument guest.words 0) (argument guest.words 1) (argument guest.words 2)) }
+    ∷ record { number = map_number Mremap; step = λ kernel guest. maps kernel guest (mremap guest.memory (argument guest.words 0) (argument guest.words 1) (argument guest.words 2) (argument guest.words 3)) }
+    ∷ record { number = map_number Mmap2; step = λ kernel guest. maps kernel guest (mmap_in page_size kernel guest) }
+    ∷ record { number = map_number Madvise; step = λ kernel guest. maps kernel guest (madvise guest.memory (argument guest.words 0) (argument guest.words 2)) }
     ∷ []

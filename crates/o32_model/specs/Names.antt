@@ -7,9 +7,12 @@ use Rattle.kernel_model.specs.NameRows.{make_directory, remove_name, link, make_
 use Rattle.kernel_model.specs.Paths.{Base, Working}
 use Rattle.kernel_model.specs.State.{Kernel}
 use Rattle.kernel_model.specs.Whole.{on_files, marked}
+use Rattle.o32_calls.specs.Numbers.{name_number, text_number}
+use Rattle.o32_calls.specs.declared.names.NameCall.TheVariants.{Link, Unlink, Rename, Mkdir, Rmdir, Symlink, Mkdirat, Unlinkat, Renameat, Linkat, Symlinkat}
+use Rattle.o32_calls.specs.declared.names.TextCall.TheVariants.{Readlink, Readlinkat}
 use Rattle.o32_model.specs.PathArguments.{base, one_flag}
 use Rattle.o32_model.specs.Paths.{path_at}
-use Rattle.o32_model.specs.Step.{Guest, O32Step, O32Call, gives}
+use Rattle.o32_model.specs.Step.{Guest, O32Step, O32Row, gives}
 use Rattle.o32_model.specs.Results.{stores_text}
 use Rattle.o32_model.specs.Words.{argument, signed_argument, stack_word}
 
@@ -72,19 +75,19 @@ rename_row kernel guest old_from old new_from new left =
     rename files now old_from (path_at guest.memory old) new_from (path_at guest.memory new)))) left
 
 -- The numbers (Linux arch/mips/include/uapi/asm/unistd.h, the o32 table)
-abbrev pub name_calls : List O32Call
+abbrev pub name_calls : List O32Row
 name_calls =
-    record { number = 4009; step = λ kernel guest. link_row kernel guest (argument guest.words 0) (argument guest.words 1) }
-    ∷ record { number = 4010; step = λ kernel guest. remove_row kernel guest Working (argument guest.words 0) (Some false) }
-    ∷ record { number = 4038; step = λ kernel guest. rename_row kernel guest Working (argument guest.words 0) Working (argument guest.words 1) }
-    ∷ record { number = 4039; step = λ kernel guest. mkdir_row kernel guest Working (argument guest.words 0) (argument guest.words 1) }
-    ∷ record { number = 4040; step = λ kernel guest. remove_row kernel guest Working (argument guest.words 0) (Some true) }
-    ∷ record { number = 4083; step = λ kernel guest. symlink_row kernel guest (argument guest.words 0) Working (argument guest.words 1) }
-    ∷ record { number = 4085; step = λ kernel guest. readlink_row kernel guest Working (argument guest.words 0) (argument guest.words 1) (signed_argument guest.words 2) }
-    ∷ record { number = 4289; step = λ kernel guest. mkdir_row kernel guest (base (argument guest.words 0)) (argument guest.words 1) (argument guest.words 2) }
-    ∷ record { number = 4294; step = λ kernel guest. remove_row kernel guest (base (argument guest.words 0)) (argument guest.words 1) (one_flag remove_directory_flag (argument guest.words 2)) }
-    ∷ record { number = 4295; step = λ kernel guest. rename_row kernel guest (base (argument guest.words 0)) (argument guest.words 1) (base (argument guest.words 2)) (argument guest.words 3) }
-    ∷ record { number = 4296; step = λ kernel guest. linkat_row kernel guest (base (argument guest.words 0)) (argument guest.words 1) (base (argument guest.words 2)) (argument guest.words 3) (stack_word guest.words 0) }
-    ∷ record { number = 4297; step = λ kernel guest. symlink_row kernel guest (argument guest.words 0) (base (argument guest.words 1)) (argument guest.words 2) }
-    ∷ record { number = 4298; step = λ kernel guest. readlink_row kernel guest (base (argument guest.words 0)) (argument guest.words 1) (argument guest.words 2) (signed_argument guest.words 3) }
+    record { number = name_number Link; step = λ kernel guest. link_row kernel guest (argument guest.words 0) (argument guest.words 1) }
+    ∷ record { number = name_number Unlink; step = λ kernel guest. remove_row kernel guest Working (argument guest.words 0) (Some false) }
+    ∷ record { number = name_number Rename; step = λ kernel guest. rename_row kernel guest Working (argument guest.words 0) Working (argument guest.words 1) }
+    ∷ record { number = name_number Mkdir; step = λ kernel guest. mkdir_row kernel guest Working (argument guest.words 0) (argument guest.words 1) }
+    ∷ record { number = name_number Rmdir; step = λ kernel guest. remove_row kernel guest Working (argument guest.words 0) (Some true) }
+    ∷ record { number = name_number Symlink; step = λ kernel guest. symlink_row kernel guest (argument guest.words 0) Working (argument guest.words 1) }
+    ∷ record { number = text_number Readlink; step = λ kernel guest. readlink_row kernel guest Working (argument guest.words 0) (argument guest.words 1) (signed_argument guest.words 2) }
+    ∷ record { number = name_number Mkdirat; step = λ kernel guest. mkdir_row kernel guest (base (argument guest.words 0)) (argument guest.words 1) (argument guest.words 2) }
+    ∷ record { number = name_number Unlinkat; step = λ kernel guest. remove_row kernel guest (base (argument guest.words 0)) (argument guest.words 1) (one_flag remove_directory_flag (argument guest.words 2)) }
+    ∷ record { number = name_number Renameat; step = λ kernel guest. rename_row kernel guest (base (argument guest.words 0)) (argument guest.words 1) (base (argument guest.words 2)) (argument guest.words 3) }
+    ∷ record { number = name_number Linkat; step = λ kernel guest. linkat_row kernel guest (base (argument guest.words 0)) (argument guest.words 1) (base (argument guest.words 2)) (argument guest.words 3) (stack_word guest.words 0) }
+    ∷ record { number = name_number Symlinkat; step = λ kernel guest. symlink_row kernel guest (argument guest.words 0) (base (argument guest.words 1)) (argument guest.words 2) }
+    ∷ record { number = text_number Readlinkat; step = λ kernel guest. readlink_row kernel guest (base (argument guest.words 0)) (argument guest.words 1) (argument guest.words 2) (signed_argument guest.words 3) }
     ∷ []

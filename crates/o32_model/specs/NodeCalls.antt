@@ -10,10 +10,14 @@ use Rattle.kernel_model.specs.Paths.{Base, Working}
 use Rattle.kernel_model.specs.State.{Kernel}
 use Rattle.kernel_model.specs.Whole.{on_files, marked}
 use Rattle.layouts.specs.O32.{time}
+use Rattle.o32_calls.specs.Numbers.{node_number, size_number, text_number}
+use Rattle.o32_calls.specs.declared.names.NodeCall.TheVariants.{Chdir, Chmod, Access, Umask, Fchmod, Fsync, Fchdir, Fdatasync, Fchmodat, Faccessat, Utimensat}
+use Rattle.o32_calls.specs.declared.names.SizeCall.TheVariants.{Truncate, Ftruncate, Truncate64, Ftruncate64}
+use Rattle.o32_calls.specs.declared.names.TextCall.TheVariants.{Getcwd}
 use Rattle.o32_model.specs.GuestBytes.{structure, read_as, unless_null}
 use Rattle.o32_model.specs.PathArguments.{base, nofollow_flag, one_flag}
 use Rattle.o32_model.specs.Paths.{path_at}
-use Rattle.o32_model.specs.Step.{Guest, O32Step, O32Call, gives}
+use Rattle.o32_model.specs.Step.{Guest, O32Step, O32Row, gives}
 use Rattle.o32_model.specs.Results.{stores_text}
 use Rattle.o32_model.specs.Times.{spec_in}
 use Rattle.o32_model.specs.Words.{argument, signed_argument, pair}
@@ -93,22 +97,22 @@ umask_row kernel guest mask left = gives guest (on_files kernel (set_umask kerne
 
 -- The numbers (Linux arch/mips/include/uapi/asm/unistd.h, the o32 table). The second argument of truncate64 and ftruncate64 is not used, so
 -- that the size has an even place among them.
-abbrev pub node_calls : List O32Call
+abbrev pub node_calls : List O32Row
 node_calls =
-    record { number = 4012; step = λ kernel guest. chdir_row kernel guest (argument guest.words 0) }
-    ∷ record { number = 4015; step = λ kernel guest. chmod_row kernel guest Working (argument guest.words 0) (argument guest.words 1) }
-    ∷ record { number = 4033; step = λ kernel guest. access_row kernel guest Working (argument guest.words 0) (argument guest.words 1) }
-    ∷ record { number = 4060; step = λ kernel guest. umask_row kernel guest (argument guest.words 0) }
-    ∷ record { number = 4092; step = λ kernel guest. truncate_row kernel guest (argument guest.words 0) (signed_argument guest.words 1) }
-    ∷ record { number = 4093; step = λ kernel guest. ftruncate_row kernel guest (argument guest.words 0) (signed_argument guest.words 1) }
-    ∷ record { number = 4094; step = λ kernel guest. fchmod_row kernel guest (argument guest.words 0) (argument guest.words 1) }
-    ∷ record { number = 4118; step = λ kernel guest. sync_row kernel guest (argument guest.words 0) }
-    ∷ record { number = 4133; step = λ kernel guest. fchdir_row kernel guest (argument guest.words 0) }
-    ∷ record { number = 4152; step = λ kernel guest. sync_row kernel guest (argument guest.words 0) }
-    ∷ record { number = 4203; step = λ kernel guest. getcwd_row kernel guest (argument guest.words 0) (argument guest.words 1) }
-    ∷ record { number = 4211; step = λ kernel guest. truncate_row kernel guest (argument guest.words 0) (wide_size guest) }
-    ∷ record { number = 4212; step = λ kernel guest. ftruncate_row kernel guest (argument guest.words 0) (wide_size guest) }
-    ∷ record { number = 4299; step = λ kernel guest. chmod_row kernel guest (base (argument guest.words 0)) (argument guest.words 1) (argument guest.words 2) }
-    ∷ record { number = 4300; step = λ kernel guest. access_row kernel guest (base (argument guest.words 0)) (argument guest.words 1) (argument guest.words 2) }
-    ∷ record { number = 4316; step = λ kernel guest. utimensat_row kernel guest (base (argument guest.words 0)) (argument guest.words 1) (argument guest.words 2) (argument guest.words 3) }
+    record { number = node_number Chdir; step = λ kernel guest. chdir_row kernel guest (argument guest.words 0) }
+    ∷ record { number = node_number Chmod; step = λ kernel guest. chmod_row kernel guest Working (argument guest.words 0) (argument guest.words 1) }
+    ∷ record { number = node_number Access; step = λ kernel guest. access_row kernel guest Working (argument guest.words 0) (argument guest.words 1) }
+    ∷ record { number = node_number Umask; step = λ kernel guest. umask_row kernel guest (argument guest.words 0) }
+    ∷ record { number = size_number Truncate; step = λ kernel guest. truncate_row kernel guest (argument guest.words 0) (signed_argument guest.words 1) }
+    ∷ record { number = size_number Ftruncate; step = λ kernel guest. ftruncate_row kernel guest (argument guest.words 0) (signed_argument guest.words 1) }
+    ∷ record { number = node_number Fchmod; step = λ kernel guest. fchmod_row kernel guest (argument guest.words 0) (argument guest.words 1) }
+    ∷ record { number = node_number Fsync; step = λ kernel guest. sync_row kernel guest (argument guest.words 0) }
+    ∷ record { number = node_number Fchdir; step = λ kernel guest. fchdir_row kernel guest (argument guest.words 0) }
+    ∷ record { number = node_number Fdatasync; step = λ kernel guest. sync_row kernel guest (argument guest.words 0) }
+    ∷ record { number = text_number Getcwd; step = λ kernel guest. getcwd_row kernel guest (argument guest.words 0) (argument guest.words 1) }
+    ∷ record { number = size_number Truncate64; step = λ kernel guest. truncate_row kernel guest (argument guest.words 0) (wide_size guest) }
+    ∷ record { number = size_number Ftruncate64; step = λ kernel guest. ftruncate_row kernel guest (argument guest.words 0) (wide_size guest) }
+    ∷ record { number = node_number Fchmodat; step = λ kernel guest. chmod_row kernel guest (base (argument guest.words 0)) (argument guest.words 1) (argument guest.words 2) }
+    ∷ record { number = node_number Faccessat; step = λ kernel guest. access_row kernel guest (base (argument guest.words 0)) (argument guest.words 1) (argument guest.words 2) }
+    ∷ record { number = node_number Utimensat; step = λ kernel guest. utimensat_row kernel guest (base (argument guest.words 0)) (argument guest.words 1) (argument guest.words 2) (argument guest.words 3) }
     ∷ []

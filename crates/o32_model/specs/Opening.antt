@@ -13,10 +13,13 @@ use Rattle.kernel_model.specs.State.{Kernel}
 use Rattle.kernel_model.specs.Whole.{on_files, marked}
 use Rattle.layouts.specs.Number.{bytes_of}
 use Rattle.number_tables.specs.OpenNumbers.{open_of_o32}
+use Rattle.o32_calls.specs.Numbers.{open_number, place_number}
+use Rattle.o32_calls.specs.declared.files.OpenCall.TheVariants.{Open, Creat, Openat}
+use Rattle.o32_calls.specs.declared.names.PlaceCall.TheVariants.{Lseek, Llseek}
 use Rattle.o32_model.specs.Narrow.{narrowed}
 use Rattle.o32_model.specs.PathArguments.{base}
 use Rattle.o32_model.specs.Paths.{path_at}
-use Rattle.o32_model.specs.Step.{Guest, O32Step, O32Call, gives, stores}
+use Rattle.o32_model.specs.Step.{Guest, O32Step, O32Row, gives, stores}
 use Rattle.o32_model.specs.Transfers.{small_file_limit}
 use Rattle.o32_model.specs.Words.{argument, signed_argument, stack_word, pair}
 
@@ -56,11 +59,11 @@ llseek_row kernel guest fd offset address origin left =
     told_as place_bytes (on_files kernel (seek kernel.files fd (cast_signed w64 offset) origin)))) left
 
 -- The numbers (Linux arch/mips/include/uapi/asm/unistd.h, the o32 table)
-abbrev pub opening_calls : List O32Call
+abbrev pub opening_calls : List O32Row
 opening_calls =
-    record { number = 4005; step = λ kernel guest. open_row kernel guest Working (argument guest.words 0) (open_of_o32 (argument guest.words 1)) (argument guest.words 2) }
-    ∷ record { number = 4008; step = λ kernel guest. open_row kernel guest Working (argument guest.words 0) (Some creat_flags) (argument guest.words 1) }
-    ∷ record { number = 4019; step = λ kernel guest. lseek_row kernel guest (argument guest.words 0) (signed_argument guest.words 1) (argument guest.words 2) }
-    ∷ record { number = 4140; step = λ kernel guest. llseek_row kernel guest (argument guest.words 0) (pair (argument guest.words 1) (argument guest.words 2)) (argument guest.words 3) (stack_word guest.words 0) }
-    ∷ record { number = 4288; step = λ kernel guest. open_row kernel guest (base (argument guest.words 0)) (argument guest.words 1) (open_of_o32 (argument guest.words 2)) (argument guest.words 3) }
+    record { number = open_number Open; step = λ kernel guest. open_row kernel guest Working (argument guest.words 0) (open_of_o32 (argument guest.words 1)) (argument guest.words 2) }
+    ∷ record { number = open_number Creat; step = λ kernel guest. open_row kernel guest Working (argument guest.words 0) (Some creat_flags) (argument guest.words 1) }
+    ∷ record { number = place_number Lseek; step = λ kernel guest. lseek_row kernel guest (argument guest.words 0) (signed_argument guest.words 1) (argument guest.words 2) }
+    ∷ record { number = place_number Llseek; step = λ kernel guest. llseek_row kernel guest (argument guest.words 0) (pair (argument guest.words 1) (argument guest.words 2)) (argument guest.words 3) (stack_word guest.words 0) }
+    ∷ record { number = open_number Openat; step = λ kernel guest. open_row kernel guest (base (argument guest.words 0)) (argument guest.words 1) (open_of_o32 (argument guest.words 2)) (argument guest.words 3) }
     ∷ []

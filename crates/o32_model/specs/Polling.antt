@@ -13,10 +13,12 @@ use Rattle.layouts.specs.Number.{bytes_of}
 use Rattle.layouts.specs.O32.{pollfd}
 use Rattle.layouts.specs.Shape.{record_values}
 use Rattle.number_tables.specs.PollNumbers.{o32_poll, o32_poll_read}
+use Rattle.o32_calls.specs.Numbers.{poll_number}
+use Rattle.o32_calls.specs.declared.times.PollCall.TheVariants.{Poll, Ppoll}
 use Rattle.o32_model.specs.GuestBytes.{structure, read_as, unless_null}
 use Rattle.o32_model.specs.Masks.{set_at, with_own_mask}
 use Rattle.o32_model.specs.Results.{Piece, stores_pieces}
-use Rattle.o32_model.specs.Step.{Guest, O32Step, O32Call, gives}
+use Rattle.o32_model.specs.Step.{Guest, O32Step, O32Row, gives}
 use Rattle.o32_model.specs.TimeLeft.{with_time_left}
 use Rattle.o32_model.specs.Times.{spec_at, spec_bytes}
 use Rattle.o32_model.specs.Words.{argument, signed_argument, stack_word}
@@ -80,8 +82,8 @@ ppoll_row kernel guest address count time mask (Some size) left =
     (unless_null mask (set_at guest.memory mask)) left
 
 -- The numbers (Linux arch/mips/include/uapi/asm/unistd.h, the o32 table)
-abbrev pub poll_calls : List O32Call
+abbrev pub poll_calls : List O32Row
 poll_calls =
-    record { number = 4188; step = λ kernel guest. poll_row kernel guest (argument guest.words 0) (argument guest.words 1) (signed_argument guest.words 2) }
-    ∷ record { number = 4302; step = λ kernel guest. ppoll_row kernel guest (argument guest.words 0) (argument guest.words 1) (argument guest.words 2) (argument guest.words 3) (stack_word guest.words 0) }
+    record { number = poll_number Poll; step = λ kernel guest. poll_row kernel guest (argument guest.words 0) (argument guest.words 1) (signed_argument guest.words 2) }
+    ∷ record { number = poll_number Ppoll; step = λ kernel guest. ppoll_row kernel guest (argument guest.words 0) (argument guest.words 1) (argument guest.words 2) (argument guest.words 3) (stack_word guest.words 0) }
     ∷ []

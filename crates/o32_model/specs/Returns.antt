@@ -9,8 +9,10 @@ use Rattle.kernel_model.specs.declared.signal.SigStack.{SigStack}
 use Rattle.layouts.specs.Frames.{AlternateStack, frame_context, frame_mask, rt_frame_context, rt_frame_mask, rt_frame_stack}
 use Rattle.layouts.specs.O32.{frame, rt_frame_of, siginfo}
 use Rattle.mips_exec.specs.Processor.{Processor, register}
+use Rattle.o32_calls.specs.Numbers.{signal_number}
+use Rattle.o32_calls.specs.declared.signals.SignalCall.TheVariants.{Sigreturn, RtSigreturn}
 use Rattle.o32_model.specs.GuestBytes.{structure}
-use Rattle.o32_model.specs.Step.{Guest, O32Step, O32Call}
+use Rattle.o32_model.specs.Step.{Guest, O32Step, O32Row}
 use Rattle.o32_model.specs.Words.{sp}
 use Rattle.o32_model.specs.declared.outcome.Outcome.{Outcome}
 use Rattle.o32_model.specs.declared.outcome.Outcome.TheVariants as outcomes
@@ -63,8 +65,8 @@ rt_sigreturn_row kernel guest left =
     after_rt_frame kernel guest (structure guest.memory (register guest.processor sp) (rt_frame_of siginfo).size) left
 
 -- The numbers (Linux arch/mips/include/uapi/asm/unistd.h, the o32 table)
-abbrev pub return_calls : List O32Call
+abbrev pub return_calls : List O32Row
 return_calls =
-    record { number = 4119; step = sigreturn_row }
-    ∷ record { number = 4193; step = rt_sigreturn_row }
+    record { number = signal_number Sigreturn; step = sigreturn_row }
+    ∷ record { number = signal_number RtSigreturn; step = rt_sigreturn_row }
     ∷ []

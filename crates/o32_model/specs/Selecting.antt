@@ -9,10 +9,12 @@ use Rattle.kernel_model.specs.Readiness.{Sets, counted_fds, masked_wait, select,
 use Rattle.kernel_model.specs.SignalSets.{SignalSet}
 use Rattle.kernel_model.specs.State.{Kernel}
 use Rattle.layouts.specs.Number.{unsigned, bytes_of}
+use Rattle.o32_calls.specs.Numbers.{select_number}
+use Rattle.o32_calls.specs.declared.times.SelectCall.TheVariants.{Newselect, Pselect6}
 use Rattle.o32_model.specs.GuestBytes.{structure, read_as, unless_null}
 use Rattle.o32_model.specs.Masks.{set_at, with_own_mask}
 use Rattle.o32_model.specs.Results.{Piece, piece_unless_null, stores_pieces}
-use Rattle.o32_model.specs.Step.{Guest, O32Step, O32Call, gives}
+use Rattle.o32_model.specs.Step.{Guest, O32Step, O32Row, gives}
 use Rattle.o32_model.specs.TimeLeft.{with_time_left}
 use Rattle.o32_model.specs.Times.{spec_at, spec_bytes, val_at, val_bytes}
 use Rattle.o32_model.specs.Words.{argument, signed_argument, stack_word}
@@ -142,8 +144,8 @@ asked guest = record {
   except = argument guest.words 3;
 }
 
-abbrev pub select_calls : List O32Call
+abbrev pub select_calls : List O32Row
 select_calls =
-    record { number = 4142; step = λ kernel guest. newselect_row kernel guest (asked guest) (stack_word guest.words 0) }
-    ∷ record { number = 4301; step = λ kernel guest. pselect6_row kernel guest (asked guest) (stack_word guest.words 0) (stack_word guest.words 1) }
+    record { number = select_number Newselect; step = λ kernel guest. newselect_row kernel guest (asked guest) (stack_word guest.words 0) }
+    ∷ record { number = select_number Pselect6; step = λ kernel guest. pselect6_row kernel guest (asked guest) (stack_word guest.words 0) (stack_word guest.words 1) }
     ∷ []

@@ -7,8 +7,10 @@ use Rattle.kernel_model.specs.State.{Kernel}
 use Rattle.layouts.specs.O32.{siginfo}
 use Rattle.layouts.specs.Shape.{record_values}
 use Rattle.number_tables.specs.Signals.{signal_of_o32}
+use Rattle.o32_calls.specs.Numbers.{signal_number}
+use Rattle.o32_calls.specs.declared.signals.SignalCall.TheVariants.{Kill, RtSigqueueinfo, Tkill, Tgkill}
 use Rattle.o32_model.specs.GuestBytes.{structure, read_as}
-use Rattle.o32_model.specs.Step.{Guest, O32Step, O32Call, gives}
+use Rattle.o32_model.specs.Step.{Guest, O32Step, O32Row, gives}
 use Rattle.o32_model.specs.Words.{argument, signed_argument}
 
 -- a signal by its number; 0 names none, and signals have the numbers 1 to 128
@@ -48,10 +50,10 @@ rt_sigqueueinfo_row kernel guest pid number address left =
     gives guest (told_zero (queue kernel pid (named number) (read_as sent_in (structure guest.memory address siginfo.size)))) left
 
 -- The numbers (Linux arch/mips/include/uapi/asm/unistd.h, the o32 table)
-abbrev pub sending_calls : List O32Call
+abbrev pub sending_calls : List O32Row
 sending_calls =
-    record { number = 4037; step = λ kernel guest. kill_row kernel guest (signed_argument guest.words 0) (argument guest.words 1) }
-    ∷ record { number = 4198; step = λ kernel guest. rt_sigqueueinfo_row kernel guest (signed_argument guest.words 0) (argument guest.words 1) (argument guest.words 2) }
-    ∷ record { number = 4236; step = λ kernel guest. tkill_row kernel guest (signed_argument guest.words 0) (argument guest.words 1) }
-    ∷ record { number = 4266; step = λ kernel guest. tgkill_row kernel guest (signed_argument guest.words 0) (signed_argument guest.words 1) (argument guest.words 2) }
+    record { number = signal_number Kill; step = λ kernel guest. kill_row kernel guest (signed_argument guest.words 0) (argument guest.words 1) }
+    ∷ record { number = signal_number RtSigqueueinfo; step = λ kernel guest. rt_sigqueueinfo_row kernel guest (signed_argument guest.words 0) (argument guest.words 1) (argument guest.words 2) }
+    ∷ record { number = signal_number Tkill; step = λ kernel guest. tkill_row kernel guest (signed_argument guest.words 0) (argument guest.words 1) }
+    ∷ record { number = signal_number Tgkill; step = λ kernel guest. tgkill_row kernel guest (signed_argument guest.words 0) (signed_argument guest.words 1) (argument guest.words 2) }
     ∷ []

@@ -9,6 +9,7 @@ use Rattle.kernel_model.specs.Came.{Given}
 use Rattle.kernel_model.specs.SignalSets.{SignalSet, blockable, has}
 use Rattle.kernel_model.specs.State.{Kernel}
 use Rattle.mips_exec.specs.Processor.{fresh}
+use Rattle.o32_calls.specs.Numbers.{rt_sigtimedwait_number}
 use Rattle.o32_model.specs.Masks.{set_at}
 use Rattle.o32_model.specs.Step.{Guest, O32Step}
 use Rattle.o32_model.specs.Suspending.{all_signals, rt_sigtimedwait_row}
@@ -53,7 +54,7 @@ named_in (Err error) = []
 named_in (Ok set) = filter (λ (signal : Sig). has (blockable set) signal) all_signals
 
 abbrev pub named_signals : Memory → Wait → List Sig
-named_signals memory wait = if wait.nr == 4197 then named_in (set_at memory (wait_word wait 0)) else []
+named_signals memory wait = if wait.nr == rt_sigtimedwait_number then named_in (set_at memory (wait_word wait 0)) else []
 
 abbrev pub acceptance_ended : Wait → Cause → Kernel → Memory → WaitEnd
 acceptance_ended wait Due kernel memory = ends_with (closes.Error EAGAIN) kernel memory
@@ -64,7 +65,7 @@ acceptance_ended wait Stopped kernel memory = interrupted kernel memory
 
 abbrev pub signal_wait_ended : Wait → Cause → Kernel → Memory → WaitEnd
 signal_wait_ended wait cause kernel memory =
-    if wait.nr == 4197 then acceptance_ended wait cause kernel memory else suspension_ended wait cause kernel memory
+    if wait.nr == rt_sigtimedwait_number then acceptance_ended wait cause kernel memory else suspension_ended wait cause kernel memory
 
 -- A read or write of a pipe: bytes that were put already are the result. Without any a handler ends it, unless its action restarts calls
 -- (SA_RESTART of sigaction(2)), and a stop has it carried out again. It has no deadline.

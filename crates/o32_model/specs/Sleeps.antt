@@ -7,10 +7,13 @@ use Rattle.kernel_model.specs.State.{Kernel}
 use Rattle.kernel_model.specs.declared.time.TimerValue.{TimerValue}
 use Rattle.layouts.specs.O32.{time, itimerval}
 use Rattle.layouts.specs.Shape.{record_bytes}
+use Rattle.o32_calls.specs.Numbers.{time_number, timer_number}
+use Rattle.o32_calls.specs.declared.times.TimeCall.TheVariants.{Nanosleep, ClockNanosleep}
+use Rattle.o32_calls.specs.declared.times.TimerCall.TheVariants.{Alarm, Setitimer, Getitimer}
 use Rattle.o32_model.specs.GuestBytes.{structure, read_as, unless_null}
 use Rattle.o32_model.specs.PathArguments.{one_flag}
 use Rattle.o32_model.specs.Small.{stores_unless_null}
-use Rattle.o32_model.specs.Step.{Guest, O32Step, O32Call, gives, stores}
+use Rattle.o32_model.specs.Step.{Guest, O32Step, O32Row, gives, stores}
 use Rattle.o32_model.specs.Times.{spec_at, val_in, seconds_field, microseconds_field}
 use Rattle.o32_model.specs.Words.{argument}
 
@@ -59,11 +62,11 @@ unfoldable pub getitimer_row : Kernel → Guest → ℕ → ℕ → List ℕ →
 getitimer_row kernel guest which address left = stores guest address (told_as timer_bytes (read_timer kernel which)) left
 
 -- The numbers (Linux arch/mips/include/uapi/asm/unistd.h, the o32 table)
-abbrev pub sleep_calls : List O32Call
+abbrev pub sleep_calls : List O32Row
 sleep_calls =
-    record { number = 4027; step = λ kernel guest. alarm_row kernel guest (argument guest.words 0) }
-    ∷ record { number = 4104; step = λ kernel guest. setitimer_row kernel guest (argument guest.words 0) (argument guest.words 1) (argument guest.words 2) }
-    ∷ record { number = 4105; step = λ kernel guest. getitimer_row kernel guest (argument guest.words 0) (argument guest.words 1) }
-    ∷ record { number = 4166; step = λ kernel guest. nanosleep_row kernel guest (argument guest.words 0) }
-    ∷ record { number = 4265; step = λ kernel guest. clock_nanosleep_row kernel guest (argument guest.words 0) (argument guest.words 1) (argument guest.words 2) }
+    record { number = timer_number Alarm; step = λ kernel guest. alarm_row kernel guest (argument guest.words 0) }
+    ∷ record { number = timer_number Setitimer; step = λ kernel guest. setitimer_row kernel guest (argument guest.words 0) (argument guest.words 1) (argument guest.words 2) }
+    ∷ record { number = timer_number Getitimer; step = λ kernel guest. getitimer_row kernel guest (argument guest.words 0) (argument guest.words 1) }
+    ∷ record { number = time_number Nanosleep; step = λ kernel guest. nanosleep_row kernel guest (argument guest.words 0) }
+    ∷ record { number = time_number ClockNanosleep; step = λ kernel guest. clock_nanosleep_row kernel guest (argument guest.words 0) (argument guest.words 1) (argument guest.words 2) }
     ∷ []

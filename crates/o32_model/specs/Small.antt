@@ -14,8 +14,11 @@ use Rattle.layouts.specs.O32.{rlimit, rlimit64}
 use Rattle.layouts.specs.Shape.{record_bytes, record_values}
 use Rattle.layouts.specs.Utsname.{padded}
 use Rattle.number_tables.specs.Resources.{resource_of_o32}
+use Rattle.o32_calls.specs.Numbers.{plain_number, system_number}
+use Rattle.o32_calls.specs.declared.process.PlainCall.TheVariants.{Exit, Getpid, Getuid, Getgid, Geteuid, Getegid, Getppid, Cacheflush, SchedYield, Gettid, ExitGroup, SetTidAddress, SetThreadArea, SetRobustList}
+use Rattle.o32_calls.specs.declared.process.SystemCall.TheVariants.{Getrlimit, Uname, Prlimit64, Getrandom}
 use Rattle.o32_model.specs.GuestBytes.{structure, read_as, unless_null, accessible}
-use Rattle.o32_model.specs.Step.{Guest, O32Step, O32Call, comes_to, gives, stores, fills}
+use Rattle.o32_model.specs.Step.{Guest, O32Step, O32Row, comes_to, gives, stores, fills}
 use Rattle.o32_model.specs.Words.{argument, signed_argument}
 use Rattle.o32_model.specs.declared.outcome.Outcome.TheVariants.{Exit}
 
@@ -92,24 +95,24 @@ getrandom_row kernel guest buffer count flags left =
     fills (copied_out guest.memory buffer) guest (random_bytes kernel count (accessible guest.memory buffer count) flags) left
 
 -- The numbers (Linux arch/mips/include/uapi/asm/unistd.h, the o32 table)
-abbrev pub small_calls : List O32Call
+abbrev pub small_calls : List O32Row
 small_calls =
-    record { number = 4001; step = λ kernel guest. exit_row kernel guest (argument guest.words 0) }
-    ∷ record { number = 4020; step = number_row own_id }
-    ∷ record { number = 4024; step = number_row user_id }
-    ∷ record { number = 4047; step = number_row user_id }
-    ∷ record { number = 4049; step = number_row user_id }
-    ∷ record { number = 4050; step = number_row user_id }
-    ∷ record { number = 4064; step = number_row parent_id }
-    ∷ record { number = 4076; step = λ kernel guest. getrlimit_row kernel guest (argument guest.words 0) (argument guest.words 1) }
-    ∷ record { number = 4122; step = λ kernel guest. uname_row kernel guest (argument guest.words 0) }
-    ∷ record { number = 4147; step = number_row 0 }
-    ∷ record { number = 4162; step = number_row 0 }
-    ∷ record { number = 4222; step = number_row own_id }
-    ∷ record { number = 4246; step = λ kernel guest. exit_row kernel guest (argument guest.words 0) }
-    ∷ record { number = 4252; step = number_row own_id }
-    ∷ record { number = 4283; step = λ kernel guest. set_thread_area_row kernel guest (argument guest.words 0) }
-    ∷ record { number = 4309; step = λ kernel guest. set_robust_list_row kernel guest (argument guest.words 1) }
-    ∷ record { number = 4338; step = λ kernel guest. prlimit_row kernel guest (signed_argument guest.words 0) (argument guest.words 1) (argument guest.words 2) (argument guest.words 3) }
-    ∷ record { number = 4353; step = λ kernel guest. getrandom_row kernel guest (argument guest.words 0) (argument guest.words 1) (argument guest.words 2) }
+    record { number = plain_number Exit; step = λ kernel guest. exit_row kernel guest (argument guest.words 0) }
+    ∷ record { number = plain_number Getpid; step = number_row own_id }
+    ∷ record { number = plain_number Getuid; step = number_row user_id }
+    ∷ record { number = plain_number Getgid; step = number_row user_id }
+    ∷ record { number = plain_number Geteuid; step = number_row user_id }
+    ∷ record { number = plain_number Getegid; step = number_row user_id }
+    ∷ record { number = plain_number Getppid; step = number_row parent_id }
+    ∷ record { number = system_number Getrlimit; step = λ kernel guest. getrlimit_row kernel guest (argument guest.words 0) (argument guest.words 1) }
+    ∷ record { number = system_number Uname; step = λ kernel guest. uname_row kernel guest (argument guest.words 0) }
+    ∷ record { number = plain_number Cacheflush; step = number_row 0 }
+    ∷ record { number = plain_number SchedYield; step = number_row 0 }
+    ∷ record { number = plain_number Gettid; step = number_row own_id }
+    ∷ record { number = plain_number ExitGroup; step = λ kernel guest. exit_row kernel guest (argument guest.words 0) }
+    ∷ record { number = plain_number SetTidAddress; step = number_row own_id }
+    ∷ record { number = plain_number SetThreadArea; step = λ kernel guest. set_thread_area_row kernel guest (argument guest.words 0) }
+    ∷ record { number = plain_number SetRobustList; step = λ kernel guest. set_robust_list_row kernel guest (argument guest.words 1) }
+    ∷ record { number = system_number Prlimit64; step = λ kernel guest. prlimit_row kernel guest (signed_argument guest.words 0) (argument guest.words 1) (argument guest.words 2) (argument guest.words 3) }
+    ∷ record { number = system_number Getrandom; step = λ kernel guest. getrandom_row kernel guest (argument guest.words 0) (argument guest.words 1) (argument guest.words 2) }
     ∷ []

@@ -12,10 +12,12 @@ use Rattle.kernel_model.specs.State.{Kernel}
 use Rattle.kernel_model.specs.Whole.{on_files}
 use Rattle.layouts.specs.O32.{stat, stat64}
 use Rattle.layouts.specs.Shape.{record_bytes}
+use Rattle.o32_calls.specs.Numbers.{status_number}
+use Rattle.o32_calls.specs.declared.files.StatusCall.TheVariants.{Stat, Lstat, Fstat, Stat64, Lstat64, Fstat64, Fstatat64}
 use Rattle.o32_model.specs.Narrow.{narrowed, low_word}
 use Rattle.o32_model.specs.PathArguments.{base, nofollow_flag, no_automount_flag, empty_path_flag, has_only}
 use Rattle.o32_model.specs.Paths.{path_at}
-use Rattle.o32_model.specs.Step.{Guest, O32Step, O32Call, stores}
+use Rattle.o32_model.specs.Step.{Guest, O32Step, O32Row, stores}
 use Rattle.o32_model.specs.Transfers.{small_file_limit}
 use Rattle.o32_model.specs.Words.{argument}
 
@@ -95,13 +97,13 @@ fstatat64_row kernel guest from address buffer flags left =
     stores_status64 guest buffer (status_from kernel guest from address (status_flags flags)) left
 
 -- The numbers (Linux arch/mips/include/uapi/asm/unistd.h, the o32 table)
-abbrev pub status_calls : List O32Call
+abbrev pub status_calls : List O32Row
 status_calls =
-    record { number = 4106; step = λ kernel guest. stat_row kernel guest true (argument guest.words 0) (argument guest.words 1) }
-    ∷ record { number = 4107; step = λ kernel guest. stat_row kernel guest false (argument guest.words 0) (argument guest.words 1) }
-    ∷ record { number = 4108; step = λ kernel guest. fstat_row kernel guest (argument guest.words 0) (argument guest.words 1) }
-    ∷ record { number = 4213; step = λ kernel guest. stat64_row kernel guest true (argument guest.words 0) (argument guest.words 1) }
-    ∷ record { number = 4214; step = λ kernel guest. stat64_row kernel guest false (argument guest.words 0) (argument guest.words 1) }
-    ∷ record { number = 4215; step = λ kernel guest. fstat64_row kernel guest (argument guest.words 0) (argument guest.words 1) }
-    ∷ record { number = 4293; step = λ kernel guest. fstatat64_row kernel guest (base (argument guest.words 0)) (argument guest.words 1) (argument guest.words 2) (argument guest.words 3) }
+    record { number = status_number Stat; step = λ kernel guest. stat_row kernel guest true (argument guest.words 0) (argument guest.words 1) }
+    ∷ record { number = status_number Lstat; step = λ kernel guest. stat_row kernel guest false (argument guest.words 0) (argument guest.words 1) }
+    ∷ record { number = status_number Fstat; step = λ kernel guest. fstat_row kernel guest (argument guest.words 0) (argument guest.words 1) }
+    ∷ record { number = status_number Stat64; step = λ kernel guest. stat64_row kernel guest true (argument guest.words 0) (argument guest.words 1) }
+    ∷ record { number = status_number Lstat64; step = λ kernel guest. stat64_row kernel guest false (argument guest.words 0) (argument guest.words 1) }
+    ∷ record { number = status_number Fstat64; step = λ kernel guest. fstat64_row kernel guest (argument guest.words 0) (argument guest.words 1) }
+    ∷ record { number = status_number Fstatat64; step = λ kernel guest. fstatat64_row kernel guest (base (argument guest.words 0)) (argument guest.words 1) (argument guest.words 2) (argument guest.words 3) }
     ∷ []

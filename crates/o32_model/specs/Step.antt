@@ -97,6 +97,6 @@ fills with_bytes guest did left = record {
 }
 
 -- A call of the table: its number, and what it does by the kernel, what it finds of the program, and what is left of the input
-pub record O32Call : Type 0 where
+pub record O32Row : Type 0 where
   pub number : ℕ
   pub step : Kernel → Guest → List ℕ → O32Step

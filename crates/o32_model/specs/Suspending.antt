@@ -9,10 +9,12 @@ use Rattle.kernel_model.specs.SignalSets.{blockable, signal_count}
 use Rattle.kernel_model.specs.State.{Kernel}
 use Rattle.layouts.specs.Frames.{siginfo_bytes}
 use Rattle.number_tables.specs.Signals.{o32_signal, signal_of_o32}
+use Rattle.o32_calls.specs.Numbers.{rt_sigtimedwait_number, signal_number}
+use Rattle.o32_calls.specs.declared.signals.SignalCall.TheVariants.{Pause, RtSigsuspend}
 use Rattle.o32_model.specs.GuestBytes.{unless_null}
 use Rattle.o32_model.specs.Masks.{set_at, with_own_mask}
 use Rattle.o32_model.specs.Results.{stores_result_unless_null}
-use Rattle.o32_model.specs.Step.{Guest, O32Step, O32Call, gives}
+use Rattle.o32_model.specs.Step.{Guest, O32Step, O32Row, gives}
 use Rattle.o32_model.specs.Times.{spec_at}
 use Rattle.o32_model.specs.Words.{argument}
 use Rattle.signal_frames.specs.Entering.{information}
@@ -48,9 +50,9 @@ rt_sigtimedwait_row kernel guest set info time size left =
     (accept kernel all_signals blockable (set_at guest.memory set) (unless_null time (spec_at guest.memory time)) size) left
 
 -- The numbers (Linux arch/mips/include/uapi/asm/unistd.h, the o32 table)
-abbrev pub suspending_calls : List O32Call
+abbrev pub suspending_calls : List O32Row
 suspending_calls =
-    record { number = 4029; step = pause_row }
-    ∷ record { number = 4197; step = λ kernel guest. rt_sigtimedwait_row kernel guest (argument guest.words 0) (argument guest.words 1) (argument guest.words 2) (argument guest.words 3) }
-    ∷ record { number = 4199; step = λ kernel guest. rt_sigsuspend_row kernel guest (argument guest.words 0) (argument guest.words 1) }
+    record { number = signal_number Pause; step = pause_row }
+    ∷ record { number = rt_sigtimedwait_number; step = λ kernel guest. rt_sigtimedwait_row kernel guest (argument guest.words 0) (argument guest.words 1) (argument guest.words 2) (argument guest.words 3) }
+    ∷ record { number = signal_number RtSigsuspend; step = λ kernel guest. rt_sigsuspend_row kernel guest (argument guest.words 0) (argument guest.words 1) }
     ∷ []

@@ -15,33 +15,33 @@ use Rattle.o32_model.specs.NodeCalls.{node_calls}
 use Rattle.o32_model.specs.Opening.{opening_calls}
 use Rattle.o32_model.specs.Polling.{poll_calls}
 use Rattle.o32_model.specs.Returns.{return_calls}
-use Rattle.o32_model.specs.Seeing.{SeeingCall, seeing_clock_calls, seeing_signal_calls}
+use Rattle.o32_model.specs.Seeing.{SeeingRow, seeing_clock_calls, seeing_signal_calls}
 use Rattle.o32_model.specs.Selecting.{select_calls}
 use Rattle.o32_model.specs.Sending.{sending_calls}
 use Rattle.o32_model.specs.Sleeps.{sleep_calls}
 use Rattle.o32_model.specs.Small.{small_calls}
 use Rattle.o32_model.specs.Status.{status_calls}
-use Rattle.o32_model.specs.Step.{Guest, O32Step, O32Call, gives}
+use Rattle.o32_model.specs.Step.{Guest, O32Step, O32Row, gives}
 use Rattle.o32_model.specs.Suspending.{suspending_calls}
 use Rattle.o32_model.specs.Terminal.{terminal_calls}
 use Rattle.o32_model.specs.Transfers.{transfer_calls}
 use Rattle.o32_model.specs.declared.wait.Seen.{Seen}
 
 -- the call of a number among these, or else the other one
-abbrev pub call_in : List O32Call → Option O32Call → ℕ → Option O32Call
-call_in calls otherwise number = numbered_or (λ (call : O32Call). call.number) calls otherwise number
+abbrev pub call_in : List O32Row → Option O32Row → ℕ → Option O32Row
+call_in calls otherwise number = numbered_or (λ (call : O32Row). call.number) calls otherwise number
 
 -- the calls on descriptors and what they have open; the calls on files by their names, on status, places and entries; the calls on time and
 -- readiness; the calls on signals; and all calls
 
-abbrev pub io_call_or : Option O32Call → ℕ → Option O32Call
+abbrev pub io_call_or : Option O32Row → ℕ → Option O32Row
 io_call_or otherwise number =
     call_in transfer_calls
     (call_in descriptor_calls
     (call_in terminal_calls otherwise
     number) number) number
 
-abbrev pub file_call_or : Option O32Call → ℕ → Option O32Call
+abbrev pub file_call_or : Option O32Row → ℕ → Option O32Row
 file_call_or otherwise number =
     call_in opening_calls
     (call_in status_calls
@@ -50,7 +50,7 @@ file_call_or otherwise number =
     (call_in node_calls otherwise
     number) number) number) number) number
 
-abbrev pub wait_call_or : Option O32Call → ℕ → Option O32Call
+abbrev pub wait_call_or : Option O32Row → ℕ → Option O32Row
 wait_call_or otherwise number =
     call_in clock_calls
     (call_in sleep_calls
@@ -58,7 +58,7 @@ wait_call_or otherwise number =
     (call_in select_calls otherwise
     number) number) number) number
 
-abbrev pub signal_call_or : Option O32Call → ℕ → Option O32Call
+abbrev pub signal_call_or : Option O32Row → ℕ → Option O32Row
 signal_call_or otherwise number =
     call_in sending_calls
     (call_in action_calls
@@ -66,15 +66,15 @@ signal_call_or otherwise number =
     (call_in return_calls otherwise
     number) number) number) number
 
-abbrev pub call_of : ℕ → Option O32Call
+abbrev pub call_of : ℕ → Option O32Row
 call_of number = io_call_or (call_in small_calls (file_call_or (wait_call_or (signal_call_or (call_in map_calls None number) number) number) number) number) number
 
 -- the calls that see more of the machine, on clocks and on signals, and all of them
 
-abbrev pub seeing_call_in : List SeeingCall → Option SeeingCall → ℕ → Option SeeingCall
-seeing_call_in calls otherwise number = numbered_or (λ (call : SeeingCall). call.number) calls otherwise number
+abbrev pub seeing_call_in : List SeeingRow → Option SeeingRow → ℕ → Option SeeingRow
+seeing_call_in calls otherwise number = numbered_or (λ (call : SeeingRow). call.number) calls otherwise number
 
-abbrev pub seeing_call_of : ℕ → Option SeeingCall
+abbrev pub seeing_call_of : ℕ → Option SeeingRow
 seeing_call_of number = seeing_call_in seeing_clock_calls (seeing_call_in seeing_signal_calls None number) number
 
 -- whether a number is that of a call on descriptors and what they have open, of a small call, of a call on files, of one on mappings, of
@@ -97,7 +97,7 @@ is_wait_call number = is_some (wait_call_or None number) || is_some (seeing_call
 abbrev pub is_signal_call : ℕ → Bool
 is_signal_call number = is_some (signal_call_or None number) || is_some (seeing_call_in seeing_signal_calls None number)
 
-abbrev pub step_of : Option O32Call → Kernel → Guest → List ℕ → O32Step
+abbrev pub step_of : Option O32Row → Kernel → Guest → List ℕ → O32Step
 step_of None kernel guest left = gives guest (refused kernel ENOSYS) left
 step_of (Some call) kernel guest left = call.step kernel guest left
 
@@ -107,7 +107,7 @@ o32_call kernel guest left = step_of (call_of guest.words.nr) kernel guest left
 
 -- What a call of a machine does, which sees more than that
 
-abbrev pub seeing_step_of : Option O32Call → Option SeeingCall → Seen → Kernel → Guest → List ℕ → O32Step
+abbrev pub seeing_step_of : Option O32Row → Option SeeingRow → Seen → Kernel → Guest → List ℕ → O32Step
 seeing_step_of (Some call) other seen kernel guest left = call.step kernel guest left
 seeing_step_of None None seen kernel guest left = gives guest (refused kernel ENOSYS) left
 seeing_step_of None (Some call) seen kernel guest left = call.step seen kernel guest left

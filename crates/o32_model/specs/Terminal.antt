@@ -15,8 +15,10 @@ use Rattle.layouts.specs.Number.{bytes_of, unsigned}
 use Rattle.layouts.specs.O32.{termios, winsize}
 use Rattle.layouts.specs.Shape.{record_bytes, record_values}
 use Rattle.number_tables.specs.Requests.{request_of_o32}
+use Rattle.o32_calls.specs.Numbers.{io_number}
+use Rattle.o32_calls.specs.declared.descriptors.IoCall.TheVariants.{Ioctl}
 use Rattle.o32_model.specs.GuestBytes.{structure, read_as}
-use Rattle.o32_model.specs.Step.{Guest, O32Step, O32Call, gives, stores}
+use Rattle.o32_model.specs.Step.{Guest, O32Step, O32Row, gives, stores}
 use Rattle.o32_model.specs.Words.{argument}
 
 -- Settings
@@ -122,7 +124,7 @@ unfoldable pub ioctl_row : Kernel → Guest → ℕ → ℕ → ℕ → List ℕ
 ioctl_row kernel guest fd request address left = requested kernel guest fd address left (request_of_o32 request)
 
 -- The number (Linux arch/mips/include/uapi/asm/unistd.h, the o32 table)
-abbrev pub terminal_calls : List O32Call
+abbrev pub terminal_calls : List O32Row
 terminal_calls =
-    record { number = 4054; step = λ kernel guest. ioctl_row kernel guest (argument guest.words 0) (argument guest.words 1) (argument guest.words 2) }
+    record { number = io_number Ioctl; step = λ kernel guest. ioctl_row kernel guest (argument guest.words 0) (argument guest.words 1) (argument guest.words 2) }
     ∷ []

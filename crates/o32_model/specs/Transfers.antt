@@ -9,8 +9,10 @@ use Rattle.kernel_model.specs.Clock.{now}
 use Rattle.kernel_model.specs.State.{Kernel}
 use Rattle.kernel_model.specs.Transfers.{read_at, write_at}
 use Rattle.kernel_model.specs.Whole.{KernelReading, KernelWriting, on_files, kernel_read, kernel_write}
+use Rattle.o32_calls.specs.Numbers.{io_number}
+use Rattle.o32_calls.specs.declared.descriptors.IoCall.TheVariants.{Read, Write, Readv, Writev, Pread64, Pwrite64}
 use Rattle.o32_model.specs.GuestBytes.{Range, accessible, loadable, vector, asked, buffers, all_accessible, all_loadable, all_copied_out}
-use Rattle.o32_model.specs.Step.{Guest, O32Step, O32Call, value, outcome_of, gives, fills}
+use Rattle.o32_model.specs.Step.{Guest, O32Step, O32Row, value, outcome_of, gives, fills}
 use Rattle.o32_model.specs.Words.{argument, stack_pair}
 
 -- Reading
@@ -78,12 +80,12 @@ pwrite_row kernel guest fd buffer count place left =
 
 -- The numbers (Linux arch/mips/include/uapi/asm/unistd.h, the o32 table). The fourth argument of pread64 and pwrite64 is not used, so that
 -- the place has an even place among them.
-abbrev pub transfer_calls : List O32Call
+abbrev pub transfer_calls : List O32Row
 transfer_calls =
-    record { number = 4003; step = λ kernel guest. read_row kernel guest (argument guest.words 0) (argument guest.words 1) (argument guest.words 2) }
-    ∷ record { number = 4004; step = λ kernel guest. write_row kernel guest (argument guest.words 0) (argument guest.words 1) (argument guest.words 2) }
-    ∷ record { number = 4145; step = λ kernel guest. readv_row kernel guest (argument guest.words 0) (argument guest.words 1) (argument guest.words 2) }
-    ∷ record { number = 4146; step = λ kernel guest. writev_row kernel guest (argument guest.words 0) (argument guest.words 1) (argument guest.words 2) }
-    ∷ record { number = 4200; step = λ kernel guest. pread_row kernel guest (argument guest.words 0) (argument guest.words 1) (argument guest.words 2) (stack_pair guest.words) }
-    ∷ record { number = 4201; step = λ kernel guest. pwrite_row kernel guest (argument guest.words 0) (argument guest.words 1) (argument guest.words 2) (stack_pair guest.words) }
+    record { number = io_number Read; step = λ kernel guest. read_row kernel guest (argument guest.words 0) (argument guest.words 1) (argument guest.words 2) }
+    ∷ record { number = io_number Write; step = λ kernel guest. write_row kernel guest (argument guest.words 0) (argument guest.words 1) (argument guest.words 2) }
+    ∷ record { number = io_number Readv; step = λ kernel guest. readv_row kernel guest (argument guest.words 0) (argument guest.words 1) (argument guest.words 2) }
+    ∷ record { number = io_number Writev; step = λ kernel guest. writev_row kernel guest (argument guest.words 0) (argument guest.words 1) (argument guest.words 2) }
+    ∷ record { number = io_number Pread64; step = λ kernel guest. pread_row kernel guest (argument guest.words 0) (argument guest.words 1) (argument guest.words 2) (stack_pair guest.words) }
+    ∷ record { number = io_number Pwrite64; step = λ kernel guest. pwrite_row kernel guest (argument guest.words 0) (argument guest.words 1) (argument guest.words 2) (stack_pair guest.words) }
     ∷ []

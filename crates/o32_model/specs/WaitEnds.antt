@@ -10,6 +10,10 @@ use Rattle.kernel_model.specs.Readiness.{Sets, no_events}
 use Rattle.kernel_model.specs.SignalRows.{with_mask}
 use Rattle.kernel_model.specs.SignalSets.{SignalSet}
 use Rattle.kernel_model.specs.State.{Kernel}
+use Rattle.o32_calls.specs.Numbers.{poll_number, select_number, time_number}
+use Rattle.o32_calls.specs.declared.times.PollCall.TheVariants.{Poll, Ppoll}
+use Rattle.o32_calls.specs.declared.times.SelectCall.TheVariants.{Newselect}
+use Rattle.o32_calls.specs.declared.times.TimeCall.TheVariants.{Nanosleep, ClockNanosleep}
 use Rattle.o32_model.specs.GuestBytes.{is_storable, with_stored}
 use Rattle.o32_model.specs.Polling.{entry_pieces}
 use Rattle.o32_model.specs.Results.{Piece, all_fit, with_pieces}
@@ -138,12 +142,12 @@ sets_told wait = sets_pieces (asked_by wait) no_sets
 
 abbrev pub wait_ended : Wait → Cause → ℕ → Kernel → Memory → WaitEnd
 wait_ended wait cause clock kernel memory =
-    if wait.nr == 4166 then sleep_ended (record { relative = true; address = wait_word wait 1 }) wait cause clock kernel memory
-    else (if wait.nr == 4265
+    if wait.nr == time_number Nanosleep then sleep_ended (record { relative = true; address = wait_word wait 1 }) wait cause clock kernel memory
+    else (if wait.nr == time_number ClockNanosleep
     then sleep_ended (record { relative = wait_word wait 1 == 0; address = wait_word wait 3 }) wait cause clock kernel memory
-    else (if wait.nr == 4188 then poll_ended wait cause kernel memory
-    else (if wait.nr == 4302
+    else (if wait.nr == poll_number Poll then poll_ended wait cause kernel memory
+    else (if wait.nr == poll_number Ppoll
     then limited_ended (record { address = wait_word wait 2; bytes = spec_bytes }) (entries_told wait memory) wait cause clock kernel memory
-    else (if wait.nr == 4142
+    else (if wait.nr == select_number Newselect
     then limited_ended (record { address = wait_word wait 4; bytes = val_bytes }) (sets_told wait) wait cause clock kernel memory
     else limited_ended (record { address = wait_word wait 4; bytes = spec_bytes }) (sets_told wait) wait cause clock kernel memory))))

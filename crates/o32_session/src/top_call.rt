@@ -27,7 +27,7 @@ use crate::run::run_named;
 use crate::save::save_final;
 use crate::soak::soak_words;
 use kernel_core::Finish;
-use o32_runner::{Emulator, Names as TextNames};
+use o32_runner::{Emulator, Names as TextNames, Texts};
 use outside::{Devices, Sink, Source, Store};
 use session_files::{End, end_without_run};
 use session_replay::replay_words;
@@ -268,15 +268,11 @@ fn run_ready<F: Store, I: Source, O: Sink, E: Sink>(
         native: word_of(words, native),
         journal: word_of(words, journal),
     };
-    let ran = run_named(
-        alloc,
-        &mut emulator,
-        budget,
+    let texts = Texts {
         names,
-        front.as_slice(),
-        files,
-        dev,
-    );
+        front: front.as_slice(),
+    };
+    let ran = run_named(alloc, &mut emulator, budget, texts, files, dev);
     match ran.end {
         Ok(finish) => answer_run(alloc, words, save, emulator, finish, files),
         Err(stop) => answer_of(End::from(stop), ran.turns, None),

@@ -7,6 +7,9 @@ use Rattle.guest_space.specs.Memory.{Memory}
 use Rattle.kernel_core.specs.declared.event.Event.TheVariants as events
 use Rattle.kernel_model.specs.State.{Kernel}
 use Rattle.mips_exec.specs.Processor.{Processor, register, with_register}
+use Rattle.o32_calls.specs.Numbers.{io_number, rt_sigtimedwait_number, signal_number}
+use Rattle.o32_calls.specs.declared.descriptors.IoCall.TheVariants.{Read, Write, Readv, Writev}
+use Rattle.o32_calls.specs.declared.signals.SignalCall.TheVariants.{Pause, RtSigsuspend, RestartSyscall}
 use Rattle.o32_turns.specs.Machine.{Change, Machine}
 use Rattle.o32_model.specs.SignalWaitEnds.{signal_wait_ended, transfer_ended}
 use Rattle.o32_model.specs.WaitEnds.{WaitEnd, ends_with, wait_ended, wait_word}
@@ -22,11 +25,11 @@ use Rattle.o32_model.specs.declared.wait.Wait.{Wait}
 
 -- read, write, readv, writev
 abbrev pub transfer_waits : List ℕ
-transfer_waits = 4003 ∷ 4004 ∷ 4145 ∷ 4146 ∷ []
+transfer_waits = io_number Read ∷ io_number Write ∷ io_number Readv ∷ io_number Writev ∷ []
 
 -- pause, rt_sigtimedwait, rt_sigsuspend
 abbrev pub signal_waits : List ℕ
-signal_waits = 4029 ∷ 4197 ∷ 4199 ∷ []
+signal_waits = signal_number Pause ∷ rt_sigtimedwait_number ∷ signal_number RtSigsuspend ∷ []
 
 abbrev pub is_one_of : List ℕ → Wait → Bool
 is_one_of numbers wait = list_any (λ (number : ℕ). wait.nr == number) numbers
@@ -49,7 +52,7 @@ returns outcome machine =
     record { machine = record machine { processor = processor }; events = events.Done (register processor v0) (register processor a3) ∷ [] }
 
 abbrev pub restart_number : ℕ
-restart_number = 4253
+restart_number = signal_number RestartSyscall
 
 -- the SYSCALL comes again, with this number in $v0, and with the argument in $a3 that was there
 abbrev pub put_back : ℕ → Wait → Processor → Processor

@@ -3,6 +3,7 @@ use Rattle.std.specs.Prelude.{◌==◌, Option, Some, None, Ok, Err, if◌then�
 use Rattle.guest_space.specs.Memory.{Memory}
 use Rattle.kernel_model.specs.Came.{Given}
 use Rattle.kernel_model.specs.SignalSets.{SignalSet}
+use Rattle.o32_calls.specs.Numbers.{rt_sigtimedwait_number}
 use Rattle.o32_model.specs.Masks.{set_at}
 use Rattle.o32_model.specs.WaitEnds.{wait_word}
 use Rattle.o32_model.specs.declared.wait.Wait.{Wait}
@@ -14,4 +15,4 @@ set_or_none (Ok set) = Some set
 
 -- that of rt_sigtimedwait(2)
 abbrev pub named_set : Memory → Wait → Option SignalSet
-named_set memory wait = if wait.nr == 4197 then set_or_none (set_at memory (wait_word wait 0)) else None
+named_set memory wait = if wait.nr == rt_sigtimedwait_number then set_or_none (set_at memory (wait_word wait 0)) else None

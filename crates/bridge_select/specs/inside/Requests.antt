@@ -1,5 +1,5 @@
 -- What a call asks for, in terms of the table. (The form is this project's own.)
-use Rattle.std.specs.Prelude.{ℕ, ◌==◌, List, slice_index, Option, Some, None, Ok, Err, if◌then◌else◌}
+use Rattle.std.specs.Prelude.{ℕ, List, slice_index, Option, Some, None, Ok, Err}
 use Rattle.std.specs.Int.{w32, cast_signed}
 use Rattle.bridge_limits.specs.Limits.{given_mask, left_form, length_at}
 use Rattle.bridge_limits.specs.declared.times.TimeForm.TheVariants.{Microseconds, Nanoseconds}
@@ -9,6 +9,8 @@ use Rattle.kernel_core.specs.declared.error.Errno.TheVariants.{EFAULT}
 use Rattle.kernel_model.specs.Came.{Given, refused}
 use Rattle.kernel_model.specs.Readiness.{masked_wait}
 use Rattle.kernel_model.specs.State.{Kernel}
+use Rattle.o32_calls.specs.declared.times.SelectCall.{SelectCall}
+use Rattle.o32_calls.specs.declared.times.SelectCall.TheVariants.{Newselect, Pselect6}
 use Rattle.o32_model.specs.Masks.{with_own_mask}
 use Rattle.o32_model.specs.Selecting as selecting
 use Rattle.o32_model.specs.Selecting.{OwnMask, mask_at, no_mask, selected}
@@ -77,10 +79,9 @@ pselect_requested memory asked (Some time) None = Err EFAULT
 pselect_requested memory asked (Some time) (Some pair) =
     masked memory asked (record { form = Nanoseconds; address = time }) (mask_at memory pair)
 
-abbrev pub requested_by : CallWords → Memory → Given Requested
-requested_by words memory =
-    if words.nr == 4142 then select_requested memory (asked_words words.reg) (stack_word words 0)
-    else pselect_requested memory (asked_words words.reg) (stack_word words 0) (stack_word words 1)
+abbrev pub requested_by : SelectCall → CallWords → Memory → Given Requested
+requested_by Newselect words memory = select_requested memory (asked_words words.reg) (stack_word words 0)
+requested_by Pselect6 words memory = pselect_requested memory (asked_words words.reg) (stack_word words 0) (stack_word words 1)
 
 -- What the call then does
 

@@ -1,85 +1,117 @@
 -- Each arm makes the row of its number.
-use Rattle.std.proofs.Common.{◌≡◌, refl, rules}
+use Rattle.std.proofs.Common.{refl, ◌∙◌, ap}
 use Rattle.bridge_paths.specs.Found.{found}
+use Rattle.o32_calls.specs.Numbers.{node_number}
 use Rattle.outside.specs.Streams.{contents}
-use Rattle.bridge_paths.proofs.ByNumber.{by_number, by_number_kept}
+use Rattle.bridge_file.proofs.ByWords.{by_words, by_words_kept}
 use Rattle.bridge_file.proofs.call.node_call.Goals as goal
 
-pub returns-in-4012-clause-row : goal.returns-in-4012-clause-row
-returns-in-4012-clause-row g c = λ left told.
-    let guest = found c.args.args.now c.args.cpu.now c.args.space.now in
-    by_number 4012 c.args.below.now.kernel.now guest left c.chdir.result c.chdir.new.below.kernel.now c.args.space.now c.args.cpu.now (contents g.I.Source.left g.O.Sink.written g.E.Sink.written c.args.dev.now) (contents g.I.Source.left g.O.Sink.written g.E.Sink.written c.chdir.new.dev) c.in-4012.is
-    (c.chdir.ensures.row guest refl refl left told)
+pub returns-in-Chdir-clause-row : goal.returns-in-Chdir-clause-row
+returns-in-Chdir-clause-row g c =
+    by_words 4012 c.args.below.now.kernel.now c.args.caller.now.words.now c.args.caller.now.space.now c.chdir.result c.chdir.new.below.kernel.now (contents g.I.Source.left g.O.Sink.written g.E.Sink.written c.args.dev.now) (contents g.I.Source.left g.O.Sink.written g.E.Sink.written c.chdir.new.dev) (c.requires ∙ ap node_number c.in-Chdir.is)
+    (λ processor left told. c.chdir.ensures.row (found c.args.caller.now.words.now processor c.args.caller.now.space.now) refl refl left told)
 
-pub returns-in-4015-clause-row : goal.returns-in-4015-clause-row
-returns-in-4015-clause-row g c = λ left told.
-    let guest = found c.args.args.now c.args.cpu.now c.args.space.now in
-    by_number 4015 c.args.below.now.kernel.now guest left c.chmod.result c.chmod.new.below.kernel.now c.args.space.now c.args.cpu.now (contents g.I.Source.left g.O.Sink.written g.E.Sink.written c.args.dev.now) (contents g.I.Source.left g.O.Sink.written g.E.Sink.written c.chmod.new.dev) c.in-4015.is
-    (rw c.here.ensures at (c.chmod.ensures.row guest refl refl left told))
+pub returns-in-Chdir-clause-kept : goal.returns-in-Chdir-clause-kept
+returns-in-Chdir-clause-kept g c =
+    by_words_kept 4012 c.args.below.now.kernel.now c.args.caller.now.words.now c.args.caller.now.space.now c.chdir.result (g.I.Source.left c.args.dev.now.input) c.args.below.now.log.now c.chdir.new.below.log.now (c.requires ∙ ap node_number c.in-Chdir.is)
+    (λ processor left told. c.chdir.ensures.kept (found c.args.caller.now.words.now processor c.args.caller.now.space.now) refl refl left told)
 
-pub returns-in-4015-clause-kept : goal.returns-in-4015-clause-kept
-returns-in-4015-clause-kept g c = λ left told.
-    let guest = found c.args.args.now c.args.cpu.now c.args.space.now in
-    by_number_kept 4015 c.args.below.now.kernel.now guest left c.chmod.result c.args.below.now.log.now c.chmod.new.below.log.now c.in-4015.is
-    (rw c.here.ensures at (c.chmod.ensures.kept guest refl refl left told))
+pub returns-in-Chmod-clause-row : goal.returns-in-Chmod-clause-row
+returns-in-Chmod-clause-row g c =
+    by_words 4015 c.args.below.now.kernel.now c.args.caller.now.words.now c.args.caller.now.space.now c.chmod.result c.chmod.new.below.kernel.now (contents g.I.Source.left g.O.Sink.written g.E.Sink.written c.args.dev.now) (contents g.I.Source.left g.O.Sink.written g.E.Sink.written c.chmod.new.dev) (c.requires ∙ ap node_number c.in-Chmod.is)
+    (λ processor left told. rw c.here.ensures at (c.chmod.ensures.row (found c.args.caller.now.words.now processor c.args.caller.now.space.now) refl refl left told))
 
-pub returns-in-4033-clause-row : goal.returns-in-4033-clause-row
-returns-in-4033-clause-row g c = λ left told.
-    let guest = found c.args.args.now c.args.cpu.now c.args.space.now in
-    by_number 4033 c.args.below.now.kernel.now guest left c.access.result c.access.new.below.kernel.now c.args.space.now c.args.cpu.now (contents g.I.Source.left g.O.Sink.written g.E.Sink.written c.args.dev.now) (contents g.I.Source.left g.O.Sink.written g.E.Sink.written c.access.new.dev) c.in-4033.is
-    (rw c.here-in-4033.ensures at (c.access.ensures.row guest refl refl left told))
+pub returns-in-Chmod-clause-kept : goal.returns-in-Chmod-clause-kept
+returns-in-Chmod-clause-kept g c =
+    by_words_kept 4015 c.args.below.now.kernel.now c.args.caller.now.words.now c.args.caller.now.space.now c.chmod.result (g.I.Source.left c.args.dev.now.input) c.args.below.now.log.now c.chmod.new.below.log.now (c.requires ∙ ap node_number c.in-Chmod.is)
+    (λ processor left told. rw c.here.ensures at (c.chmod.ensures.kept (found c.args.caller.now.words.now processor c.args.caller.now.space.now) refl refl left told))
 
-pub returns-in-4033-clause-kept : goal.returns-in-4033-clause-kept
-returns-in-4033-clause-kept g c = λ left told.
-    let guest = found c.args.args.now c.args.cpu.now c.args.space.now in
-    by_number_kept 4033 c.args.below.now.kernel.now guest left c.access.result c.args.below.now.log.now c.access.new.below.log.now c.in-4033.is
-    (rw c.here-in-4033.ensures at (c.access.ensures.kept guest refl refl left told))
+pub returns-in-Access-clause-row : goal.returns-in-Access-clause-row
+returns-in-Access-clause-row g c =
+    by_words 4033 c.args.below.now.kernel.now c.args.caller.now.words.now c.args.caller.now.space.now c.access.result c.access.new.below.kernel.now (contents g.I.Source.left g.O.Sink.written g.E.Sink.written c.args.dev.now) (contents g.I.Source.left g.O.Sink.written g.E.Sink.written c.access.new.dev) (c.requires ∙ ap node_number c.in-Access.is)
+    (λ processor left told. rw c.here-in-Access.ensures at (c.access.ensures.row (found c.args.caller.now.words.now processor c.args.caller.now.space.now) refl refl left told))
 
-pub returns-in-4060-clause-row : goal.returns-in-4060-clause-row
-returns-in-4060-clause-row g c = λ left told.
-    let guest = found c.args.args.now c.args.cpu.now c.args.space.now in
-    by_number 4060 c.args.below.now.kernel.now guest left c.umask.result c.umask.new.below.kernel.now c.args.space.now c.args.cpu.now (contents g.I.Source.left g.O.Sink.written g.E.Sink.written c.args.dev.now) (contents g.I.Source.left g.O.Sink.written g.E.Sink.written c.umask.new.dev) c.in-4060.is
-    (c.umask.ensures.row guest refl left told)
+pub returns-in-Access-clause-kept : goal.returns-in-Access-clause-kept
+returns-in-Access-clause-kept g c =
+    by_words_kept 4033 c.args.below.now.kernel.now c.args.caller.now.words.now c.args.caller.now.space.now c.access.result (g.I.Source.left c.args.dev.now.input) c.args.below.now.log.now c.access.new.below.log.now (c.requires ∙ ap node_number c.in-Access.is)
+    (λ processor left told. rw c.here-in-Access.ensures at (c.access.ensures.kept (found c.args.caller.now.words.now processor c.args.caller.now.space.now) refl refl left told))
 
-pub returns-in-4094-clause-row : goal.returns-in-4094-clause-row
-returns-in-4094-clause-row g c = λ left told.
-    let guest = found c.args.args.now c.args.cpu.now c.args.space.now in
-    by_number 4094 c.args.below.now.kernel.now guest left c.fchmod.result c.fchmod.new.below.kernel.now c.args.space.now c.args.cpu.now (contents g.I.Source.left g.O.Sink.written g.E.Sink.written c.args.dev.now) (contents g.I.Source.left g.O.Sink.written g.E.Sink.written c.fchmod.new.dev) c.in-4094.is
-    (c.fchmod.ensures.row guest refl left told)
+pub returns-in-Umask-clause-row : goal.returns-in-Umask-clause-row
+returns-in-Umask-clause-row g c =
+    by_words 4060 c.args.below.now.kernel.now c.args.caller.now.words.now c.args.caller.now.space.now c.umask.result c.umask.new.below.kernel.now (contents g.I.Source.left g.O.Sink.written g.E.Sink.written c.args.dev.now) (contents g.I.Source.left g.O.Sink.written g.E.Sink.written c.umask.new.dev) (c.requires ∙ ap node_number c.in-Umask.is)
+    (λ processor left told. c.umask.ensures.row (found c.args.caller.now.words.now processor c.args.caller.now.space.now) refl left told)
 
-pub returns-in-4118-clause-row : goal.returns-in-4118-clause-row
-returns-in-4118-clause-row g c = λ left told.
-    let guest = found c.args.args.now c.args.cpu.now c.args.space.now in
-    by_number 4118 c.args.below.now.kernel.now guest left c.fsync.result c.fsync.new.below.kernel.now c.args.space.now c.args.cpu.now (contents g.I.Source.left g.O.Sink.written g.E.Sink.written c.args.dev.now) (contents g.I.Source.left g.O.Sink.written g.E.Sink.written c.fsync.new.dev) c.in-4118.is
-    (c.fsync.ensures.row guest refl left told)
+pub returns-in-Umask-clause-kept : goal.returns-in-Umask-clause-kept
+returns-in-Umask-clause-kept g c =
+    by_words_kept 4060 c.args.below.now.kernel.now c.args.caller.now.words.now c.args.caller.now.space.now c.umask.result (g.I.Source.left c.args.dev.now.input) c.args.below.now.log.now c.umask.new.below.log.now (c.requires ∙ ap node_number c.in-Umask.is)
+    (λ processor left told. c.umask.ensures.kept (found c.args.caller.now.words.now processor c.args.caller.now.space.now) refl left told)
 
-pub returns-in-4133-clause-row : goal.returns-in-4133-clause-row
-returns-in-4133-clause-row g c = λ left told.
-    let guest = found c.args.args.now c.args.cpu.now c.args.space.now in
-    by_number 4133 c.args.below.now.kernel.now guest left c.fchdir.result c.fchdir.new.below.kernel.now c.args.space.now c.args.cpu.now (contents g.I.Source.left g.O.Sink.written g.E.Sink.written c.args.dev.now) (contents g.I.Source.left g.O.Sink.written g.E.Sink.written c.fchdir.new.dev) c.in-4133.is
-    (c.fchdir.ensures.row guest refl left told)
+pub returns-in-Fchmod-clause-row : goal.returns-in-Fchmod-clause-row
+returns-in-Fchmod-clause-row g c =
+    by_words 4094 c.args.below.now.kernel.now c.args.caller.now.words.now c.args.caller.now.space.now c.fchmod.result c.fchmod.new.below.kernel.now (contents g.I.Source.left g.O.Sink.written g.E.Sink.written c.args.dev.now) (contents g.I.Source.left g.O.Sink.written g.E.Sink.written c.fchmod.new.dev) (c.requires ∙ ap node_number c.in-Fchmod.is)
+    (λ processor left told. c.fchmod.ensures.row (found c.args.caller.now.words.now processor c.args.caller.now.space.now) refl left told)
 
-pub returns-in-4152-clause-row : goal.returns-in-4152-clause-row
-returns-in-4152-clause-row g c = λ left told.
-    let guest = found c.args.args.now c.args.cpu.now c.args.space.now in
-    by_number 4152 c.args.below.now.kernel.now guest left c.fdatasync.result c.fdatasync.new.below.kernel.now c.args.space.now c.args.cpu.now (contents g.I.Source.left g.O.Sink.written g.E.Sink.written c.args.dev.now) (contents g.I.Source.left g.O.Sink.written g.E.Sink.written c.fdatasync.new.dev) c.in-4152.is
-    (c.fdatasync.ensures.row guest refl left told)
+pub returns-in-Fchmod-clause-kept : goal.returns-in-Fchmod-clause-kept
+returns-in-Fchmod-clause-kept g c =
+    by_words_kept 4094 c.args.below.now.kernel.now c.args.caller.now.words.now c.args.caller.now.space.now c.fchmod.result (g.I.Source.left c.args.dev.now.input) c.args.below.now.log.now c.fchmod.new.below.log.now (c.requires ∙ ap node_number c.in-Fchmod.is)
+    (λ processor left told. c.fchmod.ensures.kept (found c.args.caller.now.words.now processor c.args.caller.now.space.now) refl left told)
 
-pub returns-in-4299-clause-row : goal.returns-in-4299-clause-row
-returns-in-4299-clause-row g c = λ left told.
-    let guest = found c.args.args.now c.args.cpu.now c.args.space.now in
-    by_number 4299 c.args.below.now.kernel.now guest left c.chmod-in-4299.result c.chmod-in-4299.new.below.kernel.now c.args.space.now c.args.cpu.now (contents g.I.Source.left g.O.Sink.written g.E.Sink.written c.args.dev.now) (contents g.I.Source.left g.O.Sink.written g.E.Sink.written c.chmod-in-4299.new.dev) c.in-4299.is
-    (rw c.at.ensures at (c.chmod-in-4299.ensures.row guest refl refl left told))
+pub returns-in-Fsync-clause-row : goal.returns-in-Fsync-clause-row
+returns-in-Fsync-clause-row g c =
+    by_words 4118 c.args.below.now.kernel.now c.args.caller.now.words.now c.args.caller.now.space.now c.fsync.result c.fsync.new.below.kernel.now (contents g.I.Source.left g.O.Sink.written g.E.Sink.written c.args.dev.now) (contents g.I.Source.left g.O.Sink.written g.E.Sink.written c.fsync.new.dev) (c.requires ∙ ap node_number c.in-Fsync.is)
+    (λ processor left told. c.fsync.ensures.row (found c.args.caller.now.words.now processor c.args.caller.now.space.now) refl left told)
 
-pub returns-in-4316-clause-row : goal.returns-in-4316-clause-row
-returns-in-4316-clause-row g c = λ left told.
-    let guest = found c.args.args.now c.args.cpu.now c.args.space.now in
-    by_number 4316 c.args.below.now.kernel.now guest left c.utimensat.result c.utimensat.new.below.kernel.now c.args.space.now c.args.cpu.now (contents g.I.Source.left g.O.Sink.written g.E.Sink.written c.args.dev.now) (contents g.I.Source.left g.O.Sink.written g.E.Sink.written c.utimensat.new.dev) c.in-4316.is
-    (c.utimensat.ensures.row guest refl refl left told)
+pub returns-in-Fsync-clause-kept : goal.returns-in-Fsync-clause-kept
+returns-in-Fsync-clause-kept g c =
+    by_words_kept 4118 c.args.below.now.kernel.now c.args.caller.now.words.now c.args.caller.now.space.now c.fsync.result (g.I.Source.left c.args.dev.now.input) c.args.below.now.log.now c.fsync.new.below.log.now (c.requires ∙ ap node_number c.in-Fsync.is)
+    (λ processor left told. c.fsync.ensures.kept (found c.args.caller.now.words.now processor c.args.caller.now.space.now) refl left told)
 
-pub returns-in_default-clause-row : goal.returns-in_default-clause-row
-returns-in_default-clause-row g c = λ left told.
-    let guest = found c.args.args.now c.args.cpu.now c.args.space.now in
-    let is : c.args.args.now.nr ≡ 4300 = search rules in
-    by_number 4300 c.args.below.now.kernel.now guest left c.access-in_default.result c.access-in_default.new.below.kernel.now c.args.space.now c.args.cpu.now (contents g.I.Source.left g.O.Sink.written g.E.Sink.written c.args.dev.now) (contents g.I.Source.left g.O.Sink.written g.E.Sink.written c.access-in_default.new.dev) is
-    (rw c.at-in_default.ensures at (c.access-in_default.ensures.row guest refl refl left told))
+pub returns-in-Fchdir-clause-row : goal.returns-in-Fchdir-clause-row
+returns-in-Fchdir-clause-row g c =
+    by_words 4133 c.args.below.now.kernel.now c.args.caller.now.words.now c.args.caller.now.space.now c.fchdir.result c.fchdir.new.below.kernel.now (contents g.I.Source.left g.O.Sink.written g.E.Sink.written c.args.dev.now) (contents g.I.Source.left g.O.Sink.written g.E.Sink.written c.fchdir.new.dev) (c.requires ∙ ap node_number c.in-Fchdir.is)
+    (λ processor left told. c.fchdir.ensures.row (found c.args.caller.now.words.now processor c.args.caller.now.space.now) refl left told)
+
+pub returns-in-Fchdir-clause-kept : goal.returns-in-Fchdir-clause-kept
+returns-in-Fchdir-clause-kept g c =
+    by_words_kept 4133 c.args.below.now.kernel.now c.args.caller.now.words.now c.args.caller.now.space.now c.fchdir.result (g.I.Source.left c.args.dev.now.input) c.args.below.now.log.now c.fchdir.new.below.log.now (c.requires ∙ ap node_number c.in-Fchdir.is)
+    (λ processor left told. c.fchdir.ensures.kept (found c.args.caller.now.words.now processor c.args.caller.now.space.now) refl left told)
+
+pub returns-in-Fdatasync-clause-row : goal.returns-in-Fdatasync-clause-row
+returns-in-Fdatasync-clause-row g c =
+    by_words 4152 c.args.below.now.kernel.now c.args.caller.now.words.now c.args.caller.now.space.now c.fdatasync.result c.fdatasync.new.below.kernel.now (contents g.I.Source.left g.O.Sink.written g.E.Sink.written c.args.dev.now) (contents g.I.Source.left g.O.Sink.written g.E.Sink.written c.fdatasync.new.dev) (c.requires ∙ ap node_number c.in-Fdatasync.is)
+    (λ processor left told. c.fdatasync.ensures.row (found c.args.caller.now.words.now processor c.args.caller.now.space.now) refl left told)
+
+pub returns-in-Fdatasync-clause-kept : goal.returns-in-Fdatasync-clause-kept
+returns-in-Fdatasync-clause-kept g c =
+    by_words_kept 4152 c.args.below.now.kernel.now c.args.caller.now.words.now c.args.caller.now.space.now c.fdatasync.result (g.I.Source.left c.args.dev.now.input) c.args.below.now.log.now c.fdatasync.new.below.log.now (c.requires ∙ ap node_number c.in-Fdatasync.is)
+    (λ processor left told. c.fdatasync.ensures.kept (found c.args.caller.now.words.now processor c.args.caller.now.space.now) refl left told)
+
+pub returns-in-Fchmodat-clause-row : goal.returns-in-Fchmodat-clause-row
+returns-in-Fchmodat-clause-row g c =
+    by_words 4299 c.args.below.now.kernel.now c.args.caller.now.words.now c.args.caller.now.space.now c.chmod-in-Fchmodat.result c.chmod-in-Fchmodat.new.below.kernel.now (contents g.I.Source.left g.O.Sink.written g.E.Sink.written c.args.dev.now) (contents g.I.Source.left g.O.Sink.written g.E.Sink.written c.chmod-in-Fchmodat.new.dev) (c.requires ∙ ap node_number c.in-Fchmodat.is)
+    (λ processor left told. rw c.at.ensures at (c.chmod-in-Fchmodat.ensures.row (found c.args.caller.now.words.now processor c.args.caller.now.space.now) refl refl left told))
+
+pub returns-in-Fchmodat-clause-kept : goal.returns-in-Fchmodat-clause-kept
+returns-in-Fchmodat-clause-kept g c =
+    by_words_kept 4299 c.args.below.now.kernel.now c.args.caller.now.words.now c.args.caller.now.space.now c.chmod-in-Fchmodat.result (g.I.Source.left c.args.dev.now.input) c.args.below.now.log.now c.chmod-in-Fchmodat.new.below.log.now (c.requires ∙ ap node_number c.in-Fchmodat.is)
+    (λ processor left told. rw c.at.ensures at (c.chmod-in-Fchmodat.ensures.kept (found c.args.caller.now.words.now processor c.args.caller.now.space.now) refl refl left told))
+
+pub returns-in-Faccessat-clause-row : goal.returns-in-Faccessat-clause-row
+returns-in-Faccessat-clause-row g c =
+    by_words 4300 c.args.below.now.kernel.now c.args.caller.now.words.now c.args.caller.now.space.now c.access-in-Faccessat.result c.access-in-Faccessat.new.below.kernel.now (contents g.I.Source.left g.O.Sink.written g.E.Sink.written c.args.dev.now) (contents g.I.Source.left g.O.Sink.written g.E.Sink.written c.access-in-Faccessat.new.dev) (c.requires ∙ ap node_number c.in-Faccessat.is)
+    (λ processor left told. rw c.at-in-Faccessat.ensures at (c.access-in-Faccessat.ensures.row (found c.args.caller.now.words.now processor c.args.caller.now.space.now) refl refl left told))
+
+pub returns-in-Faccessat-clause-kept : goal.returns-in-Faccessat-clause-kept
+returns-in-Faccessat-clause-kept g c =
+    by_words_kept 4300 c.args.below.now.kernel.now c.args.caller.now.words.now c.args.caller.now.space.now c.access-in-Faccessat.result (g.I.Source.left c.args.dev.now.input) c.args.below.now.log.now c.access-in-Faccessat.new.below.log.now (c.requires ∙ ap node_number c.in-Faccessat.is)
+    (λ processor left told. rw c.at-in-Faccessat.ensures at (c.access-in-Faccessat.ensures.kept (found c.args.caller.now.words.now processor c.args.caller.now.space.now) refl refl left told))
+
+pub returns-in-Utimensat-clause-row : goal.returns-in-Utimensat-clause-row
+returns-in-Utimensat-clause-row g c =
+    by_words 4316 c.args.below.now.kernel.now c.args.caller.now.words.now c.args.caller.now.space.now c.utimensat.result c.utimensat.new.below.kernel.now (contents g.I.Source.left g.O.Sink.written g.E.Sink.written c.args.dev.now) (contents g.I.Source.left g.O.Sink.written g.E.Sink.written c.utimensat.new.dev) (c.requires ∙ ap node_number c.in-Utimensat.is)
+    (λ processor left told. c.utimensat.ensures.row (found c.args.caller.now.words.now processor c.args.caller.now.space.now) refl refl left told)
+
+pub returns-in-Utimensat-clause-kept : goal.returns-in-Utimensat-clause-kept
+returns-in-Utimensat-clause-kept g c =
+    by_words_kept 4316 c.args.below.now.kernel.now c.args.caller.now.words.now c.args.caller.now.space.now c.utimensat.result (g.I.Source.left c.args.dev.now.input) c.args.below.now.log.now c.utimensat.new.below.log.now (c.requires ∙ ap node_number c.in-Utimensat.is)
+    (λ processor left told. c.utimensat.ensures.kept (found c.args.caller.now.words.now processor c.args.caller.now.space.now) refl refl left told)

@@ -17,32 +17,32 @@ use Rattle.bridge_paths.proofs.Refusing.{still_of}
 use Rattle.bridge_open.proofs.opening.open.Goals as goal
 
 pub open_listed-requires : goal.open_listed-requires
-open_listed-requires g c = record { listed = o32_open_listed c.args.call.flags c.in-Some.flags (sym c.of_o32.ensures ∙ c.in-Some.is) }
+open_listed-requires g c = record { listed = o32_open_listed c.args.request.flags c.in-Some.flags (sym c.of_o32.ensures ∙ c.in-Some.is) }
 
 pub returns-in-None-clause-row : goal.returns-in-None-clause-row
 returns-in-None-clause-row g c = λ guest same memory left told.
     let at = contents g.I.Source.left g.O.Sink.written g.E.Sink.written c.args.dev.now in
     let none = sym c.in-None.is ∙ c.of_o32.ensures in
-    let step = open_row c.args.below.now.kernel.now guest (base c.args.call.directory) c.args.call.address (open_of_o32 c.args.call.flags) c.args.call.mode left in
+    let step = open_row c.args.below.now.kernel.now guest (base c.args.request.directory) c.args.request.address (open_of_o32 c.args.request.flags) c.args.request.mode left in
     still_called guest c.args.below.now.kernel.now left (Error EINVAL) step at told
-    (subst (λ (f : Option OpenSet). Still guest c.args.below.now.kernel.now left (Error EINVAL) (open_row c.args.below.now.kernel.now guest (base c.args.call.directory) c.args.call.address f c.args.call.mode left)) none
-    (still_of guest c.args.below.now.kernel.now EINVAL left _ (open_unlisted guest c.args.below.now.kernel.now (base c.args.call.directory) c.args.call.address c.args.call.mode left)))
+    (subst (λ (f : Option OpenSet). Still guest c.args.below.now.kernel.now left (Error EINVAL) (open_row c.args.below.now.kernel.now guest (base c.args.request.directory) c.args.request.address f c.args.request.mode left)) none
+    (still_of guest c.args.below.now.kernel.now EINVAL left _ (open_unlisted guest c.args.below.now.kernel.now (base c.args.request.directory) c.args.request.address c.args.request.mode left)))
 
 pub returns-in-None-clause-kept : goal.returns-in-None-clause-kept
 returns-in-None-clause-kept g c = λ guest same memory left told.
     let none = sym c.in-None.is ∙ c.of_o32.ensures in
-    let step = open_row c.args.below.now.kernel.now guest (base c.args.call.directory) c.args.call.address (open_of_o32 c.args.call.flags) c.args.call.mode left in
+    let step = open_row c.args.below.now.kernel.now guest (base c.args.request.directory) c.args.request.address (open_of_o32 c.args.request.flags) c.args.request.mode left in
     still_keeps guest c.args.below.now.kernel.now left (Error EINVAL) step c.args.below.now.log.now
-    (subst (λ (f : Option OpenSet). Still guest c.args.below.now.kernel.now left (Error EINVAL) (open_row c.args.below.now.kernel.now guest (base c.args.call.directory) c.args.call.address f c.args.call.mode left)) none
-    (still_of guest c.args.below.now.kernel.now EINVAL left _ (open_unlisted guest c.args.below.now.kernel.now (base c.args.call.directory) c.args.call.address c.args.call.mode left)))
+    (subst (λ (f : Option OpenSet). Still guest c.args.below.now.kernel.now left (Error EINVAL) (open_row c.args.below.now.kernel.now guest (base c.args.request.directory) c.args.request.address f c.args.request.mode left)) none
+    (still_of guest c.args.below.now.kernel.now EINVAL left _ (open_unlisted guest c.args.below.now.kernel.now (base c.args.request.directory) c.args.request.address c.args.request.mode left)))
 
 pub returns-in-Some-clause-row : goal.returns-in-Some-clause-row
 returns-in-Some-clause-row g c = λ guest same memory left told.
-    subst (λ (f : Option OpenSet). Answers (open_row c.args.below.now.kernel.now guest (base c.args.call.directory) c.args.call.address f c.args.call.mode left) c.open_listed.result c.open_listed.new.below.kernel.now guest.memory guest.processor
+    subst (λ (f : Option OpenSet). Answers (open_row c.args.below.now.kernel.now guest (base c.args.request.directory) c.args.request.address f c.args.request.mode left) c.open_listed.result c.open_listed.new.below.kernel.now guest.memory guest.processor
     (contents g.I.Source.left g.O.Sink.written g.E.Sink.written c.args.dev.now) (contents g.I.Source.left g.O.Sink.written g.E.Sink.written c.open_listed.new.dev)) (sym c.in-Some.is ∙ c.of_o32.ensures)
     (c.open_listed.ensures.row guest same memory left told)
 
 pub returns-in-Some-clause-kept : goal.returns-in-Some-clause-kept
 returns-in-Some-clause-kept g c = λ guest same memory left told.
-    subst (λ (f : Option OpenSet). OnOk c.open_listed.result (Keeps (open_row c.args.below.now.kernel.now guest (base c.args.call.directory) c.args.call.address f c.args.call.mode left) c.args.below.now.kernel.now left guest c.args.below.now.log.now c.open_listed.new.below.log.now)) (sym c.in-Some.is ∙ c.of_o32.ensures)
+    subst (λ (f : Option OpenSet). OnOk c.open_listed.result (Keeps (open_row c.args.below.now.kernel.now guest (base c.args.request.directory) c.args.request.address f c.args.request.mode left) c.args.below.now.kernel.now left guest c.args.below.now.log.now c.open_listed.new.below.log.now)) (sym c.in-Some.is ∙ c.of_o32.ensures)
     (c.open_listed.ensures.kept guest same memory left told)

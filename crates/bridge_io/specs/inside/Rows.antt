@@ -1,9 +1,0 @@
--- The numbers of the calls, one by one (Linux arch/mips/include/uapi/asm/unistd.h, the o32 table).
-use Rattle.std.specs.Prelude.{ℕ, Bool, ◌==◌, ◌||◌}
-
--- read, write, readv, writev, pread64, pwrite64; close, dup, pipe, fcntl, dup2, fcntl64, dup3, pipe2; ioctl
-abbrev pub is_row_there : ℕ → Bool
-is_row_there number =
-    number == 4003 || number == 4004 || number == 4145 || number == 4146 || number == 4200 || number == 4201
-    || number == 4006 || number == 4041 || number == 4042 || number == 4055 || number == 4063 || number == 4220 || number == 4327 || number == 4328
-    || number == 4054
