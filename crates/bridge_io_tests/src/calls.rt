@@ -1,8 +1,9 @@
 //! Calls of an o32 program in rows: a number and arguments, and what comes of them.
-ghost use Rattle.std.specs.Prelude.{IsTrue};
-ghost use Rattle.o32_model.specs.Table.{is_io_call};
+ghost use Rattle.std.specs.Prelude.{◌≡◌};
+ghost use Rattle.o32_calls.specs.Numbers.{io_number};
 
 use kernel_core::Errno;
+use o32_calls::IoCall;
 use o32_model::CallWords;
 
 /// A call by its name; one at a place with the two words of that, the high one first, of which each may be one
@@ -27,26 +28,26 @@ pub(crate) enum Call {
 }
 
 impl Call {
-    /// Its number (Linux `arch/mips/include/uapi/asm/unistd.h`, the o32 table).
-    fn number(self) -> u32
-        ensures { IsTrue (is_io_call result) }
+    /// Its name and its number (Linux `arch/mips/include/uapi/asm/unistd.h`, the o32 table).
+    fn named(self) -> (IoCall, u32)
+        ensures { result.1 ≡ io_number result.0 }
     {
         match self {
-            Call::Read => 4003,
-            Call::Write => 4004,
-            Call::Close => 4006,
-            Call::Dup => 4041,
-            Call::Pipe => 4042,
-            Call::Ioctl => 4054,
-            Call::Fcntl => 4055,
-            Call::Dup2 => 4063,
-            Call::Readv => 4145,
-            Call::Writev => 4146,
-            Call::Pread64(_, _) => 4200,
-            Call::Pwrite64(_, _) => 4201,
-            Call::Fcntl64 => 4220,
-            Call::Dup3 => 4327,
-            Call::Pipe2 => 4328,
+            Call::Read => (IoCall::Read, 4003),
+            Call::Write => (IoCall::Write, 4004),
+            Call::Close => (IoCall::Close, 4006),
+            Call::Dup => (IoCall::Dup, 4041),
+            Call::Pipe => (IoCall::Pipe, 4042),
+            Call::Ioctl => (IoCall::Ioctl, 4054),
+            Call::Fcntl => (IoCall::Fcntl, 4055),
+            Call::Dup2 => (IoCall::Dup2, 4063),
+            Call::Readv => (IoCall::Readv, 4145),
+            Call::Writev => (IoCall::Writev, 4146),
+            Call::Pread64(_, _) => (IoCall::Pread64, 4200),
+            Call::Pwrite64(_, _) => (IoCall::Pwrite64, 4201),
+            Call::Fcntl64 => (IoCall::Fcntl64, 4220),
+            Call::Dup3 => (IoCall::Dup3, 4327),
+            Call::Pipe2 => (IoCall::Pipe2, 4328),
         }
     }
 
@@ -58,16 +59,18 @@ impl Call {
         }
     }
 
-    /// Its words, with these arguments in registers.
-    pub(crate) fn words(self, arguments: [u32; 3]) -> CallWords
-        ensures { IsTrue (is_io_call result.nr) }
+    /// Its name and its words, with these arguments in registers.
+    pub(crate) fn words(self, arguments: [u32; 3]) -> (IoCall, CallWords)
+        ensures { result.1.nr ≡ io_number result.0 }
     {
         let [first, second, third] = arguments;
-        CallWords {
-            nr: self.number(),
+        let (name, nr) = self.named();
+        let words = CallWords {
+            nr,
             reg: [first, second, third, 0],
             stack: self.stack(),
-        }
+        };
+        (name, words)
     }
 }
 

@@ -4,15 +4,10 @@
 use crate::calls::{Call, Row};
 use crate::machine::{AT, CONST_END, LARGE, first_wrong};
 use kernel_core::Errno;
+use native_numbers::{LSEEK, OPENAT, UNLINKAT};
 use std::test::Fail;
 
-/// Calls of the 64-bit kernel (Linux `include/uapi/asm-generic/unistd.h`), and AT_FDCWD of openat(2).
-const UNLINKAT: u64 = 35;
-
-const OPENAT: u64 = 56;
-
-const LSEEK: u64 = 62;
-
+/// AT_FDCWD of openat(2) (Linux `include/uapi/linux/fcntl.h`).
 const AT_FDCWD: u64 = 0xFFFF_FF9C;
 
 /// Its flags of open(2) (Linux `include/uapi/asm-generic/fcntl.h`).

@@ -9,6 +9,7 @@ use host_mem::{FIRST_ADDRESS, HostMem};
 use kernel_core::{Effect, Items, Kind, Node, Reply, Tree};
 use mips_exec::Cpu;
 use native_kernel::NativeKernel;
+use native_numbers::PWRITE64;
 use o32_model::{CallWords, Log, Outcome, Seen};
 use outside::{Devices, MemSink, MemSource};
 use schedule::parse;
@@ -17,9 +18,6 @@ use std::test::Fail;
 
 /// The streams of a test.
 type Streams = Devices<MemSource, MemSink, MemSink>;
-
-/// A call of the 64-bit kernel (Linux `include/uapi/asm-generic/unistd.h`).
-const NATIVE_PWRITE64: u64 = 68;
 
 /// The address of two pages that the program can store to.
 pub(crate) const AT: u32 = 0x1_0000;
@@ -122,12 +120,13 @@ fn new_machine(alloc: Global, schedule: &[u8], input: &[u8]) -> Result<Machine, 
 impl Machine {
     /// What a call comes to.
     fn call(&mut self, call: Call, arguments: [u32; 3]) -> Option<Outcome> {
-        let words = call.words(arguments);
+        let (name, words) = call.words(arguments);
         let seen = Seen {
             quanta: 0,
             restart: None,
         };
         io_call(
+            name,
             &words,
             &mut self.cpu,
             &mut self.space,
@@ -188,7 +187,7 @@ impl Machine {
     fn fills(&mut self, descriptor: u64, count: u32) -> bool {
         for block in 0..count {
             let arguments = [descriptor, FIRST_ADDRESS, 1, u64::from(block) * 4096];
-            if self.reply(NATIVE_PWRITE64, arguments, b"x") != Some(Reply::Done(1)) {
+            if self.reply(PWRITE64, arguments, b"x") != Some(Reply::Done(1)) {
                 return false;
             }
         }
@@ -231,7 +230,7 @@ impl Machine {
                 matches!(self.call(call, arguments), Some(Outcome::Error(there)) if there == error)
             }
             Row::Waits(call, arguments, done) => {
-                let words = call.words(arguments);
+                let (_, words) = call.words(arguments);
                 is_wait(self.native_call(call, arguments), &words, done)
             }
             Row::OpensAll => self.opens_all(),

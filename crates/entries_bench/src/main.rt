@@ -9,19 +9,11 @@ use fs_image::decode;
 use host_mem::{FIRST_ADDRESS, HostMem};
 use kernel_core::Reply;
 use native_kernel::NativeKernel;
+use native_numbers::{CLOSE, GETDENTS64, LINKAT, OPENAT};
 use outside::{Devices, SureSink, SureSource};
 use schedule::parse;
 use std::alloc::Global;
 use std::env;
-
-/// Numbers of calls (Linux `include/uapi/asm-generic/unistd.h`).
-const LINKAT: u64 = 37;
-
-const OPENAT: u64 = 56;
-
-const CLOSE: u64 = 57;
-
-const GETDENTS64: u64 = 61;
 
 /// The working directory in the place of a descriptor (AT_FDCWD, which is -100), and O_CREAT of open(2).
 const CWD: u64 = u64::MAX - 99;
