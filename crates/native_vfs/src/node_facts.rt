@@ -13,6 +13,7 @@ ghost use Rattle.native_vfs.specs.inside.Stored.{content_of, inode_of};
 
 use crate::place::{NodeKind, Status};
 use crate::stored::{Stored, StoredContent};
+use crate::table::number;
 use crate::vfs::Vfs;
 use kernel_core::limits::BLOCK_SIZE;
 
@@ -62,6 +63,14 @@ impl Vfs {
     {
         let stored = &self.inodes.table[node];
         describe(stored)
+    }
+
+    /// The number of a node (inode(7)), of which `node` is the key: a live one of any kind. It takes no memory.
+    pub fn number(&self, node: usize) -> u64
+        requires live { IsLiveKey self.now node }
+        ensures { result ≡ number_at self.now node }
+    {
+        number(&self.inodes.table, node)
     }
 
     /// Reads a file from byte `at` on into the beginning of `buf`, as many bytes as there are before its

@@ -78,7 +78,11 @@ impl Vfs {
         };
         loop {
             if let Some(found) = self.walk_step(&mut walk, follow)? {
-                return self.place_of(found);
+                return Ok(Place {
+                    dir: found.dir,
+                    name: copied(self.alloc, found.name)?,
+                    node: found.node,
+                });
             }
         }
     }
@@ -206,18 +210,6 @@ impl Vfs {
         }
         walk.links += 1;
         Ok(None)
-    }
-
-    /// The place, with a copy of its name.
-    fn place_of(&self, found: Found) -> Result<Place, CoreError>
-        ensures { IsCopied found.entry result }
-    {
-        let name = copied(self.alloc, found.name)?;
-        Ok(Place {
-            dir: found.dir,
-            name,
-            node: found.node,
-        })
     }
 
     /// The node at a key.

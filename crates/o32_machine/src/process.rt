@@ -464,8 +464,8 @@ impl Process {
         kept.records.look(&self.core.cpu, &mut kept.was);
         let mut log = kept.part();
         self.wake_to_resume(clock, dev, &mut log)?;
-        let (calls, effects) = halves(log);
-        kept.native.add(calls, clock)?;
+        let Log { native, effects } = log;
+        kept.native.add(native, clock)?;
         let alive = self.going.over.is_none();
         kept.records.add_before(
             turn,
@@ -740,8 +740,8 @@ impl Process {
         kept.records.look(&self.core.cpu, &mut kept.was);
         let mut log = kept.part();
         let outcome = make_call(call, &words, &seen, &mut self.core, dev, &mut log)?;
-        let (calls, effects) = halves(log);
-        kept.native.add(calls, clock)?;
+        let Log { native, effects } = log;
+        kept.native.add(native, clock)?;
         let ended = self.finish(&words, &outcome)?;
         kept.records
             .add_call(turn, &kept.was, &self.core.cpu, effects)?;
@@ -802,7 +802,7 @@ impl Process {
         ensures idle { self.new.idle ≡ self.old.idle }
     {
         let event = self.put_outcome(words, outcome);
-        self.keep_event(event)?;
+        self.going.events.push(event)?;
         Ok(turn_of(outcome))
     }
 
@@ -900,18 +900,8 @@ impl Process {
         ensures kernel { self.new.kernel ≡ self.old.kernel }
         ensures idle { self.new.idle ≡ self.old.idle }
     {
-        let event = self.meet(info);
-        self.keep_event(event)
-    }
-
-    /// Keeps what happened, behind what happened before in the turn.
-    #[inline(always)]
-    fn keep_event(&mut self, event: Event) -> Result<(), NoMemory>
-        ensures kept { OnOk result (self.new ≡ record self.old { going = record self.old.going { events = self.old.going.events ++ event ∷ [] } }) }
-        ensures kernel { self.new.kernel ≡ self.old.kernel }
-        ensures idle { self.new.idle ≡ self.old.idle }
-    {
-        self.going.events.push(event)?;
+        let fault = self.meet(info);
+        self.going.events.push(fault)?;
         Ok(())
     }
 }
@@ -926,21 +916,6 @@ fn answer(call: Option<PlainCall>, words: &CallWords, cpu: &mut Cpu) -> Outcome
         Some(call) => plain_call(call, words, cpu),
         None => Outcome::Error(Errno::ENOSYS),
     }
-}
-
-/// The native calls of a part, and its effects.
-fn halves(log: Log) -> (Log, Option<Vec<Effect>>)
-    ensures native { result.0.native ≡ log.native }
-    ensures effects { option_map (λ v. v.items) result.1 ≡ log.effects }
-{
-    let Log { native, effects } = log;
-    (
-        Log {
-            native,
-            effects: None,
-        },
-        effects,
-    )
 }
 
 /// What a process has at first: no call waits, nothing is to be delivered, and nothing has happened.
