@@ -56,20 +56,6 @@ struct Opening {
     mode: u32,
 }
 
-impl OpenRequest {
-    /// The same with its flags as they are listed.
-    fn with(self, flags: OpenFlags) -> Opening
-        ensures { result ≡ record { directory = self.directory; address = self.address; flags = flags; mode = self.mode } }
-    {
-        Opening {
-            directory: self.directory,
-            address: self.address,
-            flags,
-            mode: self.mode,
-        }
-    }
-}
-
 /// open(2), openat(2), and creat(2) by its flags: EINVAL for flags that are none, and for O_CREAT with
 /// O_DIRECTORY; what is wrong with the path; EMFILE, EEXIST, EISDIR, ENOTDIR, ELOOP, ENOSPC; EOVERFLOW for a
 /// file of more than 2^31 - 1 bytes without O_LARGEFILE.
@@ -94,9 +80,19 @@ pub(crate) fn open<I: Source, O: Sink, E: Sink>(
     ensures same { LeadsOn below.old below.new }
 {
     match OpenFlags::of_o32(request.flags) {
-        Some(flags) if !makes_directory(flags) => {
-            open_listed(alloc, words, request.with(flags), space, dev, below)
-        }
+        Some(flags) if !makes_directory(flags) => open_listed(
+            alloc,
+            words,
+            Opening {
+                directory: request.directory,
+                address: request.address,
+                flags,
+                mode: request.mode,
+            },
+            space,
+            dev,
+            below,
+        ),
         _ => Ok(Outcome::Error(Errno::EINVAL)),
     }
 }

@@ -13,7 +13,6 @@ ghost use Rattle.native_vfs.specs.inside.Stored.{content_of, inode_of};
 
 use crate::place::{NodeKind, Status};
 use crate::stored::{Stored, StoredContent};
-use crate::table::number;
 use crate::vfs::Vfs;
 use kernel_core::limits::BLOCK_SIZE;
 
@@ -70,7 +69,7 @@ impl Vfs {
         requires live { IsLiveKey self.now node }
         ensures { result ≡ number_at self.now node }
     {
-        number(&self.inodes.table, node)
+        self.inodes.table[node].number
     }
 
     /// Reads a file from byte `at` on into the beginning of `buf`, as many bytes as there are before its

@@ -8,7 +8,7 @@ ghost use Rattle.kernel_core.specs.ValidTree as tree;
 ghost use Rattle.native_vfs.specs.Answers.{IsWalked, MayStart};
 ghost use Rattle.native_vfs.specs.Keyed.{Keyed, IsLiveKey, number_at, inode_at, AgreesAt};
 ghost use Rattle.native_vfs.specs.inside.Stored.{inode_of};
-ghost use Rattle.native_vfs.specs.inside.Walking.{IsSound, named_key, walk_of, steps_left, IsUnderWay, IsFound, Gives, IsCopied};
+ghost use Rattle.native_vfs.specs.inside.Walking.{IsSound, named_key, walk_of, steps_left, IsUnderWay, IsFound, Gives};
 
 use crate::path::{Rest, begins_with_slash, ends_with_slash};
 use crate::place::Place;
@@ -78,9 +78,10 @@ impl Vfs {
         };
         loop {
             if let Some(found) = self.walk_step(&mut walk, follow)? {
+                let name = copied(self.alloc, found.name)?;
                 return Ok(Place {
                     dir: found.dir,
-                    name: copied(self.alloc, found.name)?,
+                    name,
                     node: found.node,
                 });
             }

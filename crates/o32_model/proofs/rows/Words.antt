@@ -1,5 +1,5 @@
 -- Worked rows on what a call is handed and how it returns.
-use Rattle.std.specs.Prelude.{◌≡◌, ℕ, negsuc, true, false, List, [], ◌∷◌, ◌++◌, Some, None, replicate, refl}
+use Rattle.std.specs.Prelude.{◌≡◌, ℕ, negsuc, List, [], ◌∷◌, ◌++◌, Some, None, replicate, refl}
 use Rattle.std.specs.FinMap.{get}
 use Rattle.guest_space.specs.Access.{first_denied, refusal}
 use Rattle.guest_space.specs.Bytes.{read, bytes_at, byte_at}

@@ -18,15 +18,15 @@ returns-in-None-clause-leads c = λ kernel became left rest before after from to
     nothing_added c.args.clock kernel became left rest before after from to c.args.self.now _ (ap (λ (l : NativeLog). record l { told = c.args.clock }) c.self.view_is) c.requires.behind ready
     (subst (λ (kept : Option (List LogEntry)). Logged (emptied c.args.self.now.entries) kept (moment kernel left before) (moment became rest after)) none logged)
 
-pub returns-clause-leads : goal.returns-clause-leads
-returns-clause-leads c =
+pub returns-in-Some-clause-leads : goal.returns-in-Some-clause-leads
+returns-in-Some-clause-leads c =
     let some : items c.args.part ≡ Some c.in-Some.calls.items = ap items c.in-Some.is in
     on_ok c.add_calls.result _ _ (λ (is : c.add_calls.new.self ≡ with_calls c.args.clock c.in-Some.calls.items c.args.self.now). λ kernel became left rest before after from to ready logged.
     calls_added c.args.clock kernel became left rest before after from to c.args.self.now c.add_calls.new.self c.in-Some.calls.items is c.requires.behind ready
     (subst (λ (kept : Option (List LogEntry)). Logged (emptied c.args.self.now.entries) kept (moment kernel left before) (moment became rest after)) some logged)) c.add_calls.ensures.kept
 
-pub returns-clause-ready : goal.returns-clause-ready
-returns-clause-ready c =
+pub returns-in-Some-clause-ready : goal.returns-in-Some-clause-ready
+returns-in-Some-clause-ready c =
     let some : items c.args.part ≡ Some c.in-Some.calls.items = ap items c.in-Some.is in
     on_ok c.add_calls.result _ _ (λ (is : c.add_calls.new.self ≡ with_calls c.args.clock c.in-Some.calls.items c.args.self.now). λ kernel became left rest before after ready logged.
     ready_then c.args.clock kernel became left rest before after c.args.self.now c.add_calls.new.self c.in-Some.calls.items is ready
