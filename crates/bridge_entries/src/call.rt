@@ -1,4 +1,4 @@
-//! A call by its number.
+//! A call by its name.
 ghost use Rattle.std.specs.Prelude.{◌≡◌};
 ghost use Rattle.bridge_entries.specs.Found.{found};
 ghost use Rattle.bridge_log.specs.Keeping.{KeepsCall};

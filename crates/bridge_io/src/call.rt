@@ -1,11 +1,11 @@
-//! A call by its number.
+//! A call by its name.
 ghost use Rattle.std.specs.Prelude.{◌≡◌};
 ghost use Rattle.bridge_io.specs.Found.{found};
 ghost use Rattle.bridge_log.specs.Keeping.{KeepsCall};
 ghost use Rattle.kernel_model.specs.Stops.{StopsOnlyIfRose};
 ghost use Rattle.o32_calls.specs.Numbers.{io_number};
 ghost use Rattle.o32_model.specs.Answered.{IsCall};
-ghost use Rattle.o32_model.specs.Table.{is_io_call, o32_call};
+ghost use Rattle.o32_model.specs.Table.{o32_call};
 ghost use Rattle.outside.specs.Streams.{NoCountFell, contents};
 
 use crate::commands::fcntl;

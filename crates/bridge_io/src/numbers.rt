@@ -1,5 +1,5 @@
-//! The numbers of the native calls that are made (Linux `include/uapi/asm-generic/unistd.h`), those of
-//! commands of fcntl(2) and requests of ioctl(2), and origins of lseek(2).
+//! Native commands of fcntl(2) (Linux `include/uapi/asm-generic/fcntl.h`), a request of ioctl(2) (`ioctls.h` there), and what
+//! lseek(2) counts from (`include/uapi/linux/fs.h`).
 
 pub(crate) const F_GETFD: u64 = 1;
 

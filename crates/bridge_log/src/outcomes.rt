@@ -1,6 +1,6 @@
 //! What a native reply comes to for an o32 program.
 ghost use Rattle.std.specs.Prelude.{◌≡◌};
-ghost use Rattle.bridge_log.specs.Outcomes.{outcome_of, outcome_of_number, wait_for};
+ghost use Rattle.bridge_log.specs.Outcomes.{outcome_of, wait_for};
 ghost use Rattle.o32_model.specs.Words.{six_words};
 
 use kernel_core::{Errno, Reply, Wake};
@@ -13,19 +13,12 @@ pub fn outcome_of(words: &CallWords, reply: Reply) -> Outcome
     ensures { result ≡ outcome_of words.now reply }
 {
     match reply {
-        Reply::Done(number) => outcome_of_number(number),
+        Reply::Done(number) if number < 0 => {
+            Outcome::Error(Errno::of_native(number.unsigned_abs()).unwrap_or(Errno::ENOSYS))
+        }
+        Reply::Done(number) => Outcome::Value((number as u64 % (1 << 32)) as u32),
         Reply::Sleep(wake) => Outcome::Sleep(wait_for(words, wake)),
     }
-}
-
-fn outcome_of_number(number: i64) -> Outcome
-    ensures { result ≡ outcome_of_number number }
-{
-    if number < 0 {
-        let error = Errno::of_native(number.unsigned_abs());
-        return Outcome::Error(error.unwrap_or(Errno::ENOSYS));
-    }
-    Outcome::Value((number as u64 % (1 << 32)) as u32)
 }
 
 fn wait_for(words: &CallWords, wake: Wake) -> Wait

@@ -1,5 +1,4 @@
-//! The numbers of the native calls that are made (Linux `include/uapi/asm-generic/unistd.h`), and of flags of
-//! open(2) and commands of fcntl(2) (`include/uapi/asm-generic/fcntl.h`).
+//! A native command of fcntl(2), and an access mode of open(2) (Linux `include/uapi/asm-generic/fcntl.h`).
 
 pub(crate) const F_GETFL: u64 = 3;
 

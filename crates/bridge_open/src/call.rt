@@ -1,4 +1,4 @@
-//! A call by its number.
+//! A call by its name.
 ghost use Rattle.bridge_paths.specs.Passed.{KeepsCall};
 ghost use Rattle.std.specs.Prelude.{◌≡◌};
 ghost use Rattle.bridge_paths.specs.Found.{found};

@@ -80,20 +80,24 @@ pub(crate) fn open<I: Source, O: Sink, E: Sink>(
     ensures same { LeadsOn below.old below.new }
 {
     match OpenFlags::of_o32(request.flags) {
-        None => Ok(Outcome::Error(Errno::EINVAL)),
-        Some(flags) => {
-            let opening = Opening {
+        Some(flags) if !makes_directory(flags) => open_listed(
+            alloc,
+            words,
+            Opening {
                 directory: request.directory,
                 address: request.address,
                 flags,
                 mode: request.mode,
-            };
-            open_listed(alloc, words, opening, space, dev, below)
-        }
+            },
+            space,
+            dev,
+            below,
+        ),
+        _ => Ok(Outcome::Error(Errno::EINVAL)),
     }
 }
 
-/// The same with flags that are listed.
+/// The same with flags that are listed, of which O_CREAT doesn't stand with O_DIRECTORY.
 fn open_listed<I: Source, O: Sink, E: Sink>(
     alloc: Global,
     words: &CallWords,
@@ -103,6 +107,7 @@ fn open_listed<I: Source, O: Sink, E: Sink>(
     below: &mut Below,
 ) -> Result<Outcome, Stop>
     requires listed { IsTrue (is_synced opening.flags) }
+    requires allowed { (opening.flags.creat && opening.flags.directory) ≡ false }
     ensures row { (guest : Guest) → guest.words ≡ words.now → guest.memory ≡ space.now
         → IsCall (open_row below.old.kernel.now guest (base opening.directory) opening.address (Some opening.flags) opening.mode) result
         below.new.kernel.now guest.memory guest.processor
@@ -115,9 +120,6 @@ fn open_listed<I: Source, O: Sink, E: Sink>(
     ensures clock { below.new.kernel.now.clock ≡ below.old.kernel.now.clock }
     ensures same { LeadsOn below.old below.new }
 {
-    if makes_directory(opening.flags) {
-        return Ok(Outcome::Error(Errno::EINVAL));
-    }
     match read_path(alloc, space, opening.address)? {
         Err(error) => Ok(Outcome::Error(error)),
         Ok(path) => open_path(words, opening, &path, dev, below),

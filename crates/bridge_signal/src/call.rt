@@ -1,4 +1,4 @@
-//! A call on signals by its number.
+//! A call on signals by its name.
 ghost use Rattle.bridge_signal_state.specs.Passed.{KeepsCall};
 ghost use Rattle.std.specs.Prelude.{◌≡◌};
 ghost use Rattle.bridge_signal.specs.Found.{found};

@@ -1,5 +1,4 @@
-//! The native numbers (Linux `include/uapi/asm-generic/unistd.h`), and the sizes of structures there
-//! (`include/uapi/asm-generic/signal.h` and `siginfo.h`).
+//! A change of the mask, and the sizes of native structures (Linux `include/uapi/asm-generic/signal.h` and `siginfo.h`).
 
 /// SIG_SETMASK: the mask becomes the set.
 pub(crate) const SIG_SETMASK: u64 = 2;

@@ -1,4 +1,4 @@
-//! A call on the timer by its number.
+//! A call on the timer by its name.
 ghost use Rattle.std.specs.Prelude.{◌≡◌};
 ghost use Rattle.bridge_log.specs.Keeping.{KeepsCall};
 ghost use Rattle.bridge_timer.specs.Found.{found};

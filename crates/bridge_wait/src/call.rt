@@ -1,4 +1,4 @@
-//! A call on time by its number.
+//! A call on time by its name.
 ghost use Rattle.std.specs.Prelude.{◌≡◌};
 ghost use Rattle.bridge_log.specs.Keeping.{KeepsCall};
 ghost use Rattle.bridge_wait.specs.Found.{found};

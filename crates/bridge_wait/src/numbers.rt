@@ -1,5 +1,4 @@
-//! The native numbers (Linux `include/uapi/asm-generic/unistd.h`), and those of clocks and flags (Linux
-//! `include/uapi/linux/time.h`), which are the same for a program.
+//! Numbers of clocks, and a flag (Linux `include/uapi/linux/time.h`), the same in both worlds.
 
 pub(crate) const CLOCK_REALTIME: u32 = 0;
 

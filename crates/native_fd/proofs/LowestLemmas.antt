@@ -1,6 +1,6 @@
 -- The least free slot from one on, from what is known of each slot.
 use Rattle.std.proofs.Common.{◌≡◌, ℕ, zero, suc, ◌+◌, ◌-◌, ◌<◌, ◌≤◌, Bool, true, false, cond, not, nat_lt, List, [], ◌∷◌, drop, length, get_or, Option, Some, None, refl, sym, ap, ◌∙◌, arith, length-drop}
-use Rattle.std.specs.Prelude.{is_some, is_none, option_map, position}
+use Rattle.std.specs.Prelude.{IfSome, MatchOption, is_some, is_none, option_map, position}
 use Rattle.std.specs.List.{position_or_len}
 use Rattle.std.proofs.lemmas.Bool.{lt-ltb, le-ltb}
 use Rattle.std.proofs.lemmas.List.{get_or-drop}
@@ -61,14 +61,25 @@ module _ {A : Type 0} where
   pub free-there : (slots : List (Option A)) (pool : List Bool) → ((k : ℕ) → is_taken_at pool k ≡ is_some (slot slots k)) → (k : ℕ) → is_taken_at pool k ≡ false → slot slots k ≡ None
   free-there slots pool tells k free = not_some _ (sym (tells k) ∙ free)
 
-  -- Slots whose pool tells which are taken; the pool has more places, which are free.
+  -- Slots whose pool tells which are taken; what places it has more are free.
   module _ (slots : List (Option A)) (pool : List Bool) (small : length slots ≤ length pool) (tells : (k : ℕ) → is_taken_at pool k ≡ is_some (slot slots k)) (from : ℕ) where
     pub lowest-within : (k : ℕ) → k < length slots → IsLeastFreeFrom pool from k → Some k ≡ lowest_free slots from
     lowest-within k within least =
         sym (lowest_free-is slots from k least.from_there within (not_some _ (sym (tells k) ∙ least.free)) (λ j there below. sym (tells j) ∙ least.between j there below))
 
-    pub lowest-past : (k : ℕ) → length slots ≤ k → IsLeastFreeFrom pool from k → None ≡ lowest_free slots from
-    lowest-past k past least = sym (lowest_free-none slots from (λ j there below. sym (tells j) ∙ least.between j there (omega arith)))
-
     pub lowest-all : AreTakenFrom pool from → None ≡ lowest_free slots from
     lowest-all all = sym (lowest_free-none slots from (λ j there below. sym (tells j) ∙ all j there (omega arith)))
+
+    -- what the pool finds, where it has no more places
+    module _ (same : length pool ≤ length slots) where
+      pub lowest-is : (found : Option ℕ) → MatchOption found (AreTakenFrom pool from) (IsLeastFreeFrom pool from) → found ≡ lowest_free slots from
+      lowest-is None all = lowest-all all
+      lowest-is (Some k) least = lowest-within k (omega (arith, least.inside, same)) least
+
+      pub found-within : (found : Option ℕ) → MatchOption found (AreTakenFrom pool from) (IsLeastFreeFrom pool from) → IfSome found (λ k. k < length slots)
+      found-within None all = tt
+      found-within (Some k) least = omega (arith, least.inside, same)
+
+      pub found-free : (found : Option ℕ) → MatchOption found (AreTakenFrom pool from) (IsLeastFreeFrom pool from) → IfSome found (λ k. slot slots k ≡ None)
+      found-free None all = tt
+      found-free (Some k) least = free-there slots pool tells k least.free

@@ -74,8 +74,7 @@ impl Links {
         ensures free { IfSome result (λ fd. slot self.now fd ≡ None) }
         ensures sized { length self.now ≡ 1024 }
     {
-        let fd = self.fds_taken.least_free_from(from)?;
-        if fd < DESCRIPTORS { Some(fd) } else { None }
+        self.fds_taken.least_free_from(from)
     }
 
     /// The least number to which no descriptor leads, below 1,024 where a descriptor is free.

@@ -166,7 +166,7 @@ fn open_key(
     ensures table { OnOk result (table.new ≡ inserted table.old fd (description_of (objects.Node (number_at vfs.old key)) flags) flags.cloexec) }
     ensures kept { (directory : ℕ) → AreKept vfs.old table.old.live node_keys.old directory → StaysKept vfs.old vfs.new table.new.live node_keys.new directory }
 {
-    let number = vfs.status(key).number;
+    let number = vfs.number(key);
     table.insert(fd, node_description(number, flags))?;
     table.set_cloexec(fd, flags.cloexec());
     vfs.hold(key);

@@ -51,20 +51,28 @@ impl NativeKernel {
         ensures counts { NoCountFell I.faults O.faults E.faults dev.old dev.new }
         ensures clock { self.new.clock ≡ self.old.clock }
     {
-        let fd = low_word(args[0]);
-        let buffer = Buffer {
-            address: args[1],
-            count: args[2],
-        };
-        let buffers = BufferVector {
-            address: args[1],
-            count: args[2],
-        };
         match nr {
-            READ => self.read(fd, buffer, mem, &mut dev.input),
-            WRITE => self.write(fd, buffer, mem, &mut dev.out, &mut dev.err),
-            READV => self.readv(fd, buffers, mem, &mut dev.input),
-            WRITEV => self.writev(fd, buffers, mem, &mut dev.out, &mut dev.err),
+            READ => self.read(low_word(args[0]), Buffer::of(&args), mem, &mut dev.input),
+            WRITE => self.write(
+                low_word(args[0]),
+                Buffer::of(&args),
+                mem,
+                &mut dev.out,
+                &mut dev.err,
+            ),
+            READV => self.readv(
+                low_word(args[0]),
+                BufferVector::of(&args),
+                mem,
+                &mut dev.input,
+            ),
+            WRITEV => self.writev(
+                low_word(args[0]),
+                BufferVector::of(&args),
+                mem,
+                &mut dev.out,
+                &mut dev.err,
+            ),
             _ => match self.quiet_call(nr, args, mem) {
                 Ok(reply) => Ok(reply),
                 Err(NoMemory) => Err(Stop::NoMemory),
@@ -80,13 +88,19 @@ impl NativeKernel {
         ensures row { IfOk result (λ reply. IsQuiet (built_call nr args self.old mem.old) reply self.new mem.new) }
         ensures clock { self.new.clock ≡ self.old.clock }
     {
-        let buffer = Buffer {
-            address: args[1],
-            count: args[2],
-        };
         match nr {
-            PREAD64 => Ok(self.pread(low_word(args[0]), buffer, args[3].cast_signed(), mem)),
-            PWRITE64 => self.pwrite(low_word(args[0]), buffer, args[3].cast_signed(), mem),
+            PREAD64 => Ok(self.pread(
+                low_word(args[0]),
+                Buffer::of(&args),
+                args[3].cast_signed(),
+                mem,
+            )),
+            PWRITE64 => self.pwrite(
+                low_word(args[0]),
+                Buffer::of(&args),
+                args[3].cast_signed(),
+                mem,
+            ),
             _ => self.descriptor_call(nr, args, mem),
         }
     }
@@ -137,28 +151,29 @@ impl NativeKernel {
         ensures row { IfOk result (λ reply. IsQuiet (call_of_groups name_groups nr args self.old mem.old) reply self.new mem.new) }
         ensures clock { self.new.clock ≡ self.old.clock }
     {
-        let path = PathAt {
-            directory: low_word(args[0]),
-            address: args[1],
-        };
-        let new = PathAt {
-            directory: low_word(args[2]),
-            address: args[3],
-        };
         match nr {
-            MKDIRAT => self.mkdirat(path, low_word(args[2]), mem),
-            UNLINKAT => self.unlinkat(path, low_word(args[2]), mem),
-            SYMLINKAT => {
-                let link = PathAt {
-                    directory: low_word(args[1]),
-                    address: args[2],
-                };
-                self.symlinkat(args[0], link, mem)
-            }
-            LINKAT => self.linkat(path, new, low_word(args[4]), mem),
-            RENAMEAT => self.renameat(path, new, mem),
-            OPENAT => self.openat(path, low_word(args[2]), low_word(args[3]), mem),
-            READLINKAT => self.readlinkat(path, args[2], low_word(args[3]).cast_signed(), mem),
+            MKDIRAT => self.mkdirat(PathAt::of(&args, 0), low_word(args[2]), mem),
+            UNLINKAT => self.unlinkat(PathAt::of(&args, 0), low_word(args[2]), mem),
+            SYMLINKAT => self.symlinkat(args[0], PathAt::of(&args, 1), mem),
+            LINKAT => self.linkat(
+                PathAt::of(&args, 0),
+                PathAt::of(&args, 2),
+                low_word(args[4]),
+                mem,
+            ),
+            RENAMEAT => self.renameat(PathAt::of(&args, 0), PathAt::of(&args, 2), mem),
+            OPENAT => self.openat(
+                PathAt::of(&args, 0),
+                low_word(args[2]),
+                low_word(args[3]),
+                mem,
+            ),
+            READLINKAT => self.readlinkat(
+                PathAt::of(&args, 0),
+                args[2],
+                low_word(args[3]).cast_signed(),
+                mem,
+            ),
             _ => self.node_call(nr, args, mem),
         }
     }
@@ -169,21 +184,17 @@ impl NativeKernel {
         ensures row { IfOk result (λ reply. IsQuiet (call_of_groups node_groups nr args self.old mem.old) reply self.new mem.new) }
         ensures clock { self.new.clock ≡ self.old.clock }
     {
-        let path = PathAt {
-            directory: low_word(args[0]),
-            address: args[1],
-        };
         match nr {
             GETCWD => self.getcwd(args[0], args[1], mem),
             TRUNCATE => self.truncate(args[0], args[1].cast_signed(), mem),
             FTRUNCATE => Ok(self.ftruncate(low_word(args[0]), args[1].cast_signed())),
-            FACCESSAT => self.faccessat(path, low_word(args[2]), mem),
+            FACCESSAT => self.faccessat(PathAt::of(&args, 0), low_word(args[2]), mem),
             CHDIR => self.chdir(args[0], mem),
             FCHDIR => Ok(self.fchdir(low_word(args[0]))),
             FCHMOD => Ok(self.fchmod(low_word(args[0]), low_word(args[1]))),
-            FCHMODAT => self.fchmodat(path, low_word(args[2]), mem),
-            NEWFSTATAT => self.newfstatat(path, args[2], low_word(args[3]), mem),
-            UTIMENSAT => self.utimensat(path, args[2], low_word(args[3]), mem),
+            FCHMODAT => self.fchmodat(PathAt::of(&args, 0), low_word(args[2]), mem),
+            NEWFSTATAT => self.newfstatat(PathAt::of(&args, 0), args[2], low_word(args[3]), mem),
+            UTIMENSAT => self.utimensat(PathAt::of(&args, 0), args[2], low_word(args[3]), mem),
             UMASK => Ok(self.umask(low_word(args[0]))),
             _ => self.system_call(nr, args, mem),
         }

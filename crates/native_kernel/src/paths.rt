@@ -1,9 +1,11 @@
 //! The paths that calls are given, and where they begin (path_resolution(7), openat(2)).
-ghost use Rattle.std.specs.Prelude.{◌≡◌, ◌≤◌, ◌==◌, IfOk, MatchOption, take, length, position, Some, None, false};
+ghost use Rattle.std.specs.Prelude.{◌≡◌, ◌+◌, ◌<◌, ◌≤◌, ◌==◌, IfOk, MatchOption, take, length, position, slice_index, Some, None, false};
 ghost use Rattle.std.specs.List.{list_any};
+ghost use Rattle.native_calls.specs.Arguments.{low_word};
 ghost use Rattle.native_calls.specs.Paths as paths;
 ghost use Rattle.native_files.specs.Answers.{IsPlain, IsShortPlain, WhereRead, base_of, text_of};
 
+use crate::arguments::low_word;
 use crate::structures::loadable;
 use host_mem::HostMem;
 use kernel_core::Errno;
@@ -20,6 +22,20 @@ const AT_FDCWD: u32 = 0xFFFF_FF9C;
 pub(crate) struct PathAt {
     pub(crate) directory: u32,
     pub(crate) address: u64,
+}
+
+impl PathAt {
+    /// The path that two words of a call give, of which this is the first.
+    #[inline(always)]
+    pub(crate) fn of(args: &[u64; 6], first: usize) -> PathAt
+        requires { first < 5 }
+        ensures { result ≡ record { directory = low_word (slice_index args.now first); address = slice_index args.now (first + 1) } }
+    {
+        PathAt {
+            directory: low_word(args[first]),
+            address: args[first + 1],
+        }
+    }
 }
 
 /// Where a path begins that does not begin with a slash.

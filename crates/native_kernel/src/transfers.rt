@@ -1,5 +1,5 @@
 //! The calls that move bytes of one buffer: read(2), write(2), pread(2), pwrite(2).
-ghost use Rattle.std.specs.Prelude.{◌≡◌, ℕ, ◌+◌, ◌≤◌, List, Some, None, Ok, IfOk, OnErr, OnOk, length};
+ghost use Rattle.std.specs.Prelude.{◌≡◌, ℕ, ◌+◌, ◌≤◌, List, Some, None, Ok, IfOk, OnErr, OnOk, length, slice_index};
 ghost use Rattle.host_mem.specs.Memory.{written};
 ghost use Rattle.kernel_core.specs.FileSystem.{IsTime};
 ghost use Rattle.kernel_core.specs.declared.error.Errno.TheVariants.{EPIPE};
@@ -33,6 +33,19 @@ const SENT_BY_KILL: i32 = 0;
 pub(crate) struct Buffer {
     pub(crate) address: u64,
     pub(crate) count: u64,
+}
+
+impl Buffer {
+    /// The buffer that the second and the third word of a call give.
+    #[inline(always)]
+    pub(crate) fn of(args: &[u64; 6]) -> Buffer
+        ensures { result ≡ record { address = slice_index args.now 1; count = slice_index args.now 2 } }
+    {
+        Buffer {
+            address: args[1],
+            count: args[2],
+        }
+    }
 }
 
 impl NativeKernel {

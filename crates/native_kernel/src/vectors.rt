@@ -1,5 +1,5 @@
 //! The calls that move bytes of a vector of buffers: readv(2), writev(2).
-ghost use Rattle.std.specs.Prelude.{◌≡◌, ◌*◌, ◌≤◌, IfOk, IfSome, length, min, option_map, replicate};
+ghost use Rattle.std.specs.Prelude.{◌≡◌, ◌*◌, ◌≤◌, IfOk, IfSome, length, min, option_map, replicate, slice_index};
 ghost use Rattle.layouts.specs.Native.{iovec};
 ghost use Rattle.layouts.specs.Shape.{record_values};
 ghost use Rattle.native_calls.specs.HostBytes as spec;
@@ -32,6 +32,19 @@ const RANGE_SIZE: usize = 16;
 pub(crate) struct BufferVector {
     pub(crate) address: u64,
     pub(crate) count: u64,
+}
+
+impl BufferVector {
+    /// The vector that the second and the third word of a call give.
+    #[inline(always)]
+    pub(crate) fn of(args: &[u64; 6]) -> BufferVector
+        ensures { result ≡ record { address = slice_index args.now 1; count = slice_index args.now 2 } }
+    {
+        BufferVector {
+            address: args[1],
+            count: args[2],
+        }
+    }
 }
 
 impl NativeKernel {

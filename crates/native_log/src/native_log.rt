@@ -1,5 +1,5 @@
 //! The log.
-ghost use Rattle.std.specs.Prelude.{◌≡◌, ◌≤◌, ◌++◌, [], ℕ, Bool, List, None, OnOk, unwrap_or};
+ghost use Rattle.std.specs.Prelude.{◌≡◌, ◌≤◌, ◌++◌, [], ℕ, Bool, List, None, OnOk, option_map, unwrap_or};
 ghost use Rattle.bridge_log.specs.Keeping.{Logged};
 ghost use Rattle.kernel_model.specs.Clock.{next_time};
 ghost use Rattle.kernel_model.specs.Pipes.{Sent};
@@ -11,7 +11,6 @@ ghost use Rattle.native_log.specs.inside.Entries.{with_calls, with_entry, with_t
 
 use crate::times::has_come;
 use kernel_core::{Info, LogEntry, NoMemory};
-use o32_model::Log;
 use std::alloc::Global;
 use std::marker::Model;
 
@@ -67,18 +66,13 @@ impl NativeLog {
     }
 
     /// What the calls of a part of a turn keep their native calls in, which [`NativeLog::add`] adds then: no call so far,
-    /// and kept where this log is. It takes no memory yet.
-    pub fn part(&self) -> Log
-        ensures native { result.native ≡ emptied self.now.entries }
-        ensures effects { result.effects ≡ None }
+    /// and None where no log is kept. It takes no memory yet.
+    pub fn part(&self) -> Option<Vec<LogEntry>>
+        ensures { option_map (λ v. v.items) result ≡ emptied self.now.entries }
     {
-        let native = match &self.entries {
+        match &self.entries {
             Some(entries) => Some(Vec::new(*entries.allocator())),
             None => None,
-        };
-        Log {
-            native,
-            effects: None,
         }
     }
 
@@ -144,20 +138,16 @@ impl NativeLog {
     ///
     /// `NoMemory`. The log is not used again then.
     #[inline(always)]
-    pub fn add(&mut self, part: Log, clock: u64) -> Result<(), NoMemory>
+    pub fn add(&mut self, part: Option<Vec<LogEntry>>, clock: u64) -> Result<(), NoMemory>
         requires behind { self.old.told ≤ clock }
         ensures leads { OnOk result ((kernel became : Kernel) (left rest : List ℕ) (before after : Sent) → kernel.clock ≡ clock → became.clock ≡ clock
-            → IsReady clock self.old kernel → Logged (emptied self.old.entries) part.native (moment kernel left before) (moment became rest after)
+            → IsReady clock self.old kernel → Logged (emptied self.old.entries) (option_map (λ v. v.items) part) (moment kernel left before) (moment became rest after)
             → Logged self.old.entries self.new.entries (as_told self.old kernel left before) (as_told self.new became rest after)) }
         ensures ready { OnOk result ((kernel became : Kernel) (left rest : List ℕ) (before after : Sent) → IsReady clock self.old kernel
-            → Logged (emptied self.old.entries) part.native (moment kernel left before) (moment became rest after) → IsReady clock self.new became) }
+            → Logged (emptied self.old.entries) (option_map (λ v. v.items) part) (moment kernel left before) (moment became rest after) → IsReady clock self.new became) }
         ensures behind { self.new.told ≤ clock }
     {
-        let Log {
-            native,
-            effects: _unkept,
-        } = part;
-        match native {
+        match part {
             None => {
                 self.told = clock;
                 Ok(())

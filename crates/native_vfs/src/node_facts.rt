@@ -64,6 +64,14 @@ impl Vfs {
         describe(stored)
     }
 
+    /// The number of a node (inode(7)), of which `node` is the key: a live one of any kind. It takes no memory.
+    pub fn number(&self, node: usize) -> u64
+        requires live { IsLiveKey self.now node }
+        ensures { result ≡ number_at self.now node }
+    {
+        self.inodes.table[node].number
+    }
+
     /// Reads a file from byte `at` on into the beginning of `buf`, as many bytes as there are before its
     /// end, and answers their number (pread(2)). The rest of `buf` stays as it was. `node` is the key of a
     /// live regular file. It takes no memory.

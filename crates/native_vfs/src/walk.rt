@@ -8,7 +8,7 @@ ghost use Rattle.kernel_core.specs.ValidTree as tree;
 ghost use Rattle.native_vfs.specs.Answers.{IsWalked, MayStart};
 ghost use Rattle.native_vfs.specs.Keyed.{Keyed, IsLiveKey, number_at, inode_at, AgreesAt};
 ghost use Rattle.native_vfs.specs.inside.Stored.{inode_of};
-ghost use Rattle.native_vfs.specs.inside.Walking.{IsSound, named_key, walk_of, steps_left, IsUnderWay, IsFound, Gives, IsCopied};
+ghost use Rattle.native_vfs.specs.inside.Walking.{IsSound, named_key, walk_of, steps_left, IsUnderWay, IsFound, Gives};
 
 use crate::path::{Rest, begins_with_slash, ends_with_slash};
 use crate::place::Place;
@@ -78,7 +78,12 @@ impl Vfs {
         };
         loop {
             if let Some(found) = self.walk_step(&mut walk, follow)? {
-                return self.place_of(found);
+                let name = copied(self.alloc, found.name)?;
+                return Ok(Place {
+                    dir: found.dir,
+                    name,
+                    node: found.node,
+                });
             }
         }
     }
@@ -206,18 +211,6 @@ impl Vfs {
         }
         walk.links += 1;
         Ok(None)
-    }
-
-    /// The place, with a copy of its name.
-    fn place_of(&self, found: Found) -> Result<Place, CoreError>
-        ensures { IsCopied found.entry result }
-    {
-        let name = copied(self.alloc, found.name)?;
-        Ok(Place {
-            dir: found.dir,
-            name,
-            node: found.node,
-        })
     }
 
     /// The node at a key.

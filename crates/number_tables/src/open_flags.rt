@@ -35,7 +35,7 @@ impl O32Number for OpenFlags {
     }
 
     fn of_o32(number: u32) -> Option<OpenFlags> {
-        let flags = open_flags_in_o32(number);
+        let flags = open_flags_in_o32(u64::from(number));
         if flags.to_o32() == number && (flags.dsync() || !flags.sync()) {
             Some(flags)
         } else {
@@ -92,10 +92,9 @@ impl NativeNumber for OpenFlags {
 }
 
 /// The flags whose bits an o32 number has, whatever its other bits.
-fn open_flags_in_o32(number: u32) -> OpenFlags
+fn open_flags_in_o32(number: u64) -> OpenFlags
     ensures { result ≡ o32_open_read number }
 {
-    let number = u64::from(number);
     OpenFlags::new(
         access_of(number),
         OpenBits::from_bits_retain(o32_bits(number)),

@@ -22,8 +22,8 @@ pub use process::{PlainCall, SystemCall};
 pub use signals::SignalCall;
 pub use times::{PollCall, SelectCall, TimeCall, TimerCall};
 pub use waiting::{
-    CLOCK_NANOSLEEP, NANOSLEEP, NEWSELECT, PAUSE, POLL, PPOLL, PSELECT6, READ, READV,
-    RESTART_SYSCALL, RT_SIGSUSPEND, RT_SIGTIMEDWAIT, WRITE, WRITEV,
+    CLOCK_NANOSLEEP, NANOSLEEP, NEWSELECT, PAUSE, POLL, PPOLL, READ, READV, RESTART_SYSCALL,
+    RT_SIGSUSPEND, RT_SIGTIMEDWAIT, WRITE, WRITEV,
 };
 
 #[cfg(test)]

@@ -1,4 +1,4 @@
-//! The other calls on files.
+//! The calls on files by their names, and on their sizes, times and offsets.
 
 /// A call that makes, moves or removes a name.
 #[derive(Clone, Copy)]
@@ -90,9 +90,14 @@ pub enum PlaceCall {
 /// A call on files by their names, or on their sizes, places and times.
 #[derive(Clone, Copy)]
 pub enum FileCall {
+    /// One that changes names.
     Name(NameCall),
+    /// One on one node.
     Node(NodeCall),
+    /// One that tells a text.
     Text(TextCall),
+    /// One that sets a size.
     Size(SizeCall),
+    /// One that sets a file offset.
     Place(PlaceCall),
 }

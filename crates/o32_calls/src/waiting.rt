@@ -1,4 +1,5 @@
-//! The numbers of calls that can wait: a wait is kept with its call's number.
+//! The numbers of calls that can wait (Linux `arch/mips/include/uapi/asm/unistd.h`, the o32 table): a wait is kept with its
+//! call's number.
 
 /// read(2)
 pub const READ: u32 = 4003;
@@ -35,9 +36,6 @@ pub const RESTART_SYSCALL: u32 = 4253;
 
 /// clock_nanosleep(2)
 pub const CLOCK_NANOSLEEP: u32 = 4265;
-
-/// pselect6, which is pselect(2)
-pub const PSELECT6: u32 = 4301;
 
 /// ppoll(2)
 pub const PPOLL: u32 = 4302;

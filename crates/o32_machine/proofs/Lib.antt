@@ -6,6 +6,7 @@ pub mod Passed
 pub mod Plainly
 pub mod Quieting
 pub mod Recording
+pub mod Stackless
 pub mod Steps
 pub mod Turning
 pub mod Waking

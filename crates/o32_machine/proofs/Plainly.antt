@@ -10,7 +10,7 @@ use Rattle.o32_machine.proofs.Logging.{nothing_logged}
 use Rattle.o32_machine.proofs.Turning.{its_turn}
 use Rattle.o32_machine.specs.Emulator.{ProcessState, machine_of}
 use Rattle.o32_machine.specs.inside.Logging.{LastLogged}
-use Rattle.o32_machine.specs.inside.Plainly.{IsPlainly, called_of}
+use Rattle.o32_machine.specs.inside.Plainly.{IsPlainly, called_of, with_stack}
 use Rattle.o32_calls.specs.Numbers.{bridged_number}
 use Rattle.o32_calls.specs.declared.bridged_call.BridgedCall.{BridgedCall}
 use Rattle.o32_calls.specs.declared.process.PlainCall.{PlainCall}
@@ -28,8 +28,8 @@ words_number : (processor : Processor) (memory : Memory) → (call_words process
 unfolding call_words
 words_number processor memory = refl
 
-pub plain_words : (call : Option PlainCall) (words : CallWords) (processor : Processor) (memory : Memory) → words ≡ call_words processor memory → IsPlainly call (register processor v0) → IsPlainly call words.nr
-plain_words call words processor memory read there = subst (IsPlainly call) (sym (ap (λ (w : CallWords). w.nr) read ∙ words_number processor memory)) there
+pub plain_words : (call : Option PlainCall) (words : CallWords) (stack : List (Option ℕ)) (processor : Processor) (memory : Memory) → call_words processor memory ≡ with_stack stack words → IsPlainly call (register processor v0) → IsPlainly call words.nr
+plain_words call words stack processor memory read there = subst (IsPlainly call) (sym (words_number processor memory) ∙ ap (λ (w : CallWords). w.nr) read) there
 
 pub bridged_words : (call : BridgedCall) (words : CallWords) (processor : Processor) (memory : Memory) → words ≡ call_words processor memory → register processor v0 ≡ bridged_number call → words.nr ≡ bridged_number call
 bridged_words call words processor memory read there = ap (λ (w : CallWords). w.nr) read ∙ words_number processor memory ∙ there

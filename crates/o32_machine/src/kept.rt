@@ -35,7 +35,7 @@ impl Kept {
         ensures effects { result.effects ≡ records.no_effects self.now.records }
     {
         Log {
-            native: self.native.part().native,
+            native: self.native.part(),
             effects: self.records.part(),
         }
     }

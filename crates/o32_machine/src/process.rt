@@ -1,5 +1,5 @@
 //! The process of an o32 program: its processor and memory, the kernel that it calls, and the steps of its turns.
-ghost use Rattle.std.specs.Prelude.{◌≡◌, ◌+◌, List, true, ◌-◌, ◌*◌, ◌%◌, ◌<◌, ◌^◌, ◌≤◌, ◌↔◌, ◌++◌, ◌||◌, [], ◌∷◌, max, ℕ, Contains, false, if◌then◌else◌, IfErr, IfOk, IfSome, None, OnOk, is_some, option_map};
+ghost use Rattle.std.specs.Prelude.{◌≡◌, ◌+◌, List, true, ◌-◌, ◌*◌, ◌%◌, ◌<◌, ◌^◌, ◌≤◌, ◌↔◌, ◌++◌, ◌||◌, [], ◌∷◌, max, ℕ, Contains, false, if◌then◌else◌, IfErr, IfOk, IfSome, None, OnOk, is_some};
 ghost use Rattle.bridge_delivery.specs.Ended.{ended_wait};
 ghost use Rattle.bridge_system.specs.Found.{found};
 ghost use Rattle.bridge_system.specs.Plain.{IsPlain};
@@ -16,7 +16,7 @@ ghost use Rattle.o32_machine.specs.Emulator.{at_clock, coming_of, first_process,
 ghost use Rattle.native_log.specs.NativeLog.{IsReady};
 ghost use Rattle.o32_machine.specs.inside.Finishing.{finished};
 ghost use Rattle.o32_machine.specs.inside.Logging.{KeepsNative, LastLogged, LogsLast, LogsSettled, PostsLogged};
-ghost use Rattle.o32_machine.specs.inside.Plainly.{IsPlainly, called_of};
+ghost use Rattle.o32_machine.specs.inside.Plainly.{IsPlainly, called_of, with_stack};
 ghost use Rattle.o32_machine.specs.Records.{RecordsCall};
 ghost use Rattle.o32_machine.specs.inside.Quieting.{goes, next_due};
 ghost use Rattle.o32_machine.specs.inside.Recording.{KeepsEffects, RecordsBefore, RecordsBehind, RecordsStep};
@@ -28,7 +28,7 @@ ghost use Rattle.o32_turns.specs.Posting.{posted};
 ghost use Rattle.o32_turns.specs.Turn.{after_events, next_event, next_for, second_step, sixth_step, third_step, whole};
 ghost use Rattle.o32_calls.specs.Numbers.{bridged_number};
 ghost use Rattle.o32_model.specs.Table.{machine_call};
-ghost use Rattle.o32_model.specs.Words.{a3, v0, with_result};
+ghost use Rattle.o32_model.specs.Words.{a3, call_words, v0, with_result};
 ghost use Rattle.o32_model.specs.declared.call_words.CallWords.{CallWords};
 ghost use Rattle.o32_model.specs.declared.wait.Seen.{Seen};
 ghost use Rattle.turn_records.specs.Entry.{IsOne};
@@ -47,7 +47,7 @@ use bridge_delivery::{accepts, deliver, end_wait, is_quiet, post_timer};
 use bridge_mem::args;
 use bridge_system::plain_call;
 use host_mem::HostMem;
-use kernel_core::{Effect, Errno, Event, Finish, Info, NoMemory, Sig, Stop, Tree};
+use kernel_core::{Errno, Event, Finish, Info, NoMemory, Sig, Stop, Tree};
 use mips_exec::{Cpu, Ran, Stepped, run};
 use native_kernel::NativeKernel;
 use native_log::NativeLog;
@@ -66,11 +66,17 @@ use std::marker::Model;
 /// The result of a call, or its error's number.
 const V0: u8 = 2;
 
+/// The arguments of a call in registers: $a0 to $a3, of which the last tells then whether it failed, 0 or 1.
+const A0: u8 = 4;
+
+const A1: u8 = 5;
+
+const A2: u8 = 6;
+
+const A3: u8 = 7;
+
 /// The second result of a call that has two.
 const V1: u8 = 3;
-
-/// Whether a call failed: 0, or 1 where it did.
-const A3: u8 = 7;
 
 /// Who sends the signal of a frame that can't be read: the kernel (SI_KERNEL).
 const SENT_BY_KERNEL: i32 = 0x80;
@@ -464,8 +470,8 @@ impl Process {
         kept.records.look(&self.core.cpu, &mut kept.was);
         let mut log = kept.part();
         self.wake_to_resume(clock, dev, &mut log)?;
-        let (calls, effects) = halves(log);
-        kept.native.add(calls, clock)?;
+        let Log { native, effects } = log;
+        kept.native.add(native, clock)?;
         let alive = self.going.over.is_none();
         kept.records.add_before(
             turn,
@@ -740,8 +746,8 @@ impl Process {
         kept.records.look(&self.core.cpu, &mut kept.was);
         let mut log = kept.part();
         let outcome = make_call(call, &words, &seen, &mut self.core, dev, &mut log)?;
-        let (calls, effects) = halves(log);
-        kept.native.add(calls, clock)?;
+        let Log { native, effects } = log;
+        kept.native.add(native, clock)?;
         let ended = self.finish(&words, &outcome)?;
         kept.records
             .add_call(turn, &kept.was, &self.core.cpu, effects)?;
@@ -749,7 +755,7 @@ impl Process {
     }
 
     /// Makes a call that is answered at once, or answers one whose number no call has. It stands apart from the others since
-    /// it wants no buffer, no log and nothing that they see of the machine.
+    /// it wants no buffer, no log, no argument on the stack and nothing that they see of the machine.
     #[inline(always)]
     fn call_plainly(
         &mut self,
@@ -768,7 +774,7 @@ impl Process {
         ensures clock { self.new.kernel.clock ≡ self.old.kernel.clock }
         ensures idle { self.new.idle ≡ self.old.idle }
     {
-        let words = args(&self.core.space, &self.core.cpu);
+        let words = register_words(&self.core.cpu);
         kept.records.look(&self.core.cpu, &mut kept.was);
         let effects = kept.records.part();
         let outcome = answer(call, &words, &mut self.core.cpu);
@@ -802,7 +808,7 @@ impl Process {
         ensures idle { self.new.idle ≡ self.old.idle }
     {
         let event = self.put_outcome(words, outcome);
-        self.keep_event(event)?;
+        self.going.events.push(event)?;
         Ok(turn_of(outcome))
     }
 
@@ -900,19 +906,27 @@ impl Process {
         ensures kernel { self.new.kernel ≡ self.old.kernel }
         ensures idle { self.new.idle ≡ self.old.idle }
     {
-        let event = self.meet(info);
-        self.keep_event(event)
-    }
-
-    /// Keeps what happened, behind what happened before in the turn.
-    #[inline(always)]
-    fn keep_event(&mut self, event: Event) -> Result<(), NoMemory>
-        ensures kept { OnOk result (self.new ≡ record self.old { going = record self.old.going { events = self.old.going.events ++ event ∷ [] } }) }
-        ensures kernel { self.new.kernel ≡ self.old.kernel }
-        ensures idle { self.new.idle ≡ self.old.idle }
-    {
-        self.going.events.push(event)?;
+        let fault = self.meet(info);
+        self.going.events.push(fault)?;
         Ok(())
+    }
+}
+
+/// The words of a call that takes no argument from the stack, with none there.
+#[tactic(auto, unfolding(o32_model::specs::Words::call_words))]
+#[inline(always)]
+fn register_words(cpu: &Cpu) -> CallWords
+    ensures { (memory : Memory) → call_words cpu.now memory ≡ with_stack (call_words cpu.now memory).stack result }
+{
+    CallWords {
+        nr: cpu.register(V0),
+        reg: [
+            cpu.register(A0),
+            cpu.register(A1),
+            cpu.register(A2),
+            cpu.register(A3),
+        ],
+        stack: [None; 4],
     }
 }
 
@@ -926,21 +940,6 @@ fn answer(call: Option<PlainCall>, words: &CallWords, cpu: &mut Cpu) -> Outcome
         Some(call) => plain_call(call, words, cpu),
         None => Outcome::Error(Errno::ENOSYS),
     }
-}
-
-/// The native calls of a part, and its effects.
-fn halves(log: Log) -> (Log, Option<Vec<Effect>>)
-    ensures native { result.0.native ≡ log.native }
-    ensures effects { option_map (λ v. v.items) result.1 ≡ log.effects }
-{
-    let Log { native, effects } = log;
-    (
-        Log {
-            native,
-            effects: None,
-        },
-        effects,
-    )
 }
 
 /// What a process has at first: no call waits, nothing is to be delivered, and nothing has happened.

@@ -1,6 +1,6 @@
 -- The table of the calls by their numbers (Linux arch/mips/include/uapi/asm/unistd.h, the o32 table). Any other number is ENOSYS
 -- (syscalls(2)).
-use Rattle.std.specs.Prelude.{ℕ, Bool, List, Option, Some, None, is_some, ◌||◌}
+use Rattle.std.specs.Prelude.{ℕ, Bool, List, Option, Some, None, is_some}
 use Rattle.kernel_core.specs.declared.error.Errno.TheVariants.{ENOSYS}
 use Rattle.kernel_model.specs.Came.{refused}
 use Rattle.kernel_model.specs.State.{Kernel}
@@ -77,25 +77,9 @@ seeing_call_in calls otherwise number = numbered_or (λ (call : SeeingRow). call
 abbrev pub seeing_call_of : ℕ → Option SeeingRow
 seeing_call_of number = seeing_call_in seeing_clock_calls (seeing_call_in seeing_signal_calls None number) number
 
--- whether a number is that of a call on descriptors and what they have open, of a small call, of a call on files, of one on mappings, of
--- one on time and readiness, and of one on signals
-abbrev pub is_io_call : ℕ → Bool
-is_io_call number = is_some (io_call_or None number)
-
-abbrev pub is_small_call : ℕ → Bool
-is_small_call number = is_some (call_in small_calls None number)
-
-abbrev pub is_file_call : ℕ → Bool
-is_file_call number = is_some (file_call_or None number)
-
+-- whether a number is that of a call on mappings
 abbrev pub is_map_call : ℕ → Bool
 is_map_call number = is_some (call_in map_calls None number)
-
-abbrev pub is_wait_call : ℕ → Bool
-is_wait_call number = is_some (wait_call_or None number) || is_some (seeing_call_in seeing_clock_calls None number)
-
-abbrev pub is_signal_call : ℕ → Bool
-is_signal_call number = is_some (signal_call_or None number) || is_some (seeing_call_in seeing_signal_calls None number)
 
 abbrev pub step_of : Option O32Row → Kernel → Guest → List ℕ → O32Step
 step_of None kernel guest left = gives guest (refused kernel ENOSYS) left

@@ -1,5 +1,5 @@
 -- Worked rows on what a call is handed and how it returns.
-use Rattle.std.specs.Prelude.{◌≡◌, ℕ, negsuc, true, false, List, [], ◌∷◌, ◌++◌, Some, None, replicate, refl}
+use Rattle.std.specs.Prelude.{◌≡◌, ℕ, negsuc, List, [], ◌∷◌, ◌++◌, Some, None, replicate, refl}
 use Rattle.std.specs.FinMap.{get}
 use Rattle.guest_space.specs.Access.{first_denied, refusal}
 use Rattle.guest_space.specs.Bytes.{read, bytes_at, byte_at}
@@ -10,7 +10,7 @@ use Rattle.kernel_model.specs.State.{Kernel}
 use Rattle.mips_exec.specs.Processor.{Processor, fresh}
 use Rattle.o32_model.proofs.rows.Small.{page_of, words, words_with, guest}
 use Rattle.o32_model.specs.Step.{O32Step}
-use Rattle.o32_model.specs.Table.{o32_call, is_io_call, is_small_call}
+use Rattle.o32_model.specs.Table.{o32_call}
 use Rattle.o32_model.specs.Words.{call_words, stack_pair, six_words, signed_argument, returned}
 use Rattle.o32_model.specs.declared.outcome.Outcome.TheVariants.{Value, Pair, Error, Frame, BadFrame, Exit}
 
@@ -79,23 +79,6 @@ gives_no_frame = refl
 
 gives_frame : returned (with 4119 9 3 5 6 7 64) Frame ≡ with 4119 9 3 5 6 7 64
 gives_frame = refl
-
--- Numbers
-
-is_read : is_io_call 4003 ≡ true
-is_read = refl
-
-is_pipe2 : is_io_call 4328 ≡ true
-is_pipe2 = refl
-
-is_no_exit : is_io_call 4001 ≡ false
-is_no_exit = refl
-
-is_exit : is_small_call 4001 ≡ true
-is_exit = refl
-
-is_no_read : is_small_call 4003 ≡ false
-is_no_read = refl
 
 -- a number that no call has
 module _ (kernel : Kernel) (processor : Processor) (memory : Memory) (left : List ℕ) where

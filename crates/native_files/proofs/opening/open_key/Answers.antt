@@ -15,8 +15,8 @@ use Rattle.native_vfs.specs.Keyed.{number_at}
 
 pub returns-clause-table : goal.returns-clause-table
 returns-clause-table c =
-    opened-table c.args.table.now c.insert.new.self c.set_cloexec.new.self c.args.fd c.status-number.result.number (number_at c.args.vfs.now c.args.key) c.args.flags c.cloexec.result c.node_description.result
-    c.requires.free c.in_ok-insert.ensures.ok c.set_cloexec.ensures.cloexec c.cloexec.ensures c.node_description.ensures (ap (λ s. s.number) c.status-number.ensures.2)
+    opened-table c.args.table.now c.insert.new.self c.set_cloexec.new.self c.args.fd c.number-number.result (number_at c.args.vfs.now c.args.key) c.args.flags c.cloexec.result c.node_description.result
+    c.requires.free c.in_ok-insert.ensures.ok c.set_cloexec.ensures.cloexec c.cloexec.ensures c.node_description.ensures c.number-number.ensures
 
 pub returns-clause-kept : goal.returns-clause-kept
 returns-clause-kept c = λ directory are.
@@ -26,8 +26,8 @@ returns-clause-kept c = λ directory are.
     let node = number_at vfs c.args.key in
     let description = description_of (objects.Node node) c.args.flags in
     let place = new_place table.live in
-    let is = opened-table table c.insert.new.self c.set_cloexec.new.self c.args.fd c.status-number.result.number node c.args.flags c.cloexec.result c.node_description.result
-    c.requires.free c.in_ok-insert.ensures.ok c.set_cloexec.ensures.cloexec c.cloexec.ensures c.node_description.ensures (ap (λ s. s.number) c.status-number.ensures.2) in
+    let is = opened-table table c.insert.new.self c.set_cloexec.new.self c.args.fd c.number-number.result node c.args.flags c.cloexec.result c.node_description.result
+    c.requires.free c.in_ok-insert.ensures.ok c.set_cloexec.ensures.cloexec c.cloexec.ensures c.node_description.ensures c.number-number.ensures in
     let within = (description_place table c.requires.table 0 c.args.fd c.requires.least).within in
     let inside : c.args.fd < length table.fds = omega (arith, c.requires.table.fds, c.requires.within) in
     let small : place < 1024 = omega (arith, c.requires.table.live, within) in

@@ -1,3 +1,4 @@
+use Rattle.std.proofs.Common.{Ok, ap}
 use Rattle.std.proofs.lemmas.Result.{err_from_is_err_and}
 use Rattle.native_vfs.specs.Keyed.{number_at}
 use Rattle.native_vfs.specs.inside.Walking.{steps_left}
@@ -24,8 +25,8 @@ pub returns-in-Some : goal.returns-in-Some
 returns-in-Some c =
     let system = c.args.self.now in
     walked-found system (number_at system c.args.from) c.args.path.now c.args.follow c.loop-walk.walk c.walk_step.new.walk
-    (steps_left c.loop-walk.walk) c.loop-walk.invariant.same c.in-Some.found c.place_of.result
-    (rw c.in-Some.is at c.in_ok-found.ensures) c.place_of.ensures
+    (steps_left c.loop-walk.walk) c.loop-walk.invariant.same c.in-Some.found (Ok (record { dir = c.in-Some.found.dir; name = c.in_ok-name.name; node = c.in-Some.found.node }))
+    (rw c.in-Some.is at c.in_ok-found.ensures) (ap (λ n. record { dir = c.in-Some.found.dir; name = n; node = c.in-Some.found.node }) c.in_ok-name.ensures)
 
 pub returns-in_err-found : goal.returns-in_err-found
 returns-in_err-found c =

@@ -1,5 +1,6 @@
 -- A call that stops, and one that is carried out.
-use Rattle.std.proofs.Common.{◌≡◌, ◌∙◌, List, Option, ap, refl, subst, sym}
+use Rattle.std.proofs.Common.{◌≡◌, ◌∙◌, List, Option, Vec, Global, ap, refl, subst, sym}
+use Rattle.std.specs.Prelude.{option_map}
 use Rattle.bridge_log.specs.Keeping.{Logged}
 use Rattle.kernel_core.specs.declared.log_entry.LogEntry.{LogEntry}
 use Rattle.native_calls.specs.History.{moment, opening}
@@ -12,6 +13,7 @@ use Rattle.o32_machine.specs.inside.Logging.{LastLogged}
 use Rattle.o32_turns.specs.Instruction.{seen_of}
 use Rattle.o32_turns.specs.Machine.{Turn}
 use Rattle.o32_machine.proofs.Logging.{call_logged}
+use Rattle.o32_model.specs.Logs.{Kept as KeptCalls}
 use Rattle.o32_model.specs.Table.{machine_call}
 use Rattle.o32_model.specs.Words.{v0}
 use Rattle.bridge_system.specs.Found.{found}
@@ -65,7 +67,7 @@ returns-clause-records g c = λ left told.
     let turned = call_goes c.args.self.now process c.seen-seen.result c.args-words.result left c.self.view_is sees c.args-words.ensures left_by c.in_ok-outcome.outcome _ _ refl (c.in_ok-outcome.ensures.row left told) c.in_ok-ended.ended (machine_of c.finish.new.self) c.finish.new.self.going.events c.in_ok-ended.ensures.over c.in_ok-ended.ensures.machine c.in_ok-ended.ensures.events in
     call_recorded c.args.turn c.args.self.now process c.seen-seen.result c.args-words.result left c.self.view_is sees c.args-words.ensures c.args.kept.now.records c.add_call.new.self c.look.new.was _
     c.part-log.result.effects c.make_call.new.log.effects _ (machine_of c.finish.new.self) (looked c.args.kept.now.records c.look.new.was _ _ c.look.ensures refl) (ap (λ (p : ProcessState). p.processor) c.self-2.view_is) turned.became
-    c.part-log.ensures.effects c.halves-calls.ensures.effects (c.in_ok-outcome.ensures.kept left told).effects c.in_ok-add_call.ensures
+    c.part-log.ensures.effects (ap (λ (k : KeptCalls). k.effects) c.log.view_is) (c.in_ok-outcome.ensures.kept left told).effects c.in_ok-add_call.ensures
 
 pub returns-clause-native : goal.returns-clause-native
 returns-clause-native g c = λ left told ready.
@@ -76,8 +78,8 @@ returns-clause-native g c = λ left told ready.
     subst (λ (t : Turn). LastLogged c.args.self.now.kernel c.finish.new.self.kernel left t c.args.kept.now.native c.add.new.self)
     (its_turn c.args.self.now process c.seen-seen.result c.args-words.result left c.self.view_is sees c.args-words.ensures)
     (call_logged c.args.clock c.args.self.now.kernel c.self.inside.core.kernel c.make_call.new.core.kernel c.finish.new.self.kernel left c.args.kept.now.native c.add.new.self
-    made c.part-log.result.native c.halves-calls.result.0.native (ap (λ (p : ProcessState). p.kernel) c.self.view_is) c.finish.ensures.kernel row.became c.part-log.ensures.native
-    (subst (λ (n : Option (List LogEntry)). Logged c.part-log.result.native n (opening c.self.inside.core.kernel left) (moment made.kernel made.left made.sent)) (sym c.halves-calls.ensures.native)
+    made c.part-log.result.native (option_map (λ (v : Vec LogEntry Global). v.items) c.log.inside.native) (ap (λ (p : ProcessState). p.kernel) c.self.view_is) c.finish.ensures.kernel row.became c.part-log.ensures.native
+    (subst (λ (n : Option (List LogEntry)). Logged c.part-log.result.native n (opening c.self.inside.core.kernel left) (moment made.kernel made.left made.sent)) (sym (ap (λ (k : KeptCalls). k.native) c.log.view_is))
     (c.in_ok-outcome.ensures.kept left told).native) ready
     (λ first logged. c.in_ok-add.ensures.leads c.self.inside.core.kernel c.make_call.new.core.kernel left _ _ _ (ap (λ (p : ProcessState). p.kernel.clock) c.self.view_is ∙ c.requires.clock)
     (c.make_call.ensures.clock ∙ ap (λ (p : ProcessState). p.kernel.clock) c.self.view_is ∙ c.requires.clock) first logged))
