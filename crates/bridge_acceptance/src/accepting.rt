@@ -1,6 +1,6 @@
 //! Accepting a signal: sigtimedwait(2).
 ghost use Rattle.std.specs.Prelude.{◌≡◌, true, Some};
-ghost use Rattle.bridge_signal_state.specs.Passed.{LeadsOn};
+ghost use Rattle.bridge_signal_state.specs.Passed.{Proceeds};
 ghost use Rattle.bridge_acceptance.specs.inside.Accepting as spec;
 ghost use Rattle.bridge_acceptance.specs.inside.Accepting.{acceptance, did, met};
 ghost use Rattle.bridge_signal_state.specs.Acts.{Acts};
@@ -9,12 +9,11 @@ ghost use Rattle.kernel_model.specs.Shared as shared;
 ghost use Rattle.kernel_model.specs.SignalRows.{accept, accept_signal, pends};
 ghost use Rattle.kernel_model.specs.SignalSets.{blockable};
 ghost use Rattle.kernel_model.specs.State.{Kernel};
-ghost use Rattle.kernel_model.specs.Stops.{StopsOnlyIfRose};
 ghost use Rattle.o32_model.specs.GuestBytes.{unless_null};
 ghost use Rattle.o32_model.specs.Masks.{set_at};
 ghost use Rattle.o32_model.specs.Suspending.{all_signals};
 ghost use Rattle.o32_model.specs.Times.{spec_at};
-ghost use Rattle.outside.specs.Streams.{NoCountFell, contents};
+ghost use Rattle.outside.specs.Streams.{contents};
 
 use crate::asked::{Wanted, asked, is_timed};
 use crate::waiting::wait;
@@ -50,10 +49,7 @@ pub(crate) fn accept<I: Source, O: Sink, E: Sink>(
     ensures acts { Acts (λ came became. accept below.old.kernel.now all_signals blockable (set_at space.now set)
         (unless_null time (spec_at space.now time)) size ≡ did became came) result below.old.kernel.now below.new.kernel.now
         (contents I.left O.written E.written dev.old) (contents I.left O.written E.written dev.new) below.old.log.now below.new.log.now }
-    ensures cause { StopsOnlyIfRose I.faults O.faults E.faults result dev.old dev.new }
-    ensures counts { NoCountFell I.faults O.faults E.faults dev.old dev.new }
-    ensures clock { below.new.kernel.now.clock ≡ below.old.kernel.now.clock }
-    ensures same { LeadsOn below.old below.new }
+    ensures proceeds { Proceeds I.faults O.faults E.faults result below.old below.new dev.old dev.new }
 {
     match asked(set, time, size, space) {
         Err(error) => Ok(Accepted::Refused(error)),
@@ -69,10 +65,7 @@ fn accept_asked<I: Source, O: Sink, E: Sink>(
 ) -> Result<Accepted, Stop>
     ensures acts { Acts (λ came became. acceptance below.old.kernel.now asked ≡ did became came) result below.old.kernel.now below.new.kernel.now
         (contents I.left O.written E.written dev.old) (contents I.left O.written E.written dev.new) below.old.log.now below.new.log.now }
-    ensures cause { StopsOnlyIfRose I.faults O.faults E.faults result dev.old dev.new }
-    ensures counts { NoCountFell I.faults O.faults E.faults dev.old dev.new }
-    ensures clock { below.new.kernel.now.clock ≡ below.old.kernel.now.clock }
-    ensures same { LeadsOn below.old below.new }
+    ensures proceeds { Proceeds I.faults O.faults E.faults result below.old below.new dev.old dev.new }
 {
     let pending = pending(dev, below)?;
     match accepted(pending, asked.set) {
@@ -91,10 +84,7 @@ fn accept_signal<I: Source, O: Sink, E: Sink>(
     ensures acts { pends below.old.kernel.now.signals sig ≡ true
         → Acts (λ came became. met below.old.kernel.now time (Some sig) ≡ did became came) result below.old.kernel.now below.new.kernel.now
         (contents I.left O.written E.written dev.old) (contents I.left O.written E.written dev.new) below.old.log.now below.new.log.now }
-    ensures cause { StopsOnlyIfRose I.faults O.faults E.faults result dev.old dev.new }
-    ensures counts { NoCountFell I.faults O.faults E.faults dev.old dev.new }
-    ensures clock { below.new.kernel.now.clock ≡ below.old.kernel.now.clock }
-    ensures same { LeadsOn below.old below.new }
+    ensures proceeds { Proceeds I.faults O.faults E.faults result below.old below.new dev.old dev.new }
 {
     if !is_timed(time) {
         return Ok(Accepted::Refused(Errno::EINVAL));
@@ -111,10 +101,7 @@ fn take_signal<I: Source, O: Sink, E: Sink>(
     ensures acts { (none : Did Kernel shared.Info) → pends below.old.kernel.now.signals sig ≡ true
         → Acts (λ came became. accept_signal below.old.kernel.now (Some sig) none ≡ did became came) result below.old.kernel.now below.new.kernel.now
         (contents I.left O.written E.written dev.old) (contents I.left O.written E.written dev.new) below.old.log.now below.new.log.now }
-    ensures cause { StopsOnlyIfRose I.faults O.faults E.faults result dev.old dev.new }
-    ensures counts { NoCountFell I.faults O.faults E.faults dev.old dev.new }
-    ensures clock { below.new.kernel.now.clock ≡ below.old.kernel.now.clock }
-    ensures same { LeadsOn below.old below.new }
+    ensures proceeds { Proceeds I.faults O.faults E.faults result below.old below.new dev.old dev.new }
 {
     let info = take(sig, dev, below)?;
     Ok(taken(info))

@@ -1,12 +1,11 @@
 //! How the wait of the call ends.
-ghost use Rattle.std.specs.Prelude.{◌≡◌, []};
-ghost use Rattle.bridge_signal_state.specs.Passed.{LeadsOn};
+ghost use Rattle.std.specs.Prelude.{[]};
+ghost use Rattle.bridge_signal_state.specs.Passed.{Proceeds};
 ghost use Rattle.bridge_signal_state.specs.Ends.{Closes, KeepsEnd};
-ghost use Rattle.kernel_model.specs.Stops.{StopsOnlyIfRose};
 ghost use Rattle.o32_model.specs.SignalWaitEnds.{acceptance_ended, ended_by, finding};
 ghost use Rattle.o32_model.specs.Suspending.{rt_sigtimedwait_row};
 ghost use Rattle.o32_model.specs.WaitEnds.{wait_word};
-ghost use Rattle.outside.specs.Streams.{NoCountFell, contents};
+ghost use Rattle.outside.specs.Streams.{contents};
 
 use crate::accepting::accept;
 use crate::telling::{close_of, tell};
@@ -29,10 +28,7 @@ pub fn acceptance_end<I: Source, O: Sink, E: Sink>(
     ensures ends { Closes (acceptance_ended wait.now cause below.old.kernel.now space.old) result below.new.kernel.now space.new
         (contents I.left O.written E.written dev.old) (contents I.left O.written E.written dev.new) }
     ensures kept { KeepsEnd result (I.left dev.old.input) below.old.kernel.now below.new.kernel.now space.old.pages space.new.pages below.old.log.now below.new.log.now }
-    ensures cause { StopsOnlyIfRose I.faults O.faults E.faults result dev.old dev.new }
-    ensures counts { NoCountFell I.faults O.faults E.faults dev.old dev.new }
-    ensures clock { below.new.kernel.now.clock ≡ below.old.kernel.now.clock }
-    ensures same { LeadsOn below.old below.new }
+    ensures proceeds { Proceeds I.faults O.faults E.faults result below.old below.new dev.old dev.new }
 {
     match cause {
         Cause::Due => Ok(Close::Error(Errno::EAGAIN)),
@@ -53,10 +49,7 @@ fn accept_again<I: Source, O: Sink, E: Sink>(
         (wait_word wait.now 1) (wait_word wait.now 2) (wait_word wait.now 3) [])) result below.new.kernel.now space.new
         (contents I.left O.written E.written dev.old) (contents I.left O.written E.written dev.new) }
     ensures kept { KeepsEnd result (I.left dev.old.input) below.old.kernel.now below.new.kernel.now space.old.pages space.new.pages below.old.log.now below.new.log.now }
-    ensures cause { StopsOnlyIfRose I.faults O.faults E.faults result dev.old dev.new }
-    ensures counts { NoCountFell I.faults O.faults E.faults dev.old dev.new }
-    ensures clock { below.new.kernel.now.clock ≡ below.old.kernel.now.clock }
-    ensures same { LeadsOn below.old below.new }
+    ensures proceeds { Proceeds I.faults O.faults E.faults result below.old below.new dev.old dev.new }
 {
     let [set, info, time, size, _, _] = wait.words;
     let came = accept(set, time, size, space, dev, below)?;

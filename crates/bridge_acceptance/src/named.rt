@@ -2,7 +2,7 @@
 ghost use Rattle.std.specs.Prelude.{◌≡◌, ◌==◌};
 ghost use Rattle.std.specs.List.{list_any};
 ghost use Rattle.bridge_acceptance.specs.inside.Named.{named_set};
-ghost use Rattle.bridge_signal_state.specs.Passed.{LeadsOn, LooksFor};
+ghost use Rattle.bridge_signal_state.specs.Passed.{LooksFor, Proceeds};
 ghost use Rattle.kernel_core.specs.declared.signal.Sig.{Sig};
 ghost use Rattle.kernel_model.specs.SignalRows.{pends};
 ghost use Rattle.kernel_model.specs.SignalSets.{place};
@@ -74,10 +74,7 @@ fn pends_named<I: Source, O: Sink, E: Sink>(
     ensures looks { LooksFor (λ found. found ≡ list_any (λ (signal : Sig). pends below.old.kernel.now.signals signal)
         (named_signals space.now wait.now)) result below.old.kernel.now below.new.kernel.now
         (contents I.left O.written E.written dev.old) (contents I.left O.written E.written dev.new) below.old.log.now below.new.log.now }
-    ensures cause { StopsOnlyIfRose I.faults O.faults E.faults result dev.old dev.new }
-    ensures counts { NoCountFell I.faults O.faults E.faults dev.old dev.new }
-    ensures clock { below.new.kernel.now.clock ≡ below.old.kernel.now.clock }
-    ensures same { LeadsOn below.old below.new }
+    ensures proceeds { Proceeds I.faults O.faults E.faults result below.old below.new dev.old dev.new }
 {
     let Some(set) = named_set(wait, space) else {
         return Ok(false);

@@ -1,12 +1,11 @@
 //! The call where none of the signals pends that it waits for: it waits, or its time is over.
 ghost use Rattle.std.specs.Prelude.{◌≡◌, None};
-ghost use Rattle.bridge_signal_state.specs.Passed.{LeadsOn, LooksFor, error_of};
+ghost use Rattle.bridge_signal_state.specs.Passed.{LooksFor, Proceeds, error_of};
 ghost use Rattle.bridge_acceptance.specs.inside.Accepting.{acceptance, came_of, did};
 ghost use Rattle.kernel_model.specs.SignalRows.{first_pending};
 ghost use Rattle.kernel_model.specs.SignalSets.{blockable};
-ghost use Rattle.kernel_model.specs.Stops.{StopsOnlyIfRose};
 ghost use Rattle.o32_model.specs.Suspending.{all_signals};
-ghost use Rattle.outside.specs.Streams.{NoCountFell, contents};
+ghost use Rattle.outside.specs.Streams.{contents};
 
 use crate::accepting::Accepted;
 use crate::asked::Wanted;
@@ -29,10 +28,7 @@ pub(crate) fn wait<I: Source, O: Sink, E: Sink>(
     ensures looks { first_pending below.old.kernel.now.signals all_signals (blockable asked.set) ≡ None
         → LooksFor (λ came. acceptance below.old.kernel.now asked ≡ did below.old.kernel.now came) result below.old.kernel.now below.new.kernel.now
         (contents I.left O.written E.written dev.old) (contents I.left O.written E.written dev.new) below.old.log.now below.new.log.now }
-    ensures cause { StopsOnlyIfRose I.faults O.faults E.faults result dev.old dev.new }
-    ensures counts { NoCountFell I.faults O.faults E.faults dev.old dev.new }
-    ensures clock { below.new.kernel.now.clock ≡ below.old.kernel.now.clock }
-    ensures same { LeadsOn below.old below.new }
+    ensures proceeds { Proceeds I.faults O.faults E.faults result below.old below.new dev.old dev.new }
 {
     let time = put_asked(asked, below.memory)?;
     let args = [FIRST_ADDRESS, 0, time, SIGSETSIZE, 0, 0];

@@ -1,6 +1,6 @@
 //! The delivery of signals, round by round.
 ghost use Rattle.std.specs.Prelude.{◌≡◌, Some, is_some};
-ghost use Rattle.bridge_ends.specs.Passed.{LeadsOn};
+ghost use Rattle.bridge_ends.specs.Passed.{LeadsOn, Proceeds};
 ghost use Rattle.bridge_ends.specs.Ends.{KeepsEnd};
 ghost use Rattle.bridge_delivery.specs.inside.Processes.{StaysOn, stands};
 ghost use Rattle.bridge_delivery.specs.inside.Standings.{Finds, is_over};
@@ -218,10 +218,7 @@ fn next<I: Source, O: Sink, E: Sink>(
     ensures looks { Finds (λ signal. signal ≡ next_signal below.old.kernel.now.signals) result below.old.kernel.now below.new.kernel.now
         (contents I.left O.written E.written dev.old) (contents I.left O.written E.written dev.new) }
     ensures kept { (pages : Pages) → KeepsEnd result (I.left dev.old.input) below.old.kernel.now below.new.kernel.now pages pages below.old.log.now below.new.log.now }
-    ensures cause { StopsOnlyIfRose I.faults O.faults E.faults result dev.old dev.new }
-    ensures counts { NoCountFell I.faults O.faults E.faults dev.old dev.new }
-    ensures clock { below.new.kernel.now.clock ≡ below.old.kernel.now.clock }
-    ensures same { LeadsOn below.old below.new }
+    ensures proceeds { Proceeds I.faults O.faults E.faults result below.old below.new dev.old dev.new }
 {
     let pending = pending(dev, below)?;
     let blocked = mask(dev, below)?;

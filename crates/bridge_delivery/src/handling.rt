@@ -1,6 +1,6 @@
 //! A handler begins.
 ghost use Rattle.std.specs.Prelude.{◌≡◌};
-ghost use Rattle.bridge_ends.specs.Passed.{LeadsOn};
+ghost use Rattle.bridge_ends.specs.Passed.{LeadsOn, Proceeds};
 ghost use Rattle.bridge_ends.specs.Ends.{KeepsEnd};
 ghost use Rattle.bridge_delivery.specs.inside.Processes.{StaysOn, stands};
 ghost use Rattle.bridge_delivery.specs.inside.Standings.{Becomes};
@@ -96,10 +96,7 @@ fn begin<I: Source, O: Sink, E: Sink>(
         (stands process.old below.old.kernel.now) (stands process.new below.new.kernel.now)
         (contents I.left O.written E.written dev.old) (contents I.left O.written E.written dev.new) }
     ensures kept { KeepsEnd result (I.left dev.old.input) below.old.kernel.now below.new.kernel.now process.old.space.now.pages process.new.space.now.pages below.old.log.now below.new.log.now }
-    ensures cause { StopsOnlyIfRose I.faults O.faults E.faults result dev.old dev.new }
-    ensures counts { NoCountFell I.faults O.faults E.faults dev.old dev.new }
-    ensures clock { below.new.kernel.now.clock ≡ below.old.kernel.now.clock }
-    ensures same { LeadsOn below.old below.new }
+    ensures proceeds { Proceeds I.faults O.faults E.faults result below.old below.new dev.old dev.new }
     ensures stays { StaysOn process.old process.new }
 {
     let blocked = mask(dev, below)?;
@@ -121,10 +118,7 @@ fn begin_on<I: Source, O: Sink, E: Sink>(
         (stands process.old below.old.kernel.now) (stands process.new below.new.kernel.now)
         (contents I.left O.written E.written dev.old) (contents I.left O.written E.written dev.new) }
     ensures kept { KeepsEnd result (I.left dev.old.input) below.old.kernel.now below.new.kernel.now process.old.space.now.pages process.new.space.now.pages below.old.log.now below.new.log.now }
-    ensures cause { StopsOnlyIfRose I.faults O.faults E.faults result dev.old dev.new }
-    ensures counts { NoCountFell I.faults O.faults E.faults dev.old dev.new }
-    ensures clock { below.new.kernel.now.clock ≡ below.old.kernel.now.clock }
-    ensures same { LeadsOn below.old below.new }
+    ensures proceeds { Proceeds I.faults O.faults E.faults result below.old below.new dev.old dev.new }
     ensures stays { StaysOn process.old process.new }
 {
     let kept = frame_mask(process.going, blocked);
@@ -148,10 +142,7 @@ fn run_handler<I: Source, O: Sink, E: Sink>(
     ensures handling { blocked ≡ below.old.kernel.now.signals.mask → Becomes (λ kernel. spec.handling kernel sig action.now) result below.old.kernel.now below.new.kernel.now
         (contents I.left O.written E.written dev.old) (contents I.left O.written E.written dev.new) }
     ensures kept { (pages : Pages) → KeepsEnd result (I.left dev.old.input) below.old.kernel.now below.new.kernel.now pages pages below.old.log.now below.new.log.now }
-    ensures cause { StopsOnlyIfRose I.faults O.faults E.faults result dev.old dev.new }
-    ensures counts { NoCountFell I.faults O.faults E.faults dev.old dev.new }
-    ensures clock { below.new.kernel.now.clock ≡ below.old.kernel.now.clock }
-    ensures same { LeadsOn below.old below.new }
+    ensures proceeds { Proceeds I.faults O.faults E.faults result below.old below.new dev.old dev.new }
 {
     set_mask(handling_mask(blocked, sig, action), dev, below)?;
     if action.flags.resethand() {
@@ -169,10 +160,7 @@ fn reset<I: Source, O: Sink, E: Sink>(
     ensures reset { Becomes (without_action sig) result below.old.kernel.now below.new.kernel.now
         (contents I.left O.written E.written dev.old) (contents I.left O.written E.written dev.new) }
     ensures kept { (pages : Pages) → KeepsEnd result (I.left dev.old.input) below.old.kernel.now below.new.kernel.now pages pages below.old.log.now below.new.log.now }
-    ensures cause { StopsOnlyIfRose I.faults O.faults E.faults result dev.old dev.new }
-    ensures counts { NoCountFell I.faults O.faults E.faults dev.old dev.new }
-    ensures clock { below.new.kernel.now.clock ≡ below.old.kernel.now.clock }
-    ensures same { LeadsOn below.old below.new }
+    ensures proceeds { Proceeds I.faults O.faults E.faults result below.old below.new dev.old dev.new }
 {
     if is_unblockable(sig) {
         return Ok(());

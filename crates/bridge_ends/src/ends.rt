@@ -1,6 +1,6 @@
 //! How a wait ends.
 ghost use Rattle.std.specs.Prelude.{◌≡◌, ◌==◌, ◌||◌};
-ghost use Rattle.bridge_poll.specs.Passed.{Closes, KeepsEnd, LeadsOn};
+ghost use Rattle.bridge_poll.specs.Passed.{Closes, KeepsEnd, LeadsOn, Proceeds};
 ghost use Rattle.bridge_ends.specs.Ended.{ended_wait};
 ghost use Rattle.bridge_ends.specs.inside.Endings.{old_mask, suspension_end};
 ghost use Rattle.guest_space.specs.Memory.{Memory, Pages};
@@ -177,10 +177,7 @@ fn timed_wait_close<I: Source, O: Sink, E: Sink>(
     ensures ends { Closes (wait_ended wait.now cause clock below.old.kernel.now space.old) result below.new.kernel.now space.new
         (contents I.left O.written E.written dev.old) (contents I.left O.written E.written dev.new) }
     ensures kept { KeepsEnd result (I.left dev.old.input) below.old.kernel.now below.new.kernel.now space.old.pages space.new.pages below.old.log.now below.new.log.now }
-    ensures cause { StopsOnlyIfRose I.faults O.faults E.faults result dev.old dev.new }
-    ensures counts { NoCountFell I.faults O.faults E.faults dev.old dev.new }
-    ensures clock { below.new.kernel.now.clock ≡ below.old.kernel.now.clock }
-    ensures same { LeadsOn below.old below.new }
+    ensures proceeds { Proceeds I.faults O.faults E.faults result below.old below.new dev.old dev.new }
 {
     if is_sleep(wait.nr) {
         return wait_end(wait, cause, clock, space, below);
@@ -209,10 +206,7 @@ fn signal_wait_close<I: Source, O: Sink, E: Sink>(
     ensures ends { Closes (signal_wait_ended wait.now cause below.old.kernel.now space.old) result below.new.kernel.now space.new
         (contents I.left O.written E.written dev.old) (contents I.left O.written E.written dev.new) }
     ensures kept { KeepsEnd result (I.left dev.old.input) below.old.kernel.now below.new.kernel.now space.old.pages space.new.pages below.old.log.now below.new.log.now }
-    ensures cause { StopsOnlyIfRose I.faults O.faults E.faults result dev.old dev.new }
-    ensures counts { NoCountFell I.faults O.faults E.faults dev.old dev.new }
-    ensures clock { below.new.kernel.now.clock ≡ below.old.kernel.now.clock }
-    ensures same { LeadsOn below.old below.new }
+    ensures proceeds { Proceeds I.faults O.faults E.faults result below.old below.new dev.old dev.new }
 {
     if is_acceptance_call(wait.nr) {
         return acceptance_end(wait, cause, space, dev, below);
@@ -230,10 +224,7 @@ fn suspension_close<I: Source, O: Sink, E: Sink>(
     ensures ends { (memory : Memory) → Closes (suspension_ended wait.now cause below.old.kernel.now memory) result below.new.kernel.now memory
         (contents I.left O.written E.written dev.old) (contents I.left O.written E.written dev.new) }
     ensures kept { (pages : Pages) → KeepsEnd result (I.left dev.old.input) below.old.kernel.now below.new.kernel.now pages pages below.old.log.now below.new.log.now }
-    ensures cause { StopsOnlyIfRose I.faults O.faults E.faults result dev.old dev.new }
-    ensures counts { NoCountFell I.faults O.faults E.faults dev.old dev.new }
-    ensures clock { below.new.kernel.now.clock ≡ below.old.kernel.now.clock }
-    ensures same { LeadsOn below.old below.new }
+    ensures proceeds { Proceeds I.faults O.faults E.faults result below.old below.new dev.old dev.new }
 {
     with_old_mask(old_mask(wait, cause), suspension_end(cause), dev, below)
 }
@@ -269,10 +260,7 @@ fn with_old_mask<I: Source, O: Sink, E: Sink>(
     ensures ends { (memory : Memory) → Closes (ends_with close (with_old_mask mask below.old.kernel.now) memory) result below.new.kernel.now memory
         (contents I.left O.written E.written dev.old) (contents I.left O.written E.written dev.new) }
     ensures kept { (pages : Pages) → KeepsEnd result (I.left dev.old.input) below.old.kernel.now below.new.kernel.now pages pages below.old.log.now below.new.log.now }
-    ensures cause { StopsOnlyIfRose I.faults O.faults E.faults result dev.old dev.new }
-    ensures counts { NoCountFell I.faults O.faults E.faults dev.old dev.new }
-    ensures clock { below.new.kernel.now.clock ≡ below.old.kernel.now.clock }
-    ensures same { LeadsOn below.old below.new }
+    ensures proceeds { Proceeds I.faults O.faults E.faults result below.old below.new dev.old dev.new }
 {
     match mask {
         None => Ok(close),

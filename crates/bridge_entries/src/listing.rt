@@ -1,6 +1,6 @@
 //! Listing a directory: getdents(2), getdents64(2).
 ghost use Rattle.std.specs.Prelude.{◌≡◌, ◌≤◌, OnOk, take};
-ghost use Rattle.bridge_log.specs.Leading.{LeadsOn};
+ghost use Rattle.bridge_log.specs.Proceeding.{Proceeds};
 ghost use Rattle.bridge_entries.specs.inside.Answers.{IsGiven, narrow};
 ghost use Rattle.bridge_entries.specs.inside.Passing.{GoesTo};
 ghost use Rattle.bridge_log.specs.Fills.{bytes_back};
@@ -8,7 +8,6 @@ ghost use Rattle.bridge_log.specs.Keeping.{KeepsCall, reached};
 ghost use Rattle.guest_space.specs.Access.{user_end};
 ghost use Rattle.kernel_model.specs.ContentRows.{entries};
 ghost use Rattle.kernel_model.specs.Pipes.{Sent};
-ghost use Rattle.kernel_model.specs.Stops.{StopsOnlyIfRose};
 ghost use Rattle.kernel_model.specs.Whole.{with_files};
 ghost use Rattle.mips_exec.specs.Processor.{Processor};
 ghost use Rattle.o32_model.specs.Answered.{IsCall};
@@ -17,7 +16,7 @@ ghost use Rattle.o32_model.specs.Entries.{entry_form, entry64_form, getdents_row
 ghost use Rattle.o32_model.specs.GuestBytes.{with_stored};
 ghost use Rattle.o32_model.specs.Step.{Guest};
 ghost use Rattle.o32_model.specs.Words.{argument};
-ghost use Rattle.outside.specs.Streams.{NoCountFell, contents};
+ghost use Rattle.outside.specs.Streams.{contents};
 
 use crate::answers::{Answer, Bounds, answer_to};
 use crate::passing::{list, position, put_position};
@@ -49,10 +48,7 @@ pub(crate) fn getdents64<I: Source, O: Sink, E: Sink>(
         (contents I.left O.written E.written dev.old) (contents I.left O.written E.written dev.new) }
     ensures kept { (guest : Guest) → guest.words ≡ words.now → guest.memory ≡ space.old
         → KeepsCall (getdents_row entry64_form below.old.kernel.now guest (argument words.now 0) (argument words.now 1) (argument words.now 2)) result below.old.kernel.now guest (I.left dev.old.input) below.old.log.now below.new.log.now }
-    ensures cause { StopsOnlyIfRose I.faults O.faults E.faults result dev.old dev.new }
-    ensures counts { NoCountFell I.faults O.faults E.faults dev.old dev.new }
-    ensures clock { below.new.kernel.now.clock ≡ below.old.kernel.now.clock }
-    ensures same { LeadsOn below.old below.new }
+    ensures proceeds { Proceeds I.faults O.faults E.faults result below.old below.new dev.old dev.new }
 {
     below.kernel.files_valid();
     let [fd, buffer, size, _] = words.reg;
@@ -86,10 +82,7 @@ pub(crate) fn getdents<I: Source, O: Sink, E: Sink>(
         (contents I.left O.written E.written dev.old) (contents I.left O.written E.written dev.new) }
     ensures kept { (guest : Guest) → guest.words ≡ words.now → guest.memory ≡ space.old
         → KeepsCall (getdents_row entry_form below.old.kernel.now guest (argument words.now 0) (argument words.now 1) (argument words.now 2)) result below.old.kernel.now guest (I.left dev.old.input) below.old.log.now below.new.log.now }
-    ensures cause { StopsOnlyIfRose I.faults O.faults E.faults result dev.old dev.new }
-    ensures counts { NoCountFell I.faults O.faults E.faults dev.old dev.new }
-    ensures clock { below.new.kernel.now.clock ≡ below.old.kernel.now.clock }
-    ensures same { LeadsOn below.old below.new }
+    ensures proceeds { Proceeds I.faults O.faults E.faults result below.old below.new dev.old dev.new }
 {
     below.kernel.files_valid();
     let [_, buffer, size, _] = words.reg;
@@ -112,10 +105,7 @@ fn answer_call<I: Source, O: Sink, E: Sink>(
     ensures goes { GoesTo (IsGiven words.now (entries below.old.kernel.now.files (argument words.now 0) narrow (argument words.now 2) room).came) result below.old.kernel.now
         (with_files below.old.kernel.now (entries below.old.kernel.now.files (argument words.now 0) narrow (argument words.now 2) room).state) below.new.kernel.now
         (contents I.left O.written E.written dev.old) (contents I.left O.written E.written dev.new) below.old.log.now below.new.log.now }
-    ensures cause { StopsOnlyIfRose I.faults O.faults E.faults result dev.old dev.new }
-    ensures counts { NoCountFell I.faults O.faults E.faults dev.old dev.new }
-    ensures clock { below.new.kernel.now.clock ≡ below.old.kernel.now.clock }
-    ensures same { LeadsOn below.old below.new }
+    ensures proceeds { Proceeds I.faults O.faults E.faults result below.old below.new dev.old dev.new }
 {
     below.kernel.files_valid();
     let [fd, _, size, _] = words.reg;

@@ -1,7 +1,7 @@
 //! Native calls that take and send nothing: where a descriptor's position is, the entries behind it, and how it is
 //! put elsewhere.
 ghost use Rattle.std.specs.Prelude.{◌≡◌, ℕ, ◌<◌, ◌^◌, List, Some, ⊤};
-ghost use Rattle.bridge_log.specs.Leading.{LeadsOn};
+ghost use Rattle.bridge_log.specs.Proceeding.{Proceeds};
 ghost use Rattle.bridge_entries.specs.inside.Listed.{IsListedBy, did_of, place_in, place_there};
 ghost use Rattle.bridge_entries.specs.inside.Passing.{GoesTo, IsQuiet, Replied};
 ghost use Rattle.bridge_log.specs.Arguments.{AreUnusedZero, IsPlaced};
@@ -9,13 +9,12 @@ ghost use Rattle.kernel_core.specs.FileSystem.{IsFileSystem};
 ghost use Rattle.kernel_core.specs.declared.reply.Reply.{Reply};
 ghost use Rattle.kernel_model.specs.Descriptions.{node_of, opened};
 ghost use Rattle.kernel_model.specs.State.{Kernel};
-ghost use Rattle.kernel_model.specs.Stops.{StopsOnlyIfRose};
 ghost use Rattle.kernel_model.specs.Transfers.{moved_to};
 ghost use Rattle.kernel_model.specs.Whole.{with_files};
 ghost use Rattle.kernel_model.specs.declared.descriptor.Description.{Description};
 ghost use Rattle.native_calls.specs.Table.{native_call};
 ghost use Rattle.bridge_log.specs.Built.{built_call};
-ghost use Rattle.outside.specs.Streams.{NoCountFell, contents};
+ghost use Rattle.outside.specs.Streams.{contents};
 
 use crate::numbers::{SEEK_CUR, SEEK_SET};
 use bridge_log::{Below, fresh_room};
@@ -38,10 +37,7 @@ fn quiet<I: Source, O: Sink, E: Sink>(
         → ((left : List ℕ) → IsQuiet target reply memory left (native_call nr args below.old.kernel.now below.old.memory.now left))
         → GoesTo (Replied reply memory below.new.memory.now) result below.old.kernel.now target below.new.kernel.now
         (contents I.left O.written E.written dev.old) (contents I.left O.written E.written dev.new) below.old.log.now below.new.log.now }
-    ensures cause { StopsOnlyIfRose I.faults O.faults E.faults result dev.old dev.new }
-    ensures counts { NoCountFell I.faults O.faults E.faults dev.old dev.new }
-    ensures clock { below.new.kernel.now.clock ≡ below.old.kernel.now.clock }
-    ensures same { LeadsOn below.old below.new }
+    ensures proceeds { Proceeds I.faults O.faults E.faults result below.old below.new dev.old dev.new }
 {
     below.native(nr, args, dev)
 }
@@ -54,10 +50,7 @@ pub(crate) fn position<I: Source, O: Sink, E: Sink>(
 ) -> Result<Option<u64>, Stop>
     ensures goes { GoesTo (λ found. found ≡ place_there (opened below.old.kernel.now.files fd)) result below.old.kernel.now below.old.kernel.now below.new.kernel.now
         (contents I.left O.written E.written dev.old) (contents I.left O.written E.written dev.new) below.old.log.now below.new.log.now }
-    ensures cause { StopsOnlyIfRose I.faults O.faults E.faults result dev.old dev.new }
-    ensures counts { NoCountFell I.faults O.faults E.faults dev.old dev.new }
-    ensures clock { below.new.kernel.now.clock ≡ below.old.kernel.now.clock }
-    ensures same { LeadsOn below.old below.new }
+    ensures proceeds { Proceeds I.faults O.faults E.faults result below.old below.new dev.old dev.new }
 {
     below.memory.clear();
     let args = [u64::from(fd), 0, SEEK_CUR, 0, 0, 0];
@@ -85,10 +78,7 @@ pub(crate) fn list<I: Source, O: Sink, E: Sink>(
     ensures goes { IsFileSystem below.old.kernel.now.files.nodes
         → GoesTo (λ reply. IsListedBy (did_of below.old.kernel.now fd size size) below.new.memory.now reply) result below.old.kernel.now (did_of below.old.kernel.now fd size size).state below.new.kernel.now
         (contents I.left O.written E.written dev.old) (contents I.left O.written E.written dev.new) below.old.log.now below.new.log.now }
-    ensures cause { StopsOnlyIfRose I.faults O.faults E.faults result dev.old dev.new }
-    ensures counts { NoCountFell I.faults O.faults E.faults dev.old dev.new }
-    ensures clock { below.new.kernel.now.clock ≡ below.old.kernel.now.clock }
-    ensures same { LeadsOn below.old below.new }
+    ensures proceeds { Proceeds I.faults O.faults E.faults result below.old below.new dev.old dev.new }
 {
     fresh_room(below.memory, size)?;
     let args = [u64::from(fd), FIRST_ADDRESS, u64::from(size), 0, 0, 0];
@@ -106,10 +96,7 @@ pub(crate) fn put_position<I: Source, O: Sink, E: Sink>(
         → node_of description.object ≡ Some node → place < 2 ^ 31
         → GoesTo (λ _. ⊤) result below.old.kernel.now (with_files below.old.kernel.now (moved_to below.old.kernel.now.files fd description place)) below.new.kernel.now
         (contents I.left O.written E.written dev.old) (contents I.left O.written E.written dev.new) below.old.log.now below.new.log.now }
-    ensures cause { StopsOnlyIfRose I.faults O.faults E.faults result dev.old dev.new }
-    ensures counts { NoCountFell I.faults O.faults E.faults dev.old dev.new }
-    ensures clock { below.new.kernel.now.clock ≡ below.old.kernel.now.clock }
-    ensures same { LeadsOn below.old below.new }
+    ensures proceeds { Proceeds I.faults O.faults E.faults result below.old below.new dev.old dev.new }
 {
     below.memory.clear();
     let args = [u64::from(fd), place, SEEK_SET, 0, 0, 0];

@@ -1,6 +1,6 @@
 //! A call by its name.
 ghost use Rattle.std.specs.Prelude.{◌≡◌};
-ghost use Rattle.bridge_paths.specs.Passed.{KeepsCall, LeadsOn};
+ghost use Rattle.bridge_paths.specs.Passed.{KeepsCall, Proceeds};
 ghost use Rattle.bridge_paths.specs.Found.{found};
 ghost use Rattle.kernel_model.specs.Stops.{StopsOnlyIfRose};
 ghost use Rattle.o32_calls.specs.Numbers.{file_number, name_number, node_number, place_number, size_number, text_number};
@@ -88,10 +88,7 @@ fn name_call<I: Source, O: Sink, E: Sink>(
         (contents I.left O.written E.written dev.old) (contents I.left O.written E.written dev.new) }
     ensures kept { (guest : Guest) → guest.words ≡ caller.now.words.now → guest.memory ≡ caller.now.space.now
         → KeepsCall (o32_call below.old.kernel.now guest) result below.old.kernel.now guest (I.left dev.old.input) below.old.log.now below.new.log.now }
-    ensures cause { StopsOnlyIfRose I.faults O.faults E.faults result dev.old dev.new }
-    ensures counts { NoCountFell I.faults O.faults E.faults dev.old dev.new }
-    ensures clock { below.new.kernel.now.clock ≡ below.old.kernel.now.clock }
-    ensures same { LeadsOn below.old below.new }
+    ensures proceeds { Proceeds I.faults O.faults E.faults result below.old below.new dev.old dev.new }
 {
     let [a0, a1, a2, a3] = caller.words.reg;
     match call {
@@ -122,10 +119,7 @@ fn node_call<I: Source, O: Sink, E: Sink>(
         (contents I.left O.written E.written dev.old) (contents I.left O.written E.written dev.new) }
     ensures kept { (guest : Guest) → guest.words ≡ caller.now.words.now → guest.memory ≡ caller.now.space.now
         → KeepsCall (o32_call below.old.kernel.now guest) result below.old.kernel.now guest (I.left dev.old.input) below.old.log.now below.new.log.now }
-    ensures cause { StopsOnlyIfRose I.faults O.faults E.faults result dev.old dev.new }
-    ensures counts { NoCountFell I.faults O.faults E.faults dev.old dev.new }
-    ensures clock { below.new.kernel.now.clock ≡ below.old.kernel.now.clock }
-    ensures same { LeadsOn below.old below.new }
+    ensures proceeds { Proceeds I.faults O.faults E.faults result below.old below.new dev.old dev.new }
 {
     let [a0, a1, a2, _] = caller.words.reg;
     match call {
@@ -158,10 +152,7 @@ fn text_call<I: Source, O: Sink, E: Sink>(
         (contents I.left O.written E.written dev.old) (contents I.left O.written E.written dev.new) }
     ensures kept { (guest : Guest) → guest.words ≡ words.now → guest.memory ≡ space.old
         → KeepsCall (o32_call below.old.kernel.now guest) result below.old.kernel.now guest (I.left dev.old.input) below.old.log.now below.new.log.now }
-    ensures cause { StopsOnlyIfRose I.faults O.faults E.faults result dev.old dev.new }
-    ensures counts { NoCountFell I.faults O.faults E.faults dev.old dev.new }
-    ensures clock { below.new.kernel.now.clock ≡ below.old.kernel.now.clock }
-    ensures same { LeadsOn below.old below.new }
+    ensures proceeds { Proceeds I.faults O.faults E.faults result below.old below.new dev.old dev.new }
 {
     let [a0, a1, a2, a3] = words.reg;
     match call {
@@ -198,10 +189,7 @@ fn size_call<I: Source, O: Sink, E: Sink>(
         (contents I.left O.written E.written dev.old) (contents I.left O.written E.written dev.new) }
     ensures kept { (guest : Guest) → guest.words ≡ caller.now.words.now → guest.memory ≡ caller.now.space.now
         → KeepsCall (o32_call below.old.kernel.now guest) result below.old.kernel.now guest (I.left dev.old.input) below.old.log.now below.new.log.now }
-    ensures cause { StopsOnlyIfRose I.faults O.faults E.faults result dev.old dev.new }
-    ensures counts { NoCountFell I.faults O.faults E.faults dev.old dev.new }
-    ensures clock { below.new.kernel.now.clock ≡ below.old.kernel.now.clock }
-    ensures same { LeadsOn below.old below.new }
+    ensures proceeds { Proceeds I.faults O.faults E.faults result below.old below.new dev.old dev.new }
 {
     let [a0, a1, a2, a3] = caller.words.reg;
     match call {
@@ -226,10 +214,7 @@ fn place_call<I: Source, O: Sink, E: Sink>(
         (contents I.left O.written E.written dev.old) (contents I.left O.written E.written dev.new) }
     ensures kept { (guest : Guest) → guest.words ≡ words.now → guest.memory ≡ space.old
         → KeepsCall (o32_call below.old.kernel.now guest) result below.old.kernel.now guest (I.left dev.old.input) below.old.log.now below.new.log.now }
-    ensures cause { StopsOnlyIfRose I.faults O.faults E.faults result dev.old dev.new }
-    ensures counts { NoCountFell I.faults O.faults E.faults dev.old dev.new }
-    ensures clock { below.new.kernel.now.clock ≡ below.old.kernel.now.clock }
-    ensures same { LeadsOn below.old below.new }
+    ensures proceeds { Proceeds I.faults O.faults E.faults result below.old below.new dev.old dev.new }
 {
     let [a0, a1, a2, _] = words.reg;
     match call {

@@ -1,12 +1,11 @@
 //! o32 calls with paths that are one native call.
 ghost use Rattle.std.specs.Prelude.{◌≡◌, ℕ, ◌<◌, List, None, Ok, length, position, slice_set, true};
-ghost use Rattle.bridge_paths.specs.Passed.{AreUnusedZero, KeepsCall, LeadsOn, built_call, takes_address};
-ghost use Rattle.kernel_model.specs.Stops.{StopsOnlyIfRose};
+ghost use Rattle.bridge_paths.specs.Passed.{AreUnusedZero, KeepsCall, Proceeds, built_call, takes_address};
 ghost use Rattle.native_calls.specs.Table.{native_call};
 ghost use Rattle.o32_model.specs.Answered.{IsCall};
 ghost use Rattle.o32_model.specs.Paths.{is_nul, path_at, path_limit};
 ghost use Rattle.o32_model.specs.Step.{Guest, O32Step};
-ghost use Rattle.outside.specs.Streams.{NoCountFell, contents};
+ghost use Rattle.outside.specs.Streams.{contents};
 ghost use Rattle.bridge_file.specs.inside.Paths.{MirrorsPath, MirrorsPaths};
 
 use crate::paths::Caller;
@@ -46,10 +45,7 @@ pub(crate) fn path_call<I: Source, O: Sink, E: Sink>(
     ensures kept { (guest : Guest) (step : List ℕ → O32Step) → guest.words ≡ caller.now.words.now → guest.memory ≡ caller.now.space.now
         → MirrorsPath guest below.old.kernel.now address (native_call call.nr call.args below.old.kernel.now) step
         → KeepsCall step result below.old.kernel.now guest (I.left dev.old.input) below.old.log.now below.new.log.now }
-    ensures cause { StopsOnlyIfRose I.faults O.faults E.faults result dev.old dev.new }
-    ensures counts { NoCountFell I.faults O.faults E.faults dev.old dev.new }
-    ensures clock { below.new.kernel.now.clock ≡ below.old.kernel.now.clock }
-    ensures same { LeadsOn below.old below.new }
+    ensures proceeds { Proceeds I.faults O.faults E.faults result below.old below.new dev.old dev.new }
 {
     match read_path(caller.alloc, caller.space, address)? {
         Err(error) => Ok(Outcome::Error(error)),
@@ -79,10 +75,7 @@ pub(crate) fn paths_call<I: Source, O: Sink, E: Sink>(
     ensures kept { (guest : Guest) (step : List ℕ → O32Step) → guest.words ≡ caller.now.words.now → guest.memory ≡ caller.now.space.now
         → MirrorsPaths guest below.old.kernel.now paths.first paths.second (λ at. native_call call.nr (slice_set call.args paths.place at) below.old.kernel.now) step
         → KeepsCall step result below.old.kernel.now guest (I.left dev.old.input) below.old.log.now below.new.log.now }
-    ensures cause { StopsOnlyIfRose I.faults O.faults E.faults result dev.old dev.new }
-    ensures counts { NoCountFell I.faults O.faults E.faults dev.old dev.new }
-    ensures clock { below.new.kernel.now.clock ≡ below.old.kernel.now.clock }
-    ensures same { LeadsOn below.old below.new }
+    ensures proceeds { Proceeds I.faults O.faults E.faults result below.old below.new dev.old dev.new }
 {
     match read_path(caller.alloc, caller.space, paths.first)? {
         Err(error) => Ok(Outcome::Error(error)),
@@ -113,10 +106,7 @@ fn second_call<I: Source, O: Sink, E: Sink>(
     ensures kept { (guest : Guest) (step : List ℕ → O32Step) → guest.words ≡ caller.now.words.now → guest.memory ≡ caller.now.space.now
         → MirrorsPaths guest below.old.kernel.now paths.first paths.second (λ at. native_call call.nr (slice_set call.args paths.place at) below.old.kernel.now) step
         → KeepsCall step result below.old.kernel.now guest (I.left dev.old.input) below.old.log.now below.new.log.now }
-    ensures cause { StopsOnlyIfRose I.faults O.faults E.faults result dev.old dev.new }
-    ensures counts { NoCountFell I.faults O.faults E.faults dev.old dev.new }
-    ensures clock { below.new.kernel.now.clock ≡ below.old.kernel.now.clock }
-    ensures same { LeadsOn below.old below.new }
+    ensures proceeds { Proceeds I.faults O.faults E.faults result below.old below.new dev.old dev.new }
 {
     match read_path(caller.alloc, caller.space, paths.second)? {
         Err(error) => Ok(Outcome::Error(error)),

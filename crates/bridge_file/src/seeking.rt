@@ -1,14 +1,13 @@
 //! The calls that move a position: lseek(2), _llseek(2).
 ghost use Rattle.std.specs.Prelude.{◌≡◌, ℕ, List};
 ghost use Rattle.std.specs.Int.{cast_signed, w32};
-ghost use Rattle.bridge_paths.specs.Passed.{AreUnusedZero, IsPlaced, KeepsCall, LeadsOn, Mirrors, built_call};
-ghost use Rattle.kernel_model.specs.Stops.{StopsOnlyIfRose};
+ghost use Rattle.bridge_paths.specs.Passed.{AreUnusedZero, IsPlaced, KeepsCall, Mirrors, Proceeds, built_call};
 ghost use Rattle.native_calls.specs.Table.{native_call};
 ghost use Rattle.o32_model.specs.Answered.{IsCall};
 ghost use Rattle.o32_model.specs.Opening.{llseek_row, lseek_row};
 ghost use Rattle.o32_model.specs.Step.{Guest, O32Step};
 ghost use Rattle.o32_model.specs.Words.{argument, pair, stack_word};
-ghost use Rattle.outside.specs.Streams.{NoCountFell, contents};
+ghost use Rattle.outside.specs.Streams.{contents};
 ghost use Rattle.bridge_file.specs.inside.Places.{outcome_of_place, told_place};
 
 use crate::arguments::{fifth, pair, widened};
@@ -38,10 +37,7 @@ pub(crate) fn lseek<I: Source, O: Sink, E: Sink>(
         (contents I.left O.written E.written dev.old) (contents I.left O.written E.written dev.new) }
     ensures kept { (guest : Guest) → guest.words ≡ words.now
         → KeepsCall (lseek_row below.old.kernel.now guest fd (cast_signed w32 offset) origin) result below.old.kernel.now guest (I.left dev.old.input) below.old.log.now below.new.log.now }
-    ensures cause { StopsOnlyIfRose I.faults O.faults E.faults result dev.old dev.new }
-    ensures counts { NoCountFell I.faults O.faults E.faults dev.old dev.new }
-    ensures clock { below.new.kernel.now.clock ≡ below.old.kernel.now.clock }
-    ensures same { LeadsOn below.old below.new }
+    ensures proceeds { Proceeds I.faults O.faults E.faults result below.old below.new dev.old dev.new }
 {
     below.memory.clear();
     let args = [u64::from(fd), widened(offset), u64::from(origin), 0, 0, 0];
@@ -66,10 +62,7 @@ fn place_call<I: Source, O: Sink, E: Sink>(
     ensures kept { (guest : Guest) (step : List ℕ → O32Step) → guest.words ≡ words.now
         → ((left : List ℕ) → Mirrors guest (told_place guest.words) (native_call call.nr call.args below.old.kernel.now below.old.memory.now left) (step left))
         → KeepsCall step result below.old.kernel.now guest (I.left dev.old.input) below.old.log.now below.new.log.now }
-    ensures cause { StopsOnlyIfRose I.faults O.faults E.faults result dev.old dev.new }
-    ensures counts { NoCountFell I.faults O.faults E.faults dev.old dev.new }
-    ensures clock { below.new.kernel.now.clock ≡ below.old.kernel.now.clock }
-    ensures same { LeadsOn below.old below.new }
+    ensures proceeds { Proceeds I.faults O.faults E.faults result below.old below.new dev.old dev.new }
 {
     let reply = below.native(call.nr, call.args, dev)?;
     Ok(outcome_of_place(words, reply))
@@ -98,10 +91,7 @@ pub(crate) fn llseek<I: Source, O: Sink, E: Sink>(
         (contents I.left O.written E.written dev.old) (contents I.left O.written E.written dev.new) }
     ensures kept { (guest : Guest) → guest.words ≡ words.now → guest.memory ≡ space.old
         → KeepsCall (llseek_row below.old.kernel.now guest (argument words.now 0) (pair (argument words.now 1) (argument words.now 2)) (argument words.now 3) (stack_word words.now 0)) result below.old.kernel.now guest (I.left dev.old.input) below.old.log.now below.new.log.now }
-    ensures cause { StopsOnlyIfRose I.faults O.faults E.faults result dev.old dev.new }
-    ensures counts { NoCountFell I.faults O.faults E.faults dev.old dev.new }
-    ensures clock { below.new.kernel.now.clock ≡ below.old.kernel.now.clock }
-    ensures same { LeadsOn below.old below.new }
+    ensures proceeds { Proceeds I.faults O.faults E.faults result below.old below.new dev.old dev.new }
 {
     match fifth(words) {
         None => Ok(Outcome::Error(Errno::EFAULT)),

@@ -2,12 +2,11 @@
 //! a signed number (off_t, loff_t).
 ghost use Rattle.std.specs.Prelude.{◌≡◌};
 ghost use Rattle.std.specs.Int.{cast_signed, w64};
-ghost use Rattle.bridge_paths.specs.Passed.{KeepsCall, LeadsOn};
-ghost use Rattle.kernel_model.specs.Stops.{StopsOnlyIfRose};
+ghost use Rattle.bridge_paths.specs.Passed.{KeepsCall, Proceeds};
 ghost use Rattle.o32_model.specs.Answered.{IsCall};
 ghost use Rattle.o32_model.specs.NodeCalls.{ftruncate_row, truncate_row};
 ghost use Rattle.o32_model.specs.Step.{Guest};
-ghost use Rattle.outside.specs.Streams.{NoCountFell, contents};
+ghost use Rattle.outside.specs.Streams.{contents};
 
 use crate::calls::path_call;
 use crate::paths::Caller;
@@ -32,10 +31,7 @@ pub(crate) fn truncate<I: Source, O: Sink, E: Sink>(
         (contents I.left O.written E.written dev.old) (contents I.left O.written E.written dev.new) }
     ensures kept { (guest : Guest) → guest.words ≡ caller.now.words.now → guest.memory ≡ caller.now.space.now
         → KeepsCall (truncate_row below.old.kernel.now guest address (cast_signed w64 size)) result below.old.kernel.now guest (I.left dev.old.input) below.old.log.now below.new.log.now }
-    ensures cause { StopsOnlyIfRose I.faults O.faults E.faults result dev.old dev.new }
-    ensures counts { NoCountFell I.faults O.faults E.faults dev.old dev.new }
-    ensures clock { below.new.kernel.now.clock ≡ below.old.kernel.now.clock }
-    ensures same { LeadsOn below.old below.new }
+    ensures proceeds { Proceeds I.faults O.faults E.faults result below.old below.new dev.old dev.new }
 {
     let args = [FIRST_ADDRESS, size, 0, 0, 0, 0];
     let call = NativeWords { nr: TRUNCATE, args };
@@ -56,10 +52,7 @@ pub(crate) fn ftruncate<I: Source, O: Sink, E: Sink>(
         (contents I.left O.written E.written dev.old) (contents I.left O.written E.written dev.new) }
     ensures kept { (guest : Guest) → guest.words ≡ words.now
         → KeepsCall (ftruncate_row below.old.kernel.now guest fd (cast_signed w64 size)) result below.old.kernel.now guest (I.left dev.old.input) below.old.log.now below.new.log.now }
-    ensures cause { StopsOnlyIfRose I.faults O.faults E.faults result dev.old dev.new }
-    ensures counts { NoCountFell I.faults O.faults E.faults dev.old dev.new }
-    ensures clock { below.new.kernel.now.clock ≡ below.old.kernel.now.clock }
-    ensures same { LeadsOn below.old below.new }
+    ensures proceeds { Proceeds I.faults O.faults E.faults result below.old below.new dev.old dev.new }
 {
     below.memory.clear();
     let args = [u64::from(fd), size, 0, 0, 0, 0];

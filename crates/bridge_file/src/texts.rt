@@ -1,15 +1,14 @@
 //! The calls that tell a text: readlink(2), readlinkat(2), getcwd(2).
 ghost use Rattle.std.specs.Prelude.{◌≡◌, ◌<◌, None, Ok, length, position};
 ghost use Rattle.std.specs.Int.{cast_signed, w32};
-ghost use Rattle.bridge_paths.specs.Passed.{KeepsCall, LeadsOn};
-ghost use Rattle.kernel_model.specs.Stops.{StopsOnlyIfRose};
+ghost use Rattle.bridge_paths.specs.Passed.{KeepsCall, Proceeds};
 ghost use Rattle.o32_model.specs.Answered.{IsCall};
 ghost use Rattle.o32_model.specs.Names.{readlink_row};
 ghost use Rattle.o32_model.specs.NodeCalls.{getcwd_row};
 ghost use Rattle.o32_model.specs.PathArguments.{base};
 ghost use Rattle.o32_model.specs.Paths.{is_nul, path_at, path_limit};
 ghost use Rattle.o32_model.specs.Step.{Guest};
-ghost use Rattle.outside.specs.Streams.{NoCountFell, contents};
+ghost use Rattle.outside.specs.Streams.{contents};
 ghost use Rattle.bridge_file.specs.inside.Tells.{size_room};
 
 use crate::paths::PathAt;
@@ -52,10 +51,7 @@ pub(crate) fn readlink<I: Source, O: Sink, E: Sink>(
         (contents I.left O.written E.written dev.old) (contents I.left O.written E.written dev.new) }
     ensures kept { (guest : Guest) → guest.words ≡ words.now → guest.memory ≡ space.old
         → KeepsCall (readlink_row below.old.kernel.now guest (base query.link.directory) query.link.address query.buffer (cast_signed w32 query.size)) result below.old.kernel.now guest (I.left dev.old.input) below.old.log.now below.new.log.now }
-    ensures cause { StopsOnlyIfRose I.faults O.faults E.faults result dev.old dev.new }
-    ensures counts { NoCountFell I.faults O.faults E.faults dev.old dev.new }
-    ensures clock { below.new.kernel.now.clock ≡ below.old.kernel.now.clock }
-    ensures same { LeadsOn below.old below.new }
+    ensures proceeds { Proceeds I.faults O.faults E.faults result below.old below.new dev.old dev.new }
 {
     match read_path(alloc, space, query.link.address)? {
         Err(error) => Ok(Outcome::Error(error)),
@@ -80,10 +76,7 @@ fn link_text<I: Source, O: Sink, E: Sink>(
         (contents I.left O.written E.written dev.old) (contents I.left O.written E.written dev.new) }
     ensures kept { (guest : Guest) → guest.words ≡ words.now → guest.memory ≡ space.old
         → KeepsCall (readlink_row below.old.kernel.now guest (base query.link.directory) query.link.address query.buffer (cast_signed w32 query.size)) result below.old.kernel.now guest (I.left dev.old.input) below.old.log.now below.new.log.now }
-    ensures cause { StopsOnlyIfRose I.faults O.faults E.faults result dev.old dev.new }
-    ensures counts { NoCountFell I.faults O.faults E.faults dev.old dev.new }
-    ensures clock { below.new.kernel.now.clock ≡ below.old.kernel.now.clock }
-    ensures same { LeadsOn below.old below.new }
+    ensures proceeds { Proceeds I.faults O.faults E.faults result below.old below.new dev.old dev.new }
 {
     let room = space.writable(query.buffer, size_room(query.size));
     let at = put_room(below.memory, path, room)?;
@@ -128,10 +121,7 @@ pub(crate) fn getcwd<I: Source, O: Sink, E: Sink>(
         (contents I.left O.written E.written dev.old) (contents I.left O.written E.written dev.new) }
     ensures kept { (guest : Guest) → guest.words ≡ words.now → guest.memory ≡ space.old
         → KeepsCall (getcwd_row below.old.kernel.now guest buffer size) result below.old.kernel.now guest (I.left dev.old.input) below.old.log.now below.new.log.now }
-    ensures cause { StopsOnlyIfRose I.faults O.faults E.faults result dev.old dev.new }
-    ensures counts { NoCountFell I.faults O.faults E.faults dev.old dev.new }
-    ensures clock { below.new.kernel.now.clock ≡ below.old.kernel.now.clock }
-    ensures same { LeadsOn below.old below.new }
+    ensures proceeds { Proceeds I.faults O.faults E.faults result below.old below.new dev.old dev.new }
 {
     fresh_room(below.memory, space.writable(buffer, size))?;
     let args = [FIRST_ADDRESS, u64::from(size), 0, 0, 0, 0];

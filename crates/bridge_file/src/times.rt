@@ -1,9 +1,8 @@
 //! The call that sets the times of a node: utimensat(2).
 ghost use Rattle.std.specs.Prelude.{◌≡◌, ◌<◌, ◌≤◌, List, IfOk, IfSome, None, Ok, OnOk, Option, ℕ, length, option_map, position, true};
 ghost use Rattle.byteorder.specs.Endian.{big_number};
-ghost use Rattle.bridge_paths.specs.Passed.{KeepsCall, LeadsOn};
+ghost use Rattle.bridge_paths.specs.Passed.{KeepsCall, Proceeds};
 ghost use Rattle.kernel_model.specs.Came.{given_or_none};
-ghost use Rattle.kernel_model.specs.Stops.{StopsOnlyIfRose};
 ghost use Rattle.layouts.specs.Number.{value_of};
 ghost use Rattle.native_calls.specs.Nodes as native_nodes;
 ghost use Rattle.o32_model.specs.Answered.{IsCall};
@@ -14,7 +13,7 @@ ghost use Rattle.o32_model.specs.Paths.{is_nul, path_limit};
 ghost use Rattle.o32_model.specs.Step.{Guest};
 ghost use Rattle.o32_model.specs.Times.{spec_in};
 ghost use Rattle.o32_model.specs.Words.{argument};
-ghost use Rattle.outside.specs.Streams.{NoCountFell, contents};
+ghost use Rattle.outside.specs.Streams.{contents};
 ghost use Rattle.bridge_file.specs.inside.BothTimes.{
   HasPathOrNone,
   both_bytes,
@@ -59,10 +58,7 @@ pub(crate) fn utimensat<I: Source, O: Sink, E: Sink>(
         (contents I.left O.written E.written dev.old) (contents I.left O.written E.written dev.new) }
     ensures kept { (guest : Guest) → guest.words ≡ caller.now.words.now → guest.memory ≡ caller.now.space.now
         → KeepsCall (utimensat_row below.old.kernel.now guest (base (argument caller.now.words.now 0)) (argument caller.now.words.now 1) (argument caller.now.words.now 2) (argument caller.now.words.now 3)) result below.old.kernel.now guest (I.left dev.old.input) below.old.log.now below.new.log.now }
-    ensures cause { StopsOnlyIfRose I.faults O.faults E.faults result dev.old dev.new }
-    ensures counts { NoCountFell I.faults O.faults E.faults dev.old dev.new }
-    ensures clock { below.new.kernel.now.clock ≡ below.old.kernel.now.clock }
-    ensures same { LeadsOn below.old below.new }
+    ensures proceeds { Proceeds I.faults O.faults E.faults result below.old below.new dev.old dev.new }
 {
     let [_, address, _, _] = caller.words.reg;
     match read_path_or_none(caller.alloc, caller.space, address)? {
@@ -86,10 +82,7 @@ fn set_times<I: Source, O: Sink, E: Sink>(
         (contents I.left O.written E.written dev.old) (contents I.left O.written E.written dev.new) }
     ensures kept { (guest : Guest) → guest.words ≡ caller.now.words.now → guest.memory ≡ caller.now.space.now
         → KeepsCall (utimensat_row below.old.kernel.now guest (base (argument caller.now.words.now 0)) (argument caller.now.words.now 1) (argument caller.now.words.now 2) (argument caller.now.words.now 3)) result below.old.kernel.now guest (I.left dev.old.input) below.old.log.now below.new.log.now }
-    ensures cause { StopsOnlyIfRose I.faults O.faults E.faults result dev.old dev.new }
-    ensures counts { NoCountFell I.faults O.faults E.faults dev.old dev.new }
-    ensures clock { below.new.kernel.now.clock ≡ below.old.kernel.now.clock }
-    ensures same { LeadsOn below.old below.new }
+    ensures proceeds { Proceeds I.faults O.faults E.faults result below.old below.new dev.old dev.new }
 {
     let [directory, _, times, flags] = caller.words.reg;
     match read_times(caller.space, times) {

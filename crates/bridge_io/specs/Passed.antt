@@ -4,6 +4,5 @@ pub use Rattle.bridge_log.specs.Bounds.{Bounded}
 pub use Rattle.bridge_log.specs.Built.{built_call}
 pub use Rattle.bridge_log.specs.Fills.{Fills}
 pub use Rattle.bridge_log.specs.Keeping.{Keeps, KeepsCall, Logged, reached}
-pub use Rattle.bridge_log.specs.Leading.{LeadsOn}
 pub use Rattle.bridge_log.specs.Mirrors.{Mirrors}
 pub use Rattle.bridge_log.specs.Outcomes.{by_reply, outcome_of}

@@ -1,12 +1,11 @@
 //! fcntl(2).
 ghost use Rattle.std.specs.Prelude.{◌≡◌, ◌<◌, ◌≤◌, ℕ, List};
-ghost use Rattle.bridge_log.specs.Leading.{LeadsOn};
+ghost use Rattle.bridge_log.specs.Proceeding.{Proceeds};
 ghost use Rattle.bridge_io.specs.inside.Outcomes.{handed, native_status_flags, outcome_flags, told_flags};
 ghost use Rattle.bridge_log.specs.Arguments.{AreUnusedZero, IsPlaced};
 ghost use Rattle.bridge_log.specs.Keeping.{KeepsCall};
 ghost use Rattle.bridge_log.specs.Mirrors.{Mirrors};
 ghost use Rattle.kernel_core.specs.Bits as bits;
-ghost use Rattle.kernel_model.specs.Stops.{StopsOnlyIfRose};
 ghost use Rattle.native_calls.specs.Table.{native_call};
 ghost use Rattle.bridge_log.specs.Built.{built_call};
 ghost use Rattle.number_tables.specs.OpenNumbers.{o32_open, native_open_read, access_of};
@@ -14,7 +13,7 @@ ghost use Rattle.number_tables.specs.OpenNumbers as numbers;
 ghost use Rattle.o32_model.specs.Answered.{IsCall};
 ghost use Rattle.o32_model.specs.Descriptors.{fcntl_row};
 ghost use Rattle.o32_model.specs.Step.{Guest, O32Step};
-ghost use Rattle.outside.specs.Streams.{NoCountFell, contents};
+ghost use Rattle.outside.specs.Streams.{contents};
 
 use crate::numbers::{F_GETFL, F_SETFL};
 use bridge_log::{Below, outcome_of};
@@ -38,10 +37,7 @@ pub(crate) fn fcntl<I: Source, O: Sink, E: Sink>(
         (contents I.left O.written E.written dev.old) (contents I.left O.written E.written dev.new) }
     ensures kept { (guest : Guest) → guest.words ≡ words.now
         → KeepsCall (fcntl_row below.old.kernel.now guest fd command argument) result below.old.kernel.now guest (I.left dev.old.input) below.old.log.now below.new.log.now }
-    ensures cause { StopsOnlyIfRose I.faults O.faults E.faults result dev.old dev.new }
-    ensures counts { NoCountFell I.faults O.faults E.faults dev.old dev.new }
-    ensures clock { below.new.kernel.now.clock ≡ below.old.kernel.now.clock }
-    ensures same { LeadsOn below.old below.new }
+    ensures proceeds { Proceeds I.faults O.faults E.faults result below.old below.new dev.old dev.new }
 {
     below.kernel.whole();
     below.memory.clear();
@@ -86,10 +82,7 @@ fn flags_call<I: Source, O: Sink, E: Sink>(
     ensures kept { (guest : Guest) (step : List ℕ → O32Step) → guest.words ≡ words.now
         → ((left : List ℕ) → Mirrors guest (told_flags guest.words) (native_call nr args below.old.kernel.now below.old.memory.now left) (step left))
         → KeepsCall step result below.old.kernel.now guest (I.left dev.old.input) below.old.log.now below.new.log.now }
-    ensures cause { StopsOnlyIfRose I.faults O.faults E.faults result dev.old dev.new }
-    ensures counts { NoCountFell I.faults O.faults E.faults dev.old dev.new }
-    ensures clock { below.new.kernel.now.clock ≡ below.old.kernel.now.clock }
-    ensures same { LeadsOn below.old below.new }
+    ensures proceeds { Proceeds I.faults O.faults E.faults result below.old below.new dev.old dev.new }
 {
     let reply = below.native(nr, args, dev)?;
     Ok(outcome_flags(words, reply))

@@ -1,6 +1,6 @@
 //! What a write finds out about a descriptor before it moves bytes, by native calls that change nothing.
 ghost use Rattle.std.specs.Prelude.{◌≡◌, false};
-ghost use Rattle.bridge_log.specs.Leading.{LeadsOn};
+ghost use Rattle.bridge_log.specs.Proceeding.{Proceeds};
 ghost use Rattle.bridge_log.specs.Looks.{LooksFor};
 ghost use Rattle.bridge_io.specs.inside.Rooms.{
   IsRoom,
@@ -11,9 +11,8 @@ ghost use Rattle.bridge_io.specs.inside.Rooms.{
   size_there,
 };
 ghost use Rattle.kernel_model.specs.Descriptions.{opened};
-ghost use Rattle.kernel_model.specs.Stops.{StopsOnlyIfRose};
 ghost use Rattle.o32_model.specs.Transfers.{small_file_limit};
-ghost use Rattle.outside.specs.Streams.{NoCountFell, contents};
+ghost use Rattle.outside.specs.Streams.{contents};
 
 use crate::numbers::{F_GETFL, FIONREAD, SEEK_CUR};
 use crate::room::{Room, WriteFlags};
@@ -38,10 +37,7 @@ pub(crate) fn write_flags<I: Source, O: Sink, E: Sink>(
 ) -> Result<Option<WriteFlags>, Stop>
     ensures looks { LooksFor (λ found. found ≡ flags_there (opened below.old.kernel.now.files fd)) result below.old.kernel.now below.new.kernel.now
         (contents I.left O.written E.written dev.old) (contents I.left O.written E.written dev.new) below.old.log.now below.new.log.now }
-    ensures cause { StopsOnlyIfRose I.faults O.faults E.faults result dev.old dev.new }
-    ensures counts { NoCountFell I.faults O.faults E.faults dev.old dev.new }
-    ensures clock { below.new.kernel.now.clock ≡ below.old.kernel.now.clock }
-    ensures same { LeadsOn below.old below.new }
+    ensures proceeds { Proceeds I.faults O.faults E.faults result below.old below.new dev.old dev.new }
 {
     below.memory.clear();
     let args = [u64::from(fd), F_GETFL, 0, 0, 0, 0];
@@ -57,10 +53,7 @@ fn position<I: Source, O: Sink, E: Sink>(
 ) -> Result<Option<u64>, Stop>
     ensures looks { LooksFor (λ found. found ≡ position_there (opened below.old.kernel.now.files fd)) result below.old.kernel.now below.new.kernel.now
         (contents I.left O.written E.written dev.old) (contents I.left O.written E.written dev.new) below.old.log.now below.new.log.now }
-    ensures cause { StopsOnlyIfRose I.faults O.faults E.faults result dev.old dev.new }
-    ensures counts { NoCountFell I.faults O.faults E.faults dev.old dev.new }
-    ensures clock { below.new.kernel.now.clock ≡ below.old.kernel.now.clock }
-    ensures same { LeadsOn below.old below.new }
+    ensures proceeds { Proceeds I.faults O.faults E.faults result below.old below.new dev.old dev.new }
 {
     below.memory.clear();
     let args = [u64::from(fd), 0, SEEK_CUR, 0, 0, 0];
@@ -76,10 +69,7 @@ pub(crate) fn size<I: Source, O: Sink, E: Sink>(
 ) -> Result<Option<u64>, Stop>
     ensures looks { LooksFor (λ found. found ≡ size_there below.old.kernel.now.files (opened below.old.kernel.now.files fd)) result below.old.kernel.now below.new.kernel.now
         (contents I.left O.written E.written dev.old) (contents I.left O.written E.written dev.new) below.old.log.now below.new.log.now }
-    ensures cause { StopsOnlyIfRose I.faults O.faults E.faults result dev.old dev.new }
-    ensures counts { NoCountFell I.faults O.faults E.faults dev.old dev.new }
-    ensures clock { below.new.kernel.now.clock ≡ below.old.kernel.now.clock }
-    ensures same { LeadsOn below.old below.new }
+    ensures proceeds { Proceeds I.faults O.faults E.faults result below.old below.new dev.old dev.new }
 {
     fresh_room(below.memory, STATUS_SIZE)?;
     let args = [u64::from(fd), FIRST_ADDRESS, 0, 0, 0, 0];
@@ -96,10 +86,7 @@ fn begin<I: Source, O: Sink, E: Sink>(
 ) -> Result<Option<u64>, Stop>
     ensures looks { LooksFor (λ found. found ≡ begin_there append below.old.kernel.now.files (opened below.old.kernel.now.files fd)) result below.old.kernel.now below.new.kernel.now
         (contents I.left O.written E.written dev.old) (contents I.left O.written E.written dev.new) below.old.log.now below.new.log.now }
-    ensures cause { StopsOnlyIfRose I.faults O.faults E.faults result dev.old dev.new }
-    ensures counts { NoCountFell I.faults O.faults E.faults dev.old dev.new }
-    ensures clock { below.new.kernel.now.clock ≡ below.old.kernel.now.clock }
-    ensures same { LeadsOn below.old below.new }
+    ensures proceeds { Proceeds I.faults O.faults E.faults result below.old below.new dev.old dev.new }
 {
     if append {
         return size(fd, dev, below);
@@ -116,10 +103,7 @@ pub(crate) fn is_ready<I: Source, O: Sink, E: Sink>(
 ) -> Result<bool, Stop>
     ensures looks { LooksFor (λ found. found ≡ is_ready below.old.kernel.now.files (opened below.old.kernel.now.files fd)) result below.old.kernel.now below.new.kernel.now
         (contents I.left O.written E.written dev.old) (contents I.left O.written E.written dev.new) below.old.log.now below.new.log.now }
-    ensures cause { StopsOnlyIfRose I.faults O.faults E.faults result dev.old dev.new }
-    ensures counts { NoCountFell I.faults O.faults E.faults dev.old dev.new }
-    ensures clock { below.new.kernel.now.clock ≡ below.old.kernel.now.clock }
-    ensures same { LeadsOn below.old below.new }
+    ensures proceeds { Proceeds I.faults O.faults E.faults result below.old below.new dev.old dev.new }
 {
     below.memory.clear();
     let args = [u64::from(fd), FIONREAD, 0, 0, 0, 0];
@@ -135,10 +119,7 @@ pub(crate) fn room<I: Source, O: Sink, E: Sink>(
 ) -> Result<Room, Stop>
     ensures looks { LooksFor (IsRoom below.old.kernel.now.files small_file_limit (λ d. d.position) (opened below.old.kernel.now.files fd)) result below.old.kernel.now below.new.kernel.now
         (contents I.left O.written E.written dev.old) (contents I.left O.written E.written dev.new) below.old.log.now below.new.log.now }
-    ensures cause { StopsOnlyIfRose I.faults O.faults E.faults result dev.old dev.new }
-    ensures counts { NoCountFell I.faults O.faults E.faults dev.old dev.new }
-    ensures clock { below.new.kernel.now.clock ≡ below.old.kernel.now.clock }
-    ensures same { LeadsOn below.old below.new }
+    ensures proceeds { Proceeds I.faults O.faults E.faults result below.old below.new dev.old dev.new }
 {
     match write_flags(fd, dev, below)? {
         None => Ok(Room::Most(u64::MAX)),
@@ -156,10 +137,7 @@ fn room_under<I: Source, O: Sink, E: Sink>(
     ensures looks { flags_there (opened below.old.kernel.now.files fd) ≡ Some flags
         → LooksFor (IsRoom below.old.kernel.now.files small_file_limit (λ d. d.position) (opened below.old.kernel.now.files fd)) result below.old.kernel.now below.new.kernel.now
         (contents I.left O.written E.written dev.old) (contents I.left O.written E.written dev.new) below.old.log.now below.new.log.now }
-    ensures cause { StopsOnlyIfRose I.faults O.faults E.faults result dev.old dev.new }
-    ensures counts { NoCountFell I.faults O.faults E.faults dev.old dev.new }
-    ensures clock { below.new.kernel.now.clock ≡ below.old.kernel.now.clock }
-    ensures same { LeadsOn below.old below.new }
+    ensures proceeds { Proceeds I.faults O.faults E.faults result below.old below.new dev.old dev.new }
 {
     if flags.largefile {
         return Ok(Room::Most(u64::MAX));
@@ -182,10 +160,7 @@ fn room_from<I: Source, O: Sink, E: Sink>(
         → begin_there flags.append below.old.kernel.now.files (opened below.old.kernel.now.files fd) ≡ Some begin
         → LooksFor (IsRoom below.old.kernel.now.files small_file_limit (λ d. d.position) (opened below.old.kernel.now.files fd)) result below.old.kernel.now below.new.kernel.now
         (contents I.left O.written E.written dev.old) (contents I.left O.written E.written dev.new) below.old.log.now below.new.log.now }
-    ensures cause { StopsOnlyIfRose I.faults O.faults E.faults result dev.old dev.new }
-    ensures counts { NoCountFell I.faults O.faults E.faults dev.old dev.new }
-    ensures clock { below.new.kernel.now.clock ≡ below.old.kernel.now.clock }
-    ensures same { LeadsOn below.old below.new }
+    ensures proceeds { Proceeds I.faults O.faults E.faults result below.old below.new dev.old dev.new }
 {
     if begin < SMALL_FILE_LIMIT {
         return Ok(Room::Most(SMALL_FILE_LIMIT - begin));

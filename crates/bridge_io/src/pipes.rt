@@ -1,17 +1,16 @@
 //! Making pipes: pipe(2), pipe2(2).
 ghost use Rattle.std.specs.Prelude.{◌≡◌, ◌<◌, ℕ, List, replicate, true};
-ghost use Rattle.bridge_log.specs.Leading.{LeadsOn};
+ghost use Rattle.bridge_log.specs.Proceeding.{Proceeds};
 ghost use Rattle.bridge_io.specs.inside.Outcomes.{outcome_pair, told_pair, native_pipe_flags, int_at, host_place};
 ghost use Rattle.bridge_log.specs.Arguments.{AreUnusedZero, takes_address};
 ghost use Rattle.bridge_log.specs.Keeping.{KeepsCall};
 ghost use Rattle.bridge_log.specs.Mirrors.{Mirrors};
-ghost use Rattle.kernel_model.specs.Stops.{StopsOnlyIfRose};
 ghost use Rattle.native_calls.specs.Table.{native_call};
 ghost use Rattle.bridge_log.specs.Built.{built_call};
 ghost use Rattle.o32_model.specs.Answered.{IsCall};
 ghost use Rattle.o32_model.specs.Descriptors.{pipe_row, pipe2_row};
 ghost use Rattle.o32_model.specs.Step.{Guest, O32Step};
-ghost use Rattle.outside.specs.Streams.{NoCountFell, contents};
+ghost use Rattle.outside.specs.Streams.{contents};
 
 use crate::commands::bit;
 use crate::structures::{GuestStructure, Structure, byte_at, store_call};
@@ -37,10 +36,7 @@ pub(crate) fn pipe<I: Source, O: Sink, E: Sink>(
         (contents I.left O.written E.written dev.old) (contents I.left O.written E.written dev.new) }
     ensures kept { (guest : Guest) → guest.words ≡ words.now
         → KeepsCall (pipe_row below.old.kernel.now guest) result below.old.kernel.now guest (I.left dev.old.input) below.old.log.now below.new.log.now }
-    ensures cause { StopsOnlyIfRose I.faults O.faults E.faults result dev.old dev.new }
-    ensures counts { NoCountFell I.faults O.faults E.faults dev.old dev.new }
-    ensures clock { below.new.kernel.now.clock ≡ below.old.kernel.now.clock }
-    ensures same { LeadsOn below.old below.new }
+    ensures proceeds { Proceeds I.faults O.faults E.faults result below.old below.new dev.old dev.new }
 {
     below.kernel.whole();
     let args = [FIRST_ADDRESS, 0, 0, 0, 0, 0];
@@ -65,10 +61,7 @@ fn pair_call<I: Source, O: Sink, E: Sink>(
     ensures kept { (guest : Guest) (step : List ℕ → O32Step) → guest.words ≡ words.now
         → ((left : List ℕ) → Mirrors guest (told_pair guest.words) (native_call nr args below.old.kernel.now (replicate 8 0) left) (step left))
         → KeepsCall step result below.old.kernel.now guest (I.left dev.old.input) below.old.log.now below.new.log.now }
-    ensures cause { StopsOnlyIfRose I.faults O.faults E.faults result dev.old dev.new }
-    ensures counts { NoCountFell I.faults O.faults E.faults dev.old dev.new }
-    ensures clock { below.new.kernel.now.clock ≡ below.old.kernel.now.clock }
-    ensures same { LeadsOn below.old below.new }
+    ensures proceeds { Proceeds I.faults O.faults E.faults result below.old below.new dev.old dev.new }
 {
     fresh_room(below.memory, PAIR_SIZE)?;
     let reply = below.native(nr, args, dev)?;
@@ -112,10 +105,7 @@ pub(crate) fn pipe2<I: Source, O: Sink, E: Sink>(
         (contents I.left O.written E.written dev.old) (contents I.left O.written E.written dev.new) }
     ensures kept { (guest : Guest) → guest.words ≡ words.now → guest.memory ≡ space.old
         → KeepsCall (pipe2_row below.old.kernel.now guest address flags) result below.old.kernel.now guest (I.left dev.old.input) below.old.log.now below.new.log.now }
-    ensures cause { StopsOnlyIfRose I.faults O.faults E.faults result dev.old dev.new }
-    ensures counts { NoCountFell I.faults O.faults E.faults dev.old dev.new }
-    ensures clock { below.new.kernel.now.clock ≡ below.old.kernel.now.clock }
-    ensures same { LeadsOn below.old below.new }
+    ensures proceeds { Proceeds I.faults O.faults E.faults result below.old below.new dev.old dev.new }
 {
     below.kernel.whole();
     let place = host_place(space, address, PAIR_SIZE);

@@ -1,19 +1,18 @@
 //! Writing at a place: pwrite(2).
 ghost use Rattle.std.specs.Prelude.{◌≡◌, ◌<◌, ◌^◌, ℤ, Some, true, false};
 ghost use Rattle.std.specs.Int.{w64, cast_signed};
-ghost use Rattle.bridge_log.specs.Leading.{LeadsOn};
+ghost use Rattle.bridge_log.specs.Proceeding.{Proceeds};
 ghost use Rattle.bridge_log.specs.Looks.{LooksFor};
 ghost use Rattle.bridge_io.specs.inside.Plans.{IsPlan};
 ghost use Rattle.bridge_io.specs.inside.Rooms.{flags_there, size_there};
 ghost use Rattle.bridge_io.specs.inside.Written.{place_write_of};
 ghost use Rattle.bridge_log.specs.Keeping.{KeepsCall};
 ghost use Rattle.kernel_model.specs.Descriptions.{opened};
-ghost use Rattle.kernel_model.specs.Stops.{StopsOnlyIfRose};
 ghost use Rattle.o32_model.specs.Answered.{IsCall};
 ghost use Rattle.o32_model.specs.Step.{Guest};
 ghost use Rattle.o32_model.specs.Transfers.{pwrite_row, small_file_limit};
 ghost use Rattle.o32_model.specs.Words.{argument, stack_pair};
-ghost use Rattle.outside.specs.Streams.{NoCountFell, contents};
+ghost use Rattle.outside.specs.Streams.{contents};
 
 use crate::looking::{SMALL_FILE_LIMIT, is_ready, size, write_flags};
 use crate::room::{Plan, WriteFlags};
@@ -45,10 +44,7 @@ pub(crate) fn pwrite<I: Source, O: Sink, E: Sink>(
         (contents I.left O.written E.written dev.old) (contents I.left O.written E.written dev.new) }
     ensures kept { (guest : Guest) → guest.words ≡ words.now → guest.memory ≡ space.now
         → KeepsCall (pwrite_row below.old.kernel.now guest (argument words.now 0) (argument words.now 1) (argument words.now 2) (stack_pair words.now)) result below.old.kernel.now guest (I.left dev.old.input) below.old.log.now below.new.log.now }
-    ensures cause { StopsOnlyIfRose I.faults O.faults E.faults result dev.old dev.new }
-    ensures counts { NoCountFell I.faults O.faults E.faults dev.old dev.new }
-    ensures clock { below.new.kernel.now.clock ≡ below.old.kernel.now.clock }
-    ensures same { LeadsOn below.old below.new }
+    ensures proceeds { Proceeds I.faults O.faults E.faults result below.old below.new dev.old dev.new }
 {
     match stack_pair(words) {
         None => Ok(Outcome::Error(Errno::EFAULT)),
@@ -69,10 +65,7 @@ fn write_at<I: Source, O: Sink, E: Sink>(
         (contents I.left O.written E.written dev.old) (contents I.left O.written E.written dev.new) }
     ensures kept { (guest : Guest) → guest.words ≡ words.now → guest.memory ≡ space.now
         → KeepsCall (pwrite_row below.old.kernel.now guest (argument words.now 0) (argument words.now 1) (argument words.now 2) (Some place)) result below.old.kernel.now guest (I.left dev.old.input) below.old.log.now below.new.log.now }
-    ensures cause { StopsOnlyIfRose I.faults O.faults E.faults result dev.old dev.new }
-    ensures counts { NoCountFell I.faults O.faults E.faults dev.old dev.new }
-    ensures clock { below.new.kernel.now.clock ≡ below.old.kernel.now.clock }
-    ensures same { LeadsOn below.old below.new }
+    ensures proceeds { Proceeds I.faults O.faults E.faults result below.old below.new dev.old dev.new }
 {
     let [fd, buffer, count, _] = words.reg;
     let plan = plan(fd, place, dev, below)?;
@@ -94,10 +87,7 @@ fn write_planned<I: Source, O: Sink, E: Sink>(
         (contents I.left O.written E.written dev.old) (contents I.left O.written E.written dev.new) }
     ensures kept { (guest : Guest) (place : ℤ) → guest.words ≡ words.now → IsPlan below.old.kernel.now.files small_file_limit fd place plan
         → KeepsCall (place_write_of below.old.kernel.now guest fd place count below.old.memory.now) result below.old.kernel.now guest (I.left dev.old.input) below.old.log.now below.new.log.now }
-    ensures cause { StopsOnlyIfRose I.faults O.faults E.faults result dev.old dev.new }
-    ensures counts { NoCountFell I.faults O.faults E.faults dev.old dev.new }
-    ensures clock { below.new.kernel.now.clock ≡ below.old.kernel.now.clock }
-    ensures same { LeadsOn below.old below.new }
+    ensures proceeds { Proceeds I.faults O.faults E.faults result below.old below.new dev.old dev.new }
 {
     match plan {
         Plan::Write { most, place } => {
@@ -121,10 +111,7 @@ fn plan<I: Source, O: Sink, E: Sink>(
 ) -> Result<Plan, Stop>
     ensures looks { LooksFor (IsPlan below.old.kernel.now.files small_file_limit fd (cast_signed w64 place)) result below.old.kernel.now below.new.kernel.now
         (contents I.left O.written E.written dev.old) (contents I.left O.written E.written dev.new) below.old.log.now below.new.log.now }
-    ensures cause { StopsOnlyIfRose I.faults O.faults E.faults result dev.old dev.new }
-    ensures counts { NoCountFell I.faults O.faults E.faults dev.old dev.new }
-    ensures clock { below.new.kernel.now.clock ≡ below.old.kernel.now.clock }
-    ensures same { LeadsOn below.old below.new }
+    ensures proceeds { Proceeds I.faults O.faults E.faults result below.old below.new dev.old dev.new }
 {
     let most = u64::MAX;
     if place >= FIRST_NEGATIVE {
@@ -149,10 +136,7 @@ fn plan_under<I: Source, O: Sink, E: Sink>(
     ensures looks { flags_there (opened below.old.kernel.now.files fd) ≡ Some flags
         → LooksFor (IsPlan below.old.kernel.now.files small_file_limit fd (cast_signed w64 place)) result below.old.kernel.now below.new.kernel.now
         (contents I.left O.written E.written dev.old) (contents I.left O.written E.written dev.new) below.old.log.now below.new.log.now }
-    ensures cause { StopsOnlyIfRose I.faults O.faults E.faults result dev.old dev.new }
-    ensures counts { NoCountFell I.faults O.faults E.faults dev.old dev.new }
-    ensures clock { below.new.kernel.now.clock ≡ below.old.kernel.now.clock }
-    ensures same { LeadsOn below.old below.new }
+    ensures proceeds { Proceeds I.faults O.faults E.faults result below.old below.new dev.old dev.new }
 {
     let most = u64::MAX;
     if flags.largefile {
@@ -180,10 +164,7 @@ fn plan_at_end<I: Source, O: Sink, E: Sink>(
     ensures looks { flags_there (opened below.old.kernel.now.files fd) ≡ Some flags → flags.largefile ≡ false → flags.append ≡ true
         → LooksFor (IsPlan below.old.kernel.now.files small_file_limit fd (cast_signed w64 place)) result below.old.kernel.now below.new.kernel.now
         (contents I.left O.written E.written dev.old) (contents I.left O.written E.written dev.new) below.old.log.now below.new.log.now }
-    ensures cause { StopsOnlyIfRose I.faults O.faults E.faults result dev.old dev.new }
-    ensures counts { NoCountFell I.faults O.faults E.faults dev.old dev.new }
-    ensures clock { below.new.kernel.now.clock ≡ below.old.kernel.now.clock }
-    ensures same { LeadsOn below.old below.new }
+    ensures proceeds { Proceeds I.faults O.faults E.faults result below.old below.new dev.old dev.new }
 {
     let most = u64::MAX;
     match size(fd, dev, below)? {
@@ -206,10 +187,7 @@ fn plan_behind<I: Source, O: Sink, E: Sink>(
         → size_there below.old.kernel.now.files (opened below.old.kernel.now.files fd) ≡ Some size
         → LooksFor (IsPlan below.old.kernel.now.files small_file_limit fd (cast_signed w64 place)) result below.old.kernel.now below.new.kernel.now
         (contents I.left O.written E.written dev.old) (contents I.left O.written E.written dev.new) below.old.log.now below.new.log.now }
-    ensures cause { StopsOnlyIfRose I.faults O.faults E.faults result dev.old dev.new }
-    ensures counts { NoCountFell I.faults O.faults E.faults dev.old dev.new }
-    ensures clock { below.new.kernel.now.clock ≡ below.old.kernel.now.clock }
-    ensures same { LeadsOn below.old below.new }
+    ensures proceeds { Proceeds I.faults O.faults E.faults result below.old below.new dev.old dev.new }
 {
     if size < SMALL_FILE_LIMIT {
         let most = SMALL_FILE_LIMIT - size;

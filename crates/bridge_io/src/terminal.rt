@@ -1,6 +1,6 @@
 //! Requests on terminals and on descriptors: ioctl(2).
 ghost use Rattle.std.specs.Prelude.{◌≡◌, [], ◌∷◌, ℕ, List, Some, length, replicate, map, true, IfOk, OnOk};
-ghost use Rattle.bridge_log.specs.Leading.{LeadsOn};
+ghost use Rattle.bridge_log.specs.Proceeding.{Proceeds};
 ghost use Rattle.bridge_io.specs.inside.Outcomes.{host_place};
 ghost use Rattle.bridge_io.specs.inside.Stores.{Stores, byte_from, places, size};
 ghost use Rattle.bridge_io.specs.inside.Purposes.{purpose_of};
@@ -9,14 +9,13 @@ ghost use Rattle.bridge_log.specs.Arguments.{takes_last};
 ghost use Rattle.bridge_log.specs.Keeping.{KeepsCall};
 ghost use Rattle.bridge_log.specs.Mirrors.{Mirrors};
 ghost use Rattle.bridge_log.specs.Outcomes.{by_reply};
-ghost use Rattle.kernel_model.specs.Stops.{StopsOnlyIfRose};
 ghost use Rattle.native_calls.specs.Table.{native_call};
 ghost use Rattle.number_tables.specs.Requests.{request_of_o32};
 ghost use Rattle.o32_model.specs.Answered.{IsCall};
 ghost use Rattle.o32_model.specs.Step.{Guest, O32Step};
 ghost use Rattle.o32_model.specs.Terminal.{ioctl_row};
 ghost use Rattle.o32_model.specs.Words.{argument};
-ghost use Rattle.outside.specs.Streams.{NoCountFell, contents};
+ghost use Rattle.outside.specs.Streams.{contents};
 
 use crate::pipes::host_place;
 use crate::structures::{GuestStructure, Structure, rearrange, store_call};
@@ -53,10 +52,7 @@ pub(crate) fn ioctl<I: Source, O: Sink, E: Sink>(
         (contents I.left O.written E.written dev.old) (contents I.left O.written E.written dev.new) }
     ensures kept { (guest : Guest) → guest.words ≡ words.now → guest.memory ≡ space.old
         → KeepsCall (ioctl_row below.old.kernel.now guest (argument words.now 0) (argument words.now 1) (argument words.now 2)) result below.old.kernel.now guest (I.left dev.old.input) below.old.log.now below.new.log.now }
-    ensures cause { StopsOnlyIfRose I.faults O.faults E.faults result dev.old dev.new }
-    ensures counts { NoCountFell I.faults O.faults E.faults dev.old dev.new }
-    ensures clock { below.new.kernel.now.clock ≡ below.old.kernel.now.clock }
-    ensures same { LeadsOn below.old below.new }
+    ensures proceeds { Proceeds I.faults O.faults E.faults result below.old below.new dev.old dev.new }
 {
     let [fd, request, _, _] = words.reg;
     match Request::of_o32(request) {
@@ -78,10 +74,7 @@ fn listed<I: Source, O: Sink, E: Sink>(
         (contents I.left O.written E.written dev.old) (contents I.left O.written E.written dev.new) }
     ensures kept { (guest : Guest) (asked : ℕ) → guest.words ≡ words.now → guest.memory ≡ space.old → request_of_o32 asked ≡ Some request
         → KeepsCall (ioctl_row below.old.kernel.now guest (argument words.now 0) asked (argument words.now 2)) result below.old.kernel.now guest (I.left dev.old.input) below.old.log.now below.new.log.now }
-    ensures cause { StopsOnlyIfRose I.faults O.faults E.faults result dev.old dev.new }
-    ensures counts { NoCountFell I.faults O.faults E.faults dev.old dev.new }
-    ensures clock { below.new.kernel.now.clock ≡ below.old.kernel.now.clock }
-    ensures same { LeadsOn below.old below.new }
+    ensures proceeds { Proceeds I.faults O.faults E.faults result below.old below.new dev.old dev.new }
 {
     let [fd, _, _, _] = words.reg;
     let number = request.to_native();
@@ -124,10 +117,7 @@ fn plain<I: Source, O: Sink, E: Sink>(
     ensures kept { (guest : Guest) (step : List ℕ → O32Step) → guest.words ≡ words.now
         → ((left : List ℕ) → Mirrors guest (by_reply guest.words) (native_call 29 (fd ∷ number ∷ 0 ∷ 0 ∷ 0 ∷ 0 ∷ []) below.old.kernel.now [] left) (step left))
         → KeepsCall step result below.old.kernel.now guest (I.left dev.old.input) below.old.log.now below.new.log.now }
-    ensures cause { StopsOnlyIfRose I.faults O.faults E.faults result dev.old dev.new }
-    ensures counts { NoCountFell I.faults O.faults E.faults dev.old dev.new }
-    ensures clock { below.new.kernel.now.clock ≡ below.old.kernel.now.clock }
-    ensures same { LeadsOn below.old below.new }
+    ensures proceeds { Proceeds I.faults O.faults E.faults result below.old below.new dev.old dev.new }
 {
     below.memory.clear();
     below.number_call(words, IOCTL, [u64::from(fd), number, 0, 0, 0, 0], dev)
@@ -152,10 +142,7 @@ fn show<I: Source, O: Sink, E: Sink>(
         → ((left : List ℕ) → Stores guest (argument words.now 2) structure
         (native_call 29 ((argument words.now 0) ∷ number ∷ host_place guest.memory (argument words.now 2) (length (places structure)) ∷ 0 ∷ 0 ∷ 0 ∷ []) below.old.kernel.now (replicate (size structure) 0) left) (step left))
         → KeepsCall step result below.old.kernel.now guest (I.left dev.old.input) below.old.log.now below.new.log.now }
-    ensures cause { StopsOnlyIfRose I.faults O.faults E.faults result dev.old dev.new }
-    ensures counts { NoCountFell I.faults O.faults E.faults dev.old dev.new }
-    ensures clock { below.new.kernel.now.clock ≡ below.old.kernel.now.clock }
-    ensures same { LeadsOn below.old below.new }
+    ensures proceeds { Proceeds I.faults O.faults E.faults result below.old below.new dev.old dev.new }
 {
     let [fd, _, address, _] = words.reg;
     let place = host_place(space, address, structure.size_for_program());
@@ -184,10 +171,7 @@ fn take<I: Source, O: Sink, E: Sink>(
         → ((left room : List ℕ) (place : ℕ) → IsTaken guest.memory (argument words.now 2) structure room place
         → Mirrors guest (by_reply guest.words) (native_call 29 ((argument words.now 0) ∷ number ∷ place ∷ 0 ∷ 0 ∷ 0 ∷ []) below.old.kernel.now room left) (step left))
         → KeepsCall step result below.old.kernel.now guest (I.left dev.old.input) below.old.log.now below.new.log.now }
-    ensures cause { StopsOnlyIfRose I.faults O.faults E.faults result dev.old dev.new }
-    ensures counts { NoCountFell I.faults O.faults E.faults dev.old dev.new }
-    ensures clock { below.new.kernel.now.clock ≡ below.old.kernel.now.clock }
-    ensures same { LeadsOn below.old below.new }
+    ensures proceeds { Proceeds I.faults O.faults E.faults result below.old below.new dev.old dev.new }
 {
     let [fd, _, address, _] = words.reg;
     let place = take_structure(space, address, structure, below.memory)?;

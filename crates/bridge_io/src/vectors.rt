@@ -1,11 +1,10 @@
 //! Reading into the buffers of a vector: readv(2).
 ghost use Rattle.std.specs.Prelude.{◌≡◌, ◌≤◌, ℕ, [], Ok, length, take, OnOk};
-ghost use Rattle.bridge_log.specs.Leading.{LeadsOn};
+ghost use Rattle.bridge_log.specs.Proceeding.{Proceeds};
 ghost use Rattle.bridge_io.specs.inside.Outcomes.{wrong_count};
 ghost use Rattle.bridge_log.specs.Fills.{bytes_back};
 ghost use Rattle.bridge_log.specs.Keeping.{KeepsCall, reached};
 ghost use Rattle.kernel_model.specs.Pipes.{Sent};
-ghost use Rattle.kernel_model.specs.Stops.{StopsOnlyIfRose};
 ghost use Rattle.mips_exec.specs.Processor.{Processor};
 ghost use Rattle.o32_model.specs.Answered.{IsCall};
 ghost use Rattle.o32_model.specs.Effects.{Effected};
@@ -13,7 +12,7 @@ ghost use Rattle.o32_model.specs.GuestBytes.{vector, all_accessible, all_copied_
 ghost use Rattle.o32_model.specs.Step.{Guest};
 ghost use Rattle.o32_model.specs.Transfers.{readv_row};
 ghost use Rattle.o32_model.specs.Words.{argument};
-ghost use Rattle.outside.specs.Streams.{NoCountFell, contents};
+ghost use Rattle.outside.specs.Streams.{contents};
 
 use bridge_log::{Below, Vector, fresh_room, outcome_of, put};
 use guest_space::Space;
@@ -37,10 +36,7 @@ pub(crate) fn readv<I: Source, O: Sink, E: Sink>(
         (contents I.left O.written E.written dev.old) (contents I.left O.written E.written dev.new) }
     ensures kept { (guest : Guest) → guest.words ≡ words.now → guest.memory ≡ space.old
         → KeepsCall (readv_row below.old.kernel.now guest (argument words.now 0) (argument words.now 1) (argument words.now 2)) result below.old.kernel.now guest (I.left dev.old.input) below.old.log.now below.new.log.now }
-    ensures cause { StopsOnlyIfRose I.faults O.faults E.faults result dev.old dev.new }
-    ensures counts { NoCountFell I.faults O.faults E.faults dev.old dev.new }
-    ensures clock { below.new.kernel.now.clock ≡ below.old.kernel.now.clock }
-    ensures same { LeadsOn below.old below.new }
+    ensures proceeds { Proceeds I.faults O.faults E.faults result below.old below.new dev.old dev.new }
 {
     let [fd, address, count, _] = words.reg;
     match Vector::read(space, address, count) {
@@ -77,10 +73,7 @@ fn fill_buffers<I: Source, O: Sink, E: Sink>(
         (contents I.left O.written E.written dev.old) (contents I.left O.written E.written dev.new) }
     ensures kept { (guest : Guest) (address count : ℕ) → guest.words ≡ words.now → guest.memory ≡ space.old → vector guest.memory address count ≡ Ok buffers.now
         → KeepsCall (readv_row below.old.kernel.now guest fd address count) result below.old.kernel.now guest (I.left dev.old.input) below.old.log.now below.new.log.now }
-    ensures cause { StopsOnlyIfRose I.faults O.faults E.faults result dev.old dev.new }
-    ensures counts { NoCountFell I.faults O.faults E.faults dev.old dev.new }
-    ensures clock { below.new.kernel.now.clock ≡ below.old.kernel.now.clock }
-    ensures same { LeadsOn below.old below.new }
+    ensures proceeds { Proceeds I.faults O.faults E.faults result below.old below.new dev.old dev.new }
 {
     let total = buffers.total();
     let room = buffers.accessible(space);

@@ -1,16 +1,15 @@
 //! Writing: write(2).
 ghost use Rattle.std.specs.Prelude.{◌≡◌, ◌<◌, ◌^◌, Some, None, length};
-ghost use Rattle.bridge_log.specs.Leading.{LeadsOn};
+ghost use Rattle.bridge_log.specs.Proceeding.{Proceeds};
 ghost use Rattle.bridge_io.specs.inside.Rooms.{IsRoom};
 ghost use Rattle.bridge_io.specs.inside.Written.{write_of};
 ghost use Rattle.bridge_log.specs.Keeping.{KeepsCall};
 ghost use Rattle.kernel_model.specs.Descriptions.{opened, output_of};
-ghost use Rattle.kernel_model.specs.Stops.{StopsOnlyIfRose};
 ghost use Rattle.o32_model.specs.Answered.{IsCall};
 ghost use Rattle.o32_model.specs.Step.{Guest};
 ghost use Rattle.o32_model.specs.Transfers.{small_file_limit, write_row};
 ghost use Rattle.o32_model.specs.Words.{argument};
-ghost use Rattle.outside.specs.Streams.{NoCountFell, contents};
+ghost use Rattle.outside.specs.Streams.{contents};
 
 use crate::looking::room;
 use crate::room::Room;
@@ -36,10 +35,7 @@ pub(crate) fn write<I: Source, O: Sink, E: Sink>(
         (contents I.left O.written E.written dev.old) (contents I.left O.written E.written dev.new) }
     ensures kept { (guest : Guest) → guest.words ≡ words.now → guest.memory ≡ space.now
         → KeepsCall (write_row below.old.kernel.now guest (argument words.now 0) (argument words.now 1) (argument words.now 2)) result below.old.kernel.now guest (I.left dev.old.input) below.old.log.now below.new.log.now }
-    ensures cause { StopsOnlyIfRose I.faults O.faults E.faults result dev.old dev.new }
-    ensures counts { NoCountFell I.faults O.faults E.faults dev.old dev.new }
-    ensures clock { below.new.kernel.now.clock ≡ below.old.kernel.now.clock }
-    ensures same { LeadsOn below.old below.new }
+    ensures proceeds { Proceeds I.faults O.faults E.faults result below.old below.new dev.old dev.new }
 {
     let [fd, buffer, count, _] = words.reg;
     match below.kernel.output(fd) {
@@ -69,10 +65,7 @@ pub(crate) fn send_loaded<I: Source, O: Sink, E: Sink>(
         (contents I.left O.written E.written dev.old) (contents I.left O.written E.written dev.new) }
     ensures kept { (guest : Guest) → guest.words ≡ words.now → output_of below.old.kernel.now.files fd ≡ Some stream → length below.old.memory.now < 2 ^ 32
         → KeepsCall (write_of below.old.kernel.now guest fd count below.old.memory.now) result below.old.kernel.now guest (I.left dev.old.input) below.old.log.now below.new.log.now }
-    ensures cause { StopsOnlyIfRose I.faults O.faults E.faults result dev.old dev.new }
-    ensures counts { NoCountFell I.faults O.faults E.faults dev.old dev.new }
-    ensures clock { below.new.kernel.now.clock ≡ below.old.kernel.now.clock }
-    ensures same { LeadsOn below.old below.new }
+    ensures proceeds { Proceeds I.faults O.faults E.faults result below.old below.new dev.old dev.new }
 {
     let args = [u64::from(fd), FIRST_ADDRESS, u64::from(count), 0, 0, 0];
     let reply = below.native(WRITE, args, dev)?;
@@ -97,10 +90,7 @@ pub(crate) fn write_loaded<I: Source, O: Sink, E: Sink>(
     ensures kept { (guest : Guest) → guest.words ≡ words.now → output_of below.old.kernel.now.files fd ≡ None
         → IsRoom below.old.kernel.now.files small_file_limit (λ d. d.position) (opened below.old.kernel.now.files fd) room
         → KeepsCall (write_of below.old.kernel.now guest fd count below.old.memory.now) result below.old.kernel.now guest (I.left dev.old.input) below.old.log.now below.new.log.now }
-    ensures cause { StopsOnlyIfRose I.faults O.faults E.faults result dev.old dev.new }
-    ensures counts { NoCountFell I.faults O.faults E.faults dev.old dev.new }
-    ensures clock { below.new.kernel.now.clock ≡ below.old.kernel.now.clock }
-    ensures same { LeadsOn below.old below.new }
+    ensures proceeds { Proceeds I.faults O.faults E.faults result below.old below.new dev.old dev.new }
 {
     match room {
         Room::Most(most) => {

@@ -2,20 +2,19 @@
 //! is left is stored.
 ghost use Rattle.std.specs.Prelude.{◌≡◌, OnOk};
 ghost use Rattle.bridge_signal_state.specs.Acts.{Acts};
-ghost use Rattle.bridge_signal_state.specs.Passed.{LeadsOn, reached};
+ghost use Rattle.bridge_signal_state.specs.Passed.{Proceeds, reached};
 ghost use Rattle.bridge_signal_state.specs.Ends.{Closes, KeepsEnd};
 ghost use Rattle.bridge_limits.specs.Limits.{StoresAlike, left_form, unmasked_kernel};
 ghost use Rattle.bridge_limits.specs.inside.Lefts as spec_lefts;
 ghost use Rattle.guest_space.specs.Memory.{Memory};
 ghost use Rattle.kernel_model.specs.Clock.{left_until};
 ghost use Rattle.kernel_model.specs.Pipes.{Sent};
-ghost use Rattle.kernel_model.specs.Stops.{StopsOnlyIfRose};
 ghost use Rattle.mips_exec.specs.Processor.{Processor};
 ghost use Rattle.o32_model.specs.Effects.{Effected};
 ghost use Rattle.o32_model.specs.GuestBytes.{is_storable};
 ghost use Rattle.o32_model.specs.WaitEnds as spec;
 ghost use Rattle.o32_model.specs.WaitEnds.{ends_with, with_left};
-ghost use Rattle.outside.specs.Streams.{NoCountFell, contents};
+ghost use Rattle.outside.specs.Streams.{contents};
 
 use crate::lefts::{Left, put_left};
 use crate::times::TimePlace;
@@ -65,10 +64,7 @@ pub fn end_limited<I: Source, O: Sink, E: Sink>(
         (ends_with close (unmasked_kernel wait.now cause below.old.kernel.now) space.old)) result below.new.kernel.now space.new
         (contents I.left O.written E.written dev.old) (contents I.left O.written E.written dev.new) }
     ensures kept { KeepsEnd result (I.left dev.old.input) below.old.kernel.now below.new.kernel.now space.old.pages space.new.pages below.old.log.now below.new.log.now }
-    ensures cause { StopsOnlyIfRose I.faults O.faults E.faults result dev.old dev.new }
-    ensures counts { NoCountFell I.faults O.faults E.faults dev.old dev.new }
-    ensures clock { below.new.kernel.now.clock ≡ below.old.kernel.now.clock }
-    ensures same { LeadsOn below.old below.new }
+    ensures proceeds { Proceeds I.faults O.faults E.faults result below.old below.new dev.old dev.new }
 {
     put_back(wait, cause, dev, below)?;
     store_remaining(at, wait, clock, space, below.log)?;
@@ -115,10 +111,7 @@ fn put_back<I: Source, O: Sink, E: Sink>(
 ) -> Result<(), Stop>
     ensures acts { Acts (λ _ became. became ≡ unmasked_kernel wait.now cause below.old.kernel.now) result below.old.kernel.now below.new.kernel.now
         (contents I.left O.written E.written dev.old) (contents I.left O.written E.written dev.new) below.old.log.now below.new.log.now }
-    ensures cause { StopsOnlyIfRose I.faults O.faults E.faults result dev.old dev.new }
-    ensures counts { NoCountFell I.faults O.faults E.faults dev.old dev.new }
-    ensures clock { below.new.kernel.now.clock ≡ below.old.kernel.now.clock }
-    ensures same { LeadsOn below.old below.new }
+    ensures proceeds { Proceeds I.faults O.faults E.faults result below.old below.new dev.old dev.new }
 {
     match old_mask(wait, cause) {
         None => Ok(()),

@@ -1,13 +1,12 @@
 //! Calls that wait, with a mask of their own.
 ghost use Rattle.std.specs.Prelude.{◌≡◌, None, Some, Option};
 ghost use Rattle.bridge_signal_state.specs.Acts.{Acts};
-ghost use Rattle.bridge_signal_state.specs.Passed.{LeadsOn};
+ghost use Rattle.bridge_signal_state.specs.Passed.{Proceeds};
 ghost use Rattle.bridge_limits.specs.Limits.{asleep, given_mask, masked_kernel};
 ghost use Rattle.bridge_limits.specs.inside.Waiting as spec;
 ghost use Rattle.kernel_model.specs.SignalRows.{with_mask};
-ghost use Rattle.kernel_model.specs.Stops.{StopsOnlyIfRose};
 ghost use Rattle.o32_model.specs.Step as o32_step;
-ghost use Rattle.outside.specs.Streams.{NoCountFell, contents};
+ghost use Rattle.outside.specs.Streams.{contents};
 
 use crate::masks::OwnMask;
 use bridge_signal_state::{Below, mask, set_mask, six_words};
@@ -29,10 +28,7 @@ pub fn sleep<I: Source, O: Sink, E: Sink>(
         (outcome ≡ asleep below.old.kernel.now (o32_step.wait_of words.now (record { done = 0; until = until })) (given_mask own))
         × (became ≡ masked_kernel below.old.kernel.now (given_mask own))) result below.old.kernel.now below.new.kernel.now
         (contents I.left O.written E.written dev.old) (contents I.left O.written E.written dev.new) below.old.log.now below.new.log.now }
-    ensures cause { StopsOnlyIfRose I.faults O.faults E.faults result dev.old dev.new }
-    ensures counts { NoCountFell I.faults O.faults E.faults dev.old dev.new }
-    ensures clock { below.new.kernel.now.clock ≡ below.old.kernel.now.clock }
-    ensures same { LeadsOn below.old below.new }
+    ensures proceeds { Proceeds I.faults O.faults E.faults result below.old below.new dev.old dev.new }
 {
     match own {
         OwnMask::None => Ok(Outcome::Sleep(waiting(words, until, None))),
@@ -52,10 +48,7 @@ fn sleep_masked<I: Source, O: Sink, E: Sink>(
     ensures acts { Acts (λ outcome became.
         (outcome ≡ spec.sleeping words.now until (Some below.old.kernel.now.signals.mask)) × (became ≡ with_mask below.old.kernel.now set)) result below.old.kernel.now below.new.kernel.now
         (contents I.left O.written E.written dev.old) (contents I.left O.written E.written dev.new) below.old.log.now below.new.log.now }
-    ensures cause { StopsOnlyIfRose I.faults O.faults E.faults result dev.old dev.new }
-    ensures counts { NoCountFell I.faults O.faults E.faults dev.old dev.new }
-    ensures clock { below.new.kernel.now.clock ≡ below.old.kernel.now.clock }
-    ensures same { LeadsOn below.old below.new }
+    ensures proceeds { Proceeds I.faults O.faults E.faults result below.old below.new dev.old dev.new }
 {
     let before = mask(dev, below)?;
     set_mask(set, dev, below)?;

@@ -9,4 +9,5 @@ pub mod Looks
 pub mod Mirrors
 pub mod Moved
 pub mod Outcomes
+pub mod Proceeding
 pub mod Sending

@@ -2,12 +2,11 @@
 ghost use Rattle.std.specs.Prelude.{◌≡◌, IfOk};
 ghost use Rattle.bridge_log.specs.Arguments.{AreUnusedZero, IsPlaced};
 ghost use Rattle.bridge_log.specs.Keeping.{LogsCall, with_call};
-ghost use Rattle.bridge_log.specs.Leading.{LeadsOn};
-ghost use Rattle.kernel_model.specs.Stops.{StopsOnlyIfRose};
+ghost use Rattle.bridge_log.specs.Proceeding.{Proceeds};
 ghost use Rattle.native_calls.specs.Answered.{IsCall};
 ghost use Rattle.native_calls.specs.Table.{native_call};
 ghost use Rattle.native_kernel.specs.Built.{built_call};
-ghost use Rattle.outside.specs.Streams.{NoCountFell, contents};
+ghost use Rattle.outside.specs.Streams.{contents};
 
 use crate::calls;
 use host_mem::HostMem;
@@ -48,10 +47,7 @@ impl Below<'_> {
             (I.left dev.old.input) self.old.log.now.native self.new.log.now.native }
         ensures entry { IfOk result (λ reply. self.new.log.now.native ≡ with_call self.old.log.now.native nr args self.old.memory.now self.new.memory.now reply) }
         ensures effects { self.new.log.now.effects ≡ self.old.log.now.effects }
-        ensures cause { StopsOnlyIfRose I.faults O.faults E.faults result dev.old dev.new }
-        ensures counts { NoCountFell I.faults O.faults E.faults dev.old dev.new }
-        ensures clock { self.new.kernel.now.clock ≡ self.old.kernel.now.clock }
-        ensures same { LeadsOn self.old self.new }
+        ensures proceeds { Proceeds I.faults O.faults E.faults result self.old self.new dev.old dev.new }
     {
         calls::native(self.kernel, nr, args, self.memory, dev, self.log)
     }

@@ -3,16 +3,15 @@ ghost use Rattle.std.specs.Prelude.{◌≡◌, ℕ, List, replicate, true, IfOk}
 ghost use Rattle.bridge_log.specs.Arguments.{AreUnusedZero, takes_address};
 ghost use Rattle.bridge_log.specs.Fills.{Fills};
 ghost use Rattle.bridge_log.specs.Keeping.{KeepsCall, with_call};
-ghost use Rattle.bridge_log.specs.Leading.{LeadsOn};
+ghost use Rattle.bridge_log.specs.Proceeding.{Proceeds};
 ghost use Rattle.bridge_log.specs.Outcomes.{outcome_of};
 ghost use Rattle.guest_space.specs.Access.{writable_prefix};
 ghost use Rattle.kernel_core.specs.declared.reply.Reply.{Reply};
-ghost use Rattle.kernel_model.specs.Stops.{StopsOnlyIfRose};
 ghost use Rattle.native_calls.specs.Table.{native_call};
 ghost use Rattle.native_kernel.specs.Built.{built_call};
 ghost use Rattle.o32_model.specs.Answered.{IsCall};
 ghost use Rattle.o32_model.specs.Step.{Guest, O32Step};
-ghost use Rattle.outside.specs.Streams.{NoCountFell, contents};
+ghost use Rattle.outside.specs.Streams.{contents};
 
 use crate::below::Below;
 use crate::outcomes::outcome_of;
@@ -53,10 +52,7 @@ impl Below<'_> {
         ensures entry { IfOk result (λ outcome. (reply : Reply) × (outcome ≡ outcome_of words.now reply)
             × (let room = replicate (writable_prefix space.old.pages buffer count) 0 in
             self.new.log.now.native ≡ with_call self.old.log.now.native nr args room self.new.memory.now reply)) }
-        ensures cause { StopsOnlyIfRose I.faults O.faults E.faults result dev.old dev.new }
-        ensures counts { NoCountFell I.faults O.faults E.faults dev.old dev.new }
-        ensures clock { self.new.kernel.now.clock ≡ self.old.kernel.now.clock }
-        ensures same { LeadsOn self.old self.new }
+        ensures proceeds { Proceeds I.faults O.faults E.faults result self.old self.new dev.old dev.new }
     {
         let room = space.writable(buffer, count);
         fresh_room(self.memory, room)?;

@@ -2,13 +2,12 @@
 ghost use Rattle.std.specs.Prelude.{◌≡◌, ℕ, List, IfOk};
 ghost use Rattle.bridge_log.specs.Arguments.{AreUnusedZero, IsPlaced};
 ghost use Rattle.bridge_log.specs.Keeping.{with_call};
-ghost use Rattle.bridge_log.specs.Leading.{LeadsOn};
+ghost use Rattle.bridge_log.specs.Proceeding.{Proceeds};
 ghost use Rattle.bridge_log.specs.Looks.{IsLook, LooksFor, Replied};
 ghost use Rattle.kernel_core.specs.declared.reply.Reply.{Reply};
-ghost use Rattle.kernel_model.specs.Stops.{StopsOnlyIfRose};
 ghost use Rattle.native_calls.specs.Table.{native_call};
 ghost use Rattle.native_kernel.specs.Built.{built_call};
-ghost use Rattle.outside.specs.Streams.{NoCountFell, contents};
+ghost use Rattle.outside.specs.Streams.{contents};
 
 use crate::below::Below;
 use kernel_core::{Reply, Stop};
@@ -31,10 +30,7 @@ impl Below<'_> {
             → LooksFor (Replied reply memory self.new.memory.now) result self.old.kernel.now self.new.kernel.now
             (contents I.left O.written E.written dev.old) (contents I.left O.written E.written dev.new) self.old.log.now self.new.log.now }
         ensures entry { IfOk result (λ reply. self.new.log.now.native ≡ with_call self.old.log.now.native nr args self.old.memory.now self.new.memory.now reply) }
-        ensures cause { StopsOnlyIfRose I.faults O.faults E.faults result dev.old dev.new }
-        ensures counts { NoCountFell I.faults O.faults E.faults dev.old dev.new }
-        ensures clock { self.new.kernel.now.clock ≡ self.old.kernel.now.clock }
-        ensures same { LeadsOn self.old self.new }
+        ensures proceeds { Proceeds I.faults O.faults E.faults result self.old self.new dev.old dev.new }
     {
         self.native(nr, args, dev)
     }

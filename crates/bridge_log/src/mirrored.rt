@@ -2,16 +2,15 @@
 ghost use Rattle.std.specs.Prelude.{◌≡◌, ℕ, List, IfOk};
 ghost use Rattle.bridge_log.specs.Arguments.{AreUnusedZero, IsPlaced};
 ghost use Rattle.bridge_log.specs.Keeping.{KeepsCall, with_call};
-ghost use Rattle.bridge_log.specs.Leading.{LeadsOn};
+ghost use Rattle.bridge_log.specs.Proceeding.{Proceeds};
 ghost use Rattle.bridge_log.specs.Mirrors.{Mirrors};
 ghost use Rattle.bridge_log.specs.Outcomes.{by_reply, outcome_of};
 ghost use Rattle.kernel_core.specs.declared.reply.Reply.{Reply};
-ghost use Rattle.kernel_model.specs.Stops.{StopsOnlyIfRose};
 ghost use Rattle.native_calls.specs.Table.{native_call};
 ghost use Rattle.native_kernel.specs.Built.{built_call};
 ghost use Rattle.o32_model.specs.Answered.{IsCall};
 ghost use Rattle.o32_model.specs.Step.{Guest, O32Step};
-ghost use Rattle.outside.specs.Streams.{NoCountFell, contents};
+ghost use Rattle.outside.specs.Streams.{contents};
 
 use crate::below::Below;
 use crate::outcomes::outcome_of;
@@ -42,10 +41,7 @@ impl Below<'_> {
             → KeepsCall step result self.old.kernel.now guest (I.left dev.old.input) self.old.log.now self.new.log.now }
         ensures entry { IfOk result (λ outcome. (reply : Reply)
             × (outcome ≡ outcome_of words.now reply) × (self.new.log.now.native ≡ with_call self.old.log.now.native nr args self.old.memory.now self.new.memory.now reply)) }
-        ensures cause { StopsOnlyIfRose I.faults O.faults E.faults result dev.old dev.new }
-        ensures counts { NoCountFell I.faults O.faults E.faults dev.old dev.new }
-        ensures clock { self.new.kernel.now.clock ≡ self.old.kernel.now.clock }
-        ensures same { LeadsOn self.old self.new }
+        ensures proceeds { Proceeds I.faults O.faults E.faults result self.old self.new dev.old dev.new }
     {
         let reply = self.native(nr, args, dev)?;
         Ok(outcome_of(words, reply))

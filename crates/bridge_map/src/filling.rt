@@ -1,11 +1,10 @@
 //! Bytes of a file that go to the program's memory.
 ghost use Rattle.std.specs.Prelude.{◌≡◌, ◌≤◌, ◌<◌, ◌+◌, ◌^◌, ⊤, ℕ, length, List, Some};
-ghost use Rattle.bridge_log.specs.Leading.{LeadsOn};
+ghost use Rattle.bridge_log.specs.Proceeding.{Proceeds};
 ghost use Rattle.bridge_map.specs.Shown.{AreStorable, Fills, Shows, count_of};
 ghost use Rattle.kernel_core.specs.FileContent.{FileContent};
-ghost use Rattle.kernel_model.specs.Stops.{StopsOnlyIfRose};
 ghost use Rattle.kernel_model.specs.Transfers.{file_bytes};
-ghost use Rattle.outside.specs.Streams.{NoCountFell, contents};
+ghost use Rattle.outside.specs.Streams.{contents};
 
 use bridge_log::Below;
 use guest_space::Space;
@@ -47,10 +46,7 @@ pub(crate) fn fill<I: Source, O: Sink, E: Sink>(
         → Fills (λ _. ⊤) result below.old.kernel.now below.new.kernel.now left
         (contents I.left O.written E.written dev.old) (contents I.left O.written E.written dev.new)
         space.old space.new below.old.log.now below.new.log.now part.address (file_bytes content part.offset part.count) }
-    ensures cause { StopsOnlyIfRose I.faults O.faults E.faults result dev.old dev.new }
-    ensures counts { NoCountFell I.faults O.faults E.faults dev.old dev.new }
-    ensures clock { below.new.kernel.now.clock ≡ below.old.kernel.now.clock }
-    ensures same { LeadsOn below.old below.new }
+    ensures proceeds { Proceeds I.faults O.faults E.faults result below.old below.new dev.old dev.new }
 {
     let FilePart {
         fd,
@@ -92,10 +88,7 @@ fn fill_piece<I: Source, O: Sink, E: Sink>(
         → Fills (λ got. got ≡ length (file_bytes content part.offset part.count)) result below.old.kernel.now below.new.kernel.now left
         (contents I.left O.written E.written dev.old) (contents I.left O.written E.written dev.new)
         space.old space.new below.old.log.now below.new.log.now part.address (file_bytes content part.offset part.count) }
-    ensures cause { StopsOnlyIfRose I.faults O.faults E.faults result dev.old dev.new }
-    ensures counts { NoCountFell I.faults O.faults E.faults dev.old dev.new }
-    ensures clock { below.new.kernel.now.clock ≡ below.old.kernel.now.clock }
-    ensures same { LeadsOn below.old below.new }
+    ensures proceeds { Proceeds I.faults O.faults E.faults result below.old below.new dev.old dev.new }
 {
     let FilePart {
         fd,

@@ -1,15 +1,14 @@
 //! New mappings of a file: mmap(2).
 ghost use Rattle.std.specs.Prelude.{◌≡◌, ◌≤◌, ◌<◌, ◌+◌, ◌*◌, ◌^◌, false, ℕ, List, Some};
-ghost use Rattle.bridge_log.specs.Leading.{LeadsOn};
+ghost use Rattle.bridge_log.specs.Proceeding.{Proceeds};
 ghost use Rattle.bridge_map.specs.Rows.{IsAsked, asked_for, guest_of, maps_no_file, placed};
 ghost use Rattle.bridge_map.specs.Shown.{Maps, Shows};
 ghost use Rattle.kernel_core.specs.FileContent.{FileContent};
-ghost use Rattle.kernel_model.specs.Stops.{StopsOnlyIfRose};
 ghost use Rattle.kernel_model.specs.Transfers.{file_bytes};
 ghost use Rattle.mips_exec.specs.Processor.{Processor};
 ghost use Rattle.o32_model.specs.Mappings.{mapped, mmap_in};
 ghost use Rattle.o32_model.specs.Ranges.{page_size};
-ghost use Rattle.outside.specs.Streams.{NoCountFell, contents};
+ghost use Rattle.outside.specs.Streams.{contents};
 
 use crate::asked::{Asked, asked_in};
 use crate::effects::{map, protect};
@@ -37,10 +36,7 @@ pub(crate) fn mmap_file<I: Source, O: Sink, E: Sink>(
         → Maps (mmap_in unit below.old.kernel.now (guest_of args.now processor space.old)) args.now result below.old.kernel.now below.new.kernel.now left
         (contents I.left O.written E.written dev.old) (contents I.left O.written E.written dev.new)
         space.old space.new below.old.log.now below.new.log.now }
-    ensures cause { StopsOnlyIfRose I.faults O.faults E.faults result dev.old dev.new }
-    ensures counts { NoCountFell I.faults O.faults E.faults dev.old dev.new }
-    ensures clock { below.new.kernel.now.clock ≡ below.old.kernel.now.clock }
-    ensures same { LeadsOn below.old below.new }
+    ensures proceeds { Proceeds I.faults O.faults E.faults result below.old below.new dev.old dev.new }
 {
     match asked_in(args, unit) {
         Err(error) => Ok(Outcome::Error(error)),
@@ -62,10 +58,7 @@ fn map_file<I: Source, O: Sink, E: Sink>(
         → Maps (asked_for below.old.kernel.now.files space.old asked.now) args.now result below.old.kernel.now below.new.kernel.now left
         (contents I.left O.written E.written dev.old) (contents I.left O.written E.written dev.new)
         space.old space.new below.old.log.now below.new.log.now }
-    ensures cause { StopsOnlyIfRose I.faults O.faults E.faults result dev.old dev.new }
-    ensures counts { NoCountFell I.faults O.faults E.faults dev.old dev.new }
-    ensures clock { below.new.kernel.now.clock ≡ below.old.kernel.now.clock }
-    ensures same { LeadsOn below.old below.new }
+    ensures proceeds { Proceeds I.faults O.faults E.faults result below.old below.new dev.old dev.new }
 {
     match refusal(asked.fd, asked.flags.kind(), asked.offset, dev, below)? {
         Some(error) => Ok(Outcome::Error(error)),
@@ -89,10 +82,7 @@ fn map_shown<I: Source, O: Sink, E: Sink>(
         args.now result below.old.kernel.now below.new.kernel.now left
         (contents I.left O.written E.written dev.old) (contents I.left O.written E.written dev.new)
         space.old space.new below.old.log.now below.new.log.now }
-    ensures cause { StopsOnlyIfRose I.faults O.faults E.faults result dev.old dev.new }
-    ensures counts { NoCountFell I.faults O.faults E.faults dev.old dev.new }
-    ensures clock { below.new.kernel.now.clock ≡ below.old.kernel.now.clock }
-    ensures same { LeadsOn below.old below.new }
+    ensures proceeds { Proceeds I.faults O.faults E.faults result below.old below.new dev.old dev.new }
 {
     match place_for(space, asked.flags, asked.address, asked.count) {
         Err(error) => Ok(Outcome::Error(error)),
@@ -118,10 +108,7 @@ fn map_shown_at<I: Source, O: Sink, E: Sink>(
         args.now result below.old.kernel.now below.new.kernel.now left
         (contents I.left O.written E.written dev.old) (contents I.left O.written E.written dev.new)
         space.old space.new below.old.log.now below.new.log.now }
-    ensures cause { StopsOnlyIfRose I.faults O.faults E.faults result dev.old dev.new }
-    ensures counts { NoCountFell I.faults O.faults E.faults dev.old dev.new }
-    ensures clock { below.new.kernel.now.clock ≡ below.old.kernel.now.clock }
-    ensures same { LeadsOn below.old below.new }
+    ensures proceeds { Proceeds I.faults O.faults E.faults result below.old below.new dev.old dev.new }
 {
     if !map(space, below.log, first, asked.count, PROT_READ + PROT_WRITE)? {
         return Ok(Outcome::Error(Errno::ENOMEM));

@@ -1,11 +1,10 @@
 //! Whether a mapping may show what a descriptor has open.
 ghost use Rattle.std.specs.Prelude.{◌≡◌, ◌<◌, ◌^◌, ℕ, true, List, Some};
-ghost use Rattle.bridge_log.specs.Leading.{LeadsOn};
+ghost use Rattle.bridge_log.specs.Proceeding.{Proceeds};
 ghost use Rattle.bridge_map.specs.Shown.{Judged, Looked, access_error, access_error_told, file_error, file_error_told, file_of};
 ghost use Rattle.kernel_model.specs.Descriptions.{opened, reads};
-ghost use Rattle.kernel_model.specs.Stops.{StopsOnlyIfRose};
 ghost use Rattle.kernel_model.specs.declared.descriptor.Description.{Description};
-ghost use Rattle.outside.specs.Streams.{NoCountFell, contents};
+ghost use Rattle.outside.specs.Streams.{contents};
 
 use crate::numbers::{F_GETFL, O_WRONLY};
 use bridge_log::{Below, fresh_room};
@@ -29,10 +28,7 @@ pub(crate) fn refusal<I: Source, O: Sink, E: Sink>(
         → Looked (λ answer. Judged below.old.kernel.now.files kind fd answer) result below.old.kernel.now below.new.kernel.now left
         (contents I.left O.written E.written dev.old) (contents I.left O.written E.written dev.new) below.old.log.now.native below.new.log.now.native }
     ensures effects { below.new.log.now.effects ≡ below.old.log.now.effects }
-    ensures cause { StopsOnlyIfRose I.faults O.faults E.faults result dev.old dev.new }
-    ensures counts { NoCountFell I.faults O.faults E.faults dev.old dev.new }
-    ensures clock { below.new.kernel.now.clock ≡ below.old.kernel.now.clock }
-    ensures same { LeadsOn below.old below.new }
+    ensures proceeds { Proceeds I.faults O.faults E.faults result below.old below.new dev.old dev.new }
 {
     if let Some(error) = access_refusal(fd, dev, below)? {
         return Ok(Some(error));
@@ -53,10 +49,7 @@ fn access_refusal<I: Source, O: Sink, E: Sink>(
         → Looked (λ answer. answer ≡ access_error (opened below.old.kernel.now.files fd)) result below.old.kernel.now below.new.kernel.now left
         (contents I.left O.written E.written dev.old) (contents I.left O.written E.written dev.new) below.old.log.now.native below.new.log.now.native }
     ensures effects { below.new.log.now.effects ≡ below.old.log.now.effects }
-    ensures cause { StopsOnlyIfRose I.faults O.faults E.faults result dev.old dev.new }
-    ensures counts { NoCountFell I.faults O.faults E.faults dev.old dev.new }
-    ensures clock { below.new.kernel.now.clock ≡ below.old.kernel.now.clock }
-    ensures same { LeadsOn below.old below.new }
+    ensures proceeds { Proceeds I.faults O.faults E.faults result below.old below.new dev.old dev.new }
 {
     below.memory.clear();
     let reply = below.native(FCNTL, [u64::from(fd), F_GETFL, 0, 0, 0, 0], dev)?;
@@ -76,10 +69,7 @@ fn file_refusal<I: Source, O: Sink, E: Sink>(
         → Looked (λ answer. answer ≡ file_error (file_of below.old.kernel.now.files description)) result below.old.kernel.now below.new.kernel.now left
         (contents I.left O.written E.written dev.old) (contents I.left O.written E.written dev.new) below.old.log.now.native below.new.log.now.native }
     ensures effects { below.new.log.now.effects ≡ below.old.log.now.effects }
-    ensures cause { StopsOnlyIfRose I.faults O.faults E.faults result dev.old dev.new }
-    ensures counts { NoCountFell I.faults O.faults E.faults dev.old dev.new }
-    ensures clock { below.new.kernel.now.clock ≡ below.old.kernel.now.clock }
-    ensures same { LeadsOn below.old below.new }
+    ensures proceeds { Proceeds I.faults O.faults E.faults result below.old below.new dev.old dev.new }
 {
     fresh_room(below.memory, 1)?;
     let args = [u64::from(fd), FIRST_ADDRESS, 1, offset, 0, 0];

@@ -1,15 +1,14 @@
 //! Files that are too large to be opened without O_LARGEFILE.
 ghost use Rattle.std.specs.Prelude.{◌≡◌, ℕ, List, Ok, Some};
-ghost use Rattle.bridge_paths.specs.Passed.{KeepsCall, LeadsOn};
+ghost use Rattle.bridge_paths.specs.Passed.{KeepsCall, Proceeds};
 ghost use Rattle.bridge_open.specs.inside.Openings.{IsTooLarge, is_no_entry, outcome_of_large};
 ghost use Rattle.kernel_core.specs.OpenSet.{OpenSet};
-ghost use Rattle.kernel_model.specs.Stops.{StopsOnlyIfRose};
 ghost use Rattle.o32_model.specs.Answered.{IsCall};
 ghost use Rattle.o32_model.specs.Opening.{open_row};
 ghost use Rattle.o32_model.specs.PathArguments.{base};
 ghost use Rattle.o32_model.specs.Paths.{path_at};
 ghost use Rattle.o32_model.specs.Step.{Guest};
-ghost use Rattle.outside.specs.Streams.{NoCountFell, contents};
+ghost use Rattle.outside.specs.Streams.{contents};
 
 use bridge_paths::{Below, outcome_of};
 use host_mem::FIRST_ADDRESS;
@@ -37,10 +36,7 @@ pub(crate) fn too_large<I: Source, O: Sink, E: Sink>(
         → IsTooLarge below.old.kernel.now.files (base directory) path flags
         → KeepsCall (open_row below.old.kernel.now guest (base directory) address (Some flags) mode) result below.old.kernel.now guest
         (I.left dev.old.input) below.old.log.now below.new.log.now }
-    ensures cause { StopsOnlyIfRose I.faults O.faults E.faults result dev.old dev.new }
-    ensures counts { NoCountFell I.faults O.faults E.faults dev.old dev.new }
-    ensures clock { below.new.kernel.now.clock ≡ below.old.kernel.now.clock }
-    ensures same { LeadsOn below.old below.new }
+    ensures proceeds { Proceeds I.faults O.faults E.faults result below.old below.new dev.old dev.new }
 {
     below.memory.clear();
     below.memory.push_zeros(1)?;

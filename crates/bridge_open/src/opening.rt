@@ -2,17 +2,16 @@
 //! is opened with O_LARGEFILE alone, which the native kernel does not ask for. So its size is looked at
 //! first.
 ghost use Rattle.std.specs.Prelude.{◌≡◌, ◌<◌, ◌&&◌, IsTrue, None, Ok, Some, false, length, position, if◌then◌else◌};
-ghost use Rattle.bridge_paths.specs.Passed.{KeepsCall, LeadsOn};
+ghost use Rattle.bridge_paths.specs.Passed.{KeepsCall, Proceeds};
 ghost use Rattle.bridge_open.specs.inside.Openings.{Unlimited, is_unlimited, size_led};
 ghost use Rattle.kernel_model.specs.Opening.{follows};
-ghost use Rattle.kernel_model.specs.Stops.{StopsOnlyIfRose};
 ghost use Rattle.number_tables.specs.OpenNumbers.{is_synced, open_of_o32};
 ghost use Rattle.o32_model.specs.Answered.{IsCall};
 ghost use Rattle.o32_model.specs.Opening.{open_row};
 ghost use Rattle.o32_model.specs.PathArguments.{base};
 ghost use Rattle.o32_model.specs.Paths.{is_nul, path_at, path_limit};
 ghost use Rattle.o32_model.specs.Step.{Guest};
-ghost use Rattle.outside.specs.Streams.{NoCountFell, contents};
+ghost use Rattle.outside.specs.Streams.{contents};
 
 use crate::large::too_large;
 use crate::sizes::size_led;
@@ -74,10 +73,7 @@ pub(crate) fn open<I: Source, O: Sink, E: Sink>(
     ensures kept { (guest : Guest) → guest.words ≡ words.now → guest.memory ≡ space.now
         → KeepsCall (open_row below.old.kernel.now guest (base request.directory) request.address (open_of_o32 request.flags) request.mode) result below.old.kernel.now guest
         (I.left dev.old.input) below.old.log.now below.new.log.now }
-    ensures cause { StopsOnlyIfRose I.faults O.faults E.faults result dev.old dev.new }
-    ensures counts { NoCountFell I.faults O.faults E.faults dev.old dev.new }
-    ensures clock { below.new.kernel.now.clock ≡ below.old.kernel.now.clock }
-    ensures same { LeadsOn below.old below.new }
+    ensures proceeds { Proceeds I.faults O.faults E.faults result below.old below.new dev.old dev.new }
 {
     match OpenFlags::of_o32(request.flags) {
         Some(flags) if !makes_directory(flags) => open_listed(
@@ -115,10 +111,7 @@ fn open_listed<I: Source, O: Sink, E: Sink>(
     ensures kept { (guest : Guest) → guest.words ≡ words.now → guest.memory ≡ space.now
         → KeepsCall (open_row below.old.kernel.now guest (base opening.directory) opening.address (Some opening.flags) opening.mode) result below.old.kernel.now guest
         (I.left dev.old.input) below.old.log.now below.new.log.now }
-    ensures cause { StopsOnlyIfRose I.faults O.faults E.faults result dev.old dev.new }
-    ensures counts { NoCountFell I.faults O.faults E.faults dev.old dev.new }
-    ensures clock { below.new.kernel.now.clock ≡ below.old.kernel.now.clock }
-    ensures same { LeadsOn below.old below.new }
+    ensures proceeds { Proceeds I.faults O.faults E.faults result below.old below.new dev.old dev.new }
 {
     match read_path(alloc, space, opening.address)? {
         Err(error) => Ok(Outcome::Error(error)),
@@ -151,10 +144,7 @@ fn open_path<I: Source, O: Sink, E: Sink>(
     ensures kept { (guest : Guest) → guest.words ≡ words.now → path_at guest.memory opening.address ≡ Ok path.now
         → KeepsCall (open_row below.old.kernel.now guest (base opening.directory) opening.address (Some opening.flags) opening.mode) result below.old.kernel.now guest
         (I.left dev.old.input) below.old.log.now below.new.log.now }
-    ensures cause { StopsOnlyIfRose I.faults O.faults E.faults result dev.old dev.new }
-    ensures counts { NoCountFell I.faults O.faults E.faults dev.old dev.new }
-    ensures clock { below.new.kernel.now.clock ≡ below.old.kernel.now.clock }
-    ensures same { LeadsOn below.old below.new }
+    ensures proceeds { Proceeds I.faults O.faults E.faults result below.old below.new dev.old dev.new }
 {
     if is_unlimited(opening.flags) {
         return open_now(words, opening, path, dev, below);
@@ -199,10 +189,7 @@ fn open_sized<I: Source, O: Sink, E: Sink>(
         → size ≡ size_led below.old.kernel.now.files (base opening.directory) path.now (follows opening.flags)
         → KeepsCall (open_row below.old.kernel.now guest (base opening.directory) opening.address (Some opening.flags) opening.mode) result below.old.kernel.now guest
         (I.left dev.old.input) below.old.log.now below.new.log.now }
-    ensures cause { StopsOnlyIfRose I.faults O.faults E.faults result dev.old dev.new }
-    ensures counts { NoCountFell I.faults O.faults E.faults dev.old dev.new }
-    ensures clock { below.new.kernel.now.clock ≡ below.old.kernel.now.clock }
-    ensures same { LeadsOn below.old below.new }
+    ensures proceeds { Proceeds I.faults O.faults E.faults result below.old below.new dev.old dev.new }
 {
     below.kernel.files_valid();
     if size > SMALL_FILE_LIMIT {
@@ -232,10 +219,7 @@ fn open_now<I: Source, O: Sink, E: Sink>(
         → Unlimited below.old.kernel.now.files (base opening.directory) path.now opening.flags
         → KeepsCall (open_row below.old.kernel.now guest (base opening.directory) opening.address (Some opening.flags) opening.mode) result below.old.kernel.now guest
         (I.left dev.old.input) below.old.log.now below.new.log.now }
-    ensures cause { StopsOnlyIfRose I.faults O.faults E.faults result dev.old dev.new }
-    ensures counts { NoCountFell I.faults O.faults E.faults dev.old dev.new }
-    ensures clock { below.new.kernel.now.clock ≡ below.old.kernel.now.clock }
-    ensures same { LeadsOn below.old below.new }
+    ensures proceeds { Proceeds I.faults O.faults E.faults result below.old below.new dev.old dev.new }
 {
     below.kernel.whole();
     put_one(below.memory, path)?;

@@ -1,12 +1,11 @@
 //! The size of what a path leads to, by a native call that changes nothing.
 ghost use Rattle.std.specs.Prelude.{◌≡◌, ◌+◌, ◌<◌, None, length, position, if◌then◌else◌};
-ghost use Rattle.bridge_paths.specs.Passed.{LeadsOn, LooksFor};
+ghost use Rattle.bridge_paths.specs.Passed.{LooksFor, Proceeds};
 ghost use Rattle.bridge_open.specs.inside.Openings.{size_led, size_there, size_told};
 ghost use Rattle.host_mem.specs.Memory.{bytes_at, first_address};
-ghost use Rattle.kernel_model.specs.Stops.{StopsOnlyIfRose};
 ghost use Rattle.o32_model.specs.PathArguments.{base};
 ghost use Rattle.o32_model.specs.Paths.{is_nul, path_limit};
-ghost use Rattle.outside.specs.Streams.{NoCountFell, contents};
+ghost use Rattle.outside.specs.Streams.{contents};
 
 use bridge_paths::{Below, put_behind};
 use byteorder::{ByteOrder, LittleEndian};
@@ -36,10 +35,7 @@ pub(crate) fn size_led<I: Source, O: Sink, E: Sink>(
     requires plain { position is_nul path.now ≡ None }
     ensures looks { LooksFor (λ found. found ≡ size_led below.old.kernel.now.files (base directory) path.now follow) result below.old.kernel.now below.new.kernel.now
         (contents I.left O.written E.written dev.old) (contents I.left O.written E.written dev.new) below.old.log.now below.new.log.now }
-    ensures cause { StopsOnlyIfRose I.faults O.faults E.faults result dev.old dev.new }
-    ensures counts { NoCountFell I.faults O.faults E.faults dev.old dev.new }
-    ensures clock { below.new.kernel.now.clock ≡ below.old.kernel.now.clock }
-    ensures same { LeadsOn below.old below.new }
+    ensures proceeds { Proceeds I.faults O.faults E.faults result below.old below.new dev.old dev.new }
 {
     below.kernel.files_valid();
     let at = put_behind(below.memory, STATUS_SIZE, path)?;

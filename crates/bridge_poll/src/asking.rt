@@ -1,10 +1,9 @@
 //! The native call, ppoll(2).
 ghost use Rattle.std.specs.Prelude.{◌≡◌};
-ghost use Rattle.bridge_limits.specs.Passed.{LeadsOn, LooksFor, error_of};
+ghost use Rattle.bridge_limits.specs.Passed.{LooksFor, Proceeds, error_of};
 ghost use Rattle.bridge_poll.specs.inside.Asking as spec;
 ghost use Rattle.bridge_poll.specs.inside.Asking.{IsAnswer, polling};
-ghost use Rattle.kernel_model.specs.Stops.{StopsOnlyIfRose};
-ghost use Rattle.outside.specs.Streams.{NoCountFell, contents};
+ghost use Rattle.outside.specs.Streams.{contents};
 
 use crate::entries::{Entries, put_entries};
 use crate::limited::Limits;
@@ -44,10 +43,7 @@ pub(crate) fn ask<I: Source, O: Sink, E: Sink>(
     ensures looks { LooksFor (λ answer. IsAnswer below.old.kernel.now limits.wait (polling below.old.kernel.now space.now entries limits)
         entries.count answer below.new.memory.now) result below.old.kernel.now below.new.kernel.now
         (contents I.left O.written E.written dev.old) (contents I.left O.written E.written dev.new) below.old.log.now below.new.log.now }
-    ensures cause { StopsOnlyIfRose I.faults O.faults E.faults result dev.old dev.new }
-    ensures counts { NoCountFell I.faults O.faults E.faults dev.old dev.new }
-    ensures clock { below.new.kernel.now.clock ≡ below.old.kernel.now.clock }
-    ensures same { LeadsOn below.old below.new }
+    ensures proceeds { Proceeds I.faults O.faults E.faults result below.old below.new dev.old dev.new }
 {
     space.whole();
     let placed = put_limits(limits.wait, limits.own, below.memory)?;

@@ -1,6 +1,6 @@
 //! The calls by their words.
 ghost use Rattle.std.specs.Prelude.{◌≡◌, ◌==◌, ◌||◌, Ok, Option, Some, None};
-ghost use Rattle.bridge_limits.specs.Passed.{KeepsCall, LeadsOn};
+ghost use Rattle.bridge_limits.specs.Passed.{KeepsCall, Proceeds};
 ghost use Rattle.bridge_poll.specs.Found.{found};
 ghost use Rattle.std.specs.Int.{cast_signed, w32};
 ghost use Rattle.kernel_model.specs.Readiness as readiness;
@@ -83,10 +83,7 @@ fn poll<I: Source, O: Sink, E: Sink>(
     ensures kept { (guest : Guest) → guest.words ≡ words.now → guest.memory ≡ space.old
         → KeepsCall (poll_row below.old.kernel.now guest (argument words.now 0) (argument words.now 1) (signed_argument words.now 2))
         result below.old.kernel.now guest (I.left dev.old.input) below.old.log.now below.new.log.now }
-    ensures cause { StopsOnlyIfRose I.faults O.faults E.faults result dev.old dev.new }
-    ensures counts { NoCountFell I.faults O.faults E.faults dev.old dev.new }
-    ensures clock { below.new.kernel.now.clock ≡ below.old.kernel.now.clock }
-    ensures same { LeadsOn below.old below.new }
+    ensures proceeds { Proceeds I.faults O.faults E.faults result below.old below.new dev.old dev.new }
 {
     let [address, count, milliseconds, _] = words.reg;
     let limits = Limits {
@@ -124,10 +121,7 @@ fn ppoll<I: Source, O: Sink, E: Sink>(
     ensures kept { (guest : Guest) → guest.words ≡ words.now → guest.memory ≡ space.old
         → KeepsCall (ppoll_row below.old.kernel.now guest (argument words.now 0) (argument words.now 1) (argument words.now 2)
         (argument words.now 3) (stack_word words.now 0)) result below.old.kernel.now guest (I.left dev.old.input) below.old.log.now below.new.log.now }
-    ensures cause { StopsOnlyIfRose I.faults O.faults E.faults result dev.old dev.new }
-    ensures counts { NoCountFell I.faults O.faults E.faults dev.old dev.new }
-    ensures clock { below.new.kernel.now.clock ≡ below.old.kernel.now.clock }
-    ensures same { LeadsOn below.old below.new }
+    ensures proceeds { Proceeds I.faults O.faults E.faults result below.old below.new dev.old dev.new }
 {
     match words.stack[0] {
         None => Ok(Outcome::Error(Errno::EFAULT)),
@@ -150,10 +144,7 @@ fn ppoll_sized<I: Source, O: Sink, E: Sink>(
     ensures kept { (guest : Guest) → guest.words ≡ words.now → guest.memory ≡ space.old
         → KeepsCall (ppoll_row below.old.kernel.now guest (argument words.now 0) (argument words.now 1) (argument words.now 2)
         (argument words.now 3) (Some size)) result below.old.kernel.now guest (I.left dev.old.input) below.old.log.now below.new.log.now }
-    ensures cause { StopsOnlyIfRose I.faults O.faults E.faults result dev.old dev.new }
-    ensures counts { NoCountFell I.faults O.faults E.faults dev.old dev.new }
-    ensures clock { below.new.kernel.now.clock ≡ below.old.kernel.now.clock }
-    ensures same { LeadsOn below.old below.new }
+    ensures proceeds { Proceeds I.faults O.faults E.faults result below.old below.new dev.old dev.new }
 {
     let [address, count, time, mask] = words.reg;
     let at = TimePlace {

@@ -1,18 +1,17 @@
 //! How the waits of these calls end.
 ghost use Rattle.std.specs.Prelude.{◌≡◌, ◌⊎◌, IfOk, OnOk};
-ghost use Rattle.bridge_limits.specs.Passed.{LeadsOn, reached};
+ghost use Rattle.bridge_limits.specs.Passed.{Proceeds, reached};
 ghost use Rattle.bridge_limits.specs.Ends.{Closes, KeepsEnd};
 ghost use Rattle.bridge_poll.specs.inside.Ending.{ended_so, told_if};
 ghost use Rattle.kernel_model.specs.Pipes.{Sent};
 ghost use Rattle.kernel_model.specs.State.{Kernel};
-ghost use Rattle.kernel_model.specs.Stops.{StopsOnlyIfRose};
 ghost use Rattle.mips_exec.specs.Processor.{Processor};
 ghost use Rattle.o32_calls.specs.Numbers.{poll_number};
 ghost use Rattle.o32_calls.specs.declared.times.PollCall.TheVariants.{Poll, Ppoll};
 ghost use Rattle.o32_model.specs.Effects.{Effected};
 ghost use Rattle.o32_model.specs.Times.{spec_bytes};
 ghost use Rattle.o32_model.specs.WaitEnds.{ends_with, entries_told, limited_ended, told, wait_ended, wait_word};
-ghost use Rattle.outside.specs.Streams.{NoCountFell, contents};
+ghost use Rattle.outside.specs.Streams.{contents};
 
 use crate::entries::Entries;
 use crate::telling::store_told;
@@ -39,10 +38,7 @@ pub fn poll_end<I: Source, O: Sink, E: Sink>(
     ensures ends { Closes (wait_ended wait.now cause clock below.old.kernel.now space.old) result below.new.kernel.now space.new
         (contents I.left O.written E.written dev.old) (contents I.left O.written E.written dev.new) }
     ensures kept { KeepsEnd result (I.left dev.old.input) below.old.kernel.now below.new.kernel.now space.old.pages space.new.pages below.old.log.now below.new.log.now }
-    ensures cause { StopsOnlyIfRose I.faults O.faults E.faults result dev.old dev.new }
-    ensures counts { NoCountFell I.faults O.faults E.faults dev.old dev.new }
-    ensures clock { below.new.kernel.now.clock ≡ below.old.kernel.now.clock }
-    ensures same { LeadsOn below.old below.new }
+    ensures proceeds { Proceeds I.faults O.faults E.faults result below.old below.new dev.old dev.new }
 {
     match wait.nr {
         POLL => {
@@ -66,10 +62,7 @@ fn ppoll_end<I: Source, O: Sink, E: Sink>(
         (entries_told wait.now space.old) wait.now cause clock below.old.kernel.now space.old) result below.new.kernel.now space.new
         (contents I.left O.written E.written dev.old) (contents I.left O.written E.written dev.new) }
     ensures kept { KeepsEnd result (I.left dev.old.input) below.old.kernel.now below.new.kernel.now space.old.pages space.new.pages below.old.log.now below.new.log.now }
-    ensures cause { StopsOnlyIfRose I.faults O.faults E.faults result dev.old dev.new }
-    ensures counts { NoCountFell I.faults O.faults E.faults dev.old dev.new }
-    ensures clock { below.new.kernel.now.clock ≡ below.old.kernel.now.clock }
-    ensures same { LeadsOn below.old below.new }
+    ensures proceeds { Proceeds I.faults O.faults E.faults result below.old below.new dev.old dev.new }
 {
     let at = TimePlace {
         form: TimeForm::Nanoseconds,

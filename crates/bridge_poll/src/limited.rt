@@ -1,16 +1,15 @@
 //! Calls that wait for their entries, with a limit of time and a mask.
 ghost use Rattle.std.specs.Prelude.{◌≡◌, ℕ, Option, Result, IfOk, OnOk};
-ghost use Rattle.bridge_limits.specs.Passed.{KeepsCall, LeadsOn, reached};
+ghost use Rattle.bridge_limits.specs.Passed.{KeepsCall, Proceeds, reached};
 ghost use Rattle.bridge_limits.specs.Limits.{ShowsLeft};
 ghost use Rattle.bridge_poll.specs.inside.Limited.{limited_row, outcome_by, told_memory, with_left_if};
 ghost use Rattle.bridge_poll.specs.inside.Telling.{pieces_told, told_bytes};
 ghost use Rattle.kernel_model.specs.Pipes.{Sent};
-ghost use Rattle.kernel_model.specs.Stops.{StopsOnlyIfRose};
 ghost use Rattle.mips_exec.specs.Processor.{Processor};
 ghost use Rattle.o32_model.specs.Answered.{IsCall};
 ghost use Rattle.o32_model.specs.Effects.{Effected};
 ghost use Rattle.o32_model.specs.Step.{Guest};
-ghost use Rattle.outside.specs.Streams.{NoCountFell, contents};
+ghost use Rattle.outside.specs.Streams.{contents};
 
 use crate::asking::{Answer, Came, ask};
 use crate::entries::Entries;
@@ -48,10 +47,7 @@ pub(crate) fn limited<I: Source, O: Sink, E: Sink>(
         (contents I.left O.written E.written dev.old) (contents I.left O.written E.written dev.new) }
     ensures kept { (guest : Guest) → guest.words ≡ words.now → guest.memory ≡ space.old
         → KeepsCall (limited_row below.old.kernel.now guest entries limits) result below.old.kernel.now guest (I.left dev.old.input) below.old.log.now below.new.log.now }
-    ensures cause { StopsOnlyIfRose I.faults O.faults E.faults result dev.old dev.new }
-    ensures counts { NoCountFell I.faults O.faults E.faults dev.old dev.new }
-    ensures clock { below.new.kernel.now.clock ≡ below.old.kernel.now.clock }
-    ensures same { LeadsOn below.old below.new }
+    ensures proceeds { Proceeds I.faults O.faults E.faults result below.old below.new dev.old dev.new }
 {
     let answer = ask(entries, limits, space, dev, below)?;
     match answer.came {

@@ -1,6 +1,6 @@
 //! How the waits of these calls end.
 ghost use Rattle.std.specs.Prelude.{◌≡◌, IfOk, OnOk, if◌then◌else◌};
-ghost use Rattle.bridge_limits.specs.Passed.{LeadsOn, reached};
+ghost use Rattle.bridge_limits.specs.Passed.{Proceeds, reached};
 ghost use Rattle.bridge_limits.specs.Ends.{Closes, KeepsEnd};
 ghost use Rattle.bridge_limits.specs.Limits.{StoresAlike, left_form, unmasked_kernel};
 ghost use Rattle.bridge_select.specs.Ends.{select_ended};
@@ -9,14 +9,13 @@ ghost use Rattle.bridge_select.specs.inside.Telling.{pieces_of};
 ghost use Rattle.kernel_core.specs.declared.error.Errno.TheVariants.{EFAULT};
 ghost use Rattle.kernel_model.specs.Pipes.{Sent};
 ghost use Rattle.kernel_model.specs.State.{Kernel};
-ghost use Rattle.kernel_model.specs.Stops.{StopsOnlyIfRose};
 ghost use Rattle.mips_exec.specs.Processor.{Processor};
 ghost use Rattle.o32_model.specs.Effects.{Effected};
 ghost use Rattle.o32_model.specs.Selecting as o32;
 ghost use Rattle.o32_model.specs.Selecting.{sets_pieces};
 ghost use Rattle.o32_model.specs.WaitEnds.{ends_with, no_sets, sets_told, told};
 ghost use Rattle.o32_model.specs.declared.wait.Close.TheVariants as closes;
-ghost use Rattle.outside.specs.Streams.{NoCountFell, contents};
+ghost use Rattle.outside.specs.Streams.{contents};
 
 use crate::asked::Asked;
 use crate::fd_sets::WORDS;
@@ -43,10 +42,7 @@ pub fn select_end<I: Source, O: Sink, E: Sink>(
     ensures ends { Closes (select_ended wait.now cause clock below.old.kernel.now space.old) result below.new.kernel.now space.new
         (contents I.left O.written E.written dev.old) (contents I.left O.written E.written dev.new) }
     ensures kept { KeepsEnd result (I.left dev.old.input) below.old.kernel.now below.new.kernel.now space.old.pages space.new.pages below.old.log.now below.new.log.now }
-    ensures cause { StopsOnlyIfRose I.faults O.faults E.faults result dev.old dev.new }
-    ensures counts { NoCountFell I.faults O.faults E.faults dev.old dev.new }
-    ensures clock { below.new.kernel.now.clock ≡ below.old.kernel.now.clock }
-    ensures same { LeadsOn below.old below.new }
+    ensures proceeds { Proceeds I.faults O.faults E.faults result below.old below.new dev.old dev.new }
 {
     let at = time_place(wait);
     let close = close(at, wait, cause, clock, space, below.log)?;

@@ -1,14 +1,13 @@
 //! The calls by what they ask for: one native call, whose answer is told, or a wait.
 ghost use Rattle.std.specs.Prelude.{◌≡◌, ◌%◌, ◌^◌};
 ghost use Rattle.std.specs.Int.{cast_signed, w32};
-ghost use Rattle.bridge_limits.specs.Passed.{KeepsCall, LeadsOn, LooksFor};
+ghost use Rattle.bridge_limits.specs.Passed.{KeepsCall, LooksFor, Proceeds};
 ghost use Rattle.bridge_select.specs.Found.{found};
 ghost use Rattle.bridge_select.specs.inside.Requests.{requested, selects};
 ghost use Rattle.bridge_select.specs.inside.Telling.{Answered};
-ghost use Rattle.kernel_model.specs.Stops.{StopsOnlyIfRose};
 ghost use Rattle.mips_exec.specs.Processor.{Processor};
 ghost use Rattle.o32_model.specs.Answered.{IsCall};
-ghost use Rattle.outside.specs.Streams.{NoCountFell, contents};
+ghost use Rattle.outside.specs.Streams.{contents};
 
 use crate::requests::Request;
 use crate::rooms::put_request;
@@ -33,10 +32,7 @@ pub(crate) fn select<I: Source, O: Sink, E: Sink>(
         (contents I.left O.written E.written dev.old) (contents I.left O.written E.written dev.new) }
     ensures kept { (processor : Processor) → KeepsCall (selects below.old.kernel.now (found words.now processor space.old) (requested request.now)) result below.old.kernel.now
         (found words.now processor space.old) (I.left dev.old.input) below.old.log.now below.new.log.now }
-    ensures cause { StopsOnlyIfRose I.faults O.faults E.faults result dev.old dev.new }
-    ensures counts { NoCountFell I.faults O.faults E.faults dev.old dev.new }
-    ensures clock { below.new.kernel.now.clock ≡ below.old.kernel.now.clock }
-    ensures same { LeadsOn below.old below.new }
+    ensures proceeds { Proceeds I.faults O.faults E.faults result below.old below.new dev.old dev.new }
 {
     let answer = ask(request, space, dev, below)?;
     match answer.reply {
@@ -57,10 +53,7 @@ fn ask<I: Source, O: Sink, E: Sink>(
 ) -> Result<Answer, Stop>
     ensures looks { LooksFor (λ answer. Answered below.old.kernel.now space.now (requested request.now) answer below.new.memory.now) result below.old.kernel.now below.new.kernel.now
         (contents I.left O.written E.written dev.old) (contents I.left O.written E.written dev.new) below.old.log.now below.new.log.now }
-    ensures cause { StopsOnlyIfRose I.faults O.faults E.faults result dev.old dev.new }
-    ensures counts { NoCountFell I.faults O.faults E.faults dev.old dev.new }
-    ensures clock { below.new.kernel.now.clock ≡ below.old.kernel.now.clock }
-    ensures same { LeadsOn below.old below.new }
+    ensures proceeds { Proceeds I.faults O.faults E.faults result below.old below.new dev.old dev.new }
 {
     let places = put_request(request, space, below.memory)?;
     let args = [

@@ -1,12 +1,11 @@
 //! The actions of signals, set and told: sigaction(2).
 ghost use Rattle.std.specs.Prelude.{◌≡◌, IfOk, false};
-ghost use Rattle.bridge_signal_state.specs.Passed.{LeadsOn};
+ghost use Rattle.bridge_signal_state.specs.Passed.{Proceeds};
 ghost use Rattle.bridge_signal.specs.inside.Asked.{IsAllowed, action_changed, action_set, action_set_to};
 ghost use Rattle.bridge_signal.specs.inside.Told.{did};
 ghost use Rattle.bridge_signal_state.specs.Acts.{Acts};
 ghost use Rattle.kernel_model.specs.SignalRows as rows;
-ghost use Rattle.kernel_model.specs.Stops.{StopsOnlyIfRose};
-ghost use Rattle.outside.specs.Streams.{NoCountFell, contents};
+ghost use Rattle.outside.specs.Streams.{contents};
 
 use crate::asked::ActionSetting;
 use crate::setting::set_action;
@@ -24,10 +23,7 @@ pub(crate) fn change_action<I: Source, O: Sink, E: Sink>(
     requires allowed { IfOk asked (λ asked. IsAllowed asked.sig asked.action) }
     ensures acts { Acts (λ told became. action_changed below.old.kernel.now asked ≡ did became told) result below.old.kernel.now below.new.kernel.now
         (contents I.left O.written E.written dev.old) (contents I.left O.written E.written dev.new) below.old.log.now below.new.log.now }
-    ensures cause { StopsOnlyIfRose I.faults O.faults E.faults result dev.old dev.new }
-    ensures counts { NoCountFell I.faults O.faults E.faults dev.old dev.new }
-    ensures clock { below.new.kernel.now.clock ≡ below.old.kernel.now.clock }
-    ensures same { LeadsOn below.old below.new }
+    ensures proceeds { Proceeds I.faults O.faults E.faults result below.old below.new dev.old dev.new }
 {
     match asked {
         Err(error) => Ok(Err(error)),
@@ -48,10 +44,7 @@ fn replace_action<I: Source, O: Sink, E: Sink>(
     requires allowed { IsAllowed sig new }
     ensures acts { Acts (λ before became. (before ≡ rows.action_at below.old.kernel.now.signals sig) × (became ≡ action_set below.old.kernel.now sig new)) result below.old.kernel.now below.new.kernel.now
         (contents I.left O.written E.written dev.old) (contents I.left O.written E.written dev.new) below.old.log.now below.new.log.now }
-    ensures cause { StopsOnlyIfRose I.faults O.faults E.faults result dev.old dev.new }
-    ensures counts { NoCountFell I.faults O.faults E.faults dev.old dev.new }
-    ensures clock { below.new.kernel.now.clock ≡ below.old.kernel.now.clock }
-    ensures same { LeadsOn below.old below.new }
+    ensures proceeds { Proceeds I.faults O.faults E.faults result below.old below.new dev.old dev.new }
 {
     let before = action(sig, dev, below)?;
     set_new(sig, new, dev, below)?;
@@ -68,10 +61,7 @@ fn set_new<I: Source, O: Sink, E: Sink>(
     requires allowed { IsAllowed sig new }
     ensures acts { Acts (λ _ became. became ≡ action_set below.old.kernel.now sig new) result below.old.kernel.now below.new.kernel.now
         (contents I.left O.written E.written dev.old) (contents I.left O.written E.written dev.new) below.old.log.now below.new.log.now }
-    ensures cause { StopsOnlyIfRose I.faults O.faults E.faults result dev.old dev.new }
-    ensures counts { NoCountFell I.faults O.faults E.faults dev.old dev.new }
-    ensures clock { below.new.kernel.now.clock ≡ below.old.kernel.now.clock }
-    ensures same { LeadsOn below.old below.new }
+    ensures proceeds { Proceeds I.faults O.faults E.faults result below.old below.new dev.old dev.new }
 {
     match new {
         None => Ok(()),

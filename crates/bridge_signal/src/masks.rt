@@ -1,13 +1,12 @@
 //! The mask, set and told: sigprocmask(2).
 ghost use Rattle.std.specs.Prelude.{◌≡◌, ◌-◌, bit_and};
-ghost use Rattle.bridge_signal_state.specs.Passed.{LeadsOn};
+ghost use Rattle.bridge_signal_state.specs.Passed.{Proceeds};
 ghost use Rattle.bridge_signal.specs.inside.Asked.{mask_changed, mask_from, mask_set};
 ghost use Rattle.bridge_signal.specs.inside.Told.{did};
 ghost use Rattle.bridge_signal_state.specs.Acts.{Acts};
 ghost use Rattle.kernel_model.specs.SignalRows as rows;
 ghost use Rattle.kernel_model.specs.SignalSets as sets;
-ghost use Rattle.kernel_model.specs.Stops.{StopsOnlyIfRose};
-ghost use Rattle.outside.specs.Streams.{NoCountFell, contents};
+ghost use Rattle.outside.specs.Streams.{contents};
 
 use crate::asked::MaskSetting;
 use bridge_signal_state::{Below, mask, set_mask};
@@ -22,10 +21,7 @@ pub(crate) fn change_mask<I: Source, O: Sink, E: Sink>(
 ) -> Result<Result<[u32; 4], Errno>, Stop>
     ensures acts { Acts (λ told became. mask_changed below.old.kernel.now asked ≡ did became told) result below.old.kernel.now below.new.kernel.now
         (contents I.left O.written E.written dev.old) (contents I.left O.written E.written dev.new) below.old.log.now below.new.log.now }
-    ensures cause { StopsOnlyIfRose I.faults O.faults E.faults result dev.old dev.new }
-    ensures counts { NoCountFell I.faults O.faults E.faults dev.old dev.new }
-    ensures clock { below.new.kernel.now.clock ≡ below.old.kernel.now.clock }
-    ensures same { LeadsOn below.old below.new }
+    ensures proceeds { Proceeds I.faults O.faults E.faults result below.old below.new dev.old dev.new }
 {
     match asked {
         Err(error) => Ok(Err(error)),
@@ -44,10 +40,7 @@ fn replace_mask<I: Source, O: Sink, E: Sink>(
 ) -> Result<[u32; 4], Stop>
     ensures acts { Acts (λ before became. (before ≡ below.old.kernel.now.signals.mask) × (became ≡ mask_set below.old.kernel.now change)) result below.old.kernel.now below.new.kernel.now
         (contents I.left O.written E.written dev.old) (contents I.left O.written E.written dev.new) below.old.log.now below.new.log.now }
-    ensures cause { StopsOnlyIfRose I.faults O.faults E.faults result dev.old dev.new }
-    ensures counts { NoCountFell I.faults O.faults E.faults dev.old dev.new }
-    ensures clock { below.new.kernel.now.clock ≡ below.old.kernel.now.clock }
-    ensures same { LeadsOn below.old below.new }
+    ensures proceeds { Proceeds I.faults O.faults E.faults result below.old below.new dev.old dev.new }
 {
     let before = mask(dev, below)?;
     set_from(before, change, dev, below)?;
@@ -63,10 +56,7 @@ fn set_from<I: Source, O: Sink, E: Sink>(
 ) -> Result<(), Stop>
     ensures acts { Acts (λ _ became. became ≡ mask_from below.old.kernel.now before change) result below.old.kernel.now below.new.kernel.now
         (contents I.left O.written E.written dev.old) (contents I.left O.written E.written dev.new) below.old.log.now below.new.log.now }
-    ensures cause { StopsOnlyIfRose I.faults O.faults E.faults result dev.old dev.new }
-    ensures counts { NoCountFell I.faults O.faults E.faults dev.old dev.new }
-    ensures clock { below.new.kernel.now.clock ≡ below.old.kernel.now.clock }
-    ensures same { LeadsOn below.old below.new }
+    ensures proceeds { Proceeds I.faults O.faults E.faults result below.old below.new dev.old dev.new }
 {
     match change {
         None => Ok(()),

@@ -1,13 +1,12 @@
 //! Returning from a handler: sigreturn(2), and rt_sigreturn.
 ghost use Rattle.std.specs.Prelude.{◌≡◌};
-ghost use Rattle.bridge_signal_state.specs.Passed.{KeepsCall, LeadsOn};
+ghost use Rattle.bridge_signal_state.specs.Passed.{KeepsCall, Proceeds};
 ghost use Rattle.bridge_signal.specs.inside.Returns.{restored, sig_stack};
 ghost use Rattle.bridge_signal_state.specs.Acts.{Acts};
-ghost use Rattle.kernel_model.specs.Stops.{StopsOnlyIfRose};
 ghost use Rattle.o32_model.specs.Answered.{IsCall};
 ghost use Rattle.o32_model.specs.Returns.{rt_sigreturn_row, sigreturn_row};
 ghost use Rattle.o32_model.specs.Step.{Guest};
-ghost use Rattle.outside.specs.Streams.{NoCountFell, contents};
+ghost use Rattle.outside.specs.Streams.{contents};
 
 use crate::stacks::replace_stack;
 use bridge_signal_state::{Below, set_mask};
@@ -35,10 +34,7 @@ pub(crate) fn sigreturn<I: Source, O: Sink, E: Sink>(
         (contents I.left O.written E.written dev.old) (contents I.left O.written E.written dev.new) }
     ensures kept { (guest : Guest) → guest.memory ≡ space.now → guest.processor ≡ cpu.old
         → KeepsCall (sigreturn_row below.old.kernel.now guest) result below.old.kernel.now guest (I.left dev.old.input) below.old.log.now below.new.log.now }
-    ensures cause { StopsOnlyIfRose I.faults O.faults E.faults result dev.old dev.new }
-    ensures counts { NoCountFell I.faults O.faults E.faults dev.old dev.new }
-    ensures clock { below.new.kernel.now.clock ≡ below.old.kernel.now.clock }
-    ensures same { LeadsOn below.old below.new }
+    ensures proceeds { Proceeds I.faults O.faults E.faults result below.old below.new dev.old dev.new }
 {
     match read_frame(cpu, space) {
         Err(_) => Ok(Outcome::BadFrame), // the turn of the call makes a fault of it
@@ -62,10 +58,7 @@ pub(crate) fn rt_sigreturn<I: Source, O: Sink, E: Sink>(
         (contents I.left O.written E.written dev.old) (contents I.left O.written E.written dev.new) }
     ensures kept { (guest : Guest) → guest.memory ≡ space.now → guest.processor ≡ cpu.old
         → KeepsCall (rt_sigreturn_row below.old.kernel.now guest) result below.old.kernel.now guest (I.left dev.old.input) below.old.log.now below.new.log.now }
-    ensures cause { StopsOnlyIfRose I.faults O.faults E.faults result dev.old dev.new }
-    ensures counts { NoCountFell I.faults O.faults E.faults dev.old dev.new }
-    ensures clock { below.new.kernel.now.clock ≡ below.old.kernel.now.clock }
-    ensures same { LeadsOn below.old below.new }
+    ensures proceeds { Proceeds I.faults O.faults E.faults result below.old below.new dev.old dev.new }
 {
     match read_rt_frame(cpu, space) {
         Err(_) => Ok(Outcome::BadFrame),
@@ -86,10 +79,7 @@ fn restore<I: Source, O: Sink, E: Sink>(
 ) -> Result<(), Stop>
     ensures acts { Acts (λ _ became. became ≡ restored below.old.kernel.now back sp) result below.old.kernel.now below.new.kernel.now
         (contents I.left O.written E.written dev.old) (contents I.left O.written E.written dev.new) below.old.log.now below.new.log.now }
-    ensures cause { StopsOnlyIfRose I.faults O.faults E.faults result dev.old dev.new }
-    ensures counts { NoCountFell I.faults O.faults E.faults dev.old dev.new }
-    ensures clock { below.new.kernel.now.clock ≡ below.old.kernel.now.clock }
-    ensures same { LeadsOn below.old below.new }
+    ensures proceeds { Proceeds I.faults O.faults E.faults result below.old below.new dev.old dev.new }
 {
     set_mask(back.mask, dev, below)?;
     let _ = replace_stack(Some(sig_stack(back.stack)), sp, dev, below)?;

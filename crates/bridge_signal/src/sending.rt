@@ -1,13 +1,12 @@
 //! Sending signals: kill(2), tkill(2), tgkill(2), rt_sigqueueinfo(2).
 ghost use Rattle.std.specs.Prelude.{◌≡◌};
 ghost use Rattle.std.specs.Int.{w32, cast_signed};
-ghost use Rattle.bridge_signal_state.specs.Passed.{KeepsCall, LeadsOn};
-ghost use Rattle.kernel_model.specs.Stops.{StopsOnlyIfRose};
+ghost use Rattle.bridge_signal_state.specs.Passed.{KeepsCall, Proceeds};
 ghost use Rattle.o32_model.specs.Answered.{IsCall};
 ghost use Rattle.o32_model.specs.Sending.{kill_row, rt_sigqueueinfo_row, tgkill_row, tkill_row};
 ghost use Rattle.o32_model.specs.Step.{Guest};
 ghost use Rattle.o32_model.specs.Words.{argument};
-ghost use Rattle.outside.specs.Streams.{NoCountFell, contents};
+ghost use Rattle.outside.specs.Streams.{contents};
 
 use crate::infos::take_info;
 use crate::named::native_number;
@@ -32,10 +31,7 @@ pub(crate) fn kill<I: Source, O: Sink, E: Sink>(
         (contents I.left O.written E.written dev.old) (contents I.left O.written E.written dev.new) }
     ensures kept { (guest : Guest) → guest.words ≡ words.now
         → KeepsCall (kill_row below.old.kernel.now guest (cast_signed w32 pid) number) result below.old.kernel.now guest (I.left dev.old.input) below.old.log.now below.new.log.now }
-    ensures cause { StopsOnlyIfRose I.faults O.faults E.faults result dev.old dev.new }
-    ensures counts { NoCountFell I.faults O.faults E.faults dev.old dev.new }
-    ensures clock { below.new.kernel.now.clock ≡ below.old.kernel.now.clock }
-    ensures same { LeadsOn below.old below.new }
+    ensures proceeds { Proceeds I.faults O.faults E.faults result below.old below.new dev.old dev.new }
 {
     below.memory.clear();
     let args = [u64::from(pid), native_number(number), 0, 0, 0, 0];
@@ -55,10 +51,7 @@ pub(crate) fn tkill<I: Source, O: Sink, E: Sink>(
         (contents I.left O.written E.written dev.old) (contents I.left O.written E.written dev.new) }
     ensures kept { (guest : Guest) → guest.words ≡ words.now
         → KeepsCall (tkill_row below.old.kernel.now guest (cast_signed w32 tid) number) result below.old.kernel.now guest (I.left dev.old.input) below.old.log.now below.new.log.now }
-    ensures cause { StopsOnlyIfRose I.faults O.faults E.faults result dev.old dev.new }
-    ensures counts { NoCountFell I.faults O.faults E.faults dev.old dev.new }
-    ensures clock { below.new.kernel.now.clock ≡ below.old.kernel.now.clock }
-    ensures same { LeadsOn below.old below.new }
+    ensures proceeds { Proceeds I.faults O.faults E.faults result below.old below.new dev.old dev.new }
 {
     below.memory.clear();
     let args = [u64::from(tid), native_number(number), 0, 0, 0, 0];
@@ -80,10 +73,7 @@ pub(crate) fn tgkill<I: Source, O: Sink, E: Sink>(
     ensures kept { (guest : Guest) → guest.words ≡ words.now
         → KeepsCall (tgkill_row below.old.kernel.now guest (cast_signed w32 pid) (cast_signed w32 tid) number) result below.old.kernel.now guest
         (I.left dev.old.input) below.old.log.now below.new.log.now }
-    ensures cause { StopsOnlyIfRose I.faults O.faults E.faults result dev.old dev.new }
-    ensures counts { NoCountFell I.faults O.faults E.faults dev.old dev.new }
-    ensures clock { below.new.kernel.now.clock ≡ below.old.kernel.now.clock }
-    ensures same { LeadsOn below.old below.new }
+    ensures proceeds { Proceeds I.faults O.faults E.faults result below.old below.new dev.old dev.new }
 {
     below.memory.clear();
     let args = [
@@ -111,10 +101,7 @@ pub(crate) fn rt_sigqueueinfo<I: Source, O: Sink, E: Sink>(
     ensures kept { (guest : Guest) → guest.words ≡ words.now → guest.memory ≡ space.now
         → KeepsCall (rt_sigqueueinfo_row below.old.kernel.now guest (cast_signed w32 (argument words.now 0)) (argument words.now 1) (argument words.now 2)) result below.old.kernel.now guest
         (I.left dev.old.input) below.old.log.now below.new.log.now }
-    ensures cause { StopsOnlyIfRose I.faults O.faults E.faults result dev.old dev.new }
-    ensures counts { NoCountFell I.faults O.faults E.faults dev.old dev.new }
-    ensures clock { below.new.kernel.now.clock ≡ below.old.kernel.now.clock }
-    ensures same { LeadsOn below.old below.new }
+    ensures proceeds { Proceeds I.faults O.faults E.faults result below.old below.new dev.old dev.new }
 {
     let [pid, number, address, _] = words.reg;
     let place = take_info(space, address, below.memory)?;

@@ -1,6 +1,6 @@
 //! New actions in host memory, and the native call that sets them.
 ghost use Rattle.std.specs.Prelude.{◌≡◌, ◌∷◌, ◌<◌, ◌^◌, [], ℕ, List, All, OnOk, false, map, pos};
-ghost use Rattle.bridge_signal_state.specs.Passed.{AreUnusedZero, IsPlaced, LeadsOn, built_call};
+ghost use Rattle.bridge_signal_state.specs.Passed.{AreUnusedZero, IsPlaced, Proceeds, built_call};
 ghost use Rattle.bridge_signal.specs.inside.Asked.{action_set_to};
 ghost use Rattle.bridge_signal_state.specs.Acts.{Acts};
 ghost use Rattle.bridge_signal_state.specs.inside.Acting.{Answers, IsAct};
@@ -8,11 +8,10 @@ ghost use Rattle.kernel_core.specs.declared.reply.Reply.{Reply};
 ghost use Rattle.kernel_model.specs.Always.{IsSet};
 ghost use Rattle.kernel_model.specs.SignalRows.{is_unblockable};
 ghost use Rattle.kernel_model.specs.State.{Kernel};
-ghost use Rattle.kernel_model.specs.Stops.{StopsOnlyIfRose};
 ghost use Rattle.native_calls.specs.SignalBytes as spec;
 ghost use Rattle.native_calls.specs.Table.{native_call};
 ghost use Rattle.number_tables.specs.SaNumbers.{native_sa};
-ghost use Rattle.outside.specs.Streams.{NoCountFell, contents};
+ghost use Rattle.outside.specs.Streams.{contents};
 ghost use Rattle.signal_sets.specs.NativeSets.{native_of};
 
 use crate::numbers::SIGSETSIZE;
@@ -39,10 +38,7 @@ pub(crate) fn set_action<I: Source, O: Sink, E: Sink>(
     requires blockable { is_unblockable sig ≡ false }
     ensures acts { Acts (λ _ became. became ≡ action_set_to below.old.kernel.now sig action) result below.old.kernel.now below.new.kernel.now
         (contents I.left O.written E.written dev.old) (contents I.left O.written E.written dev.new) below.old.log.now below.new.log.now }
-    ensures cause { StopsOnlyIfRose I.faults O.faults E.faults result dev.old dev.new }
-    ensures counts { NoCountFell I.faults O.faults E.faults dev.old dev.new }
-    ensures clock { below.new.kernel.now.clock ≡ below.old.kernel.now.clock }
-    ensures same { LeadsOn below.old below.new }
+    ensures proceeds { Proceeds I.faults O.faults E.faults result below.old below.new dev.old dev.new }
 {
     is_set(action.mask);
     put_action(action, below.memory)?;
@@ -84,10 +80,7 @@ fn act<I: Source, O: Sink, E: Sink>(
         → ((left : List ℕ) → IsAct to reply memory left (native_call nr args below.old.kernel.now below.old.memory.now left))
         → Acts (Answers to reply memory below.new.memory.now) result below.old.kernel.now below.new.kernel.now
         (contents I.left O.written E.written dev.old) (contents I.left O.written E.written dev.new) below.old.log.now below.new.log.now }
-    ensures cause { StopsOnlyIfRose I.faults O.faults E.faults result dev.old dev.new }
-    ensures counts { NoCountFell I.faults O.faults E.faults dev.old dev.new }
-    ensures clock { below.new.kernel.now.clock ≡ below.old.kernel.now.clock }
-    ensures same { LeadsOn below.old below.new }
+    ensures proceeds { Proceeds I.faults O.faults E.faults result below.old below.new dev.old dev.new }
 {
     below.native(nr, args, dev)
 }

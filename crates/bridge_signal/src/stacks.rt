@@ -1,14 +1,13 @@
 //! The alternate stack, set and told: sigaltstack(2).
 ghost use Rattle.std.specs.Prelude.{◌≡◌, Ok, Err, Some, if◌then◌else◌};
-ghost use Rattle.bridge_signal_state.specs.Passed.{LeadsOn};
+ghost use Rattle.bridge_signal_state.specs.Passed.{Proceeds};
 ghost use Rattle.bridge_signal.specs.inside.Stacks.{changed_stack, set_from, set_taken, told_if, wrong_with};
 ghost use Rattle.bridge_signal.specs.inside.Told.{did};
 ghost use Rattle.bridge_signal_state.specs.Acts.{Acts};
 ghost use Rattle.kernel_model.specs.Came.{given_or_none};
 ghost use Rattle.kernel_model.specs.SignalRows as rows;
-ghost use Rattle.kernel_model.specs.Stops.{StopsOnlyIfRose};
 ghost use Rattle.o32_model.specs.Actions.{stack_at};
-ghost use Rattle.outside.specs.Streams.{NoCountFell, contents};
+ghost use Rattle.outside.specs.Streams.{contents};
 
 use crate::structures::stack_in_program;
 use bridge_signal_state::{Below, set_stack, stack};
@@ -45,10 +44,7 @@ pub(crate) fn change_stack<I: Source, O: Sink, E: Sink>(
 ) -> Result<Result<SigStack, Errno>, Stop>
     ensures acts { Acts (λ told became. changed_stack below.old.kernel.now sp asked ≡ did became told) result below.old.kernel.now below.new.kernel.now
         (contents I.left O.written E.written dev.old) (contents I.left O.written E.written dev.new) below.old.log.now below.new.log.now }
-    ensures cause { StopsOnlyIfRose I.faults O.faults E.faults result dev.old dev.new }
-    ensures counts { NoCountFell I.faults O.faults E.faults dev.old dev.new }
-    ensures clock { below.new.kernel.now.clock ≡ below.old.kernel.now.clock }
-    ensures same { LeadsOn below.old below.new }
+    ensures proceeds { Proceeds I.faults O.faults E.faults result below.old below.new dev.old dev.new }
 {
     match asked {
         Err(error) => Ok(Err(error)),
@@ -66,10 +62,7 @@ pub(crate) fn replace_stack<I: Source, O: Sink, E: Sink>(
 ) -> Result<Result<SigStack, Errno>, Stop>
     ensures acts { Acts (λ told became. rows.set_stack_to below.old.kernel.now (Some sp) new ≡ did became told) result below.old.kernel.now below.new.kernel.now
         (contents I.left O.written E.written dev.old) (contents I.left O.written E.written dev.new) below.old.log.now below.new.log.now }
-    ensures cause { StopsOnlyIfRose I.faults O.faults E.faults result dev.old dev.new }
-    ensures counts { NoCountFell I.faults O.faults E.faults dev.old dev.new }
-    ensures clock { below.new.kernel.now.clock ≡ below.old.kernel.now.clock }
-    ensures same { LeadsOn below.old below.new }
+    ensures proceeds { Proceeds I.faults O.faults E.faults result below.old below.new dev.old dev.new }
 {
     let before = stack(dev, below)?;
     let told = set_over(before, new, sp, dev, below)?;
@@ -86,10 +79,7 @@ fn set_over<I: Source, O: Sink, E: Sink>(
 ) -> Result<Result<SigStack, Errno>, Stop>
     ensures acts { Acts (λ told became. set_from below.old.kernel.now before sp new ≡ did became told) result below.old.kernel.now below.new.kernel.now
         (contents I.left O.written E.written dev.old) (contents I.left O.written E.written dev.new) below.old.log.now below.new.log.now }
-    ensures cause { StopsOnlyIfRose I.faults O.faults E.faults result dev.old dev.new }
-    ensures counts { NoCountFell I.faults O.faults E.faults dev.old dev.new }
-    ensures clock { below.new.kernel.now.clock ≡ below.old.kernel.now.clock }
-    ensures same { LeadsOn below.old below.new }
+    ensures proceeds { Proceeds I.faults O.faults E.faults result below.old below.new dev.old dev.new }
 {
     match new {
         None => Ok(Ok(shown_stack(before, sp))),
@@ -107,10 +97,7 @@ fn set_unless_on<I: Source, O: Sink, E: Sink>(
 ) -> Result<Result<SigStack, Errno>, Stop>
     ensures acts { Acts (λ told became. set_from below.old.kernel.now before sp (Some new) ≡ did became told) result below.old.kernel.now below.new.kernel.now
         (contents I.left O.written E.written dev.old) (contents I.left O.written E.written dev.new) below.old.log.now below.new.log.now }
-    ensures cause { StopsOnlyIfRose I.faults O.faults E.faults result dev.old dev.new }
-    ensures counts { NoCountFell I.faults O.faults E.faults dev.old dev.new }
-    ensures clock { below.new.kernel.now.clock ≡ below.old.kernel.now.clock }
-    ensures same { LeadsOn below.old below.new }
+    ensures proceeds { Proceeds I.faults O.faults E.faults result below.old below.new dev.old dev.new }
 {
     if is_on(before, sp) {
         return Ok(Err(Errno::EPERM));
@@ -127,10 +114,7 @@ fn take<I: Source, O: Sink, E: Sink>(
 ) -> Result<Result<SigStack, Errno>, Stop>
     ensures acts { Acts (λ told became. set_taken below.old.kernel.now shown new ≡ did became told) result below.old.kernel.now below.new.kernel.now
         (contents I.left O.written E.written dev.old) (contents I.left O.written E.written dev.new) below.old.log.now below.new.log.now }
-    ensures cause { StopsOnlyIfRose I.faults O.faults E.faults result dev.old dev.new }
-    ensures counts { NoCountFell I.faults O.faults E.faults dev.old dev.new }
-    ensures clock { below.new.kernel.now.clock ≡ below.old.kernel.now.clock }
-    ensures same { LeadsOn below.old below.new }
+    ensures proceeds { Proceeds I.faults O.faults E.faults result below.old below.new dev.old dev.new }
 {
     let taken = set_stack(new, dev, below)?;
     Ok(told_if(taken, shown, new))

@@ -1,14 +1,13 @@
 //! Waiting for signals: pause(2), rt_sigsuspend(2); and restart_syscall(2), by which a wait goes on.
 ghost use Rattle.std.specs.Prelude.{◌≡◌};
-ghost use Rattle.bridge_signal_state.specs.Passed.{KeepsCall, LeadsOn, LooksFor};
+ghost use Rattle.bridge_signal_state.specs.Passed.{KeepsCall, LooksFor, Proceeds};
 ghost use Rattle.bridge_signal.specs.inside.Waiting.{asleep, masked, restart_outcome};
 ghost use Rattle.bridge_signal_state.specs.Acts.{Acts};
 ghost use Rattle.kernel_model.specs.SignalRows as rows;
-ghost use Rattle.kernel_model.specs.Stops.{StopsOnlyIfRose};
 ghost use Rattle.o32_model.specs.Answered.{IsCall};
 ghost use Rattle.o32_model.specs.Step.{Guest};
 ghost use Rattle.o32_model.specs.Suspending.{pause_row, rt_sigsuspend_row};
-ghost use Rattle.outside.specs.Streams.{NoCountFell, contents};
+ghost use Rattle.outside.specs.Streams.{contents};
 
 use crate::asked::asked_mask;
 use crate::numbers::SIGSETSIZE;
@@ -32,10 +31,7 @@ pub(crate) fn pause<I: Source, O: Sink, E: Sink>(
         (contents I.left O.written E.written dev.old) (contents I.left O.written E.written dev.new) }
     ensures kept { (guest : Guest) → guest.words ≡ words.now
         → KeepsCall (pause_row below.old.kernel.now guest) result below.old.kernel.now guest (I.left dev.old.input) below.old.log.now below.new.log.now }
-    ensures cause { StopsOnlyIfRose I.faults O.faults E.faults result dev.old dev.new }
-    ensures counts { NoCountFell I.faults O.faults E.faults dev.old dev.new }
-    ensures clock { below.new.kernel.now.clock ≡ below.old.kernel.now.clock }
-    ensures same { LeadsOn below.old below.new }
+    ensures proceeds { Proceeds I.faults O.faults E.faults result below.old below.new dev.old dev.new }
 {
     let set = mask(dev, below)?;
     let outcome = sleep(words, set, dev, below)?;
@@ -57,10 +53,7 @@ pub(crate) fn rt_sigsuspend<I: Source, O: Sink, E: Sink>(
         (contents I.left O.written E.written dev.old) (contents I.left O.written E.written dev.new) }
     ensures kept { (guest : Guest) → guest.words ≡ words.now → guest.memory ≡ space.now
         → KeepsCall (rt_sigsuspend_row below.old.kernel.now guest address size) result below.old.kernel.now guest (I.left dev.old.input) below.old.log.now below.new.log.now }
-    ensures cause { StopsOnlyIfRose I.faults O.faults E.faults result dev.old dev.new }
-    ensures counts { NoCountFell I.faults O.faults E.faults dev.old dev.new }
-    ensures clock { below.new.kernel.now.clock ≡ below.old.kernel.now.clock }
-    ensures same { LeadsOn below.old below.new }
+    ensures proceeds { Proceeds I.faults O.faults E.faults result below.old below.new dev.old dev.new }
 {
     match asked_mask(address, size, space) {
         Err(error) => Ok(Outcome::Error(error)),
@@ -77,10 +70,7 @@ fn suspend<I: Source, O: Sink, E: Sink>(
 ) -> Result<Outcome, Stop>
     ensures acts { Acts (λ outcome became. (outcome ≡ masked (asleep words.now) below.old.kernel.now.signals.mask) × (became ≡ rows.with_mask below.old.kernel.now set)) result below.old.kernel.now below.new.kernel.now
         (contents I.left O.written E.written dev.old) (contents I.left O.written E.written dev.new) below.old.log.now below.new.log.now }
-    ensures cause { StopsOnlyIfRose I.faults O.faults E.faults result dev.old dev.new }
-    ensures counts { NoCountFell I.faults O.faults E.faults dev.old dev.new }
-    ensures clock { below.new.kernel.now.clock ≡ below.old.kernel.now.clock }
-    ensures same { LeadsOn below.old below.new }
+    ensures proceeds { Proceeds I.faults O.faults E.faults result below.old below.new dev.old dev.new }
 {
     let before = mask(dev, below)?;
     let outcome = sleep_with(words, set, dev, below)?;
@@ -96,10 +86,7 @@ fn sleep_with<I: Source, O: Sink, E: Sink>(
 ) -> Result<Outcome, Stop>
     ensures acts { Acts (λ outcome became. (outcome ≡ asleep words.now) × (became ≡ rows.with_mask below.old.kernel.now set)) result below.old.kernel.now below.new.kernel.now
         (contents I.left O.written E.written dev.old) (contents I.left O.written E.written dev.new) below.old.log.now below.new.log.now }
-    ensures cause { StopsOnlyIfRose I.faults O.faults E.faults result dev.old dev.new }
-    ensures counts { NoCountFell I.faults O.faults E.faults dev.old dev.new }
-    ensures clock { below.new.kernel.now.clock ≡ below.old.kernel.now.clock }
-    ensures same { LeadsOn below.old below.new }
+    ensures proceeds { Proceeds I.faults O.faults E.faults result below.old below.new dev.old dev.new }
 {
     let outcome = sleep(words, set, dev, below)?;
     set_mask(set, dev, below)?;
@@ -115,10 +102,7 @@ fn sleep<I: Source, O: Sink, E: Sink>(
 ) -> Result<Outcome, Stop>
     ensures looks { LooksFor (λ outcome. outcome ≡ asleep words.now) result below.old.kernel.now below.new.kernel.now
         (contents I.left O.written E.written dev.old) (contents I.left O.written E.written dev.new) below.old.log.now below.new.log.now }
-    ensures cause { StopsOnlyIfRose I.faults O.faults E.faults result dev.old dev.new }
-    ensures counts { NoCountFell I.faults O.faults E.faults dev.old dev.new }
-    ensures clock { below.new.kernel.now.clock ≡ below.old.kernel.now.clock }
-    ensures same { LeadsOn below.old below.new }
+    ensures proceeds { Proceeds I.faults O.faults E.faults result below.old below.new dev.old dev.new }
 {
     put_set(set, below.memory)?;
     let args = [FIRST_ADDRESS, SIGSETSIZE, 0, 0, 0, 0];

@@ -7,3 +7,4 @@ pub use Rattle.bridge_log.specs.Looks.{IsLook, LooksFor, Unmoved}
 pub use Rattle.bridge_log.specs.Mirrors.{Mirrors}
 pub use Rattle.bridge_log.specs.Moved.{written}
 pub use Rattle.bridge_log.specs.Outcomes.{by_reply, error_of, outcome_of}
+pub use Rattle.bridge_log.specs.Proceeding.{Proceeds}

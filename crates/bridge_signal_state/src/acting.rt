@@ -1,15 +1,14 @@
 //! Native calls that change the kernel, and neither take input nor send anything.
 ghost use Rattle.std.specs.Prelude.{◌≡◌, ℕ, List};
-ghost use Rattle.bridge_log.specs.Leading.{LeadsOn};
+ghost use Rattle.bridge_log.specs.Proceeding.{Proceeds};
 ghost use Rattle.bridge_log.specs.Arguments.{AreUnusedZero, IsPlaced};
 ghost use Rattle.bridge_signal_state.specs.Acts.{Acts};
 ghost use Rattle.bridge_signal_state.specs.inside.Acting.{Answers, IsAct};
 ghost use Rattle.kernel_core.specs.declared.reply.Reply.{Reply};
 ghost use Rattle.kernel_model.specs.State.{Kernel};
-ghost use Rattle.kernel_model.specs.Stops.{StopsOnlyIfRose};
 ghost use Rattle.native_calls.specs.Table.{native_call};
 ghost use Rattle.bridge_log.specs.Built.{built_call};
-ghost use Rattle.outside.specs.Streams.{NoCountFell, contents};
+ghost use Rattle.outside.specs.Streams.{contents};
 
 use bridge_log::Below;
 use kernel_core::{Reply, Stop};
@@ -29,10 +28,7 @@ pub(crate) fn act<I: Source, O: Sink, E: Sink>(
         → ((left : List ℕ) → IsAct to reply memory left (native_call nr args below.old.kernel.now below.old.memory.now left))
         → Acts (Answers to reply memory below.new.memory.now) result below.old.kernel.now below.new.kernel.now
         (contents I.left O.written E.written dev.old) (contents I.left O.written E.written dev.new) below.old.log.now below.new.log.now }
-    ensures cause { StopsOnlyIfRose I.faults O.faults E.faults result dev.old dev.new }
-    ensures counts { NoCountFell I.faults O.faults E.faults dev.old dev.new }
-    ensures clock { below.new.kernel.now.clock ≡ below.old.kernel.now.clock }
-    ensures same { LeadsOn below.old below.new }
+    ensures proceeds { Proceeds I.faults O.faults E.faults result below.old below.new dev.old dev.new }
 {
     below.native(nr, args, dev)
 }

@@ -1,10 +1,9 @@
 //! What the native kernel keeps of signals, found out by native calls that change nothing.
 ghost use Rattle.std.specs.Prelude.{◌≡◌};
-ghost use Rattle.bridge_log.specs.Leading.{LeadsOn};
+ghost use Rattle.bridge_log.specs.Proceeding.{Proceeds};
 ghost use Rattle.bridge_log.specs.Looks.{LooksFor};
 ghost use Rattle.kernel_model.specs.SignalRows.{action_at, pending_set};
-ghost use Rattle.kernel_model.specs.Stops.{StopsOnlyIfRose};
-ghost use Rattle.outside.specs.Streams.{NoCountFell, contents};
+ghost use Rattle.outside.specs.Streams.{contents};
 
 use crate::numbers::{ACTION_SIZE, SET_SIZE, SIGSETSIZE, STACK_SIZE};
 use crate::showing::{action_shown, set_shown, stack_shown};
@@ -24,10 +23,7 @@ pub fn pending<I: Source, O: Sink, E: Sink>(
 ) -> Result<[u32; 4], Stop>
     ensures looks { LooksFor (λ set. set ≡ pending_set below.old.kernel.now.signals) result below.old.kernel.now below.new.kernel.now
         (contents I.left O.written E.written dev.old) (contents I.left O.written E.written dev.new) below.old.log.now below.new.log.now }
-    ensures cause { StopsOnlyIfRose I.faults O.faults E.faults result dev.old dev.new }
-    ensures counts { NoCountFell I.faults O.faults E.faults dev.old dev.new }
-    ensures clock { below.new.kernel.now.clock ≡ below.old.kernel.now.clock }
-    ensures same { LeadsOn below.old below.new }
+    ensures proceeds { Proceeds I.faults O.faults E.faults result below.old below.new dev.old dev.new }
 {
     fresh_room(below.memory, SET_SIZE as u32)?;
     let args = [FIRST_ADDRESS, SIGSETSIZE, 0, 0, 0, 0];
@@ -42,10 +38,7 @@ pub fn mask<I: Source, O: Sink, E: Sink>(
 ) -> Result<[u32; 4], Stop>
     ensures looks { LooksFor (λ set. set ≡ below.old.kernel.now.signals.mask) result below.old.kernel.now below.new.kernel.now
         (contents I.left O.written E.written dev.old) (contents I.left O.written E.written dev.new) below.old.log.now below.new.log.now }
-    ensures cause { StopsOnlyIfRose I.faults O.faults E.faults result dev.old dev.new }
-    ensures counts { NoCountFell I.faults O.faults E.faults dev.old dev.new }
-    ensures clock { below.new.kernel.now.clock ≡ below.old.kernel.now.clock }
-    ensures same { LeadsOn below.old below.new }
+    ensures proceeds { Proceeds I.faults O.faults E.faults result below.old below.new dev.old dev.new }
 {
     below.kernel.signals_fit();
     fresh_room(below.memory, SET_SIZE as u32)?;
@@ -62,10 +55,7 @@ pub fn action<I: Source, O: Sink, E: Sink>(
 ) -> Result<Action, Stop>
     ensures looks { LooksFor (λ action. action ≡ action_at below.old.kernel.now.signals sig) result below.old.kernel.now below.new.kernel.now
         (contents I.left O.written E.written dev.old) (contents I.left O.written E.written dev.new) below.old.log.now below.new.log.now }
-    ensures cause { StopsOnlyIfRose I.faults O.faults E.faults result dev.old dev.new }
-    ensures counts { NoCountFell I.faults O.faults E.faults dev.old dev.new }
-    ensures clock { below.new.kernel.now.clock ≡ below.old.kernel.now.clock }
-    ensures same { LeadsOn below.old below.new }
+    ensures proceeds { Proceeds I.faults O.faults E.faults result below.old below.new dev.old dev.new }
 {
     below.kernel.signals_fit();
     fresh_room(below.memory, ACTION_SIZE)?;
@@ -82,10 +72,7 @@ pub fn stack<I: Source, O: Sink, E: Sink>(
 ) -> Result<SigStack, Stop>
     ensures looks { LooksFor (λ stack. stack ≡ below.old.kernel.now.signals.stack) result below.old.kernel.now below.new.kernel.now
         (contents I.left O.written E.written dev.old) (contents I.left O.written E.written dev.new) below.old.log.now below.new.log.now }
-    ensures cause { StopsOnlyIfRose I.faults O.faults E.faults result dev.old dev.new }
-    ensures counts { NoCountFell I.faults O.faults E.faults dev.old dev.new }
-    ensures clock { below.new.kernel.now.clock ≡ below.old.kernel.now.clock }
-    ensures same { LeadsOn below.old below.new }
+    ensures proceeds { Proceeds I.faults O.faults E.faults result below.old below.new dev.old dev.new }
 {
     below.kernel.signals_fit();
     fresh_room(below.memory, STACK_SIZE as u32)?;

@@ -1,11 +1,10 @@
 //! What the native kernel keeps of signals, set by native calls.
 ghost use Rattle.std.specs.Prelude.{◌≡◌, false};
-ghost use Rattle.bridge_log.specs.Leading.{LeadsOn};
+ghost use Rattle.bridge_log.specs.Proceeding.{Proceeds};
 ghost use Rattle.bridge_signal_state.specs.Acts.{Acts};
 ghost use Rattle.bridge_signal_state.specs.Setting.{SetsStack};
 ghost use Rattle.kernel_model.specs.SignalRows.{after_action, is_unblockable, no_action, with_mask, with_signals};
-ghost use Rattle.kernel_model.specs.Stops.{StopsOnlyIfRose};
-ghost use Rattle.outside.specs.Streams.{NoCountFell, contents};
+ghost use Rattle.outside.specs.Streams.{contents};
 
 use crate::acting::act;
 use crate::filling::{put_set, put_stack};
@@ -30,10 +29,7 @@ pub fn set_mask<I: Source, O: Sink, E: Sink>(
 ) -> Result<(), Stop>
     ensures acts { Acts (λ _ became. became ≡ with_mask below.old.kernel.now mask) result below.old.kernel.now below.new.kernel.now
         (contents I.left O.written E.written dev.old) (contents I.left O.written E.written dev.new) below.old.log.now below.new.log.now }
-    ensures cause { StopsOnlyIfRose I.faults O.faults E.faults result dev.old dev.new }
-    ensures counts { NoCountFell I.faults O.faults E.faults dev.old dev.new }
-    ensures clock { below.new.kernel.now.clock ≡ below.old.kernel.now.clock }
-    ensures same { LeadsOn below.old below.new }
+    ensures proceeds { Proceeds I.faults O.faults E.faults result below.old below.new dev.old dev.new }
 {
     is_set(mask);
     put_set(mask, below.memory)?;
@@ -52,10 +48,7 @@ pub fn set_default<I: Source, O: Sink, E: Sink>(
     requires blockable { is_unblockable sig ≡ false }
     ensures acts { Acts (λ _ became. became ≡ with_signals below.old.kernel.now (after_action below.old.kernel.now.signals sig no_action)) result below.old.kernel.now below.new.kernel.now
         (contents I.left O.written E.written dev.old) (contents I.left O.written E.written dev.new) below.old.log.now below.new.log.now }
-    ensures cause { StopsOnlyIfRose I.faults O.faults E.faults result dev.old dev.new }
-    ensures counts { NoCountFell I.faults O.faults E.faults dev.old dev.new }
-    ensures clock { below.new.kernel.now.clock ≡ below.old.kernel.now.clock }
-    ensures same { LeadsOn below.old below.new }
+    ensures proceeds { Proceeds I.faults O.faults E.faults result below.old below.new dev.old dev.new }
 {
     fresh_room(below.memory, ACTION_SIZE)?;
     let args = [sig.to_native(), FIRST_ADDRESS, 0, SIGSETSIZE, 0, 0];
@@ -72,10 +65,7 @@ pub fn set_stack<I: Source, O: Sink, E: Sink>(
 ) -> Result<bool, Stop>
     ensures acts { Acts (SetsStack below.old.kernel.now stack) result below.old.kernel.now below.new.kernel.now
         (contents I.left O.written E.written dev.old) (contents I.left O.written E.written dev.new) below.old.log.now below.new.log.now }
-    ensures cause { StopsOnlyIfRose I.faults O.faults E.faults result dev.old dev.new }
-    ensures counts { NoCountFell I.faults O.faults E.faults dev.old dev.new }
-    ensures clock { below.new.kernel.now.clock ≡ below.old.kernel.now.clock }
-    ensures same { LeadsOn below.old below.new }
+    ensures proceeds { Proceeds I.faults O.faults E.faults result below.old below.new dev.old dev.new }
 {
     stack_fits(stack);
     put_stack(stack, below.memory)?;

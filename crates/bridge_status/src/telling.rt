@@ -1,17 +1,16 @@
 //! Calls that are one native call which tells a status.
 ghost use Rattle.std.specs.Prelude.{◌≡◌, ℕ, List, IfOk, IfSome, OnOk, Some, length, option_map};
-ghost use Rattle.bridge_paths.specs.Passed.{AreUnusedZero, IsPlaced, KeepsCall, LeadsOn, built_call, reached};
+ghost use Rattle.bridge_paths.specs.Passed.{AreUnusedZero, IsPlaced, KeepsCall, Proceeds, built_call, reached};
 ghost use Rattle.bridge_status.specs.inside.Statuses.{shape_of, shown};
 ghost use Rattle.bridge_status.specs.inside.Tells.{Tells, memory_by, memory_told, outcome_by, outcome_told, status_there};
 ghost use Rattle.kernel_model.specs.Pipes.{Sent};
-ghost use Rattle.kernel_model.specs.Stops.{StopsOnlyIfRose};
 ghost use Rattle.mips_exec.specs.Processor.{Processor};
 ghost use Rattle.native_calls.specs.Table.{native_call};
 ghost use Rattle.o32_model.specs.Answered.{IsCall};
 ghost use Rattle.o32_model.specs.Effects.{Effected};
 ghost use Rattle.o32_model.specs.GuestBytes.{with_stored};
 ghost use Rattle.o32_model.specs.Step.{Guest, O32Step, stored};
-ghost use Rattle.outside.specs.Streams.{NoCountFell, contents};
+ghost use Rattle.outside.specs.Streams.{contents};
 
 use crate::structures::{Form, is_too_wide, old_bytes, wide_bytes};
 use bridge_paths::{Below, NativeWords, outcome_of, put};
@@ -54,10 +53,7 @@ pub(crate) fn tell_call<I: Source, O: Sink, E: Sink>(
     ensures kept { (guest : Guest) (step : List ℕ → O32Step) → guest.words ≡ words.now → guest.memory ≡ space.old
         → ((left : List ℕ) → Tells guest to.address to.form (native_call call.nr call.args below.old.kernel.now below.old.memory.now left) (step left))
         → KeepsCall step result below.old.kernel.now guest (I.left dev.old.input) below.old.log.now below.new.log.now }
-    ensures cause { StopsOnlyIfRose I.faults O.faults E.faults result dev.old dev.new }
-    ensures counts { NoCountFell I.faults O.faults E.faults dev.old dev.new }
-    ensures clock { below.new.kernel.now.clock ≡ below.old.kernel.now.clock }
-    ensures same { LeadsOn below.old below.new }
+    ensures proceeds { Proceeds I.faults O.faults E.faults result below.old below.new dev.old dev.new }
 {
     let reply = below.native(call.nr, call.args, dev)?;
     let outcome = tell(words, to, below.memory, reply, space, below.log)?;

@@ -1,14 +1,13 @@
 //! Limits: getrlimit(2), prlimit(2).
 ghost use Rattle.std.specs.Prelude.{◌≡◌, IfOk, OnOk, length};
-ghost use Rattle.bridge_io.specs.Passed.{KeepsCall, LeadsOn};
-ghost use Rattle.kernel_model.specs.Stops.{StopsOnlyIfRose};
+ghost use Rattle.bridge_io.specs.Passed.{KeepsCall, Proceeds};
 ghost use Rattle.bridge_system.specs.inside.Tells.{IsTaken};
 ghost use Rattle.o32_model.specs.Answered.{IsCall};
 ghost use Rattle.o32_model.specs.Small.{getrlimit_row, prlimit_row};
 ghost use Rattle.o32_model.specs.Step.{Guest};
 ghost use Rattle.o32_model.specs.Words.{argument};
 ghost use Rattle.std.specs.Int.{cast_signed, w32};
-ghost use Rattle.outside.specs.Streams.{NoCountFell, contents};
+ghost use Rattle.outside.specs.Streams.{contents};
 
 use crate::rlimit::{limit_in, native_limit_bytes, native_number};
 use crate::telling::{Told, ToldAt, tell_call};
@@ -40,10 +39,7 @@ pub(crate) fn getrlimit<I: Source, O: Sink, E: Sink>(
         (contents I.left O.written E.written dev.old) (contents I.left O.written E.written dev.new) }
     ensures kept { (guest : Guest) → guest.words ≡ words.now → guest.memory ≡ space.old
         → KeepsCall (getrlimit_row below.old.kernel.now guest resource address) result below.old.kernel.now guest (I.left dev.old.input) below.old.log.now below.new.log.now }
-    ensures clock { below.new.kernel.now.clock ≡ below.old.kernel.now.clock }
-    ensures cause { StopsOnlyIfRose I.faults O.faults E.faults result dev.old dev.new }
-    ensures counts { NoCountFell I.faults O.faults E.faults dev.old dev.new }
-    ensures same { LeadsOn below.old below.new }
+    ensures proceeds { Proceeds I.faults O.faults E.faults result below.old below.new dev.old dev.new }
 {
     below.kernel.limits_fit();
     fresh_room(below.memory, LIMIT_SIZE)?;
@@ -73,10 +69,7 @@ pub(crate) fn prlimit<I: Source, O: Sink, E: Sink>(
         (contents I.left O.written E.written dev.old) (contents I.left O.written E.written dev.new) }
     ensures kept { (guest : Guest) → guest.words ≡ words.now → guest.memory ≡ space.old
         → KeepsCall (prlimit_row below.old.kernel.now guest (cast_signed w32 (argument words.now 0)) (argument words.now 1) (argument words.now 2) (argument words.now 3)) result below.old.kernel.now guest (I.left dev.old.input) below.old.log.now below.new.log.now }
-    ensures clock { below.new.kernel.now.clock ≡ below.old.kernel.now.clock }
-    ensures cause { StopsOnlyIfRose I.faults O.faults E.faults result dev.old dev.new }
-    ensures counts { NoCountFell I.faults O.faults E.faults dev.old dev.new }
-    ensures same { LeadsOn below.old below.new }
+    ensures proceeds { Proceeds I.faults O.faults E.faults result below.old below.new dev.old dev.new }
 {
     let [pid, resource, new, old] = words.reg;
     below.kernel.limits_fit();

@@ -1,13 +1,12 @@
 //! alarm(2).
 ghost use Rattle.std.specs.Prelude.{◌≡◌, ◌%◌, ◌^◌};
-ghost use Rattle.bridge_log.specs.Leading.{LeadsOn};
+ghost use Rattle.bridge_log.specs.Proceeding.{Proceeds};
 ghost use Rattle.bridge_log.specs.Keeping.{KeepsCall};
 ghost use Rattle.kernel_model.specs.Clock.{left_until, rounded_seconds};
-ghost use Rattle.kernel_model.specs.Stops.{StopsOnlyIfRose};
 ghost use Rattle.o32_model.specs.Answered.{IsCall};
 ghost use Rattle.o32_model.specs.Sleeps.{alarm_row};
 ghost use Rattle.o32_model.specs.Step.{Guest};
-ghost use Rattle.outside.specs.Streams.{NoCountFell, contents};
+ghost use Rattle.outside.specs.Streams.{contents};
 
 use crate::setting::set_timer;
 use crate::settings::once_after;
@@ -29,10 +28,7 @@ pub(crate) fn alarm<I: Source, O: Sink, E: Sink>(
     ensures row { (guest : Guest) → IsCall (alarm_row below.old.kernel.now guest seconds) result below.new.kernel.now guest.memory guest.processor
         (contents I.left O.written E.written dev.old) (contents I.left O.written E.written dev.new) }
     ensures kept { (guest : Guest) → KeepsCall (alarm_row below.old.kernel.now guest seconds) result below.old.kernel.now guest (I.left dev.old.input) below.old.log.now below.new.log.now }
-    ensures cause { StopsOnlyIfRose I.faults O.faults E.faults result dev.old dev.new }
-    ensures counts { NoCountFell I.faults O.faults E.faults dev.old dev.new }
-    ensures clock { below.new.kernel.now.clock ≡ below.old.kernel.now.clock }
-    ensures same { LeadsOn below.old below.new }
+    ensures proceeds { Proceeds I.faults O.faults E.faults result below.old below.new dev.old dev.new }
 {
     let before = below.kernel.timer_left();
     alarm_from(before, seconds, dev, below)
@@ -50,10 +46,7 @@ fn alarm_from<I: Source, O: Sink, E: Sink>(
         (contents I.left O.written E.written dev.old) (contents I.left O.written E.written dev.new) }
     ensures kept { before ≡ left_until below.old.kernel.now.clock below.old.kernel.now.timer.due → (guest : Guest)
         → KeepsCall (alarm_row below.old.kernel.now guest seconds) result below.old.kernel.now guest (I.left dev.old.input) below.old.log.now below.new.log.now }
-    ensures cause { StopsOnlyIfRose I.faults O.faults E.faults result dev.old dev.new }
-    ensures counts { NoCountFell I.faults O.faults E.faults dev.old dev.new }
-    ensures clock { below.new.kernel.now.clock ≡ below.old.kernel.now.clock }
-    ensures same { LeadsOn below.old below.new }
+    ensures proceeds { Proceeds I.faults O.faults E.faults result below.old below.new dev.old dev.new }
 {
     let place = once_after(seconds, below.memory)?;
     set_timer(place, dev, below)?;

@@ -1,10 +1,9 @@
 //! What a call finds out about the native timer, by a native call that changes nothing.
 ghost use Rattle.std.specs.Prelude.{◌≡◌, ◌+◌, ◌≤◌};
-ghost use Rattle.bridge_log.specs.Leading.{LeadsOn};
+ghost use Rattle.bridge_log.specs.Proceeding.{Proceeds};
 ghost use Rattle.bridge_log.specs.Looks.{LooksFor};
 ghost use Rattle.bridge_timer.specs.inside.Shown.{shown_at, shown_in, time_in, word_in};
-ghost use Rattle.kernel_model.specs.Stops.{StopsOnlyIfRose};
-ghost use Rattle.outside.specs.Streams.{NoCountFell, contents};
+ghost use Rattle.outside.specs.Streams.{contents};
 
 use crate::shown::{MicroTime, Shown};
 use bridge_log::{Below, fresh_room};
@@ -25,10 +24,7 @@ pub(crate) fn timer_shown<I: Source, O: Sink, E: Sink>(
 ) -> Result<Option<Shown>, Stop>
     ensures looks { LooksFor (λ shown. shown ≡ shown_at below.old.kernel.now which) result below.old.kernel.now below.new.kernel.now
         (contents I.left O.written E.written dev.old) (contents I.left O.written E.written dev.new) below.old.log.now below.new.log.now }
-    ensures cause { StopsOnlyIfRose I.faults O.faults E.faults result dev.old dev.new }
-    ensures counts { NoCountFell I.faults O.faults E.faults dev.old dev.new }
-    ensures clock { below.new.kernel.now.clock ≡ below.old.kernel.now.clock }
-    ensures same { LeadsOn below.old below.new }
+    ensures proceeds { Proceeds I.faults O.faults E.faults result below.old below.new dev.old dev.new }
 {
     fresh_room(below.memory, NATIVE_SIZE)?;
     let args = [u64::from(which), FIRST_ADDRESS, 0, 0, 0, 0];

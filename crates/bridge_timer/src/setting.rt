@@ -1,12 +1,10 @@
 //! The native call that sets the timer.
-ghost use Rattle.std.specs.Prelude.{◌≡◌};
-ghost use Rattle.bridge_log.specs.Leading.{LeadsOn};
+ghost use Rattle.bridge_log.specs.Proceeding.{Proceeds};
 ghost use Rattle.bridge_timer.specs.inside.Acts.{Acts};
 ghost use Rattle.bridge_timer.specs.inside.Shown.{IsSet};
-ghost use Rattle.kernel_model.specs.Stops.{StopsOnlyIfRose};
 ghost use Rattle.native_calls.specs.Clocks.{setting_at};
 ghost use Rattle.native_calls.specs.HostBytes.{unless_null};
-ghost use Rattle.outside.specs.Streams.{NoCountFell, contents};
+ghost use Rattle.outside.specs.Streams.{contents};
 
 use crate::numbers::ITIMER_REAL;
 use bridge_log::Below;
@@ -23,10 +21,7 @@ pub(crate) fn set_timer<I: Source, O: Sink, E: Sink>(
 ) -> Result<Reply, Stop>
     ensures acts { Acts (IsSet below.old.kernel.now (unless_null place (setting_at below.old.memory.now place))) result below.old.kernel.now below.new.kernel.now
         (contents I.left O.written E.written dev.old) (contents I.left O.written E.written dev.new) below.old.log.now below.new.log.now }
-    ensures cause { StopsOnlyIfRose I.faults O.faults E.faults result dev.old dev.new }
-    ensures counts { NoCountFell I.faults O.faults E.faults dev.old dev.new }
-    ensures clock { below.new.kernel.now.clock ≡ below.old.kernel.now.clock }
-    ensures same { LeadsOn below.old below.new }
+    ensures proceeds { Proceeds I.faults O.faults E.faults result below.old below.new dev.old dev.new }
 {
     let args = [u64::from(ITIMER_REAL), place, 0, 0, 0, 0];
     below.native(SETITIMER, args, dev)

@@ -1,13 +1,12 @@
 //! What a call finds out about the native clocks, by native calls that change nothing.
 ghost use Rattle.std.specs.Prelude.{◌≡◌, ◌<◌, option_map, if◌then◌else◌};
-ghost use Rattle.bridge_log.specs.Leading.{LeadsOn};
+ghost use Rattle.bridge_log.specs.Proceeding.{Proceeds};
 ghost use Rattle.bridge_log.specs.Looks.{LooksFor};
 ghost use Rattle.bridge_wait.specs.inside.Shown.{clock_of, is_over, resolution_of, time_in, time_of, word_in};
 ghost use Rattle.kernel_core.specs.declared.reply.Reply.{Reply};
 ghost use Rattle.kernel_model.specs.Clock.{clock_time};
-ghost use Rattle.kernel_model.specs.Stops.{StopsOnlyIfRose};
 ghost use Rattle.o32_model.specs.Clocks.{is_late};
-ghost use Rattle.outside.specs.Streams.{NoCountFell, contents};
+ghost use Rattle.outside.specs.Streams.{contents};
 
 use crate::clock_times::ClockTime;
 use crate::numbers::{CLOCK_MONOTONIC, CLOCK_REALTIME, TIMER_ABSTIME};
@@ -33,10 +32,7 @@ pub(crate) fn clock_shown<I: Source, O: Sink, E: Sink>(
 ) -> Result<Option<ClockTime>, Stop>
     ensures looks { LooksFor (λ shown. shown ≡ option_map time_of (clock_time below.old.kernel.now below.old.kernel.now.clock clock)) result below.old.kernel.now below.new.kernel.now
         (contents I.left O.written E.written dev.old) (contents I.left O.written E.written dev.new) below.old.log.now below.new.log.now }
-    ensures cause { StopsOnlyIfRose I.faults O.faults E.faults result dev.old dev.new }
-    ensures counts { NoCountFell I.faults O.faults E.faults dev.old dev.new }
-    ensures clock { below.new.kernel.now.clock ≡ below.old.kernel.now.clock }
-    ensures same { LeadsOn below.old below.new }
+    ensures proceeds { Proceeds I.faults O.faults E.faults result below.old below.new dev.old dev.new }
 {
     fresh_room(below.memory, NATIVE_SIZE)?;
     let args = [u64::from(clock), FIRST_ADDRESS, 0, 0, 0, 0];
@@ -52,10 +48,7 @@ pub(crate) fn clock_resolution<I: Source, O: Sink, E: Sink>(
 ) -> Result<Option<ClockTime>, Stop>
     ensures looks { LooksFor (λ shown. shown ≡ option_map time_of (resolution_of clock)) result below.old.kernel.now below.new.kernel.now
         (contents I.left O.written E.written dev.old) (contents I.left O.written E.written dev.new) below.old.log.now below.new.log.now }
-    ensures cause { StopsOnlyIfRose I.faults O.faults E.faults result dev.old dev.new }
-    ensures counts { NoCountFell I.faults O.faults E.faults dev.old dev.new }
-    ensures clock { below.new.kernel.now.clock ≡ below.old.kernel.now.clock }
-    ensures same { LeadsOn below.old below.new }
+    ensures proceeds { Proceeds I.faults O.faults E.faults result below.old below.new dev.old dev.new }
 {
     fresh_room(below.memory, NATIVE_SIZE)?;
     let args = [u64::from(clock), FIRST_ADDRESS, 0, 0, 0, 0];
@@ -72,10 +65,7 @@ pub(crate) fn is_late<I: Source, O: Sink, E: Sink>(
 ) -> Result<bool, Stop>
     ensures looks { LooksFor (λ late. late ≡ is_late (clock_of below.old.kernel.now real)) result below.old.kernel.now below.new.kernel.now
         (contents I.left O.written E.written dev.old) (contents I.left O.written E.written dev.new) below.old.log.now below.new.log.now }
-    ensures cause { StopsOnlyIfRose I.faults O.faults E.faults result dev.old dev.new }
-    ensures counts { NoCountFell I.faults O.faults E.faults dev.old dev.new }
-    ensures clock { below.new.kernel.now.clock ≡ below.old.kernel.now.clock }
-    ensures same { LeadsOn below.old below.new }
+    ensures proceeds { Proceeds I.faults O.faults E.faults result below.old below.new dev.old dev.new }
 {
     below.memory.clear();
     let place = push_time(FIRST_LATE_SECOND, 0, below.memory)?;

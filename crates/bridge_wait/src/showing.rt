@@ -1,12 +1,11 @@
 //! What a clock shows the program.
 ghost use Rattle.std.specs.Prelude.{◌≡◌, Ok, Err, if◌then◌else◌};
-ghost use Rattle.bridge_log.specs.Leading.{LeadsOn};
+ghost use Rattle.bridge_log.specs.Proceeding.{Proceeds};
 ghost use Rattle.bridge_log.specs.Looks.{LooksFor};
 ghost use Rattle.bridge_wait.specs.inside.Shown.{clock_of, is_cpu_clock, is_real_clock, shown_of};
 ghost use Rattle.kernel_model.specs.Clock.{clock_time};
-ghost use Rattle.kernel_model.specs.Stops.{StopsOnlyIfRose};
 ghost use Rattle.o32_model.specs.Clocks.{is_late};
-ghost use Rattle.outside.specs.Streams.{NoCountFell, contents};
+ghost use Rattle.outside.specs.Streams.{contents};
 
 use crate::clock_times::{ClockTime, shown_of};
 use crate::looking::{clock_shown, is_late};
@@ -27,10 +26,7 @@ pub(crate) fn shown_time<I: Source, O: Sink, E: Sink>(
 ) -> Result<Result<ClockTime, Errno>, Stop>
     ensures looks { LooksFor (λ shown. shown ≡ shown_of (clock_time below.old.kernel.now quanta clock)) result below.old.kernel.now below.new.kernel.now
         (contents I.left O.written E.written dev.old) (contents I.left O.written E.written dev.new) below.old.log.now below.new.log.now }
-    ensures cause { StopsOnlyIfRose I.faults O.faults E.faults result dev.old dev.new }
-    ensures counts { NoCountFell I.faults O.faults E.faults dev.old dev.new }
-    ensures clock { below.new.kernel.now.clock ≡ below.old.kernel.now.clock }
-    ensures same { LeadsOn below.old below.new }
+    ensures proceeds { Proceeds I.faults O.faults E.faults result below.old below.new dev.old dev.new }
 {
     if is_cpu_clock(clock) {
         return Ok(shown_of(quanta));
@@ -50,10 +46,7 @@ fn unless_late<I: Source, O: Sink, E: Sink>(
 ) -> Result<Result<ClockTime, Errno>, Stop>
     ensures looks { LooksFor (λ shown. shown ≡ (if is_late (clock_of below.old.kernel.now real) then Err Errno.EOVERFLOW else Ok time)) result below.old.kernel.now below.new.kernel.now
         (contents I.left O.written E.written dev.old) (contents I.left O.written E.written dev.new) below.old.log.now below.new.log.now }
-    ensures cause { StopsOnlyIfRose I.faults O.faults E.faults result dev.old dev.new }
-    ensures counts { NoCountFell I.faults O.faults E.faults dev.old dev.new }
-    ensures clock { below.new.kernel.now.clock ≡ below.old.kernel.now.clock }
-    ensures same { LeadsOn below.old below.new }
+    ensures proceeds { Proceeds I.faults O.faults E.faults result below.old below.new dev.old dev.new }
 {
     let late = is_late(real, dev, below)?;
     Ok(time_unless(late, time))

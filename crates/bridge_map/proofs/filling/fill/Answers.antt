@@ -44,13 +44,13 @@ returns-then-got-want-clause-filled g c = λ left told content shows free.
 
 pub loop-piece-preserved : goal.loop-piece-preserved
 loop-piece-preserved g c = record {
-  counts = search (rules, c.in_ok-got.ensures.counts, c.loop-piece.invariant.counts);
-  no_fault = NoCountRose-trans c.loop-piece.invariant.no_fault c.in_ok-got.ensures.cause;
-  clock = c.in_ok-got.ensures.clock ∙ c.loop-piece.invariant.clock;
+  counts = search (rules, c.in_ok-got.ensures.proceeds.counts, c.loop-piece.invariant.counts);
+  no_fault = NoCountRose-trans c.loop-piece.invariant.no_fault c.in_ok-got.ensures.proceeds.cause;
+  clock = c.in_ok-got.ensures.proceeds.clock ∙ c.loop-piece.invariant.clock;
   same = record {
-    kernel = c.in_ok-got.ensures.same.kernel ∙ c.loop-piece.invariant.same.kernel;
-    memory = c.in_ok-got.ensures.same.memory ∙ c.loop-piece.invariant.same.memory;
-    log = c.in_ok-got.ensures.same.log ∙ c.loop-piece.invariant.same.log;
+    kernel = c.in_ok-got.ensures.proceeds.same.kernel ∙ c.loop-piece.invariant.same.kernel;
+    memory = c.in_ok-got.ensures.proceeds.same.memory ∙ c.loop-piece.invariant.same.memory;
+    log = c.in_ok-got.ensures.proceeds.same.log ∙ c.loop-piece.invariant.same.log;
   };
   so_far = λ left told content shows free.
       let place : ℕ = c.loop-piece.piece * 65536 in
