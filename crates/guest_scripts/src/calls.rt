@@ -5,7 +5,8 @@
 //!     show room + 24 4 : 000081A4    so many bytes from an address on are these
 //!
 //! Arguments that are left out are 0. A word behind `+` or `-` is added to the argument before it, or taken from it.
-use crate::numbers::{digit, value};
+use crate::numbers::value;
+use crate::reading::push_bytes;
 use std::alloc::Global;
 use std::test::Fail;
 
@@ -152,22 +153,6 @@ fn push_call(calls: &mut Vec<Call>, begun: Begun, gives: Gives) -> Result<Next, 
     Ok(Next::Name)
 }
 
-/// Puts the bytes that are shown behind others, two digits for each.
-fn push_shown(out: &mut Vec<u8>, word: &str) -> Result<(), Fail> {
-    let mut high = None;
-    for byte in word.as_bytes() {
-        let low = digit(*byte).ok_or("no digit")?;
-        match high {
-            None => high = Some(low),
-            Some(digit) => {
-                out.push(u8::wrapping_mul(digit, 16).wrapping_add(low))?;
-                high = None;
-            }
-        }
-    }
-    Ok(())
-}
-
 /// Takes the next word, and tells what the one behind it is.
 fn read_word(script: &mut Script, next: Next, word: &str) -> Result<Next, Fail> {
     match next {
@@ -182,7 +167,7 @@ fn read_word(script: &mut Script, next: Next, word: &str) -> Result<Next, Fail> 
             push_call(&mut script.calls, begun, Gives::Error(number))
         }
         Next::Bytes(begun) => {
-            push_shown(&mut script.out, word)?;
+            push_bytes(&mut script.out, word)?;
             push_call(&mut script.calls, begun, Gives::Value(begun.words[2]))
         }
     }

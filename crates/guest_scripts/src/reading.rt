@@ -119,3 +119,22 @@ pub fn bytes_of(alloc: Global, text: &str) -> Result<Vec<u8>, Fail> {
     push_text(&mut bytes, text)?;
     Ok(bytes)
 }
+
+/// Puts the bytes of a word behind others, two digits for each.
+pub fn push_bytes(bytes: &mut Vec<u8>, word: &str) -> Result<(), Fail> {
+    let mut high = None;
+    for byte in word.as_bytes() {
+        let low = digit(*byte).ok_or("no digit")?;
+        match high {
+            None => high = Some(low),
+            Some(digit) => {
+                bytes.push(u8::wrapping_mul(digit, 16).wrapping_add(low))?;
+                high = None;
+            }
+        }
+    }
+    match high {
+        None => Ok(()),
+        Some(_) => Err(Fail::from("half a byte")),
+    }
+}

@@ -1,13 +1,16 @@
 //! Instructions as scripts in words, as an assembler takes them, but without commas and brackets (MIPS32 Architecture for Programmers,
 //! Volume II): `addiu $a0 $zero 7`, and `lbu $a0 1 $t0` for `lbu $a0, 1($t0)`. A number behind `.word` stands for itself.
-use crate::numbers::register_of;
 use crate::script::Words;
 use std::alloc::Global;
 use std::test::Fail;
 
 fn register(words: &mut Words) -> Result<u32, Fail> {
-    let word = words.next()?;
-    Ok(register_of(word).ok_or("no register")?)
+    let number = words.value()?;
+    if number < 32 {
+        Ok(number)
+    } else {
+        Err(Fail::from("no register"))
+    }
 }
 
 /// The register `rt`, in its field.

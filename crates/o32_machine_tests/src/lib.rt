@@ -12,11 +12,7 @@ mod instructions;
 #[cfg(test)]
 mod mappings;
 #[cfg(test)]
-mod numbers;
-#[cfg(test)]
 mod programs;
-#[cfg(test)]
-mod requests;
 #[cfg(test)]
 mod runs;
 #[cfg(test)]

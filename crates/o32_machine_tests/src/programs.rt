@@ -8,8 +8,8 @@
 //! An end is `exited` with a status, `killed` with a signal's number, or `blocked`. Input and outputs that are left out are empty.
 use crate::emulators::{Look, Streams, look_at, new_streams, run};
 use crate::instructions::instruction;
-use crate::numbers::push_bytes;
 use crate::script::Words;
+use guest_scripts::reading::push_bytes;
 use kernel_core::Finish;
 use o32_machine::Emulator;
 use std::alloc::Global;

@@ -1,5 +1,5 @@
 //! Scripts, word by word.
-use crate::numbers::{number_of, value_of};
+use guest_scripts::numbers::{number_of, value};
 use std::test::Fail;
 
 /// The words of a script, of which some are read.
@@ -49,6 +49,6 @@ impl<'a> Words<'a> {
     /// A number or a name.
     pub(crate) fn value(&mut self) -> Result<u32, Fail> {
         let word = self.next()?;
-        Ok(value_of(word).ok_or("no value")?)
+        Ok(value(word).ok_or("no value")?)
     }
 }
