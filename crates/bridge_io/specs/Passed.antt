@@ -6,3 +6,4 @@ pub use Rattle.bridge_log.specs.Fills.{Fills}
 pub use Rattle.bridge_log.specs.Keeping.{Keeps, KeepsCall, Logged, reached}
 pub use Rattle.bridge_log.specs.Mirrors.{Mirrors}
 pub use Rattle.bridge_log.specs.Outcomes.{by_reply, outcome_of}
+pub use Rattle.bridge_log.specs.Proceeding.{Proceeds}
