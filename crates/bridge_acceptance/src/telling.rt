@@ -2,10 +2,7 @@
 ghost use Rattle.std.specs.Prelude.{◌≡◌, IfOk, OnOk};
 ghost use Rattle.bridge_acceptance.specs.inside.Telling as spec;
 ghost use Rattle.bridge_acceptance.specs.inside.Telling.{stores, stores_unless_null, telling, tells};
-ghost use Rattle.bridge_signal_state.specs.Passed.{reached};
-ghost use Rattle.kernel_model.specs.Pipes.{Sent};
-ghost use Rattle.mips_exec.specs.Processor.{Processor};
-ghost use Rattle.o32_model.specs.Effects.{Effected};
+ghost use Rattle.bridge_signal_state.specs.Passed.{EffectsLead};
 ghost use Rattle.o32_model.specs.Step as o32_step;
 
 use crate::accepting::Accepted;
@@ -36,9 +33,7 @@ pub(crate) fn tell(
     log: &mut Log,
 ) -> Result<Told, NoMemory>
     ensures ends { IfOk result (λ told. tells space.old address came ≡ telling told space.new) }
-    ensures effects { OnOk result ((processor : Processor) (sent : Sent)
-        → Effected log.old.effects log.new.effects (reached processor space.old.pages sent)
-        (reached processor space.new.pages sent)) }
+    ensures effects { OnOk result (EffectsLead log.old log.new space.old space.new) }
     ensures native { log.new.native ≡ log.old.native }
 {
     match came {
@@ -55,9 +50,7 @@ fn store_unless_null(
     log: &mut Log,
 ) -> Result<Told, NoMemory>
     ensures ends { IfOk result (λ told. stores_unless_null space.old address info ≡ telling told space.new) }
-    ensures effects { OnOk result ((processor : Processor) (sent : Sent)
-        → Effected log.old.effects log.new.effects (reached processor space.old.pages sent)
-        (reached processor space.new.pages sent)) }
+    ensures effects { OnOk result (EffectsLead log.old log.new space.old space.new) }
     ensures native { log.new.native ≡ log.old.native }
 {
     let number = info.sig.to_o32();
@@ -76,9 +69,7 @@ fn store(
     log: &mut Log,
 ) -> Result<Told, NoMemory>
     ensures ends { IfOk result (λ told. stores space.old address bytes.now number ≡ telling told space.new) }
-    ensures effects { OnOk result ((processor : Processor) (sent : Sent)
-        → Effected log.old.effects log.new.effects (reached processor space.old.pages sent)
-        (reached processor space.new.pages sent)) }
+    ensures effects { OnOk result (EffectsLead log.old log.new space.old space.new) }
     ensures native { log.new.native ≡ log.old.native }
 {
     let stored = put(space, address, bytes, log)?;

@@ -2,15 +2,12 @@
 ghost use Rattle.std.specs.Prelude.{◌≡◌, ◌≤◌, ◌+◌, ◌%◌, ◌^◌, length, None, OnOk, Some};
 ghost use Rattle.bridge_delivery.specs.inside.Frames as spec;
 ghost use Rattle.bridge_delivery.specs.inside.Frames.{Enters};
-ghost use Rattle.bridge_ends.specs.Passed.{reached, written};
+ghost use Rattle.bridge_ends.specs.Passed.{EffectsLead, written};
 ghost use Rattle.guest_space.specs.Access.{first_denied};
 ghost use Rattle.guest_space.specs.Bytes.{bytes_at};
 ghost use Rattle.guest_space.specs.Memory.{Memory};
 ghost use Rattle.guest_space.specs.declared.access.Access.TheVariants.{Load};
-ghost use Rattle.kernel_model.specs.Pipes.{Sent};
 ghost use Rattle.kernel_model.specs.SignalRows as rows;
-ghost use Rattle.mips_exec.specs.Processor.{Processor};
-ghost use Rattle.o32_model.specs.Effects.{Effected};
 ghost use Rattle.o32_model.specs.Logs.{with_more};
 ghost use Rattle.o32_turns.specs.Handling.{handler_address};
 ghost use Rattle.signal_frames.specs.Entering.{frame_address};
@@ -56,8 +53,7 @@ pub(crate) fn enter(
     log: &mut Log,
 ) -> Result<bool, NoMemory>
     ensures entered { Enters (spec.framed stack cpu.old taken.now.info taken.now.action mask) result cpu.old cpu.new space.old space.new }
-    ensures effects { OnOk result ((processor : Processor) (sent : Sent)
-        → Effected log.old.effects log.new.effects (reached processor space.old.pages sent) (reached processor space.new.pages sent)) }
+    ensures effects { OnOk result (EffectsLead log.old log.new space.old space.new) }
     ensures native { log.new.native ≡ log.old.native }
 {
     space.whole();

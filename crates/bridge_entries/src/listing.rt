@@ -4,14 +4,11 @@ ghost use Rattle.bridge_log.specs.Proceeding.{Proceeds};
 ghost use Rattle.bridge_entries.specs.inside.Answers.{IsGiven, narrow};
 ghost use Rattle.bridge_entries.specs.inside.Passing.{GoesTo};
 ghost use Rattle.bridge_log.specs.Fills.{bytes_back};
-ghost use Rattle.bridge_log.specs.Keeping.{KeepsCall, reached};
+ghost use Rattle.bridge_log.specs.Keeping.{EffectsLead, KeepsCall};
 ghost use Rattle.guest_space.specs.Access.{user_end};
 ghost use Rattle.kernel_model.specs.ContentRows.{entries};
-ghost use Rattle.kernel_model.specs.Pipes.{Sent};
 ghost use Rattle.kernel_model.specs.Whole.{with_files};
-ghost use Rattle.mips_exec.specs.Processor.{Processor};
 ghost use Rattle.o32_model.specs.Answered.{IsCall};
-ghost use Rattle.o32_model.specs.Effects.{Effected};
 ghost use Rattle.o32_model.specs.Entries.{entry_form, entry64_form, getdents_row};
 ghost use Rattle.o32_model.specs.GuestBytes.{with_stored};
 ghost use Rattle.o32_model.specs.Step.{Guest};
@@ -22,7 +19,7 @@ use crate::answers::{Answer, Bounds, answer_to};
 use crate::passing::{list, position, put_position};
 use crate::records::Form;
 use crate::showing::show_all;
-use bridge_log::{Below, fresh_room, outcome_of, put};
+use bridge_log::{Below, bytes_back, fresh_room, outcome_of, put_some};
 use guest_space::Space;
 use host_mem::{FIRST_ADDRESS, HostMem};
 use kernel_core::{NoMemory, Reply, Stop};
@@ -61,7 +58,7 @@ pub(crate) fn getdents64<I: Source, O: Sink, E: Sink>(
         Form::Wide,
         room as usize,
         0,
-        given(below.memory, reply),
+        bytes_back(below.memory, reply),
     )?;
     put_some(space, buffer, shown.bytes.as_slice(), below.log)?;
     Ok(outcome_of(words, reply))
@@ -118,7 +115,7 @@ fn answer_call<I: Source, O: Sink, E: Sink>(
         Bounds { asked, room },
         before.unwrap_or(0),
         reply,
-        given(below.memory, reply),
+        bytes_back(below.memory, reply),
     )?;
     match answer.place {
         None => Ok(answer),
@@ -127,43 +124,4 @@ fn answer_call<I: Source, O: Sink, E: Sink>(
             Ok(answer)
         }
     }
-}
-
-/// The bytes of host memory that a reply says were put there.
-fn given(mem: &HostMem, reply: Reply) -> &[u8]
-    ensures { result.now ≡ bytes_back mem.now reply }
-{
-    match reply {
-        Reply::Done(count) => {
-            if count > 0 {
-                first_bytes(mem, count as u64)
-            } else {
-                &[]
-            }
-        }
-        Reply::Sleep(_) => &[],
-    }
-}
-
-/// The first bytes of host memory, at most so many.
-fn first_bytes(mem: &HostMem, count: u64) -> &[u8]
-    ensures { result.now ≡ take count mem.now }
-{
-    let bytes = mem.as_slice();
-    let there = bytes.len().min(count as usize);
-    &bytes[..there]
-}
-
-/// Writes the bytes to the program's memory, from `address` on, where there are any and each may be stored to.
-fn put_some(space: &mut Space, address: u32, bytes: &[u8], log: &mut Log) -> Result<(), NoMemory>
-    ensures stored { OnOk result (space.new ≡ with_stored space.old address bytes.now) }
-    ensures effects { OnOk result ((processor : Processor) (sent : Sent)
-        → Effected log.old.effects log.new.effects (reached processor space.old.pages sent) (reached processor space.new.pages sent)) }
-    ensures native { log.new.native ≡ log.old.native }
-{
-    if bytes.is_empty() {
-        return Ok(());
-    }
-    put(space, address, bytes, log)?;
-    Ok(())
 }

@@ -1,22 +1,19 @@
 //! Calls that are one native call which tells a text or a place.
 ghost use Rattle.std.specs.Prelude.{◌≡◌, ◌-◌, ℕ, List, IfOk, OnOk, drop, take};
-ghost use Rattle.bridge_paths.specs.Passed.{AreUnusedZero, IsPlaced, KeepsCall, Proceeds, built_call, reached};
+ghost use Rattle.bridge_paths.specs.Passed.{AreUnusedZero, EffectsLead, IsPlaced, KeepsCall, Proceeds, built_call};
 ghost use Rattle.bridge_file.specs.inside.Tells.{Tells, bytes_told, memory_told, outcome_stored, outcome_told, value_told};
 ghost use Rattle.host_mem.specs.Memory.{first_address};
-ghost use Rattle.kernel_model.specs.Pipes.{Sent};
-ghost use Rattle.mips_exec.specs.Processor.{Processor};
 ghost use Rattle.native_calls.specs.Table.{native_call};
 ghost use Rattle.o32_model.specs.Answered.{IsCall};
-ghost use Rattle.o32_model.specs.Effects.{Effected};
 ghost use Rattle.o32_model.specs.GuestBytes.{with_stored};
 ghost use Rattle.o32_model.specs.Opening.{place_bytes};
 ghost use Rattle.o32_model.specs.Step.{Guest, O32Step};
 ghost use Rattle.outside.specs.Streams.{contents};
 
-use bridge_paths::{Below, NativeWords, outcome_of, put};
+use bridge_paths::{Below, NativeWords, outcome_of, store};
 use guest_space::Space;
 use host_mem::{FIRST_ADDRESS, HostMem};
-use kernel_core::{Errno, NoMemory, Reply, Stop};
+use kernel_core::{NoMemory, Reply, Stop};
 use o32_model::{CallWords, Log, Outcome};
 use outside::{Devices, Sink, Source};
 
@@ -77,8 +74,7 @@ fn tell(
 ) -> Result<Outcome, NoMemory>
     ensures outcome { IfOk result (λ outcome. outcome ≡ outcome_told words.now space.old told.address told.what mem.now reply) }
     ensures stored { OnOk result (space.new ≡ memory_told space.old told.address told.what mem.now reply) }
-    ensures effects { OnOk result ((processor : Processor) (sent : Sent)
-        → Effected log.old.effects log.new.effects (reached processor space.old.pages sent) (reached processor space.new.pages sent)) }
+    ensures effects { OnOk result (EffectsLead log.old log.new space.old space.new) }
     ensures native { log.new.native ≡ log.old.native }
 {
     match reply {
@@ -97,8 +93,7 @@ fn tell_number(
 ) -> Result<Outcome, NoMemory>
     ensures outcome { IfOk result (λ outcome. outcome ≡ outcome_stored space.old told.address (bytes_told told.what mem.now number) (value_told told.what number)) }
     ensures stored { OnOk result (space.new ≡ with_stored space.old told.address (bytes_told told.what mem.now number)) }
-    ensures effects { OnOk result ((processor : Processor) (sent : Sent)
-        → Effected log.old.effects log.new.effects (reached processor space.old.pages sent) (reached processor space.new.pages sent)) }
+    ensures effects { OnOk result (EffectsLead log.old log.new space.old space.new) }
     ensures native { log.new.native ≡ log.old.native }
 {
     match told.what {
@@ -107,27 +102,6 @@ fn tell_number(
             store(told.address, text_at(mem, at, number), result, space, log)
         }
         Told::Place => store(told.address, &place_bytes(number), 0, space, log),
-    }
-}
-
-/// Stores bytes whole, which gives a result, or nothing, which is EFAULT.
-fn store(
-    address: u32,
-    bytes: &[u8],
-    value: u32,
-    space: &mut Space,
-    log: &mut Log,
-) -> Result<Outcome, NoMemory>
-    ensures outcome { IfOk result (λ outcome. outcome ≡ outcome_stored space.old address bytes.now value) }
-    ensures stored { OnOk result (space.new ≡ with_stored space.old address bytes.now) }
-    ensures effects { OnOk result ((processor : Processor) (sent : Sent)
-        → Effected log.old.effects log.new.effects (reached processor space.old.pages sent) (reached processor space.new.pages sent)) }
-    ensures native { log.new.native ≡ log.old.native }
-{
-    if put(space, address, bytes, log)? {
-        Ok(Outcome::Value(value))
-    } else {
-        Ok(Outcome::Error(Errno::EFAULT))
     }
 }
 

@@ -18,6 +18,6 @@ mod vectors;
 mod writing;
 
 pub use bridge_log::{
-    Below, NativeKernel, NativeWords, fresh_room, load_structure, outcome_of, put,
+    Below, NativeKernel, NativeWords, fresh_room, load_structure, outcome_of, store,
 };
 pub use call::io_call;

@@ -5,13 +5,10 @@ ghost use Rattle.bridge_log.specs.Proceeding.{Proceeds};
 ghost use Rattle.bridge_io.specs.inside.Stores.{Stores, bytes_told, byte_from, places, size};
 ghost use Rattle.bridge_io.specs.inside.Takes.{places_back};
 ghost use Rattle.bridge_log.specs.Arguments.{AreUnusedZero, takes_address};
-ghost use Rattle.bridge_log.specs.Keeping.{KeepsCall, reached};
-ghost use Rattle.kernel_model.specs.Pipes.{Sent};
-ghost use Rattle.mips_exec.specs.Processor.{Processor};
+ghost use Rattle.bridge_log.specs.Keeping.{EffectsLead, KeepsCall};
 ghost use Rattle.native_calls.specs.Table.{native_call};
 ghost use Rattle.bridge_log.specs.Built.{built_call};
 ghost use Rattle.o32_model.specs.Answered.{IsCall};
-ghost use Rattle.o32_model.specs.Effects.{Effected};
 ghost use Rattle.o32_model.specs.GuestBytes.{with_stored};
 ghost use Rattle.o32_model.specs.Step.{Guest, O32Step};
 ghost use Rattle.outside.specs.Streams.{contents};
@@ -248,8 +245,7 @@ fn put_structure(
     log: &mut Log,
 ) -> Result<(), NoMemory>
     ensures stored { OnOk result (space.new ≡ with_stored space.old to.address (bytes_told to.structure mem.now reply)) }
-    ensures effects { OnOk result ((processor : Processor) (sent : Sent)
-        → Effected log.old.effects log.new.effects (reached processor space.old.pages sent) (reached processor space.new.pages sent)) }
+    ensures effects { OnOk result (EffectsLead log.old log.new space.old space.new) }
     ensures native { log.new.native ≡ log.old.native }
 {
     match reply {
@@ -270,8 +266,7 @@ fn put_bytes(
     log: &mut Log,
 ) -> Result<(), NoMemory>
     ensures stored { OnOk result (space.new ≡ with_stored space.old to.address (map (byte_from mem.now) (places to.structure))) }
-    ensures effects { OnOk result ((processor : Processor) (sent : Sent)
-        → Effected log.old.effects log.new.effects (reached processor space.old.pages sent) (reached processor space.new.pages sent)) }
+    ensures effects { OnOk result (EffectsLead log.old log.new space.old space.new) }
     ensures native { log.new.native ≡ log.old.native }
 {
     let places = to.structure.places();

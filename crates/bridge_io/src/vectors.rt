@@ -3,18 +3,15 @@ ghost use Rattle.std.specs.Prelude.{◌≡◌, ◌≤◌, ℕ, [], Ok, length, t
 ghost use Rattle.bridge_log.specs.Proceeding.{Proceeds};
 ghost use Rattle.bridge_io.specs.inside.Outcomes.{wrong_count};
 ghost use Rattle.bridge_log.specs.Fills.{bytes_back};
-ghost use Rattle.bridge_log.specs.Keeping.{KeepsCall, reached};
-ghost use Rattle.kernel_model.specs.Pipes.{Sent};
-ghost use Rattle.mips_exec.specs.Processor.{Processor};
+ghost use Rattle.bridge_log.specs.Keeping.{EffectsLead, KeepsCall};
 ghost use Rattle.o32_model.specs.Answered.{IsCall};
-ghost use Rattle.o32_model.specs.Effects.{Effected};
 ghost use Rattle.o32_model.specs.GuestBytes.{vector, all_accessible, all_copied_out, with_stored};
 ghost use Rattle.o32_model.specs.Step.{Guest};
 ghost use Rattle.o32_model.specs.Transfers.{readv_row};
 ghost use Rattle.o32_model.specs.Words.{argument};
 ghost use Rattle.outside.specs.Streams.{contents};
 
-use bridge_log::{Below, Vector, fresh_room, outcome_of, put};
+use bridge_log::{Below, Vector, bytes_back, fresh_room, outcome_of, put_some};
 use guest_space::Space;
 use host_mem::{FIRST_ADDRESS, HostMem};
 use kernel_core::{Errno, NoMemory, Reply, Stop};
@@ -96,57 +93,24 @@ fn scatter_back(
 ) -> Result<(), NoMemory>
     ensures stored { OnOk result (length (bytes_back mem.now reply) ≤ all_accessible space.old buffers.now
         → space.new ≡ all_copied_out space.old buffers.now (bytes_back mem.now reply)) }
-    ensures effects { OnOk result ((processor : Processor) (sent : Sent)
-        → Effected log.old.effects log.new.effects (reached processor space.old.pages sent) (reached processor space.new.pages sent)) }
+    ensures effects { OnOk result (EffectsLead log.old log.new space.old space.new) }
     ensures native { log.new.native ≡ log.old.native }
 {
-    match reply {
-        Reply::Done(count) => {
-            if count > 0 {
-                scatter(space, buffers.ranges(), first_bytes(mem, count as u64), log)?;
-            }
-            Ok(())
-        }
-        Reply::Sleep(_) => Ok(()),
-    }
-}
-
-/// The first bytes of host memory, at most so many.
-fn first_bytes(mem: &HostMem, count: u64) -> &[u8]
-    ensures { result.now ≡ take count mem.now }
-{
-    let bytes = mem.as_slice();
-    let there = bytes.len().min(count as usize);
-    &bytes[..there]
+    scatter(space, buffers.ranges(), bytes_back(mem, reply), log)
 }
 
 /// Writes the bytes to the buffers, one after the other, and keeps what was written to each.
 fn scatter(space: &mut Space, ranges: &[Range], bytes: &[u8], log: &mut Log) -> Result<(), NoMemory>
     ensures stored { OnOk result (length bytes.now ≤ all_accessible space.old ranges.now
         → space.new ≡ all_copied_out space.old ranges.now bytes.now) }
-    ensures effects { OnOk result ((processor : Processor) (sent : Sent)
-        → Effected log.old.effects log.new.effects (reached processor space.old.pages sent) (reached processor space.new.pages sent)) }
+    ensures effects { OnOk result (EffectsLead log.old log.new space.old space.new) }
     ensures native { log.new.native ≡ log.old.native }
 {
     let mut rest = bytes;
     for range in ranges {
         let (piece, later) = rest.split_at(rest.len().min(range.length as usize));
-        put_piece(space, range.address, piece, log)?;
+        put_some(space, range.address, piece, log)?;
         rest = later;
     }
-    Ok(())
-}
-
-/// Writes the bytes from an address on, where each may be stored to. Of no byte nothing is kept.
-fn put_piece(space: &mut Space, address: u32, bytes: &[u8], log: &mut Log) -> Result<(), NoMemory>
-    ensures stored { OnOk result (space.new ≡ with_stored space.old address bytes.now) }
-    ensures effects { OnOk result ((processor : Processor) (sent : Sent)
-        → Effected log.old.effects log.new.effects (reached processor space.old.pages sent) (reached processor space.new.pages sent)) }
-    ensures native { log.new.native ≡ log.old.native }
-{
-    if bytes.is_empty() {
-        return Ok(());
-    }
-    put(space, address, bytes, log)?;
     Ok(())
 }

@@ -2,15 +2,12 @@
 //! is left is stored.
 ghost use Rattle.std.specs.Prelude.{◌≡◌, OnOk};
 ghost use Rattle.bridge_signal_state.specs.Acts.{Acts};
-ghost use Rattle.bridge_signal_state.specs.Passed.{Proceeds, reached};
+ghost use Rattle.bridge_signal_state.specs.Passed.{EffectsLead, Proceeds};
 ghost use Rattle.bridge_signal_state.specs.Ends.{Closes, KeepsEnd};
 ghost use Rattle.bridge_limits.specs.Limits.{StoresAlike, left_form, unmasked_kernel};
 ghost use Rattle.bridge_limits.specs.inside.Lefts as spec_lefts;
 ghost use Rattle.guest_space.specs.Memory.{Memory};
 ghost use Rattle.kernel_model.specs.Clock.{left_until};
-ghost use Rattle.kernel_model.specs.Pipes.{Sent};
-ghost use Rattle.mips_exec.specs.Processor.{Processor};
-ghost use Rattle.o32_model.specs.Effects.{Effected};
 ghost use Rattle.o32_model.specs.GuestBytes.{is_storable};
 ghost use Rattle.o32_model.specs.WaitEnds as spec;
 ghost use Rattle.o32_model.specs.WaitEnds.{ends_with, with_left};
@@ -81,8 +78,7 @@ fn store_remaining(
     log: &mut Log,
 ) -> Result<(), NoMemory>
     ensures stored { OnOk result (space.new ≡ spec_lefts.with_remaining (left_form at) wait.now clock space.old) }
-    ensures effects { OnOk result ((processor : Processor) (sent : Sent)
-        → Effected log.old.effects log.new.effects (reached processor space.old.pages sent) (reached processor space.new.pages sent)) }
+    ensures effects { OnOk result (EffectsLead log.old log.new space.old space.new) }
     ensures native { log.new.native ≡ log.old.native }
 {
     if at.address == 0 {

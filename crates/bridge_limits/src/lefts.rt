@@ -2,10 +2,7 @@
 ghost use Rattle.std.specs.Prelude.{◌≡◌, ℕ, Option, OnOk, length};
 ghost use Rattle.bridge_limits.specs.Limits.{ShowsLeft, left_form};
 ghost use Rattle.bridge_limits.specs.inside.Lefts as spec;
-ghost use Rattle.bridge_signal_state.specs.Passed.{reached};
-ghost use Rattle.kernel_model.specs.Pipes.{Sent};
-ghost use Rattle.mips_exec.specs.Processor.{Processor};
-ghost use Rattle.o32_model.specs.Effects.{Effected};
+ghost use Rattle.bridge_signal_state.specs.Passed.{EffectsLead};
 ghost use Rattle.o32_model.specs.GuestBytes.{with_stored};
 ghost use Rattle.o32_model.specs.TimeLeft.{with_left_of};
 
@@ -69,8 +66,7 @@ pub fn store_left(
 ) -> Result<(), NoMemory>
     ensures stored { (left : Option ℕ) → ShowsLeft mem.now place left
         → OnOk result (space.new ≡ with_left_of (left_form at) space.old left space.old) }
-    ensures effects { OnOk result ((processor : Processor) (sent : Sent)
-        → Effected log.old.effects log.new.effects (reached processor space.old.pages sent) (reached processor space.new.pages sent)) }
+    ensures effects { OnOk result (EffectsLead log.old log.new space.old space.new) }
     ensures native { log.new.native ≡ log.old.native }
 {
     match left_at(mem, place) {
@@ -87,8 +83,7 @@ pub(crate) fn put_left(
     log: &mut Log,
 ) -> Result<(), NoMemory>
     ensures stored { OnOk result (space.new ≡ with_stored space.old at.address (spec.bytes_of at.form left)) }
-    ensures effects { OnOk result ((processor : Processor) (sent : Sent)
-        → Effected log.old.effects log.new.effects (reached processor space.old.pages sent) (reached processor space.new.pages sent)) }
+    ensures effects { OnOk result (EffectsLead log.old log.new space.old space.new) }
     ensures native { log.new.native ≡ log.old.native }
 {
     put(space, at.address, &left.bytes(at.form), log)?;

@@ -1,7 +1,7 @@
 -- What a bridge call has kept: the native calls that it made, and its effects on pages and outputs. (The log and the journal are this
 -- project's own.)
 use Rattle.std.specs.Prelude.{◌≡◌, ℕ, List, [], ◌∷◌, Option, Some, Result, OnOk}
-use Rattle.guest_space.specs.Memory.{Pages}
+use Rattle.guest_space.specs.Memory.{Memory, Pages}
 use Rattle.kernel_core.specs.declared.core_error.Stop.{Stop}
 use Rattle.kernel_core.specs.declared.log_entry.LogEntry.{LogEntry}
 use Rattle.kernel_core.specs.declared.log_entry.LogEntry.TheVariants.{Call}
@@ -37,6 +37,10 @@ LogsCall step result kernel told old new =
 -- pages and text that was sent, as effects act on them. A call sets no register by an effect, so the processor is always the same one.
 abbrev pub reached : Processor → Pages → Sent → Target
 reached processor pages sent = record { processor = processor; pages = pages; sent = sent }
+
+-- What came to the effects leads from the pages before to those after, whatever the registers are and whatever was sent.
+abbrev pub EffectsLead : Kept → Kept → Memory → Memory → Type 0
+EffectsLead old new before after = (processor : Processor) (sent : Sent) → Effected old.effects new.effects (reached processor before.pages sent) (reached processor after.pages sent)
 
 -- What a call kept that did this step: native calls that lead from the kernel before, with nothing sent, to the one after, with all that was
 -- sent; and effects that lead so from the pages before to those after.

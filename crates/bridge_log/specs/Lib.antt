@@ -11,3 +11,4 @@ pub mod Moved
 pub mod Outcomes
 pub mod Proceeding
 pub mod Sending
+pub mod Storing

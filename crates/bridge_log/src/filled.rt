@@ -15,7 +15,7 @@ ghost use Rattle.outside.specs.Streams.{contents};
 
 use crate::below::Below;
 use crate::outcomes::outcome_of;
-use crate::storing::put_back;
+use crate::storing::{bytes_back, put_some};
 use bridge_mem::fresh_room;
 use guest_space::Space;
 use kernel_core::Stop;
@@ -57,7 +57,7 @@ impl Below<'_> {
         let room = space.writable(buffer, count);
         fresh_room(self.memory, room)?;
         let reply = self.native(nr, args, dev)?;
-        put_back(space, buffer, self.memory, reply, self.log)?;
+        put_some(space, buffer, bytes_back(self.memory, reply), self.log)?;
         Ok(outcome_of(words, reply))
     }
 }

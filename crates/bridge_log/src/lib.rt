@@ -21,4 +21,4 @@ pub use effects::{sent, wrote};
 pub use native_kernel::NativeKernel;
 pub use native_words::NativeWords;
 pub use outcomes::outcome_of;
-pub use storing::{put, sent_back};
+pub use storing::{bytes_back, put, put_some, sent_back, store, store_unless_null, value_if};

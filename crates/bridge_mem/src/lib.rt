@@ -12,7 +12,7 @@ pub use buffers::{fresh_room, load_buffer, store_buffer};
 pub use paths::{PathError, path};
 pub use structures::{load_structure, store_structure};
 pub use vectors::Vector;
-pub use words::{args, six_words, stack_pair};
+pub use words::{args, register_words, six_words, stack_pair};
 
 #[cfg(test)]
 mod tests;

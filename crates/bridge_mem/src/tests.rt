@@ -1,7 +1,7 @@
 //! Each call with ample memory, over bytes that end on an absent page.
 use super::{
-    PathError, Vector, args, fresh_room, load_buffer, load_structure, path, six_words, stack_pair,
-    store_buffer, store_structure,
+    PathError, Vector, args, fresh_room, load_buffer, load_structure, path, register_words,
+    six_words, stack_pair, store_buffer, store_structure,
 };
 use guest_space::Space;
 use host_mem::{FIRST_ADDRESS, HostMem};
@@ -56,6 +56,10 @@ fn words_of_a_call(rt: HostRuntime) -> Result<(), Fail> {
         assert!(rt; stack_pair(&words) == pair, "at {sp}");
         assert!(rt; six_words(&words) == six, "at {sp}");
     }
+    let words = register_words(&cpu);
+    assert_eq!(rt; words.nr, 4003);
+    assert!(rt; words.reg == [10, 20, 30, 40]);
+    assert!(rt; words.stack == [None; 4]);
     Ok(())
 }
 

@@ -1,5 +1,6 @@
 //! The words of a call (System V ABI, MIPS RISC Processor Supplement, the calling convention).
-ghost use Rattle.std.specs.Prelude.{◌≡◌, ◌<◌, [], ◌∷◌};
+ghost use Rattle.std.specs.Prelude.{◌≡◌, ◌<◌, [], ◌∷◌, None};
+ghost use Rattle.guest_space.specs.Memory.{Memory};
 ghost use Rattle.o32_model.specs.Words as spec;
 ghost use Rattle.o32_model.specs.Words.{call_words, stack_argument};
 
@@ -35,6 +36,20 @@ pub fn args(space: &Space, cpu: &Cpu) -> CallWords
     ensures { result ≡ call_words cpu.now space.now }
 {
     CallWords {
+        stack: stack_arguments(space, cpu),
+        ..register_words(cpu)
+    }
+}
+
+/// Its number and its arguments in registers alone, for a call that takes none from the stack: each of those is None. It
+/// takes no memory.
+#[tactic(auto, unfolding(o32_model::specs::Words::call_words))]
+#[inline(always)]
+pub fn register_words(cpu: &Cpu) -> CallWords
+    ensures registers { (memory : Memory) → call_words cpu.now memory ≡ record result { stack = (call_words cpu.now memory).stack } }
+    ensures stack { result.stack ≡ None ∷ None ∷ None ∷ None ∷ [] }
+{
+    CallWords {
         nr: cpu.register(V0),
         reg: [
             cpu.register(A0),
@@ -42,7 +57,7 @@ pub fn args(space: &Space, cpu: &Cpu) -> CallWords
             cpu.register(A2),
             cpu.register(A3),
         ],
-        stack: stack_arguments(space, cpu),
+        stack: [None; 4],
     }
 }
 

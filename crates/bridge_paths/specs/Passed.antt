@@ -2,7 +2,7 @@
 pub use Rattle.bridge_log.specs.Arguments.{AreUnusedZero, IsPlaced, takes_address}
 pub use Rattle.bridge_log.specs.Bounds.{Bounded}
 pub use Rattle.bridge_log.specs.Built.{built_call}
-pub use Rattle.bridge_log.specs.Keeping.{Keeps, KeepsCall, Logged, reached}
+pub use Rattle.bridge_log.specs.Keeping.{EffectsLead, Keeps, KeepsCall, Logged, reached}
 pub use Rattle.bridge_log.specs.Looks.{IsLook, LooksFor}
 pub use Rattle.bridge_log.specs.Mirrors.{Mirrors}
 pub use Rattle.bridge_log.specs.Outcomes.{by_reply, outcome_of}

@@ -4,6 +4,6 @@
 mod paths;
 
 pub use bridge_log::{
-    Below, NativeKernel, NativeWords, fresh_room, load_structure, outcome_of, put,
+    Below, NativeKernel, NativeWords, fresh_room, load_structure, outcome_of, store,
 };
 pub use paths::{put_behind, put_one, put_path, put_room, put_two, read_path};

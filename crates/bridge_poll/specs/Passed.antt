@@ -1,3 +1,3 @@
 -- Definitions of the crates below that are passed on, so that a crate above names one crate and not each.
 pub use Rattle.bridge_limits.specs.Ends.{Closes, Keeps, KeepsEnd}
-pub use Rattle.bridge_limits.specs.Passed.{Acted, LeadsOn, Logged, Moves, Proceeds, Unmoved, reached, written}
+pub use Rattle.bridge_limits.specs.Passed.{Acted, EffectsLead, LeadsOn, Logged, Moves, Proceeds, Unmoved, reached, written}

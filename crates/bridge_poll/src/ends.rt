@@ -1,14 +1,11 @@
 //! How the waits of these calls end.
 ghost use Rattle.std.specs.Prelude.{◌≡◌, ◌⊎◌, IfOk, OnOk};
-ghost use Rattle.bridge_limits.specs.Passed.{Proceeds, reached};
+ghost use Rattle.bridge_limits.specs.Passed.{EffectsLead, Proceeds};
 ghost use Rattle.bridge_limits.specs.Ends.{Closes, KeepsEnd};
 ghost use Rattle.bridge_poll.specs.inside.Ending.{ended_so, told_if};
-ghost use Rattle.kernel_model.specs.Pipes.{Sent};
 ghost use Rattle.kernel_model.specs.State.{Kernel};
-ghost use Rattle.mips_exec.specs.Processor.{Processor};
 ghost use Rattle.o32_calls.specs.Numbers.{poll_number};
 ghost use Rattle.o32_calls.specs.declared.times.PollCall.TheVariants.{Poll, Ppoll};
-ghost use Rattle.o32_model.specs.Effects.{Effected};
 ghost use Rattle.o32_model.specs.Times.{spec_bytes};
 ghost use Rattle.o32_model.specs.WaitEnds.{ends_with, entries_told, limited_ended, told, wait_ended, wait_word};
 ghost use Rattle.outside.specs.Streams.{contents};
@@ -83,8 +80,7 @@ fn end(
 ) -> Result<Close, NoMemory>
     ensures ends { IfOk result (λ close. (kernel : Kernel)
         → ended_so wait.now cause stopped kernel space.old ≡ ends_with close kernel space.new) }
-    ensures effects { OnOk result ((processor : Processor) (sent : Sent)
-        → Effected log.old.effects log.new.effects (reached processor space.old.pages sent) (reached processor space.new.pages sent)) }
+    ensures effects { OnOk result (EffectsLead log.old log.new space.old space.new) }
     ensures native { log.new.native ≡ log.old.native }
 {
     match cause {
@@ -99,8 +95,7 @@ fn end(
 fn tell_nothing(wait: &Wait, space: &mut Space, log: &mut Log) -> Result<Close, NoMemory>
     ensures ends { IfOk result (λ close. (kernel : Kernel)
         → told (entries_told wait.now space.old) kernel space.old ≡ ends_with close kernel space.new) }
-    ensures effects { OnOk result ((processor : Processor) (sent : Sent)
-        → Effected log.old.effects log.new.effects (reached processor space.old.pages sent) (reached processor space.new.pages sent)) }
+    ensures effects { OnOk result (EffectsLead log.old log.new space.old space.new) }
     ensures native { log.new.native ≡ log.old.native }
 {
     let entries = Entries {

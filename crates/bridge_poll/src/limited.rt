@@ -1,13 +1,10 @@
 //! Calls that wait for their entries, with a limit of time and a mask.
 ghost use Rattle.std.specs.Prelude.{◌≡◌, ℕ, Option, Result, IfOk, OnOk};
-ghost use Rattle.bridge_limits.specs.Passed.{KeepsCall, Proceeds, reached};
+ghost use Rattle.bridge_limits.specs.Passed.{EffectsLead, KeepsCall, Proceeds};
 ghost use Rattle.bridge_limits.specs.Limits.{ShowsLeft};
 ghost use Rattle.bridge_poll.specs.inside.Limited.{limited_row, outcome_by, told_memory, with_left_if};
 ghost use Rattle.bridge_poll.specs.inside.Telling.{pieces_told, told_bytes};
-ghost use Rattle.kernel_model.specs.Pipes.{Sent};
-ghost use Rattle.mips_exec.specs.Processor.{Processor};
 ghost use Rattle.o32_model.specs.Answered.{IsCall};
-ghost use Rattle.o32_model.specs.Effects.{Effected};
 ghost use Rattle.o32_model.specs.Step.{Guest};
 ghost use Rattle.outside.specs.Streams.{contents};
 
@@ -86,8 +83,7 @@ fn end(
     ensures stored { (time : Option ℕ) → ShowsLeft mem.now answer.time time
         → OnOk result (space.new ≡ with_left_if places.left space.old time (told_memory ended space.old
         (pieces_told space.old places.entries (told_bytes mem.now answer.entries places.entries.count)))) }
-    ensures effects { OnOk result ((processor : Processor) (sent : Sent)
-        → Effected log.old.effects log.new.effects (reached processor space.old.pages sent) (reached processor space.new.pages sent)) }
+    ensures effects { OnOk result (EffectsLead log.old log.new space.old space.new) }
     ensures native { log.new.native ≡ log.old.native }
 {
     let told = native_entries(mem, answer.entries, places.entries.count);
@@ -106,8 +102,7 @@ fn tell(
 ) -> Result<Outcome, NoMemory>
     ensures answer { IfOk result (λ outcome. outcome ≡ outcome_by ended space.old (pieces_told space.old entries told.now)) }
     ensures stored { OnOk result (space.new ≡ told_memory ended space.old (pieces_told space.old entries told.now)) }
-    ensures effects { OnOk result ((processor : Processor) (sent : Sent)
-        → Effected log.old.effects log.new.effects (reached processor space.old.pages sent) (reached processor space.new.pages sent)) }
+    ensures effects { OnOk result (EffectsLead log.old log.new space.old space.new) }
     ensures native { log.new.native ≡ log.old.native }
 {
     match ended {
@@ -129,8 +124,7 @@ fn store_time(
 ) -> Result<(), NoMemory>
     ensures stored { (time : Option ℕ) → ShowsLeft mem.now place time
         → OnOk result (space.new ≡ with_left_if left space.old time space.old) }
-    ensures effects { OnOk result ((processor : Processor) (sent : Sent)
-        → Effected log.old.effects log.new.effects (reached processor space.old.pages sent) (reached processor space.new.pages sent)) }
+    ensures effects { OnOk result (EffectsLead log.old log.new space.old space.new) }
     ensures native { log.new.native ≡ log.old.native }
 {
     match left {

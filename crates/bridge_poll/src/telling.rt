@@ -1,15 +1,12 @@
 //! What a program is told of its entries, and what the call then comes to.
 ghost use Rattle.std.specs.Prelude.{◌≡◌, ◌*◌, ◌≤◌, ◌+◌, IfOk, OnOk, IsTrue, drop, length, true};
-ghost use Rattle.bridge_limits.specs.Passed.{reached};
+ghost use Rattle.bridge_limits.specs.Passed.{EffectsLead};
 ghost use Rattle.bridge_poll.specs.inside.Telling as spec;
 ghost use Rattle.bridge_poll.specs.inside.Telling.{piece_of, pieces_told, told_all, told_bytes};
 ghost use Rattle.guest_space.specs.Access.{user_end};
-ghost use Rattle.kernel_model.specs.Pipes.{Sent};
 ghost use Rattle.kernel_model.specs.Shared.{PollSet};
 ghost use Rattle.layouts.specs.Number.{bytes_of};
-ghost use Rattle.mips_exec.specs.Processor.{Processor};
 ghost use Rattle.number_tables.specs.PollNumbers.{o32_poll};
-ghost use Rattle.o32_model.specs.Effects.{Effected};
 ghost use Rattle.o32_model.specs.GuestBytes.{is_storable, with_stored};
 ghost use Rattle.o32_model.specs.Results.{all_fit, value_if, with_pieces};
 
@@ -44,8 +41,7 @@ pub(crate) fn store_told(
 ) -> Result<bool, NoMemory>
     ensures answer { IfOk result (λ stored. stored ≡ all_fit space.old (pieces_told space.old entries told.now)) }
     ensures stored { OnOk result (space.new ≡ with_pieces space.old (pieces_told space.old entries told.now)) }
-    ensures effects { OnOk result ((processor : Processor) (sent : Sent)
-        → Effected log.old.effects log.new.effects (reached processor space.old.pages sent) (reached processor space.new.pages sent)) }
+    ensures effects { OnOk result (EffectsLead log.old log.new space.old space.new) }
     ensures native { log.new.native ≡ log.old.native }
 {
     let mut at = entries.address;
@@ -70,8 +66,7 @@ fn store_entry(
     ensures answer { IfOk result (λ stored. stored ≡ is_storable space.old address 8) }
     ensures stored { OnOk result (space.new ≡ with_stored space.old address (piece_of space.old address events)) }
     ensures inside { IfOk result (λ stored. IsTrue stored → address + 8 ≤ user_end) }
-    ensures effects { OnOk result ((processor : Processor) (sent : Sent)
-        → Effected log.old.effects log.new.effects (reached processor space.old.pages sent) (reached processor space.new.pages sent)) }
+    ensures effects { OnOk result (EffectsLead log.old log.new space.old space.new) }
     ensures native { log.new.native ≡ log.old.native }
 {
     let bytes = told_entry(space, address, events);

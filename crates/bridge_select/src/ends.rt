@@ -1,16 +1,13 @@
 //! How the waits of these calls end.
 ghost use Rattle.std.specs.Prelude.{◌≡◌, IfOk, OnOk, if◌then◌else◌};
-ghost use Rattle.bridge_limits.specs.Passed.{Proceeds, reached};
+ghost use Rattle.bridge_limits.specs.Passed.{EffectsLead, Proceeds};
 ghost use Rattle.bridge_limits.specs.Ends.{Closes, KeepsEnd};
 ghost use Rattle.bridge_limits.specs.Limits.{StoresAlike, left_form, unmasked_kernel};
 ghost use Rattle.bridge_select.specs.Ends.{select_ended};
 ghost use Rattle.bridge_select.specs.inside.Ending.{closing, time_form};
 ghost use Rattle.bridge_select.specs.inside.Telling.{pieces_of};
 ghost use Rattle.kernel_core.specs.declared.error.Errno.TheVariants.{EFAULT};
-ghost use Rattle.kernel_model.specs.Pipes.{Sent};
 ghost use Rattle.kernel_model.specs.State.{Kernel};
-ghost use Rattle.mips_exec.specs.Processor.{Processor};
-ghost use Rattle.o32_model.specs.Effects.{Effected};
 ghost use Rattle.o32_model.specs.Selecting as o32;
 ghost use Rattle.o32_model.specs.Selecting.{sets_pieces};
 ghost use Rattle.o32_model.specs.WaitEnds.{ends_with, no_sets, sets_told, told};
@@ -76,8 +73,7 @@ fn close(
     ensures ends { IfOk result (λ close. (kernel : Kernel)
         → closing (left_form at) wait.now cause clock kernel space.old ≡ ends_with close (unmasked_kernel wait.now cause kernel) space.new) }
     ensures alike { OnOk result (StoresAlike space.old space.new) }
-    ensures effects { OnOk result ((processor : Processor) (sent : Sent)
-        → Effected log.old.effects log.new.effects (reached processor space.old.pages sent) (reached processor space.new.pages sent)) }
+    ensures effects { OnOk result (EffectsLead log.old log.new space.old space.new) }
     ensures native { log.new.native ≡ log.old.native }
 {
     match cause {
@@ -92,8 +88,7 @@ fn close(
 fn store_empty(wait: &Wait, space: &mut Space, log: &mut Log) -> Result<Close, NoMemory>
     ensures ends { IfOk result (λ close. (kernel : Kernel) → told (sets_told wait.now) kernel space.old ≡ ends_with close kernel space.new) }
     ensures alike { OnOk result (StoresAlike space.old space.new) }
-    ensures effects { OnOk result ((processor : Processor) (sent : Sent)
-        → Effected log.old.effects log.new.effects (reached processor space.old.pages sent) (reached processor space.new.pages sent)) }
+    ensures effects { OnOk result (EffectsLead log.old log.new space.old space.new) }
     ensures native { log.new.native ≡ log.old.native }
 {
     let stored = store_sets(Asked::of_wait(wait), &empty_sets(), space, log)?;

@@ -1,15 +1,12 @@
 //! What a program is told of the sets, and of the time that is left.
 ghost use Rattle.std.specs.Prelude.{◌≡◌, ◌≤◌, ℕ, Option, IfOk, OnOk};
 ghost use Rattle.bridge_limits.specs.Limits.{left_form};
-ghost use Rattle.bridge_limits.specs.Passed.{reached};
+ghost use Rattle.bridge_limits.specs.Passed.{EffectsLead};
 ghost use Rattle.bridge_select.specs.inside.FdSets.{words_bytes};
 ghost use Rattle.bridge_select.specs.inside.Requests.{asked_of};
 ghost use Rattle.bridge_select.specs.inside.Telling.{Shows, ShowsSets, Tells, pieces_of, told_memory, told_outcome};
 ghost use Rattle.kernel_model.specs.Came.{Came};
-ghost use Rattle.kernel_model.specs.Pipes.{Sent};
 ghost use Rattle.kernel_model.specs.Readiness.{Sets, set_count};
-ghost use Rattle.mips_exec.specs.Processor.{Processor};
-ghost use Rattle.o32_model.specs.Effects.{Effected};
 ghost use Rattle.o32_model.specs.Results as results;
 ghost use Rattle.o32_model.specs.Results.{all_fit, piece_unless_null, with_pieces};
 ghost use Rattle.o32_model.specs.Selecting as o32;
@@ -55,8 +52,7 @@ pub(crate) fn tell(
     ensures ends { (came : Came Sets) (left : Option ℕ) → Tells (asked_of request.now.asked) left came answer mem.now
         → IfOk result (λ outcome. (outcome ≡ told_outcome space.old (asked_of request.now.asked) words.now came)
         × (space.new ≡ with_left_of (left_form request.now.time) space.old left (told_memory space.old (asked_of request.now.asked) came))) }
-    ensures effects { OnOk result ((processor : Processor) (sent : Sent)
-        → Effected log.old.effects log.new.effects (reached processor space.old.pages sent) (reached processor space.new.pages sent)) }
+    ensures effects { OnOk result (EffectsLead log.old log.new space.old space.new) }
     ensures native { log.new.native ≡ log.old.native }
 {
     let found = outcome_of(words, answer.reply);
@@ -78,8 +74,7 @@ fn store_found(
         → Shows (asked_of asked) places came mem.now
         → IfOk result (λ outcome. (outcome ≡ told_outcome space.old (asked_of asked) words came)
         × (space.new ≡ told_memory space.old (asked_of asked) came)) }
-    ensures effects { OnOk result ((processor : Processor) (sent : Sent)
-        → Effected log.old.effects log.new.effects (reached processor space.old.pages sent) (reached processor space.new.pages sent)) }
+    ensures effects { OnOk result (EffectsLead log.old log.new space.old space.new) }
     ensures native { log.new.native ≡ log.old.native }
 {
     match found {
@@ -101,8 +96,7 @@ fn store_ready(
     ensures ends { (sets : Sets) → ShowsSets (asked_of asked) places sets mem.now
         → IfOk result (λ outcome. (outcome ≡ results.value_if (all_fit space.old (sets_pieces (asked_of asked) sets)) number)
         × (space.new ≡ with_pieces space.old (sets_pieces (asked_of asked) sets))) }
-    ensures effects { OnOk result ((processor : Processor) (sent : Sent)
-        → Effected log.old.effects log.new.effects (reached processor space.old.pages sent) (reached processor space.new.pages sent)) }
+    ensures effects { OnOk result (EffectsLead log.old log.new space.old space.new) }
     ensures native { log.new.native ≡ log.old.native }
 {
     let sets = sets_in(mem, places);
@@ -131,8 +125,7 @@ pub(crate) fn store_sets(
 ) -> Result<bool, NoMemory>
     ensures answer { IfOk result (λ stored. stored ≡ all_fit space.old (pieces_of (asked_of asked) sets.now)) }
     ensures stored { OnOk result (space.new ≡ with_pieces space.old (pieces_of (asked_of asked) sets.now)) }
-    ensures effects { OnOk result ((processor : Processor) (sent : Sent)
-        → Effected log.old.effects log.new.effects (reached processor space.old.pages sent) (reached processor space.new.pages sent)) }
+    ensures effects { OnOk result (EffectsLead log.old log.new space.old space.new) }
     ensures native { log.new.native ≡ log.old.native }
 {
     let words = word_count(asked.count);
@@ -156,8 +149,7 @@ fn store_set(
     requires { words ≤ 32 }
     ensures answer { IfOk result (λ stored. stored ≡ all_fit space.old (piece_unless_null address (words_bytes words set.now))) }
     ensures stored { OnOk result (space.new ≡ with_pieces space.old (piece_unless_null address (words_bytes words set.now))) }
-    ensures effects { OnOk result ((processor : Processor) (sent : Sent)
-        → Effected log.old.effects log.new.effects (reached processor space.old.pages sent) (reached processor space.new.pages sent)) }
+    ensures effects { OnOk result (EffectsLead log.old log.new space.old space.new) }
     ensures native { log.new.native ≡ log.old.native }
 {
     if address == 0 {

@@ -23,7 +23,8 @@ use Rattle.bridge_signal_state.specs.Setting.{SetsStack, is_done}
 use Rattle.bridge_signal.specs.declared.asked.ActionSetting.{ActionSetting}
 use Rattle.bridge_signal.specs.declared.asked.MaskSetting.{MaskSetting}
 use Rattle.bridge_signal.specs.inside.Asked.{action_changed, action_set, asked_action, asked_of, asked_set, if_sized, mask_changed, mask_set}
-use Rattle.bridge_signal.specs.inside.Endings.{ended, ending, fails, stores, stores_told, stores_told_unless_null}
+use Rattle.bridge_signal_state.specs.Passed.{ended, ending, fails, stores}
+use Rattle.bridge_signal.specs.inside.Endings.{stores_told, stores_told_unless_null}
 use Rattle.bridge_signal.specs.inside.Stacks.{changed_stack, set_from, set_taken, told_if}
 use Rattle.bridge_signal.specs.inside.Told.{did}
 
@@ -116,7 +117,7 @@ told_ended bytes_of guest became address (Err error) left = by (address == 0) wh
 told_ended bytes_of guest became address (Ok found) left = by (address == 0) where
   by : (null : Bool)
       → (if null then o32_step.gives guest (told_as (λ _. 0) (told_as bytes_of (did became (Ok found)))) left else o32_step.stores guest address (told_as bytes_of (did became (Ok found))) left)
-      ≡ ended became guest.processor left (if null then ending (value 0) guest.memory else stores guest.memory address (bytes_of found))
+      ≡ ended became guest.processor left (if null then ending (value 0) guest.memory else stores guest.memory address (bytes_of found) 0)
   by true = refl
   by false = refl
 

@@ -19,7 +19,7 @@ use Rattle.bridge_signal_state.proofs.Passed.{stopped_before}
 use Rattle.bridge_signal_state.proofs.Passed.{effected_none}
 use Rattle.bridge_signal_state.specs.Passed.{Keeps, Logged, reached}
 use Rattle.bridge_signal_state.specs.Acts.{Acted, Moves}
-use Rattle.bridge_signal.specs.inside.Endings.{Ending, ended, ending}
+use Rattle.bridge_signal_state.specs.Passed.{Ending, ended, ending}
 
 pub ends_called : {kernel became : Kernel} {before after : Contents} {left : List ℕ} {old kept : Kept} (outcome : Outcome) (memory : Memory) (processor : Processor) (end : Ending) (step : O32Step)
     → Moves kernel became before after left old kept → before.left ≡ Some left → step ≡ ended became processor left end → end ≡ ending outcome memory

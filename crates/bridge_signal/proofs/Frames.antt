@@ -16,7 +16,7 @@ use Rattle.o32_model.specs.Step.{Guest}
 use Rattle.o32_model.specs.declared.outcome.Outcome.TheVariants as outcomes
 use Rattle.signal_frames.specs.Returning.{frame_at, return_of, returned, rt_frame_at}
 use Rattle.signal_frames.specs.declared.Return.{Return}
-use Rattle.bridge_signal.specs.inside.Endings.{ended, ending}
+use Rattle.bridge_signal_state.specs.Passed.{ended, ending}
 use Rattle.bridge_signal.specs.inside.Returns.{restored}
 
 -- what was read of a frame of this size

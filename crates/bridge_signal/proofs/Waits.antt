@@ -22,7 +22,7 @@ use Rattle.o32_model.specs.Suspending as o32
 use Rattle.signal_sets.specs.NativeSets.{native_of}
 use Rattle.bridge_signal_state.specs.Passed.{IsLook}
 use Rattle.bridge_signal.specs.inside.Asked.{if_sized}
-use Rattle.bridge_signal.specs.inside.Endings.{ended, ending, fails}
+use Rattle.bridge_signal_state.specs.Passed.{ended, ending, fails}
 use Rattle.bridge_signal.specs.inside.Waiting.{asleep, endless, masked}
 
 -- The native call that waits changes nothing.

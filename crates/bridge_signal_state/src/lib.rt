@@ -11,7 +11,10 @@ mod showing;
 mod taking;
 mod words;
 
-pub use bridge_log::{Below, NativeKernel, load_structure, outcome_of, put, six_words, wrote};
+pub use bridge_log::{
+    Below, NativeKernel, load_structure, outcome_of, put, six_words, store, store_unless_null,
+    wrote,
+};
 pub use reading::{action, mask, pending, stack};
 pub use setting::{set_default, set_mask, set_stack};
 pub use taking::take;

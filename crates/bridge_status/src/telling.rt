@@ -1,19 +1,16 @@
 //! Calls that are one native call which tells a status.
 ghost use Rattle.std.specs.Prelude.{◌≡◌, ℕ, List, IfOk, IfSome, OnOk, Some, length, option_map};
-ghost use Rattle.bridge_paths.specs.Passed.{AreUnusedZero, IsPlaced, KeepsCall, Proceeds, built_call, reached};
+ghost use Rattle.bridge_paths.specs.Passed.{AreUnusedZero, EffectsLead, IsPlaced, KeepsCall, Proceeds, built_call};
 ghost use Rattle.bridge_status.specs.inside.Statuses.{shape_of, shown};
 ghost use Rattle.bridge_status.specs.inside.Tells.{Tells, memory_by, memory_told, outcome_by, outcome_told, status_there};
-ghost use Rattle.kernel_model.specs.Pipes.{Sent};
-ghost use Rattle.mips_exec.specs.Processor.{Processor};
 ghost use Rattle.native_calls.specs.Table.{native_call};
 ghost use Rattle.o32_model.specs.Answered.{IsCall};
-ghost use Rattle.o32_model.specs.Effects.{Effected};
 ghost use Rattle.o32_model.specs.GuestBytes.{with_stored};
 ghost use Rattle.o32_model.specs.Step.{Guest, O32Step, stored};
 ghost use Rattle.outside.specs.Streams.{contents};
 
 use crate::structures::{Form, is_too_wide, old_bytes, wide_bytes};
-use bridge_paths::{Below, NativeWords, outcome_of, put};
+use bridge_paths::{Below, NativeWords, outcome_of, store};
 use guest_space::Space;
 use host_mem::{FIRST_ADDRESS, HostMem};
 use kernel_core::{Errno, NoMemory, Reply, Stop};
@@ -71,8 +68,7 @@ fn tell(
 ) -> Result<Outcome, NoMemory>
     ensures outcome { IfOk result (λ outcome. outcome ≡ outcome_told words.now space.old to.address to.form mem.now reply) }
     ensures stored { OnOk result (space.new ≡ memory_told space.old to.address to.form mem.now reply) }
-    ensures effects { OnOk result ((processor : Processor) (sent : Sent)
-        → Effected log.old.effects log.new.effects (reached processor space.old.pages sent) (reached processor space.new.pages sent)) }
+    ensures effects { OnOk result (EffectsLead log.old log.new space.old space.new) }
     ensures native { log.new.native ≡ log.old.native }
 {
     match reply {
@@ -90,8 +86,7 @@ fn tell_there(
 ) -> Result<Outcome, NoMemory>
     ensures outcome { IfOk result (λ outcome. outcome ≡ outcome_by space.old to.address to.form (status_there mem.now)) }
     ensures stored { OnOk result (space.new ≡ memory_by space.old to.address to.form (status_there mem.now)) }
-    ensures effects { OnOk result ((processor : Processor) (sent : Sent)
-        → Effected log.old.effects log.new.effects (reached processor space.old.pages sent) (reached processor space.new.pages sent)) }
+    ensures effects { OnOk result (EffectsLead log.old log.new space.old space.new) }
     ensures native { log.new.native ≡ log.old.native }
 {
     match status_there(mem) {
@@ -118,8 +113,7 @@ fn tell_status(
     requires { length status.now ≡ 128 }
     ensures outcome { IfOk result (λ outcome. outcome ≡ outcome_by space.old to.address to.form (Some status.now)) }
     ensures stored { OnOk result (space.new ≡ memory_by space.old to.address to.form (Some status.now)) }
-    ensures effects { OnOk result ((processor : Processor) (sent : Sent)
-        → Effected log.old.effects log.new.effects (reached processor space.old.pages sent) (reached processor space.new.pages sent)) }
+    ensures effects { OnOk result (EffectsLead log.old log.new space.old space.new) }
     ensures native { log.new.native ≡ log.old.native }
 {
     if is_too_wide(to.form, status) {
@@ -139,27 +133,11 @@ fn store_status(
     requires { length status.now ≡ 128 }
     ensures outcome { IfOk result (λ outcome. outcome ≡ stored space.old to.address (shown (shape_of to.form) status.now)) }
     ensures stored { OnOk result (space.new ≡ with_stored space.old to.address (shown (shape_of to.form) status.now)) }
-    ensures effects { OnOk result ((processor : Processor) (sent : Sent)
-        → Effected log.old.effects log.new.effects (reached processor space.old.pages sent) (reached processor space.new.pages sent)) }
+    ensures effects { OnOk result (EffectsLead log.old log.new space.old space.new) }
     ensures native { log.new.native ≡ log.old.native }
 {
     match to.form {
-        Form::Old => store(to.address, &old_bytes(status), space, log),
-        Form::Wide => store(to.address, &wide_bytes(status), space, log),
-    }
-}
-
-/// Stores bytes whole, or nothing, which is EFAULT.
-fn store(address: u32, bytes: &[u8], space: &mut Space, log: &mut Log) -> Result<Outcome, NoMemory>
-    ensures outcome { IfOk result (λ outcome. outcome ≡ stored space.old address bytes.now) }
-    ensures stored { OnOk result (space.new ≡ with_stored space.old address bytes.now) }
-    ensures effects { OnOk result ((processor : Processor) (sent : Sent)
-        → Effected log.old.effects log.new.effects (reached processor space.old.pages sent) (reached processor space.new.pages sent)) }
-    ensures native { log.new.native ≡ log.old.native }
-{
-    if put(space, address, bytes, log)? {
-        Ok(Outcome::Value(0))
-    } else {
-        Ok(Outcome::Error(Errno::EFAULT))
+        Form::Old => store(to.address, &old_bytes(status), 0, space, log),
+        Form::Wide => store(to.address, &wide_bytes(status), 0, space, log),
     }
 }

@@ -1,21 +1,18 @@
 //! Calls that are one native call which gives names or a limit.
 ghost use Rattle.std.specs.Prelude.{◌≡◌, ℕ, List, IfOk, OnOk};
-ghost use Rattle.bridge_io.specs.Passed.{AreUnusedZero, IsPlaced, KeepsCall, Proceeds, built_call, reached};
-ghost use Rattle.kernel_model.specs.Pipes.{Sent};
-ghost use Rattle.mips_exec.specs.Processor.{Processor};
+ghost use Rattle.bridge_io.specs.Passed.{AreUnusedZero, EffectsLead, IsPlaced, KeepsCall, Proceeds, built_call};
 ghost use Rattle.native_calls.specs.Table.{native_call};
 ghost use Rattle.bridge_system.specs.inside.Tells.{Tells, bytes_told, memory_told, outcome_told};
 ghost use Rattle.o32_model.specs.Answered.{IsCall};
-ghost use Rattle.o32_model.specs.Effects.{Effected};
 ghost use Rattle.o32_model.specs.GuestBytes.{with_stored};
 ghost use Rattle.o32_model.specs.Step.{Guest, O32Step, stored};
 ghost use Rattle.outside.specs.Streams.{contents};
 
 use crate::rlimit::{limit_bytes, limit_there, shown_bytes};
-use bridge_io::{Below, NativeWords, outcome_of, put};
+use bridge_io::{Below, NativeWords, outcome_of, store};
 use guest_space::Space;
 use host_mem::HostMem;
-use kernel_core::{Errno, NoMemory, Reply, Stop};
+use kernel_core::{NoMemory, Reply, Stop};
 use o32_model::{CallWords, Log, Outcome};
 use outside::{Devices, Sink, Source};
 
@@ -78,8 +75,7 @@ fn tell(
 ) -> Result<Outcome, NoMemory>
     ensures outcome { IfOk result (λ outcome. outcome ≡ outcome_told words.now space.old to.address to.told mem.now reply) }
     ensures stored { OnOk result (space.new ≡ memory_told space.old to.address to.told mem.now reply) }
-    ensures effects { OnOk result ((processor : Processor) (sent : Sent)
-        → Effected log.old.effects log.new.effects (reached processor space.old.pages sent) (reached processor space.new.pages sent)) }
+    ensures effects { OnOk result (EffectsLead log.old log.new space.old space.new) }
     ensures native { log.new.native ≡ log.old.native }
 {
     match reply {
@@ -96,28 +92,12 @@ fn tell_bytes(
 ) -> Result<Outcome, NoMemory>
     ensures outcome { IfOk result (λ outcome. outcome ≡ stored space.old to.address (bytes_told to.told mem.now)) }
     ensures stored { OnOk result (space.new ≡ with_stored space.old to.address (bytes_told to.told mem.now)) }
-    ensures effects { OnOk result ((processor : Processor) (sent : Sent)
-        → Effected log.old.effects log.new.effects (reached processor space.old.pages sent) (reached processor space.new.pages sent)) }
+    ensures effects { OnOk result (EffectsLead log.old log.new space.old space.new) }
     ensures native { log.new.native ≡ log.old.native }
 {
     match to.told {
-        Told::Names => store(to.address, mem.as_slice(), space, log),
-        Told::Limits => store(to.address, &shown_bytes(limit_there(mem)), space, log),
-        Told::WideLimits => store(to.address, &limit_bytes(limit_there(mem)), space, log),
-    }
-}
-
-/// Stores bytes whole, or nothing, which is EFAULT.
-fn store(address: u32, bytes: &[u8], space: &mut Space, log: &mut Log) -> Result<Outcome, NoMemory>
-    ensures outcome { IfOk result (λ outcome. outcome ≡ stored space.old address bytes.now) }
-    ensures stored { OnOk result (space.new ≡ with_stored space.old address bytes.now) }
-    ensures effects { OnOk result ((processor : Processor) (sent : Sent)
-        → Effected log.old.effects log.new.effects (reached processor space.old.pages sent) (reached processor space.new.pages sent)) }
-    ensures native { log.new.native ≡ log.old.native }
-{
-    if put(space, address, bytes, log)? {
-        Ok(Outcome::Value(0))
-    } else {
-        Ok(Outcome::Error(Errno::EFAULT))
+        Told::Names => store(to.address, mem.as_slice(), 0, space, log),
+        Told::Limits => store(to.address, &shown_bytes(limit_there(mem)), 0, space, log),
+        Told::WideLimits => store(to.address, &limit_bytes(limit_there(mem)), 0, space, log),
     }
 }

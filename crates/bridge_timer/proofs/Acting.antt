@@ -22,7 +22,7 @@ use Rattle.outside.specs.Streams.{Contents}
 use Rattle.bridge_log.specs.Keeping.{Logged, Keeps, reached}
 use Rattle.bridge_log.specs.Looks.{Unmoved}
 use Rattle.bridge_timer.specs.inside.Acts.{Acted, IsAct, Moves}
-use Rattle.bridge_timer.specs.inside.Endings.{Ending, ended}
+use Rattle.bridge_log.specs.Storing.{Ending, ended}
 
 -- Contents to which nothing is added
 
@@ -96,11 +96,11 @@ unmoved_moves {kernel} {left = left} {old = old} {new = new} u = record {
 -- The call of the program that it was made for: beside it only the program's memory changes.
 
 pub ended_called : {kernel became : Kernel} {before after : Contents} {left : List ℕ} {old kept : Kept} (target : Kernel) (guest : Guest) (outcome : Outcome) (memory : Memory) (ending : Ending) (step : O32Step)
-    → Moves kernel became before after left old kept → before.left ≡ Some left → became ≡ target → step ≡ ended target guest left ending → ending ≡ record { outcome = outcome; memory = memory }
+    → Moves kernel became before after left old kept → before.left ≡ Some left → became ≡ target → step ≡ ended target guest.processor left ending → ending ≡ record { outcome = outcome; memory = memory }
     → o32.Called step outcome became memory guest.processor before after
 ended_called {became = became} {before = before} {after = after} {left = left} target guest outcome memory ending step moves told done row is =
     subst (λ (s : O32Step). o32.Called s outcome became memory guest.processor before after) (sym row)
-    (subst (λ (at : Contents). o32.Called (ended target guest left ending) outcome became memory guest.processor before at) (sym moves.rest)
+    (subst (λ (at : Contents). o32.Called (ended target guest.processor left ending) outcome became memory guest.processor before at) (sym moves.rest)
     (record {
       came = sym (ap (λ (e : Ending). e.outcome) is);
       became = done;
@@ -112,7 +112,7 @@ ended_called {became = became} {before = before} {after = after} {left = left} t
     }))
 
 pub ended_keeps : {kernel became : Kernel} {before after : Contents} {left : List ℕ} {old kept : Kept} (target : Kernel) (guest : Guest) (outcome : Outcome) (from memory : Memory) (ending : Ending) (step : O32Step) (new : Kept)
-    → Moves kernel became before after left old kept → became ≡ target → guest.memory ≡ from → step ≡ ended target guest left ending → ending ≡ record { outcome = outcome; memory = memory }
+    → Moves kernel became before after left old kept → became ≡ target → guest.memory ≡ from → step ≡ ended target guest.processor left ending → ending ≡ record { outcome = outcome; memory = memory }
     → new.native ≡ kept.native → ((processor : Processor) (sent : Sent) → Effected kept.effects new.effects (reached processor from.pages sent) (reached processor memory.pages sent))
     → Keeps step kernel left guest old new
 ended_keeps {kernel} {left = left} {old = old} {kept = kept} target guest outcome from memory ending step new moves done same row is native effects =

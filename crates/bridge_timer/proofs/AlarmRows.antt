@@ -10,7 +10,7 @@ use Rattle.kernel_model.specs.State.{Kernel}
 use Rattle.kernel_model.specs.declared.time.TimerValue.{TimerValue}
 use Rattle.o32_model.specs.Sleeps as o32
 use Rattle.o32_model.specs.Step.{Guest, value}
-use Rattle.bridge_timer.specs.inside.Endings.{ended, leaves}
+use Rattle.bridge_log.specs.Storing.{ended, ending}
 
 -- to go off once after so many seconds
 abbrev pub once : ℕ → TimerSetting
@@ -37,8 +37,8 @@ abbrev pub seconds_given : ℕ → ℕ
 seconds_given left = rounded_seconds left % 2 ^ 32
 
 pub alarm_ended : (kernel : Kernel) (guest : Guest) (seconds : ℕ) (left : List ℕ) (time number : ℕ) → time ≡ left_until kernel.clock kernel.timer.due → number ≡ seconds_given time
-    → o32.alarm_row kernel guest seconds left ≡ ended (arm_timer kernel 0 (Some (Ok (once seconds)))).state guest left (leaves guest.memory (value number))
+    → o32.alarm_row kernel guest seconds left ≡ ended (arm_timer kernel 0 (Some (Ok (once seconds)))).state guest.processor left (ending (value number) guest.memory)
 unfolding o32.alarm_row alarm
 alarm_ended kernel guest seconds left time number is given =
-    ap (λ (d : Did Kernel TimerValue). ended d.state guest left (leaves guest.memory (value (seconds_given (left_until kernel.clock kernel.timer.due))))) (sym (once_set kernel seconds))
-    ∙ ap (λ (n : ℕ). ended (arm_timer kernel 0 (Some (Ok (once seconds)))).state guest left (leaves guest.memory (value n))) (sym (given ∙ ap seconds_given is))
+    ap (λ (d : Did Kernel TimerValue). ended d.state guest.processor left (ending (value (seconds_given (left_until kernel.clock kernel.timer.due))) guest.memory)) (sym (once_set kernel seconds))
+    ∙ ap (λ (n : ℕ). ended (arm_timer kernel 0 (Some (Ok (once seconds)))).state guest.processor left (ending (value n) guest.memory)) (sym (given ∙ ap seconds_given is))

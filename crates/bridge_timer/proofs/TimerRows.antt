@@ -21,7 +21,8 @@ use Rattle.o32_model.specs.Step.{Guest, O32Step, value}
 use Rattle.o32_model.specs.Times.{seconds_field}
 use Rattle.bridge_timer.specs.declared.shown.Shown.{Shown}
 use Rattle.bridge_timer.specs.inside.Acts.{IsAct}
-use Rattle.bridge_timer.specs.inside.Endings.{ended, leaves, set_ending, shown_ending, stores}
+use Rattle.bridge_log.specs.Storing.{ended, ending, stores}
+use Rattle.bridge_timer.specs.inside.Endings.{set_ending, shown_ending}
 use Rattle.bridge_timer.specs.inside.Shown.{shown_at, shown_bytes, shown_of}
 
 -- The bytes of what is shown
@@ -51,15 +52,15 @@ bytes_again timer =
 -- getitimer
 
 stored_again : (kernel : Kernel) (guest : Guest) (address : ℕ) (left : List ℕ) (timer : TimerValue)
-    → ended kernel guest left (stores guest.memory address (o32.timer_bytes timer)) ≡ ended kernel guest left (stores guest.memory address (shown_bytes (shown_of timer)))
-stored_again kernel guest address left timer = ap (λ (bytes : List ℕ). ended kernel guest left (stores guest.memory address bytes)) (bytes_again timer)
+    → ended kernel guest.processor left (stores guest.memory address (o32.timer_bytes timer) 0) ≡ ended kernel guest.processor left (stores guest.memory address (shown_bytes (shown_of timer)) 0)
+stored_again kernel guest address left timer = ap (λ (bytes : List ℕ). ended kernel guest.processor left (stores guest.memory address bytes 0)) (bytes_again timer)
 
 pub getitimer_ended : (kernel : Kernel) (guest : Guest) (which address : ℕ) (left : List ℕ)
-    → o32.getitimer_row kernel guest which address left ≡ ended kernel guest left (shown_ending guest.memory address (shown_at kernel which))
+    → o32.getitimer_row kernel guest which address left ≡ ended kernel guest.processor left (shown_ending guest.memory address (shown_at kernel which))
 unfolding o32.getitimer_row read_timer
 getitimer_ended kernel guest which address left = by (which == 0) where
   by : (there : Bool) → o32_step.stores guest address (told_as o32.timer_bytes (refused_if (not there) EINVAL kernel (done kernel (timer_value kernel)))) left
-      ≡ ended kernel guest left (shown_ending guest.memory address (if there then Some (shown_of (timer_value kernel)) else None))
+      ≡ ended kernel guest.processor left (shown_ending guest.memory address (if there then Some (shown_of (timer_value kernel)) else None))
   by true = stored_again kernel guest address left (timer_value kernel)
   by false = refl
 
@@ -96,13 +97,13 @@ row_by guest old left did null =
 
 set_done : (kernel became : Kernel) (guest : Guest) (old : ℕ) (left : List ℕ) (null : Bool)
     → row_by guest old left (did became (Done (timer_value kernel))) null
-    ≡ ended became guest left (if null then leaves guest.memory (value 0) else stores guest.memory old (shown_bytes (shown_of (timer_value kernel))))
+    ≡ ended became guest.processor left (if null then ending (value 0) guest.memory else stores guest.memory old (shown_bytes (shown_of (timer_value kernel))) 0)
 unfolding row_by
 set_done kernel became guest old left true = refl
 set_done kernel became guest old left false = stored_again became guest old left (timer_value kernel)
 
 set_refused : (became : Kernel) (guest : Guest) (old : ℕ) (left : List ℕ) (error : Errno) (null : Bool)
-    → row_by guest old left (did became (Refused error)) null ≡ ended became guest left (leaves guest.memory (o32_step.failure error))
+    → row_by guest old left (did became (Refused error)) null ≡ ended became guest.processor left (ending (o32_step.failure error) guest.memory)
 unfolding row_by
 set_refused became guest old left error true = refl
 set_refused became guest old left error false = refl
@@ -111,21 +112,21 @@ set_refused became guest old left error false = refl
 abbrev pub set_reply : Came TimerValue → Reply
 set_reply came = native_step.reply_to (λ _. native_step.value 0) came
 
-failed_ending : (guest : Guest) (old : ℕ) (shown : Shown) (error : Errno) → set_ending guest.words guest.memory old shown (native_step.failure error) ≡ leaves guest.memory (o32_step.failure error)
+failed_ending : (guest : Guest) (old : ℕ) (shown : Shown) (error : Errno) → set_ending guest.words guest.memory old shown (native_step.failure error) ≡ ending (o32_step.failure error) guest.memory
 failed_ending guest old shown EPERM = refl
 failed_ending guest old shown _ = refl
 
 set_by : (kernel became : Kernel) (guest : Guest) (old : ℕ) (left : List ℕ) (came : Came TimerValue) → Tells kernel came
-    → row_by guest old left (did became came) (old == 0) ≡ ended became guest left (set_ending guest.words guest.memory old (shown_of (timer_value kernel)) (set_reply came))
+    → row_by guest old left (did became came) (old == 0) ≡ ended became guest.processor left (set_ending guest.words guest.memory old (shown_of (timer_value kernel)) (set_reply came))
 set_by kernel became guest old left (Done found) is =
     ap (λ (value : TimerValue). row_by guest old left (did became (Done value)) (old == 0)) is ∙ set_done kernel became guest old left (old == 0)
 set_by kernel became guest old left (Refused error) is =
-    set_refused became guest old left error (old == 0) ∙ ap (ended became guest left) (sym (failed_ending guest old (shown_of (timer_value kernel)) error))
+    set_refused became guest old left error (old == 0) ∙ ap (ended became guest.processor left) (sym (failed_ending guest old (shown_of (timer_value kernel)) error))
 set_by kernel became guest old left (Waits wake) is = absurd is
 
 setitimer_ended : (kernel : Kernel) (guest : Guest) (new old : ℕ) (left : List ℕ)
     → o32.setitimer_row kernel guest 0 new old left
-    ≡ ended (arm_timer kernel 0 (o32.setting_at guest.memory new)).state guest left (set_ending guest.words guest.memory old (shown_of (timer_value kernel)) (set_reply (arm_timer kernel 0 (o32.setting_at guest.memory new)).came))
+    ≡ ended (arm_timer kernel 0 (o32.setting_at guest.memory new)).state guest.processor left (set_ending guest.words guest.memory old (shown_of (timer_value kernel)) (set_reply (arm_timer kernel 0 (o32.setting_at guest.memory new)).came))
 unfolding o32.setitimer_row row_by
 setitimer_ended kernel guest new old left =
     let there = arm_timer kernel 0 (o32.setting_at guest.memory new) in
@@ -133,12 +134,12 @@ setitimer_ended kernel guest new old left =
 
 -- by what was shown before, and the reply
 pub set_as : (kernel : Kernel) (guest : Guest) (new old : ℕ) (left : List ℕ) (shown : Shown) (reply : Reply) → shown ≡ shown_of (timer_value kernel) → reply ≡ set_reply (arm_timer kernel 0 (o32.setting_at guest.memory new)).came
-    → o32.setitimer_row kernel guest 0 new old left ≡ ended (arm_timer kernel 0 (o32.setting_at guest.memory new)).state guest left (set_ending guest.words guest.memory old shown reply)
+    → o32.setitimer_row kernel guest 0 new old left ≡ ended (arm_timer kernel 0 (o32.setting_at guest.memory new)).state guest.processor left (set_ending guest.words guest.memory old shown reply)
 set_as kernel guest new old left shown reply shows replied =
     let after = (arm_timer kernel 0 (o32.setting_at guest.memory new)).state in
     setitimer_ended kernel guest new old left
-    ∙ ap (λ (s : Shown). ended after guest left (set_ending guest.words guest.memory old s (set_reply (arm_timer kernel 0 (o32.setting_at guest.memory new)).came))) (sym shows)
-    ∙ ap (λ (r : Reply). ended after guest left (set_ending guest.words guest.memory old shown r)) (sym replied)
+    ∙ ap (λ (s : Shown). ended after guest.processor left (set_ending guest.words guest.memory old s (set_reply (arm_timer kernel 0 (o32.setting_at guest.memory new)).came))) (sym shows)
+    ∙ ap (λ (r : Reply). ended after guest.processor left (set_ending guest.words guest.memory old shown r)) (sym replied)
 
 -- another timer is not there
 
@@ -148,7 +149,7 @@ refused_there kernel which None none = rw none refl
 refused_there kernel which (Some setting) none = rw none refl
 
 pub setitimer_none : (kernel : Kernel) (guest : Guest) (which new old : ℕ) (left : List ℕ) → (which == 0) ≡ false
-    → o32.setitimer_row kernel guest which new old left ≡ ended kernel guest left (leaves guest.memory (o32_step.failure EINVAL))
+    → o32.setitimer_row kernel guest which new old left ≡ ended kernel guest.processor left (ending (o32_step.failure EINVAL) guest.memory)
 unfolding o32.setitimer_row row_by
 setitimer_none kernel guest which new old left none =
     ap (λ (d : Did Kernel TimerValue). row_by guest old left d (old == 0)) (refused_there kernel which (o32.setting_at guest.memory new) none) ∙ set_refused kernel guest old left EINVAL (old == 0)

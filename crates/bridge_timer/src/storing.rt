@@ -1,16 +1,11 @@
 //! What a call stores of what it was shown, and what it comes to.
-ghost use Rattle.std.specs.Prelude.{◌≡◌, ◌==◌, IfOk, OnOk, if◌then◌else◌};
-ghost use Rattle.bridge_log.specs.Keeping.{reached};
-ghost use Rattle.bridge_timer.specs.inside.Endings.{leaves, set_ending, shown_ending, stores};
-ghost use Rattle.bridge_timer.specs.inside.Shown.{shown_bytes};
-ghost use Rattle.kernel_model.specs.Pipes.{Sent};
-ghost use Rattle.mips_exec.specs.Processor.{Processor};
-ghost use Rattle.o32_model.specs.Effects.{Effected};
-ghost use Rattle.o32_model.specs.Results.{value_if};
-ghost use Rattle.o32_model.specs.Step.{value};
+ghost use Rattle.std.specs.Prelude.{◌≡◌, IfOk, OnOk};
+ghost use Rattle.bridge_log.specs.Keeping.{EffectsLead};
+ghost use Rattle.bridge_log.specs.Storing.{ending};
+ghost use Rattle.bridge_timer.specs.inside.Endings.{set_ending, shown_ending};
 
 use crate::shown::Shown;
-use bridge_log::{outcome_of, put};
+use bridge_log::{outcome_of, store, store_unless_null};
 use guest_space::Space;
 use kernel_core::{Errno, NoMemory, Reply};
 use o32_model::{CallWords, Log, Outcome};
@@ -22,14 +17,13 @@ pub(crate) fn store_there(
     space: &mut Space,
     log: &mut Log,
 ) -> Result<Outcome, NoMemory>
-    ensures ends { IfOk result (λ outcome. shown_ending space.old address shown ≡ record { outcome = outcome; memory = space.new }) }
-    ensures effects { OnOk result ((processor : Processor) (sent : Sent)
-        → Effected log.old.effects log.new.effects (reached processor space.old.pages sent) (reached processor space.new.pages sent)) }
+    ensures ends { IfOk result (λ outcome. shown_ending space.old address shown ≡ ending outcome space.new) }
+    ensures effects { OnOk result (EffectsLead log.old log.new space.old space.new) }
     ensures native { log.new.native ≡ log.old.native }
 {
     match shown {
         None => Ok(Outcome::Error(Errno::EINVAL)),
-        Some(shown) => store(shown, address, space, log),
+        Some(shown) => store(address, &shown.bytes(), 0, space, log),
     }
 }
 
@@ -43,54 +37,14 @@ pub(crate) fn store_before(
     space: &mut Space,
     log: &mut Log,
 ) -> Result<Outcome, NoMemory>
-    ensures ends { IfOk result (λ outcome. set_ending words.now space.old address shown reply ≡ record { outcome = outcome; memory = space.new }) }
-    ensures effects { OnOk result ((processor : Processor) (sent : Sent)
-        → Effected log.old.effects log.new.effects (reached processor space.old.pages sent) (reached processor space.new.pages sent)) }
+    ensures ends { IfOk result (λ outcome. set_ending words.now space.old address shown reply ≡ ending outcome space.new) }
+    ensures effects { OnOk result (EffectsLead log.old log.new space.old space.new) }
     ensures native { log.new.native ≡ log.old.native }
 {
     match reply {
-        Reply::Done(number) if number >= 0 => store_unless_null(shown, address, space, log),
+        Reply::Done(number) if number >= 0 => {
+            store_unless_null(address, &shown.bytes(), 0, space, log)
+        }
         _ => Ok(outcome_of(words, reply)),
-    }
-}
-
-fn store_unless_null(
-    shown: Shown,
-    address: u32,
-    space: &mut Space,
-    log: &mut Log,
-) -> Result<Outcome, NoMemory>
-    ensures ends { IfOk result (λ outcome. (if address == 0 then leaves space.old (value 0) else stores space.old address (shown_bytes shown))
-        ≡ record { outcome = outcome; memory = space.new }) }
-    ensures effects { OnOk result ((processor : Processor) (sent : Sent)
-        → Effected log.old.effects log.new.effects (reached processor space.old.pages sent) (reached processor space.new.pages sent)) }
-    ensures native { log.new.native ≡ log.old.native }
-{
-    if address == 0 {
-        return Ok(Outcome::Value(0));
-    }
-    store(shown, address, space, log)
-}
-
-/// Stores what the timer shows whole, which is 0, or is EFAULT where a byte of it can't be stored, and then
-/// stores none.
-fn store(shown: Shown, address: u32, space: &mut Space, log: &mut Log) -> Result<Outcome, NoMemory>
-    ensures ends { IfOk result (λ outcome. stores space.old address (shown_bytes shown) ≡ record { outcome = outcome; memory = space.new }) }
-    ensures effects { OnOk result ((processor : Processor) (sent : Sent)
-        → Effected log.old.effects log.new.effects (reached processor space.old.pages sent) (reached processor space.new.pages sent)) }
-    ensures native { log.new.native ≡ log.old.native }
-{
-    let stored = put(space, address, &shown.bytes(), log)?;
-    Ok(zero_if(stored))
-}
-
-/// 0 where all was stored, and else EFAULT.
-fn zero_if(stored: bool) -> Outcome
-    ensures { result ≡ value_if stored 0 }
-{
-    if stored {
-        Outcome::Value(0)
-    } else {
-        Outcome::Error(Errno::EFAULT)
     }
 }

@@ -19,7 +19,8 @@ use Rattle.o32_model.specs.Step as o32_step
 use Rattle.o32_model.specs.Step.{Guest, O32Step, value}
 use Rattle.o32_model.specs.Times as times
 use Rattle.o32_model.specs.Times.{seconds_field}
-use Rattle.bridge_wait.specs.inside.Endings.{day_ending, ended, fails, pieces_ending, resolution_ending, seconds_ending, stores, time_ending}
+use Rattle.bridge_log.specs.Storing.{ended, fails, stores}
+use Rattle.bridge_wait.specs.inside.Endings.{day_ending, pieces_ending, resolution_ending, seconds_ending, time_ending}
 use Rattle.bridge_wait.specs.inside.Shown.{resolution_of, shown_of, spec_bytes, time_of, val_bytes}
 
 -- The bytes of a time
@@ -64,34 +65,34 @@ abbrev showing : Kernel → Option ℕ → Did Kernel ℕ
 showing kernel there = narrowed is_late (with_some kernel EINVAL there (λ time. done kernel time))
 
 pub gettime_ended : (quanta : ℕ) (kernel : Kernel) (guest : Guest) (clock address : ℕ) (left : List ℕ)
-    → o32.clock_gettime_row quanta kernel guest clock address left ≡ ended kernel guest left (time_ending guest.memory address (shown_of (clock_time kernel quanta clock)))
+    → o32.clock_gettime_row quanta kernel guest clock address left ≡ ended kernel guest.processor left (time_ending guest.memory address (shown_of (clock_time kernel quanta clock)))
 unfolding o32.clock_gettime_row read_clock
 gettime_ended quanta kernel guest clock address left = by (clock_time kernel quanta clock) where
   late : (time : ℕ) (is : Bool) → o32_step.stores guest address (told_as times.spec_bytes (with_came kernel (late_or time is))) left
-      ≡ ended kernel guest left (time_ending guest.memory address (if is then Err EOVERFLOW else Ok (time_of time)))
+      ≡ ended kernel guest.processor left (time_ending guest.memory address (if is then Err EOVERFLOW else Ok (time_of time)))
   late time true = refl
-  late time false = ap (λ (bytes : List ℕ). ended kernel guest left (stores guest.memory address bytes 0)) (spec_again time)
+  late time false = ap (λ (bytes : List ℕ). ended kernel guest.processor left (stores guest.memory address bytes 0)) (spec_again time)
 
-  by : (there : Option ℕ) → o32_step.stores guest address (told_as times.spec_bytes (showing kernel there)) left ≡ ended kernel guest left (time_ending guest.memory address (shown_of there))
+  by : (there : Option ℕ) → o32_step.stores guest address (told_as times.spec_bytes (showing kernel there)) left ≡ ended kernel guest.processor left (time_ending guest.memory address (shown_of there))
   by None = refl
   by (Some time) = late time (is_late time)
 
 pub getres_ended : (kernel : Kernel) (guest : Guest) (clock address : ℕ) (left : List ℕ)
-    → o32.clock_getres_row kernel guest clock address left ≡ ended kernel guest left (resolution_ending guest.memory address (option_map time_of (resolution_of clock)))
+    → o32.clock_getres_row kernel guest clock address left ≡ ended kernel guest.processor left (resolution_ending guest.memory address (option_map time_of (resolution_of clock)))
 unfolding o32.clock_getres_row resolution
 getres_ended kernel guest clock address left = by (nat_lt 7 clock) where
   by : (none : Bool) → small.stores_unless_null guest address (told_as times.spec_bytes (refused_if none EINVAL kernel (done kernel 1))) left
-      ≡ ended kernel guest left (resolution_ending guest.memory address (option_map time_of (if none then None else Some 1)))
+      ≡ ended kernel guest.processor left (resolution_ending guest.memory address (option_map time_of (if none then None else Some 1)))
   by true = refused (address == 0) where
     refused : (null : Bool) → (if null then o32_step.gives guest (told_as (λ _. 0) (told_as times.spec_bytes (refused_if true EINVAL kernel (done kernel 1)))) left else o32_step.stores guest address (told_as times.spec_bytes (refused_if true EINVAL kernel (done kernel 1))) left)
-        ≡ ended kernel guest left (fails guest.memory EINVAL)
+        ≡ ended kernel guest.processor left (fails guest.memory EINVAL)
     refused true = refl
     refused false = refl
   by false = stored (address == 0) where
     stored : (null : Bool) → (if null then o32_step.gives guest (told_as (λ _. 0) (told_as times.spec_bytes (refused_if false EINVAL kernel (done kernel 1)))) left else o32_step.stores guest address (told_as times.spec_bytes (refused_if false EINVAL kernel (done kernel 1))) left)
-        ≡ ended kernel guest left (if null then record { outcome = value 0; memory = guest.memory } else stores guest.memory address (spec_bytes (time_of 1)) 0)
+        ≡ ended kernel guest.processor left (if null then record { outcome = value 0; memory = guest.memory } else stores guest.memory address (spec_bytes (time_of 1)) 0)
     stored true = refl
-    stored false = ap (λ (bytes : List ℕ). ended kernel guest left (stores guest.memory address bytes 0)) (spec_again 1)
+    stored false = ap (λ (bytes : List ℕ). ended kernel guest.processor left (stores guest.memory address bytes 0)) (spec_again 1)
 
 seconds_fit : (time : ℕ) → is_late time ≡ false → time / 1000000000 ≡ time / 1000000000 % 4294967296
 seconds_fit time early = grind (arith, nat_tests)
@@ -102,37 +103,37 @@ row kernel guest address left came null =
     else stores_result (λ seconds. bytes_of true 4 seconds) (λ seconds. seconds) guest address (with_came kernel came) left
 
 pub time_ended : (kernel : Kernel) (guest : Guest) (address : ℕ) (left : List ℕ)
-    → o32.time_row kernel guest address left ≡ ended kernel guest left (seconds_ending guest.memory address (shown_of (clock_time kernel 0 0)))
+    → o32.time_row kernel guest address left ≡ ended kernel guest.processor left (seconds_ending guest.memory address (shown_of (clock_time kernel 0 0)))
 unfolding o32.time_row read_clock
 time_ended kernel guest address left = by (clock_time kernel 0 0) where
-  failed : (error : Errno) (null : Bool) → row kernel guest address left (Refused error) null ≡ ended kernel guest left (fails guest.memory error)
+  failed : (error : Errno) (null : Bool) → row kernel guest address left (Refused error) null ≡ ended kernel guest.processor left (fails guest.memory error)
   failed error true = refl
   failed error false = refl
 
   shown : (seconds low : ℕ) (null : Bool) → seconds ≡ low → row kernel guest address left (Done seconds) null
-      ≡ ended kernel guest left (if null then record { outcome = value low; memory = guest.memory } else stores guest.memory address (big_bytes 4 low) low)
-  shown seconds low true same = ap (λ (n : ℕ). ended kernel guest left (record { outcome = value n; memory = guest.memory })) same
-  shown seconds low false same = ap (λ (n : ℕ). ended kernel guest left (stores guest.memory address (big_bytes 4 n) n)) same
+      ≡ ended kernel guest.processor left (if null then record { outcome = value low; memory = guest.memory } else stores guest.memory address (big_bytes 4 low) low)
+  shown seconds low true same = ap (λ (n : ℕ). ended kernel guest.processor left (record { outcome = value n; memory = guest.memory })) same
+  shown seconds low false same = ap (λ (n : ℕ). ended kernel guest.processor left (stores guest.memory address (big_bytes 4 n) n)) same
 
   late : (time : ℕ) (is : Bool) → is_late time ≡ is → row kernel guest address left (came_as (λ time. time / 1000000000) (late_or time is)) (address == 0)
-      ≡ ended kernel guest left (seconds_ending guest.memory address (if is then Err EOVERFLOW else Ok (time_of time)))
+      ≡ ended kernel guest.processor left (seconds_ending guest.memory address (if is then Err EOVERFLOW else Ok (time_of time)))
   late time true same = failed EOVERFLOW (address == 0)
   late time false same = shown (time / 1000000000) (time / 1000000000 % 4294967296) (address == 0) (seconds_fit time same)
 
-  by : (there : Option ℕ) → row kernel guest address left (came_as (λ time. time / 1000000000) (showing kernel there).came) (address == 0) ≡ ended kernel guest left (seconds_ending guest.memory address (shown_of there))
+  by : (there : Option ℕ) → row kernel guest address left (came_as (λ time. time / 1000000000) (showing kernel there).came) (address == 0) ≡ ended kernel guest.processor left (seconds_ending guest.memory address (shown_of there))
   by None = failed EINVAL (address == 0)
   by (Some time) = late time (is_late time) refl
 
 pub day_ended : (kernel : Kernel) (guest : Guest) (value zone : ℕ) (left : List ℕ)
-    → o32.gettimeofday_row kernel guest value zone left ≡ ended kernel guest left (day_ending guest.memory value zone (shown_of (clock_time kernel 0 0)))
+    → o32.gettimeofday_row kernel guest value zone left ≡ ended kernel guest.processor left (day_ending guest.memory value zone (shown_of (clock_time kernel 0 0)))
 unfolding o32.gettimeofday_row read_clock
 day_ended kernel guest value zone left = by (clock_time kernel 0 0) where
   late : (time : ℕ) (is : Bool) → stores_pieces (o32.day_pieces value zone) (λ _. 0) guest (with_came kernel (late_or time is)) left
-      ≡ ended kernel guest left (day_ending guest.memory value zone (if is then Err EOVERFLOW else Ok (time_of time)))
+      ≡ ended kernel guest.processor left (day_ending guest.memory value zone (if is then Err EOVERFLOW else Ok (time_of time)))
   late time true = refl
   late time false =
-      ap (λ (bytes : List ℕ). ended kernel guest left (pieces_ending guest.memory (piece_unless_null value bytes ++ piece_unless_null zone (replicate 8 0)))) (val_again time)
+      ap (λ (bytes : List ℕ). ended kernel guest.processor left (pieces_ending guest.memory (piece_unless_null value bytes ++ piece_unless_null zone (replicate 8 0)))) (val_again time)
 
-  by : (there : Option ℕ) → stores_pieces (o32.day_pieces value zone) (λ _. 0) guest (showing kernel there) left ≡ ended kernel guest left (day_ending guest.memory value zone (shown_of there))
+  by : (there : Option ℕ) → stores_pieces (o32.day_pieces value zone) (λ _. 0) guest (showing kernel there) left ≡ ended kernel guest.processor left (day_ending guest.memory value zone (shown_of there))
   by None = refl
   by (Some time) = late time (is_late time)

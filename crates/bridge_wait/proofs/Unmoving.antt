@@ -16,14 +16,14 @@ use Rattle.outside.proofs.OutputLemmas.{GainsText-nothing}
 use Rattle.outside.specs.Streams.{Contents}
 use Rattle.bridge_log.specs.Keeping.{Logged, Keeps, reached}
 use Rattle.bridge_log.specs.Looks.{Unmoved}
-use Rattle.bridge_wait.specs.inside.Endings.{Ending, ended}
+use Rattle.bridge_log.specs.Storing.{Ending, ended}
 
 pub ended_called : {kernel became : Kernel} {before after : Contents} {left : List ℕ} {old kept : Kept} (guest : Guest) (outcome : Outcome) (memory : Memory) (ending : Ending) (step : O32Step)
-    → Unmoved kernel became before after left old kept → before.left ≡ Some left → step ≡ ended kernel guest left ending → ending ≡ record { outcome = outcome; memory = memory }
+    → Unmoved kernel became before after left old kept → before.left ≡ Some left → step ≡ ended kernel guest.processor left ending → ending ≡ record { outcome = outcome; memory = memory }
     → o32.Called step outcome became memory guest.processor before after
 ended_called {kernel} {became} {before} {after} {left} guest outcome memory ending step u told row is =
     subst (λ (s : O32Step). o32.Called s outcome became memory guest.processor before after) (sym row)
-    (subst (λ (at : Contents). o32.Called (ended kernel guest left ending) outcome became memory guest.processor before at) (sym u.rest)
+    (subst (λ (at : Contents). o32.Called (ended kernel guest.processor left ending) outcome became memory guest.processor before at) (sym u.rest)
     (record {
       came = sym (ap (λ (e : Ending). e.outcome) is);
       became = u.same;
@@ -35,7 +35,7 @@ ended_called {kernel} {became} {before} {after} {left} guest outcome memory endi
     }))
 
 pub ended_keeps : {kernel became : Kernel} {before after : Contents} {left : List ℕ} {old kept : Kept} (guest : Guest) (outcome : Outcome) (from memory : Memory) (ending : Ending) (step : O32Step) (new : Kept)
-    → Unmoved kernel became before after left old kept → guest.memory ≡ from → step ≡ ended kernel guest left ending → ending ≡ record { outcome = outcome; memory = memory }
+    → Unmoved kernel became before after left old kept → guest.memory ≡ from → step ≡ ended kernel guest.processor left ending → ending ≡ record { outcome = outcome; memory = memory }
     → new.native ≡ kept.native → ((processor : Processor) (sent : Sent) → Effected kept.effects new.effects (reached processor from.pages sent) (reached processor memory.pages sent))
     → Keeps step kernel left guest old new
 ended_keeps {kernel} {left = left} {old = old} {kept = kept} guest outcome from memory ending step new u same row is native effects =

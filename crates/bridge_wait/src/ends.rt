@@ -1,15 +1,12 @@
 //! How the waits of sleeps end.
 ghost use Rattle.std.specs.Prelude.{◌≡◌, ◌⊎◌, IfErr, IfOk, OnOk};
 ghost use Rattle.bridge_log.specs.Leading.{LeadsOn};
-ghost use Rattle.bridge_log.specs.Keeping.{reached};
+ghost use Rattle.bridge_log.specs.Keeping.{EffectsLead};
 ghost use Rattle.bridge_wait.specs.inside.Endings.{interrupted_if};
 ghost use Rattle.kernel_model.specs.Clock.{left_until};
-ghost use Rattle.kernel_model.specs.Pipes.{Sent};
 ghost use Rattle.kernel_model.specs.State.{Kernel};
-ghost use Rattle.mips_exec.specs.Processor.{Processor};
 ghost use Rattle.o32_calls.specs.Numbers.{time_number};
 ghost use Rattle.o32_calls.specs.declared.times.TimeCall.TheVariants.{ClockNanosleep, Nanosleep};
-ghost use Rattle.o32_model.specs.Effects.{Effected};
 ghost use Rattle.o32_model.specs.WaitEnds.{ends_with, sleep_ended, sleep_interrupted, wait_ended};
 
 use crate::clock_times::ClockTime;
@@ -43,8 +40,7 @@ pub fn wait_end(
     requires { (wait.now.nr ≡ time_number Nanosleep) ⊎ (wait.now.nr ≡ time_number ClockNanosleep) }
     ensures ends { IfOk result (λ close. wait_ended wait.now cause clock below.old.kernel.now space.old ≡ ends_with close below.new.kernel.now space.new) }
     ensures host { below.new.memory.now ≡ below.old.memory.now }
-    ensures effects { OnOk result ((processor : Processor) (sent : Sent)
-        → Effected below.old.log.now.effects below.new.log.now.effects (reached processor space.old.pages sent) (reached processor space.new.pages sent)) }
+    ensures effects { OnOk result (EffectsLead below.old.log.now below.new.log.now space.old space.new) }
     ensures native { below.new.log.now.native ≡ below.old.log.now.native }
     ensures cause { IfErr result (λ stop. stop ≡ Stop.NoMemory) }
     ensures clock { below.new.kernel.now.clock ≡ below.old.kernel.now.clock }
@@ -64,8 +60,7 @@ fn closed(
 ) -> Result<Close, NoMemory>
     requires { (wait.now.nr ≡ time_number Nanosleep) ⊎ (wait.now.nr ≡ time_number ClockNanosleep) }
     ensures ends { IfOk result (λ close. (kernel : Kernel) → wait_ended wait.now cause clock kernel space.old ≡ ends_with close kernel space.new) }
-    ensures effects { OnOk result ((processor : Processor) (sent : Sent)
-        → Effected log.old.effects log.new.effects (reached processor space.old.pages sent) (reached processor space.new.pages sent)) }
+    ensures effects { OnOk result (EffectsLead log.old log.new space.old space.new) }
     ensures native { log.new.native ≡ log.old.native }
 {
     match wait.nr {
@@ -97,8 +92,7 @@ fn sleep_end(
 ) -> Result<Close, NoMemory>
     ensures ends { IfOk result (λ close. (kernel : Kernel)
         → sleep_ended (record { relative = sleeping.relative; address = sleeping.address }) wait.now cause clock kernel space.old ≡ ends_with close kernel space.new) }
-    ensures effects { OnOk result ((processor : Processor) (sent : Sent)
-        → Effected log.old.effects log.new.effects (reached processor space.old.pages sent) (reached processor space.new.pages sent)) }
+    ensures effects { OnOk result (EffectsLead log.old log.new space.old space.new) }
     ensures native { log.new.native ≡ log.old.native }
 {
     match cause {
@@ -123,8 +117,7 @@ fn interrupted(
 ) -> Result<Close, NoMemory>
     ensures ends { IfOk result (λ close. (kernel : Kernel)
         → sleep_interrupted (record { relative = sleeping.relative; address = sleeping.address }) wait.now clock kernel space.old ≡ ends_with close kernel space.new) }
-    ensures effects { OnOk result ((processor : Processor) (sent : Sent)
-        → Effected log.old.effects log.new.effects (reached processor space.old.pages sent) (reached processor space.new.pages sent)) }
+    ensures effects { OnOk result (EffectsLead log.old log.new space.old space.new) }
     ensures native { log.new.native ≡ log.old.native }
 {
     if !sleeping.relative || sleeping.address == 0 {

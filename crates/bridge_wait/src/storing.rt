@@ -1,15 +1,13 @@
 //! What a call stores of what it was shown, and what it comes to.
-ghost use Rattle.std.specs.Prelude.{◌≡◌, ◌++◌, IfOk, OnOk, length, replicate};
-ghost use Rattle.bridge_log.specs.Keeping.{reached};
-ghost use Rattle.bridge_wait.specs.inside.Endings.{day_ending, pieces_ending, resolution_ending, seconds_ending, stores, stores_unless_null, time_ending};
+ghost use Rattle.std.specs.Prelude.{◌≡◌, ◌++◌, IfOk, OnOk};
+ghost use Rattle.bridge_log.specs.Keeping.{EffectsLead};
+ghost use Rattle.bridge_log.specs.Storing.{ending};
+ghost use Rattle.bridge_wait.specs.inside.Endings.{day_ending, pieces_ending, resolution_ending, seconds_ending, time_ending};
 ghost use Rattle.byteorder.specs.Endian.{big_bytes};
-ghost use Rattle.kernel_model.specs.Pipes.{Sent};
-ghost use Rattle.mips_exec.specs.Processor.{Processor};
-ghost use Rattle.o32_model.specs.Effects.{Effected};
 ghost use Rattle.o32_model.specs.Results.{all_fit, piece_unless_null, value_if, with_pieces};
 
 use crate::clock_times::ClockTime;
-use bridge_log::put;
+use bridge_log::{put, store, store_unless_null, value_if};
 use byteorder::{BigEndian, ByteOrder};
 use guest_space::Space;
 use kernel_core::{Errno, NoMemory};
@@ -25,14 +23,13 @@ pub(crate) fn store_time(
     space: &mut Space,
     log: &mut Log,
 ) -> Result<Outcome, NoMemory>
-    ensures ends { IfOk result (λ outcome. time_ending space.old address shown ≡ record { outcome = outcome; memory = space.new }) }
-    ensures effects { OnOk result ((processor : Processor) (sent : Sent)
-        → Effected log.old.effects log.new.effects (reached processor space.old.pages sent) (reached processor space.new.pages sent)) }
+    ensures ends { IfOk result (λ outcome. time_ending space.old address shown ≡ ending outcome space.new) }
+    ensures effects { OnOk result (EffectsLead log.old log.new space.old space.new) }
     ensures native { log.new.native ≡ log.old.native }
 {
     match shown {
         Err(error) => Ok(Outcome::Error(error)),
-        Ok(time) => store_bytes(address, &time.spec_bytes(), 0, space, log),
+        Ok(time) => store(address, &time.spec_bytes(), 0, space, log),
     }
 }
 
@@ -43,9 +40,8 @@ pub(crate) fn store_resolution(
     space: &mut Space,
     log: &mut Log,
 ) -> Result<Outcome, NoMemory>
-    ensures ends { IfOk result (λ outcome. resolution_ending space.old address shown ≡ record { outcome = outcome; memory = space.new }) }
-    ensures effects { OnOk result ((processor : Processor) (sent : Sent)
-        → Effected log.old.effects log.new.effects (reached processor space.old.pages sent) (reached processor space.new.pages sent)) }
+    ensures ends { IfOk result (λ outcome. resolution_ending space.old address shown ≡ ending outcome space.new) }
+    ensures effects { OnOk result (EffectsLead log.old log.new space.old space.new) }
     ensures native { log.new.native ≡ log.old.native }
 {
     match shown {
@@ -61,9 +57,8 @@ pub(crate) fn store_seconds(
     space: &mut Space,
     log: &mut Log,
 ) -> Result<Outcome, NoMemory>
-    ensures ends { IfOk result (λ outcome. seconds_ending space.old address shown ≡ record { outcome = outcome; memory = space.new }) }
-    ensures effects { OnOk result ((processor : Processor) (sent : Sent)
-        → Effected log.old.effects log.new.effects (reached processor space.old.pages sent) (reached processor space.new.pages sent)) }
+    ensures ends { IfOk result (λ outcome. seconds_ending space.old address shown ≡ ending outcome space.new) }
+    ensures effects { OnOk result (EffectsLead log.old log.new space.old space.new) }
     ensures native { log.new.native ≡ log.old.native }
 {
     match shown {
@@ -84,9 +79,8 @@ pub(crate) fn store_day(
     space: &mut Space,
     log: &mut Log,
 ) -> Result<Outcome, NoMemory>
-    ensures ends { IfOk result (λ outcome. day_ending space.old value zone shown ≡ record { outcome = outcome; memory = space.new }) }
-    ensures effects { OnOk result ((processor : Processor) (sent : Sent)
-        → Effected log.old.effects log.new.effects (reached processor space.old.pages sent) (reached processor space.new.pages sent)) }
+    ensures ends { IfOk result (λ outcome. day_ending space.old value zone shown ≡ ending outcome space.new) }
+    ensures effects { OnOk result (EffectsLead log.old log.new space.old space.new) }
     ensures native { log.new.native ≡ log.old.native }
 {
     match shown {
@@ -106,9 +100,8 @@ fn store_pieces(
     log: &mut Log,
 ) -> Result<Outcome, NoMemory>
     ensures ends { IfOk result (λ outcome. pieces_ending space.old (piece_unless_null value first.now ++ piece_unless_null zone second.now)
-        ≡ record { outcome = outcome; memory = space.new }) }
-    ensures effects { OnOk result ((processor : Processor) (sent : Sent)
-        → Effected log.old.effects log.new.effects (reached processor space.old.pages sent) (reached processor space.new.pages sent)) }
+        ≡ ending outcome space.new) }
+    ensures effects { OnOk result (EffectsLead log.old log.new space.old space.new) }
     ensures native { log.new.native ≡ log.old.native }
 {
     if !put_piece(value, first, space, log)? {
@@ -122,50 +115,13 @@ fn store_pieces(
 fn put_piece(address: u32, bytes: &[u8], space: &mut Space, log: &mut Log) -> Result<bool, NoMemory>
     ensures answer { IfOk result (λ stored. stored ≡ all_fit space.old (piece_unless_null address bytes.now)) }
     ensures stored { OnOk result (space.new ≡ with_pieces space.old (piece_unless_null address bytes.now)) }
-    ensures effects { OnOk result ((processor : Processor) (sent : Sent)
-        → Effected log.old.effects log.new.effects (reached processor space.old.pages sent) (reached processor space.new.pages sent)) }
+    ensures effects { OnOk result (EffectsLead log.old log.new space.old space.new) }
     ensures native { log.new.native ≡ log.old.native }
 {
     if address == 0 {
         return Ok(true);
     }
     put(space, address, bytes, log)
-}
-
-/// Stores bytes and gives a value, unless the address is null, which stores nothing.
-fn store_unless_null(
-    address: u32,
-    bytes: &[u8],
-    value: u32,
-    space: &mut Space,
-    log: &mut Log,
-) -> Result<Outcome, NoMemory>
-    ensures ends { IfOk result (λ outcome. stores_unless_null space.old address bytes.now value ≡ record { outcome = outcome; memory = space.new }) }
-    ensures effects { OnOk result ((processor : Processor) (sent : Sent)
-        → Effected log.old.effects log.new.effects (reached processor space.old.pages sent) (reached processor space.new.pages sent)) }
-    ensures native { log.new.native ≡ log.old.native }
-{
-    if address == 0 {
-        return Ok(Outcome::Value(value));
-    }
-    store_bytes(address, bytes, value, space, log)
-}
-
-/// Stores bytes whole and gives a value, or EFAULT where one of them can't be stored, and then stores none.
-fn store_bytes(
-    address: u32,
-    bytes: &[u8],
-    value: u32,
-    space: &mut Space,
-    log: &mut Log,
-) -> Result<Outcome, NoMemory>
-    ensures ends { IfOk result (λ outcome. stores space.old address bytes.now value ≡ record { outcome = outcome; memory = space.new }) }
-    ensures effects { OnOk result ((processor : Processor) (sent : Sent)
-        → Effected log.old.effects log.new.effects (reached processor space.old.pages sent) (reached processor space.new.pages sent)) }
-    ensures native { log.new.native ≡ log.old.native }
-{
-    let stored = put(space, address, bytes, log)?;
-    Ok(value_if(stored, value))
 }
 
 /// The bytes of a number, the first counting most.
@@ -175,15 +131,4 @@ fn word_bytes(number: u32) -> [u8; 4]
     let mut bytes = [0; 4];
     BigEndian::write_u32(&mut bytes, number);
     bytes
-}
-
-/// The value where all was stored, and else EFAULT.
-fn value_if(stored: bool, value: u32) -> Outcome
-    ensures { result ≡ value_if stored value }
-{
-    if stored {
-        Outcome::Value(value)
-    } else {
-        Outcome::Error(Errno::EFAULT)
-    }
 }

@@ -16,7 +16,7 @@ ghost use Rattle.o32_machine.specs.Emulator.{at_clock, coming_of, first_process,
 ghost use Rattle.native_log.specs.NativeLog.{IsReady};
 ghost use Rattle.o32_machine.specs.inside.Finishing.{finished};
 ghost use Rattle.o32_machine.specs.inside.Logging.{KeepsNative, LastLogged, LogsLast, LogsSettled, PostsLogged};
-ghost use Rattle.o32_machine.specs.inside.Plainly.{IsPlainly, called_of, with_stack};
+ghost use Rattle.o32_machine.specs.inside.Plainly.{IsPlainly, called_of};
 ghost use Rattle.o32_machine.specs.Records.{RecordsCall};
 ghost use Rattle.o32_machine.specs.inside.Quieting.{goes, next_due};
 ghost use Rattle.o32_machine.specs.inside.Recording.{KeepsEffects, RecordsBefore, RecordsBehind, RecordsStep};
@@ -28,7 +28,7 @@ ghost use Rattle.o32_turns.specs.Posting.{posted};
 ghost use Rattle.o32_turns.specs.Turn.{after_events, next_event, next_for, second_step, sixth_step, third_step, whole};
 ghost use Rattle.o32_calls.specs.Numbers.{bridged_number};
 ghost use Rattle.o32_model.specs.Table.{machine_call};
-ghost use Rattle.o32_model.specs.Words.{a3, call_words, v0, with_result};
+ghost use Rattle.o32_model.specs.Words.{a3, v0, with_result};
 ghost use Rattle.o32_model.specs.declared.call_words.CallWords.{CallWords};
 ghost use Rattle.o32_model.specs.declared.wait.Seen.{Seen};
 ghost use Rattle.turn_records.specs.Entry.{IsOne};
@@ -44,7 +44,7 @@ use crate::process_core::Core;
 use crate::times::{deadline_in, if_comes, is_over_at, later, sooner};
 use crate::turn::Turn;
 use bridge_delivery::{accepts, deliver, end_wait, is_quiet, post_timer};
-use bridge_mem::args;
+use bridge_mem::{args, register_words};
 use bridge_system::plain_call;
 use host_mem::HostMem;
 use kernel_core::{Errno, Event, Finish, Info, NoMemory, Sig, Stop, Tree};
@@ -66,13 +66,7 @@ use std::marker::Model;
 /// The result of a call, or its error's number.
 const V0: u8 = 2;
 
-/// The arguments of a call in registers: $a0 to $a3, of which the last tells then whether it failed, 0 or 1.
-const A0: u8 = 4;
-
-const A1: u8 = 5;
-
-const A2: u8 = 6;
-
+/// Whether the call failed, 0 or 1.
 const A3: u8 = 7;
 
 /// The second result of a call that has two.
@@ -909,24 +903,6 @@ impl Process {
         let fault = self.meet(info);
         self.going.events.push(fault)?;
         Ok(())
-    }
-}
-
-/// The words of a call that takes no argument from the stack, with none there.
-#[tactic(auto, unfolding(o32_model::specs::Words::call_words))]
-#[inline(always)]
-fn register_words(cpu: &Cpu) -> CallWords
-    ensures { (memory : Memory) → call_words cpu.now memory ≡ with_stack (call_words cpu.now memory).stack result }
-{
-    CallWords {
-        nr: cpu.register(V0),
-        reg: [
-            cpu.register(A0),
-            cpu.register(A1),
-            cpu.register(A2),
-            cpu.register(A3),
-        ],
-        stack: [None; 4],
     }
 }
 

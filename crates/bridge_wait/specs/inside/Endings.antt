@@ -1,49 +1,15 @@
 -- What a call comes to that changes the program's memory alone, by what it was shown. (The form is this project's own.)
-use Rattle.std.specs.Prelude.{ℕ, ◌==◌, Bool, List, ◌++◌, length, replicate, Option, Some, None, Result, Ok, Err, if◌then◌else◌}
+use Rattle.std.specs.Prelude.{ℕ, Bool, List, ◌++◌, replicate, Option, Some, None, Result, Ok, Err, if◌then◌else◌}
+use Rattle.bridge_log.specs.Storing.{Ending, ending, fails, stores, stores_unless_null}
 use Rattle.byteorder.specs.Endian.{big_bytes}
 use Rattle.guest_space.specs.Memory.{Memory}
 use Rattle.kernel_core.specs.declared.error.Errno.TheVariants.{EFAULT, EINTR, EINVAL}
-use Rattle.kernel_model.specs.Pipes.{nothing}
 use Rattle.kernel_model.specs.Shared.{Errno}
-use Rattle.kernel_model.specs.State.{Kernel}
-use Rattle.o32_model.specs.GuestBytes.{is_storable, with_stored}
 use Rattle.o32_model.specs.Results.{Piece, all_fit, piece_unless_null, value_if, with_pieces}
-use Rattle.o32_model.specs.Step.{Guest, O32Step, failure, value}
-use Rattle.o32_model.specs.declared.outcome.Outcome.{Outcome}
 use Rattle.o32_model.specs.declared.wait.Close.{Close}
 use Rattle.o32_model.specs.declared.wait.Close.TheVariants as closes
 use Rattle.bridge_wait.specs.declared.clock_times.ClockTime.{ClockTime}
 use Rattle.bridge_wait.specs.inside.Shown.{spec_bytes, val_bytes}
-
-pub record Ending : Type 0 where
-  pub outcome : Outcome
-  pub memory : Memory
-
--- the step of a call that ends so
-abbrev pub ended : Kernel → Guest → List ℕ → Ending → O32Step
-ended kernel guest left ending = record {
-  kernel = kernel;
-  left = left;
-  memory = ending.memory;
-  processor = guest.processor;
-  sent = nothing;
-  outcome = ending.outcome;
-}
-
-abbrev pub fails : Memory → Errno → Ending
-fails memory error = record { outcome = failure error; memory = memory }
-
--- bytes are stored whole, or are EFAULT
-abbrev pub stores : Memory → ℕ → List ℕ → ℕ → Ending
-stores memory address bytes number = record {
-  outcome = value_if (is_storable memory address (length bytes)) number;
-  memory = with_stored memory address bytes;
-}
-
--- a pointer that is null stores nothing
-abbrev pub stores_unless_null : Memory → ℕ → List ℕ → ℕ → Ending
-stores_unless_null memory address bytes number =
-    if address == 0 then record { outcome = value number; memory = memory } else stores memory address bytes number
 
 -- clock_gettime(2)
 abbrev pub time_ending : Memory → ℕ → Result ClockTime Errno → Ending
@@ -66,7 +32,7 @@ abbrev pub day_pieces : ℕ → ℕ → ClockTime → List Piece
 day_pieces value zone time = piece_unless_null value (val_bytes time) ++ piece_unless_null zone (replicate 8 0)
 
 abbrev pub pieces_ending : Memory → List Piece → Ending
-pieces_ending memory pieces = record { outcome = value_if (all_fit memory pieces) 0; memory = with_pieces memory pieces }
+pieces_ending memory pieces = ending (value_if (all_fit memory pieces) 0) (with_pieces memory pieces)
 
 abbrev pub day_ending : Memory → ℕ → ℕ → Result ClockTime Errno → Ending
 day_ending memory value zone (Err error) = fails memory error

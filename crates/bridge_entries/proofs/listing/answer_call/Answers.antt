@@ -36,7 +36,7 @@ returns-in-None-clause-goes g c = λ left told.
     let listed = listed_then (argument c.args.words.now 0) (2 * c.min-asked.result) c.list.new.below.memory.now c.in_ok-reply.reply seen.1 (c.in_ok-reply.ensures.goes valid left (still_told seen.1 told)) in
     let settled : Stays c.args.below.now.kernel.now (argument c.args.words.now 0) (argument c.args.words.now 2) c.min-asked.result c.args.room c.args.words.now c.in_ok-answer.answer ⊎ Moves c.args.below.now.kernel.now (argument c.args.words.now 0) (argument c.args.words.now 2) c.min-asked.result c.args.room c.args.words.now c.in_ok-answer.answer =
     settle c.args.below.now.kernel.now (argument c.args.words.now 0) (argument c.args.words.now 2) c.min-asked.result c.args.room c.args.words.now c.in_ok-answer.answer c.unwrap_or.result c.in_ok-reply.reply c.list.new.below.memory.now listed.0
-    (λ none. c.in_ok-answer.ensures.none (c.given.ensures ∙ none)) (λ first rest all back. c.in_ok-answer.ensures.some first rest all (c.given.ensures ∙ back))
+    (λ none. c.in_ok-answer.ensures.none (c.bytes_back.ensures ∙ none)) (λ first rest all back. c.in_ok-answer.ensures.some first rest all (c.bytes_back.ensures ∙ back))
     c.files_valid.ensures.nodes (asked_is (argument c.args.words.now 2) c.args.room c.min-asked.result c.min-asked.ensures) c.in_ok-before.before seen.0 c.unwrap_or.ensures in
     elim settled [ inl stays ↦ (stays.given, passed_to stays.same listed.1) | inr moves ↦ absurd (let bad : Some moves.to ≡ None = sym moves.place ∙ c.in-None.is in cc) ]
 
@@ -47,7 +47,7 @@ returns-in_err-put_position-in-Some-clause-goes g c = λ left told.
     let listed = listed_then (argument c.args.words.now 0) (2 * c.min-asked.result) c.list.new.below.memory.now c.in_ok-reply.reply seen.1 (c.in_ok-reply.ensures.goes valid left (still_told seen.1 told)) in
     let settled : Stays c.args.below.now.kernel.now (argument c.args.words.now 0) (argument c.args.words.now 2) c.min-asked.result c.args.room c.args.words.now c.in_ok-answer.answer ⊎ Moves c.args.below.now.kernel.now (argument c.args.words.now 0) (argument c.args.words.now 2) c.min-asked.result c.args.room c.args.words.now c.in_ok-answer.answer =
     settle c.args.below.now.kernel.now (argument c.args.words.now 0) (argument c.args.words.now 2) c.min-asked.result c.args.room c.args.words.now c.in_ok-answer.answer c.unwrap_or.result c.in_ok-reply.reply c.list.new.below.memory.now listed.0
-    (λ none. c.in_ok-answer.ensures.none (c.given.ensures ∙ none)) (λ first rest all back. c.in_ok-answer.ensures.some first rest all (c.given.ensures ∙ back))
+    (λ none. c.in_ok-answer.ensures.none (c.bytes_back.ensures ∙ none)) (λ first rest all back. c.in_ok-answer.ensures.some first rest all (c.bytes_back.ensures ∙ back))
     c.files_valid.ensures.nodes (asked_is (argument c.args.words.now 2) c.args.room c.min-asked.result c.min-asked.ensures) c.in_ok-before.before seen.0 c.unwrap_or.ensures in
     elim settled [
       | inl stays ↦ absurd (let bad : Some c.in-Some.place ≡ None = sym c.in-Some.is ∙ stays.place in cc)
@@ -63,7 +63,7 @@ returns-in_ok-put_position-in-Some-clause-goes g c = λ left told.
     let listed = listed_then (argument c.args.words.now 0) (2 * c.min-asked.result) c.list.new.below.memory.now c.in_ok-reply.reply seen.1 (c.in_ok-reply.ensures.goes valid left (still_told seen.1 told)) in
     let settled : Stays c.args.below.now.kernel.now (argument c.args.words.now 0) (argument c.args.words.now 2) c.min-asked.result c.args.room c.args.words.now c.in_ok-answer.answer ⊎ Moves c.args.below.now.kernel.now (argument c.args.words.now 0) (argument c.args.words.now 2) c.min-asked.result c.args.room c.args.words.now c.in_ok-answer.answer =
     settle c.args.below.now.kernel.now (argument c.args.words.now 0) (argument c.args.words.now 2) c.min-asked.result c.args.room c.args.words.now c.in_ok-answer.answer c.unwrap_or.result c.in_ok-reply.reply c.list.new.below.memory.now listed.0
-    (λ none. c.in_ok-answer.ensures.none (c.given.ensures ∙ none)) (λ first rest all back. c.in_ok-answer.ensures.some first rest all (c.given.ensures ∙ back))
+    (λ none. c.in_ok-answer.ensures.none (c.bytes_back.ensures ∙ none)) (λ first rest all back. c.in_ok-answer.ensures.some first rest all (c.bytes_back.ensures ∙ back))
     c.files_valid.ensures.nodes (asked_is (argument c.args.words.now 2) c.args.room c.min-asked.result c.min-asked.ensures) c.in_ok-before.before seen.0 c.unwrap_or.ensures in
     elim settled [
       | inl stays ↦ absurd (let bad : Some c.in-Some.place ≡ None = sym c.in-Some.is ∙ stays.place in cc)

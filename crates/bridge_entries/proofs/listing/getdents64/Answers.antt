@@ -86,7 +86,7 @@ returns-clause-row g c = λ guest same memory left told.
     } in
     wide_called guest c.args.below.now.kernel.now (argument c.args.words.now 0) (argument c.args.words.now 1) (argument c.args.words.now 2) c.from.result c.from-2.result c.writable-room.result c.fresh_room.new.mem c.args.space.now asks left
     c.in_ok-reply.reply c.native.new.self.kernel.now c.native.new.self.memory.now _ _ (c.in_ok-reply.ensures.row left told)
-    c.in_ok-shown.shown (λ found listed back. c.in_ok-shown.ensures found listed (c.given.ensures ∙ back))
+    c.in_ok-shown.shown (λ found listed back. c.in_ok-shown.ensures found listed (c.bytes_back.ensures ∙ back))
     c.put_some.new.space (c.in_ok-put_some.ensures.stored ∙ ap (with_stored c.args.space.now (argument c.args.words.now 1)) c.as_slice.ensures.value) c.outcome_of.result (c.outcome_of.ensures ∙ ap (λ (w : CallWords). outcome_of w c.in_ok-reply.reply) (sym same))
 
 pub returns-clause-kept : goal.returns-clause-kept
@@ -106,7 +106,7 @@ returns-clause-kept g c = λ guest same memory left told.
     let nstep = native_of guest c.args.below.now.kernel.now (argument c.args.words.now 0) (argument c.args.words.now 1) (argument c.args.words.now 2) c.from.result c.from-2.result c.writable-room.result c.fresh_room.new.mem c.args.space.now asks left in
     wide_keeps guest c.args.below.now.kernel.now (argument c.args.words.now 0) (argument c.args.words.now 1) (argument c.args.words.now 2) c.from.result c.from-2.result c.writable-room.result c.fresh_room.new.mem c.args.space.now asks left
     c.in_ok-reply.reply c.native.new.self.kernel.now c.native.new.self.memory.now _ _ (c.in_ok-reply.ensures.row left told)
-    c.in_ok-shown.shown (λ found listed back. c.in_ok-shown.ensures found listed (c.given.ensures ∙ back))
+    c.in_ok-shown.shown (λ found listed back. c.in_ok-shown.ensures found listed (c.bytes_back.ensures ∙ back))
     c.put_some.new.space (c.in_ok-put_some.ensures.stored ∙ ap (with_stored c.args.space.now (argument c.args.words.now 1)) c.as_slice.ensures.value) c.args.below.now.log.now c.put_some.new.log
     (subst (λ (n : Option (List LogEntry)). Logged c.args.below.now.log.now.native n (opening c.args.below.now.kernel.now left) (moment nstep.kernel nstep.left nstep.sent)) (sym c.put_some.ensures.native) (c.in_ok-reply.ensures.kept left told nothing))
     (subst (λ (o : Option (List Effect)). Effected o c.put_some.new.log.effects (reached guest.processor c.args.space.now.pages nothing) (reached guest.processor c.put_some.new.space.pages nothing)) c.native.ensures.effects

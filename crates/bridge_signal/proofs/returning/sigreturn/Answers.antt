@@ -6,7 +6,7 @@ use Rattle.outside.specs.Streams.{contents}
 use Rattle.bridge_signal_state.proofs.Moving.{moves_none}
 use Rattle.bridge_signal.proofs.Ends.{ends_called, ends_quietly}
 use Rattle.bridge_signal.proofs.Frames.{frame_ended, frame_fails}
-use Rattle.bridge_signal.specs.inside.Endings.{ending}
+use Rattle.bridge_signal_state.specs.Passed.{ending}
 use Rattle.bridge_signal.proofs.returning.sigreturn.Goals as goal
 
 pub returns-in-Err-clause-row : goal.returns-in-Err-clause-row

@@ -2,7 +2,8 @@ use Rattle.std.proofs.Common.{◌≡◌, ℕ, List, IfOk, subst, sym}
 use Rattle.kernel_model.specs.Came.{Given}
 use Rattle.kernel_model.specs.declared.signal.SigStack.{SigStack}
 use Rattle.o32_model.specs.Actions as actions
-use Rattle.bridge_signal.specs.inside.Endings.{ending, stores_told_unless_null, stores_unless_null}
+use Rattle.bridge_signal_state.specs.Passed.{ending, stores_unless_null}
+use Rattle.bridge_signal.specs.inside.Endings.{stores_told_unless_null}
 use Rattle.bridge_signal.proofs.storing.store_stack_unless_null.Goals as goal
 
 pub returns-in-Ok-clause-ends : goal.returns-in-Ok-clause-ends

@@ -6,7 +6,7 @@ use Rattle.bridge_signal_state.proofs.Passed.{still_told}
 use Rattle.bridge_signal_state.proofs.Moving.{moves_look, moves_then}
 use Rattle.bridge_signal.proofs.Ends.{ends_called, ends_quietly}
 use Rattle.bridge_signal.proofs.Waits.{pause_ended}
-use Rattle.bridge_signal.specs.inside.Endings.{ending}
+use Rattle.bridge_signal_state.specs.Passed.{ending}
 use Rattle.bridge_signal.specs.inside.Waiting.{asleep}
 use Rattle.bridge_signal.proofs.suspending.pause.Goals as goal
 

@@ -12,7 +12,7 @@ use Rattle.bridge_signal_state.proofs.Moving.{moves_none}
 use Rattle.bridge_signal.proofs.Ends.{acts_keeps, acts_row, ends_called, ends_quietly}
 use Rattle.bridge_signal.proofs.Waits.{suspend_ended, suspend_fails}
 use Rattle.bridge_signal.specs.inside.Asked.{if_sized}
-use Rattle.bridge_signal.specs.inside.Endings.{ended, ending, fails}
+use Rattle.bridge_signal_state.specs.Passed.{ended, ending, fails}
 use Rattle.bridge_signal.specs.inside.Waiting.{asleep, masked}
 use Rattle.bridge_signal.proofs.suspending.rt_sigsuspend.Goals as goal
 

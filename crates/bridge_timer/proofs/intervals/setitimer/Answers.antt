@@ -14,23 +14,23 @@ use Rattle.bridge_log.proofs.Looking.{kept_then, row_then, still_told}
 use Rattle.bridge_log.specs.Keeping.{Keeps, reached}
 use Rattle.bridge_timer.proofs.Acting.{ended_called, ended_keeps, unmoved_moves}
 use Rattle.bridge_timer.proofs.TimerRows.{not_there, setitimer_none, there_is}
-use Rattle.bridge_timer.specs.inside.Endings.{leaves}
+use Rattle.bridge_log.specs.Storing.{ending}
 use Rattle.bridge_timer.specs.inside.Shown.{shown_of}
 use Rattle.bridge_timer.proofs.intervals.setitimer.Goals as goal
 
 pub returns-in-None-clause-row : goal.returns-in-None-clause-row
 returns-in-None-clause-row g c = λ guest words memory left told.
     let seen = c.in_ok-timer_shown.ensures.looks left told in
-    ended_called c.args.below.now.kernel.now guest (failure EINVAL) c.args.space.now (leaves guest.memory (failure EINVAL)) (setitimer_row c.args.below.now.kernel.now guest (argument c.args.words.now 0) (argument c.args.words.now 1) (argument c.args.words.now 2) left) (unmoved_moves seen.1) told seen.1.same
+    ended_called c.args.below.now.kernel.now guest (failure EINVAL) c.args.space.now (ending (failure EINVAL) guest.memory) (setitimer_row c.args.below.now.kernel.now guest (argument c.args.words.now 0) (argument c.args.words.now 1) (argument c.args.words.now 2) left) (unmoved_moves seen.1) told seen.1.same
     (setitimer_none c.args.below.now.kernel.now guest (argument c.args.words.now 0) (argument c.args.words.now 1) (argument c.args.words.now 2) left (not_there c.args.below.now.kernel.now (argument c.args.words.now 0) (sym c.in-None.is ∙ seen.0)))
-    (ap (λ (m : Memory). leaves m (failure EINVAL)) memory)
+    (ap (λ (m : Memory). ending (failure EINVAL) m) memory)
 
 pub returns-in-None-clause-kept : goal.returns-in-None-clause-kept
 returns-in-None-clause-kept g c = λ guest words memory left told.
     let seen = c.in_ok-timer_shown.ensures.looks left told in
-    ended_keeps c.args.below.now.kernel.now guest (failure EINVAL) c.args.space.now c.args.space.now (leaves guest.memory (failure EINVAL)) (setitimer_row c.args.below.now.kernel.now guest (argument c.args.words.now 0) (argument c.args.words.now 1) (argument c.args.words.now 2) left) c.timer_shown.new.below.log.now (unmoved_moves seen.1) seen.1.same memory
+    ended_keeps c.args.below.now.kernel.now guest (failure EINVAL) c.args.space.now c.args.space.now (ending (failure EINVAL) guest.memory) (setitimer_row c.args.below.now.kernel.now guest (argument c.args.words.now 0) (argument c.args.words.now 1) (argument c.args.words.now 2) left) c.timer_shown.new.below.log.now (unmoved_moves seen.1) seen.1.same memory
     (setitimer_none c.args.below.now.kernel.now guest (argument c.args.words.now 0) (argument c.args.words.now 1) (argument c.args.words.now 2) left (not_there c.args.below.now.kernel.now (argument c.args.words.now 0) (sym c.in-None.is ∙ seen.0)))
-    (ap (λ (m : Memory). leaves m (failure EINVAL)) memory)
+    (ap (λ (m : Memory). ending (failure EINVAL) m) memory)
     refl (λ processor sent. effected_none _ (reached processor c.args.space.now.pages sent))
 
 pub returns-in-Some-clause-row : goal.returns-in-Some-clause-row

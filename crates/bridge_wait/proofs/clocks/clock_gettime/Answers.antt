@@ -6,20 +6,21 @@ use Rattle.o32_model.specs.Clocks.{clock_gettime_row}
 use Rattle.bridge_wait.proofs.ClockRows.{gettime_ended}
 use Rattle.bridge_wait.proofs.Unmoving.{ended_called, ended_keeps}
 use Rattle.bridge_wait.specs.declared.clock_times.ClockTime.{ClockTime}
-use Rattle.bridge_wait.specs.inside.Endings.{time_ending, ended}
+use Rattle.bridge_log.specs.Storing.{ended}
+use Rattle.bridge_wait.specs.inside.Endings.{time_ending}
 use Rattle.bridge_wait.proofs.clocks.clock_gettime.Goals as goal
 
 pub returns-clause-row : goal.returns-clause-row
 returns-clause-row g c = λ guest memory left told.
     let seen = c.in_ok-shown.ensures.looks left told in
     ended_called guest c.in_ok-outcome.outcome c.store_time.new.space (time_ending guest.memory c.args.address c.in_ok-shown.shown) (clock_gettime_row c.args.quanta c.args.below.now.kernel.now guest c.args.clock c.args.address left) seen.1 told
-    (gettime_ended c.args.quanta c.args.below.now.kernel.now guest c.args.clock c.args.address left ∙ ap (λ (s : Result ClockTime Errno). ended c.args.below.now.kernel.now guest left (time_ending guest.memory c.args.address s)) (sym seen.0))
+    (gettime_ended c.args.quanta c.args.below.now.kernel.now guest c.args.clock c.args.address left ∙ ap (λ (s : Result ClockTime Errno). ended c.args.below.now.kernel.now guest.processor left (time_ending guest.memory c.args.address s)) (sym seen.0))
     (ap (λ (m : Memory). time_ending m c.args.address c.in_ok-shown.shown) memory ∙ c.in_ok-outcome.ensures.ends)
 
 pub returns-clause-kept : goal.returns-clause-kept
 returns-clause-kept g c = λ guest memory left told.
     let seen = c.in_ok-shown.ensures.looks left told in
     ended_keeps guest c.in_ok-outcome.outcome c.args.space.now c.store_time.new.space (time_ending guest.memory c.args.address c.in_ok-shown.shown) (clock_gettime_row c.args.quanta c.args.below.now.kernel.now guest c.args.clock c.args.address left) c.store_time.new.log seen.1 memory
-    (gettime_ended c.args.quanta c.args.below.now.kernel.now guest c.args.clock c.args.address left ∙ ap (λ (s : Result ClockTime Errno). ended c.args.below.now.kernel.now guest left (time_ending guest.memory c.args.address s)) (sym seen.0))
+    (gettime_ended c.args.quanta c.args.below.now.kernel.now guest c.args.clock c.args.address left ∙ ap (λ (s : Result ClockTime Errno). ended c.args.below.now.kernel.now guest.processor left (time_ending guest.memory c.args.address s)) (sym seen.0))
     (ap (λ (m : Memory). time_ending m c.args.address c.in_ok-shown.shown) memory ∙ c.in_ok-outcome.ensures.ends)
     c.store_time.ensures.native c.in_ok-outcome.ensures.effects

@@ -6,20 +6,21 @@ use Rattle.o32_model.specs.Clocks.{time_row}
 use Rattle.bridge_wait.proofs.ClockRows.{time_ended}
 use Rattle.bridge_wait.proofs.Unmoving.{ended_called, ended_keeps}
 use Rattle.bridge_wait.specs.declared.clock_times.ClockTime.{ClockTime}
-use Rattle.bridge_wait.specs.inside.Endings.{seconds_ending, ended}
+use Rattle.bridge_log.specs.Storing.{ended}
+use Rattle.bridge_wait.specs.inside.Endings.{seconds_ending}
 use Rattle.bridge_wait.proofs.clocks.time.Goals as goal
 
 pub returns-clause-row : goal.returns-clause-row
 returns-clause-row g c = λ guest memory left told.
     let seen = c.in_ok-shown.ensures.looks left told in
     ended_called guest c.in_ok-outcome.outcome c.store_seconds.new.space (seconds_ending guest.memory c.args.address c.in_ok-shown.shown) (time_row c.args.below.now.kernel.now guest c.args.address left) seen.1 told
-    (time_ended c.args.below.now.kernel.now guest c.args.address left ∙ ap (λ (s : Result ClockTime Errno). ended c.args.below.now.kernel.now guest left (seconds_ending guest.memory c.args.address s)) (sym seen.0))
+    (time_ended c.args.below.now.kernel.now guest c.args.address left ∙ ap (λ (s : Result ClockTime Errno). ended c.args.below.now.kernel.now guest.processor left (seconds_ending guest.memory c.args.address s)) (sym seen.0))
     (ap (λ (m : Memory). seconds_ending m c.args.address c.in_ok-shown.shown) memory ∙ c.in_ok-outcome.ensures.ends)
 
 pub returns-clause-kept : goal.returns-clause-kept
 returns-clause-kept g c = λ guest memory left told.
     let seen = c.in_ok-shown.ensures.looks left told in
     ended_keeps guest c.in_ok-outcome.outcome c.args.space.now c.store_seconds.new.space (seconds_ending guest.memory c.args.address c.in_ok-shown.shown) (time_row c.args.below.now.kernel.now guest c.args.address left) c.store_seconds.new.log seen.1 memory
-    (time_ended c.args.below.now.kernel.now guest c.args.address left ∙ ap (λ (s : Result ClockTime Errno). ended c.args.below.now.kernel.now guest left (seconds_ending guest.memory c.args.address s)) (sym seen.0))
+    (time_ended c.args.below.now.kernel.now guest c.args.address left ∙ ap (λ (s : Result ClockTime Errno). ended c.args.below.now.kernel.now guest.processor left (seconds_ending guest.memory c.args.address s)) (sym seen.0))
     (ap (λ (m : Memory). seconds_ending m c.args.address c.in_ok-shown.shown) memory ∙ c.in_ok-outcome.ensures.ends)
     c.store_seconds.ensures.native c.in_ok-outcome.ensures.effects

@@ -4,7 +4,7 @@ use Rattle.o32_model.specs.Results.{all_fit, piece_unless_null}
 use Rattle.o32_model.specs.declared.outcome.Outcome.{Outcome}
 use Rattle.bridge_log.proofs.Journals.{effected_then}
 use Rattle.bridge_wait.proofs.Pieces.{two_pieces}
-use Rattle.bridge_wait.specs.inside.Endings.{Ending}
+use Rattle.bridge_log.specs.Storing.{Ending}
 use Rattle.bridge_wait.proofs.storing.store_pieces.Goals as goal
 
 pub returns-clause-ends : goal.returns-clause-ends

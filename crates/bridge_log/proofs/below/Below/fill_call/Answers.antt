@@ -8,6 +8,7 @@ use Rattle.kernel_model.specs.Pipes.{nothing}
 use Rattle.native_calls.specs.History.{moment, opening}
 use Rattle.native_calls.specs.Table.{native_call}
 use Rattle.o32_model.specs.Effects.{Effected}
+use Rattle.o32_model.specs.GuestBytes.{with_stored}
 use Rattle.o32_model.specs.declared.call_words.CallWords.{CallWords}
 use Rattle.bridge_log.proofs.Ends.{fails_before}
 use Rattle.bridge_log.proofs.Filling.{fills_called, fills_keeps}
@@ -27,9 +28,9 @@ returns-clause-row g c = λ guest step same memory fills left told.
     let long : length room ≡ c.writable-room.result = ap length c.in_ok-fresh_room.ensures ∙ length-replicate c.writable-room.result 0 in
     let short : length room < 2 ^ 32 = omega (arith, long, c.writable-room.ensures.bound, c.ranges.count.fits) in
     let filled = subst (λ (m : List ℕ). Fills guest c.args.buffer m (native_call c.args.nr c.args.args c.args.self.now.kernel.now m left) (step left)) (sym zeros) (fills left) in
-    fills_called c.outcome_of.result c.args.space.now c.put_back.new.space memory short
+    fills_called c.outcome_of.result c.args.space.now c.put_some.new.space memory short
     (λ k within. c.writable-room.ensures.free k (omega (arith, long, within)))
-    filled (c.in_ok-reply.ensures.row left told) c.in_ok-put_back.ensures.stored
+    filled (c.in_ok-reply.ensures.row left told) (c.in_ok-put_some.ensures.stored ∙ ap (with_stored c.args.space.now c.args.buffer) c.bytes_back.ensures)
     (c.outcome_of.ensures ∙ ap (λ (w : CallWords). outcome_of w c.in_ok-reply.reply) (sym same))
 
 pub returns-clause-kept : goal.returns-clause-kept
@@ -39,9 +40,9 @@ returns-clause-kept g c = λ guest step same memory fills left told.
     let long : length room ≡ c.writable-room.result = ap length c.in_ok-fresh_room.ensures ∙ length-replicate c.writable-room.result 0 in
     let filled = subst (λ (m : List ℕ). Fills guest c.args.buffer m (native_call c.args.nr c.args.args c.args.self.now.kernel.now m left) (step left)) (sym zeros) (fills left) in
     let nstep = native_call c.args.nr c.args.args c.args.self.now.kernel.now room left in
-    fills_keeps c.args.space.now c.put_back.new.space c.args.self.now.kernel.now left c.args.self.now.log.now c.put_back.new.log memory
+    fills_keeps c.args.space.now c.put_some.new.space c.args.self.now.kernel.now left c.args.self.now.log.now c.put_some.new.log memory
     (λ k within. c.writable-room.ensures.free k (omega (arith, long, within)))
-    filled (c.in_ok-reply.ensures.row left told) c.in_ok-put_back.ensures.stored
-    (subst (λ (n : Option (List LogEntry)). Logged c.args.self.now.log.now.native n (opening c.args.self.now.kernel.now left) (moment nstep.kernel nstep.left nstep.sent)) (sym c.put_back.ensures.native) (c.in_ok-reply.ensures.kept left told nothing))
-    (subst (λ (o : Option (List Effect)). Effected o c.put_back.new.log.effects (reached guest.processor c.args.space.now.pages nothing) (reached guest.processor c.put_back.new.space.pages nothing)) c.native.ensures.effects
-    (c.in_ok-put_back.ensures.effects guest.processor nothing))
+    filled (c.in_ok-reply.ensures.row left told) (c.in_ok-put_some.ensures.stored ∙ ap (with_stored c.args.space.now c.args.buffer) c.bytes_back.ensures)
+    (subst (λ (n : Option (List LogEntry)). Logged c.args.self.now.log.now.native n (opening c.args.self.now.kernel.now left) (moment nstep.kernel nstep.left nstep.sent)) (sym c.put_some.ensures.native) (c.in_ok-reply.ensures.kept left told nothing))
+    (subst (λ (o : Option (List Effect)). Effected o c.put_some.new.log.effects (reached guest.processor c.args.space.now.pages nothing) (reached guest.processor c.put_some.new.space.pages nothing)) c.native.ensures.effects
+    (c.in_ok-put_some.ensures.effects guest.processor nothing))

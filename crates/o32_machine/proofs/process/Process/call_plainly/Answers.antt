@@ -21,14 +21,14 @@ use Rattle.o32_machine.proofs.process.Process.call_plainly.Goals as goal
 
 pub answer-outcome-requires : goal.answer-outcome-requires
 answer-outcome-requires c =
-    plain_words c.args.call c.register_words-words.result (call_words c.self.inside.core.cpu c.self.inside.core.space).stack c.self.inside.core.cpu c.self.inside.core.space (c.register_words-words.ensures c.self.inside.core.space)
+    plain_words c.args.call c.register_words-words.result (call_words c.self.inside.core.cpu c.self.inside.core.space).stack c.self.inside.core.cpu c.self.inside.core.space (c.register_words-words.ensures.registers c.self.inside.core.space)
     (subst (λ (p : ProcessState). IsPlainly c.args.call (register p.processor v0)) (sym c.self.view_is) c.requires)
 
 pub returns-clause-turn : goal.returns-clause-turn
 returns-clause-turn c = λ left at told.
     let process : ProcessState = record { processor = c.self.inside.core.cpu; memory = c.self.inside.core.space; kernel = c.self.inside.core.kernel; going = c.self.inside.going; coming = coming_of c.self.inside.schedule; idle = c.self.inside.idle } in
     let words = call_words process.processor process.memory in
-    let is = c.register_words-words.ensures process.memory in
+    let is = c.register_words-words.ensures.registers process.memory in
     let there = plain_words c.args.call c.register_words-words.result words.stack process.processor process.memory is
     (subst (λ (p : ProcessState). IsPlainly c.args.call (register p.processor v0)) (sym c.self.view_is) c.requires) in
     let guest = found words process.processor process.memory in
@@ -46,7 +46,7 @@ pub returns-clause-native : goal.returns-clause-native
 returns-clause-native c = λ left.
     let process : ProcessState = record { processor = c.self.inside.core.cpu; memory = c.self.inside.core.space; kernel = c.self.inside.core.kernel; going = c.self.inside.going; coming = coming_of c.self.inside.schedule; idle = c.self.inside.idle } in
     let words = call_words process.processor process.memory in
-    let is = c.register_words-words.ensures process.memory in
+    let is = c.register_words-words.ensures.registers process.memory in
     let there = plain_words c.args.call c.register_words-words.result words.stack process.processor process.memory is
     (subst (λ (p : ProcessState). IsPlainly c.args.call (register p.processor v0)) (sym c.self.view_is) c.requires) in
     let guest = found words process.processor process.memory in
@@ -60,7 +60,7 @@ pub returns-clause-records : goal.returns-clause-records
 returns-clause-records c = λ left.
     let process : ProcessState = record { processor = c.self.inside.core.cpu; memory = c.self.inside.core.space; kernel = c.self.inside.core.kernel; going = c.self.inside.going; coming = coming_of c.self.inside.schedule; idle = c.self.inside.idle } in
     let words = call_words process.processor process.memory in
-    let is = c.register_words-words.ensures process.memory in
+    let is = c.register_words-words.ensures.registers process.memory in
     let there = plain_words c.args.call c.register_words-words.result words.stack process.processor process.memory is
     (subst (λ (p : ProcessState). IsPlainly c.args.call (register p.processor v0)) (sym c.self.view_is) c.requires) in
     let guest = found words process.processor process.memory in

@@ -3,7 +3,7 @@ use Rattle.std.proofs.Common.{pos, ◌≤ℤ◌, ap, sym, ◌∙◌, arith}
 use Rattle.std.proofs.lemmas.Int.{ints}
 use Rattle.bridge_log.specs.Fills.{bytes_back}
 use Rattle.bridge_log.proofs.Filling.{back_none}
-use Rattle.bridge_entries.proofs.listing.given.Goals as goal
+use Rattle.bridge_log.proofs.storing.bytes_back.Goals as goal
 
 pub returns-else-count-gt0 : goal.returns-else-count-gt0
 returns-else-count-gt0 c =

@@ -2,8 +2,8 @@
 use Rattle.std.proofs.Common.{◌≡◌, length, sym, ap, ◌∙◌, rules}
 use Rattle.std.proofs.lemmas.List.{nil_from_length}
 use Rattle.o32_model.specs.GuestBytes.{with_stored}
-use Rattle.bridge_log.proofs.Filling.{stored_nothing}
-use Rattle.bridge_entries.proofs.listing.put_some.Goals as goal
+use Rattle.bridge_log.proofs.Stores.{stored_nothing}
+use Rattle.bridge_log.proofs.storing.put_some.Goals as goal
 
 pub returns-then-is_empty-clause-stored : goal.returns-then-is_empty-clause-stored
 returns-then-is_empty-clause-stored c =
