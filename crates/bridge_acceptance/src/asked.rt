@@ -7,7 +7,8 @@ ghost use Rattle.o32_model.specs.GuestBytes.{unless_null};
 ghost use Rattle.o32_model.specs.Masks.{set_at};
 ghost use Rattle.o32_model.specs.Times.{spec_at};
 
-use crate::structures::{set_in_program, time_in_program};
+use crate::structures::time_in_program;
+use bridge_signal_state::set_in_program;
 use guest_space::Space;
 use kernel_core::Errno;
 use kernel_model::TimeSpec;

@@ -11,8 +11,7 @@ ghost use Rattle.o32_calls.specs.Numbers.{rt_sigtimedwait_number};
 ghost use Rattle.o32_model.specs.SignalWaitEnds.{named_signals};
 ghost use Rattle.outside.specs.Streams.{NoCountFell, contents};
 
-use crate::structures::set_in_program;
-use bridge_signal_state::{Below, NativeKernel, pending};
+use bridge_signal_state::{Below, NativeKernel, pending, set_in_program};
 use guest_space::Space;
 use host_mem::HostMem;
 use kernel_core::{Sig, Stop};

@@ -1,25 +1,20 @@
 //! What the native call is handed in host memory: a set, two numbers of 8 bytes; and behind it a time, seconds and
 //! nanoseconds (Linux `include/uapi/asm-generic/signal.h`; timespec(3)).
-ghost use Rattle.std.specs.Prelude.{◌≡◌, Some, Ok, IfOk, OnOk, false, length, option_map};
-ghost use Rattle.std.specs.List.{flat_map};
+ghost use Rattle.std.specs.Prelude.{◌≡◌, Some, Ok, IfOk, OnOk, length, option_map};
 ghost use Rattle.host_mem.specs.Memory.{bytes_at};
 ghost use Rattle.kernel_model.specs.Always.{IsSet};
 ghost use Rattle.kernel_model.specs.SignalSets as sets;
 ghost use Rattle.kernel_model.specs.declared.time.TimeSpec.{TimeSpec};
-ghost use Rattle.layouts.specs.Number.{bytes_of};
 ghost use Rattle.native_calls.specs.HostBytes.{unless_null};
-ghost use Rattle.native_calls.specs.SignalBytes.{set_at, set_bytes};
+ghost use Rattle.native_calls.specs.SignalBytes.{set_at};
 ghost use Rattle.native_calls.specs.Times.{time_at, time_in};
 
 use crate::asked::Wanted;
-use byteorder::{ByteOrder, LittleEndian};
+use bridge_signal_state::put_set;
 use host_mem::HostMem;
 use kernel_core::NoMemory;
 use kernel_model::TimeSpec;
 use layouts::{NativeStructure, a_record_reads_back, native_layout, put_record};
-use signal_sets::to_native;
-
-const SET_SIZE: usize = 16;
 
 const TIME_SIZE: usize = 16;
 
@@ -46,32 +41,6 @@ fn blockable(set: [u32; 4]) -> [u32; 4]
     ensures words { IsSet result }
 {
     [set[0] & !UNBLOCKABLE, set[1], set[2], set[3]]
-}
-
-/// Makes host memory of a set of signals.
-fn put_set(set: [u32; 4], mem: &mut HostMem) -> Result<(), NoMemory>
-    ensures { OnOk result (mem.new ≡ set_bytes set) }
-{
-    mem.clear();
-    mem.push(&set_bytes(set))?;
-    Ok(())
-}
-
-/// The bytes of a set.
-fn set_bytes(set: [u32; 4]) -> [u8; SET_SIZE]
-    ensures { result ≡ set_bytes set }
-{
-    let mut bytes = [0; SET_SIZE];
-    write_words(to_native(set), &mut bytes);
-    bytes
-}
-
-fn write_words(words: [u64; 2], bytes: &mut [u8])
-    requires { length bytes.old ≡ 16 }
-    ensures { bytes.new ≡ flat_map (bytes_of false 8) words }
-{
-    LittleEndian::write_u64(bytes, words[0]);
-    LittleEndian::write_u64(&mut bytes[8..], words[1]);
 }
 
 /// Puts a time behind a set, and gives its place.

@@ -1,16 +1,15 @@
 //! Listing a directory: getdents(2), getdents64(2).
-ghost use Rattle.std.specs.Prelude.{◌≡◌, ◌≤◌, OnOk, take};
+ghost use Rattle.std.specs.Prelude.{◌≡◌, ◌≤◌};
 ghost use Rattle.bridge_log.specs.Proceeding.{Proceeds};
 ghost use Rattle.bridge_entries.specs.inside.Answers.{IsGiven, narrow};
 ghost use Rattle.bridge_entries.specs.inside.Passing.{GoesTo};
 ghost use Rattle.bridge_log.specs.Fills.{bytes_back};
-ghost use Rattle.bridge_log.specs.Keeping.{EffectsLead, KeepsCall};
+ghost use Rattle.bridge_log.specs.Keeping.{KeepsCall};
 ghost use Rattle.guest_space.specs.Access.{user_end};
 ghost use Rattle.kernel_model.specs.ContentRows.{entries};
 ghost use Rattle.kernel_model.specs.Whole.{with_files};
 ghost use Rattle.o32_model.specs.Answered.{IsCall};
 ghost use Rattle.o32_model.specs.Entries.{entry_form, entry64_form, getdents_row};
-ghost use Rattle.o32_model.specs.GuestBytes.{with_stored};
 ghost use Rattle.o32_model.specs.Step.{Guest};
 ghost use Rattle.o32_model.specs.Words.{argument};
 ghost use Rattle.outside.specs.Streams.{contents};
@@ -21,10 +20,10 @@ use crate::records::Form;
 use crate::showing::show_all;
 use bridge_log::{Below, bytes_back, fresh_room, outcome_of, put_some};
 use guest_space::Space;
-use host_mem::{FIRST_ADDRESS, HostMem};
-use kernel_core::{NoMemory, Reply, Stop};
+use host_mem::FIRST_ADDRESS;
+use kernel_core::Stop;
 use native_numbers::GETDENTS64;
-use o32_model::{CallWords, Log, Outcome};
+use o32_model::{CallWords, Outcome};
 use outside::{Devices, Sink, Source};
 use std::alloc::Global;
 

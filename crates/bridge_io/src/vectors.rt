@@ -1,11 +1,11 @@
 //! Reading into the buffers of a vector: readv(2).
-ghost use Rattle.std.specs.Prelude.{◌≡◌, ◌≤◌, ℕ, [], Ok, length, take, OnOk};
+ghost use Rattle.std.specs.Prelude.{◌≡◌, ◌≤◌, ℕ, [], Ok, length, OnOk};
 ghost use Rattle.bridge_log.specs.Proceeding.{Proceeds};
 ghost use Rattle.bridge_io.specs.inside.Outcomes.{wrong_count};
 ghost use Rattle.bridge_log.specs.Fills.{bytes_back};
 ghost use Rattle.bridge_log.specs.Keeping.{EffectsLead, KeepsCall};
 ghost use Rattle.o32_model.specs.Answered.{IsCall};
-ghost use Rattle.o32_model.specs.GuestBytes.{vector, all_accessible, all_copied_out, with_stored};
+ghost use Rattle.o32_model.specs.GuestBytes.{vector, all_accessible, all_copied_out};
 ghost use Rattle.o32_model.specs.Step.{Guest};
 ghost use Rattle.o32_model.specs.Transfers.{readv_row};
 ghost use Rattle.o32_model.specs.Words.{argument};

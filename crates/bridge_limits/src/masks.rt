@@ -1,15 +1,11 @@
 //! The mask of its own that a call may have (ppoll(2), pselect(2)).
-ghost use Rattle.std.specs.Prelude.{◌≡◌, length};
+ghost use Rattle.std.specs.Prelude.{◌≡◌, Some};
 ghost use Rattle.bridge_limits.specs.Limits.{given_mask};
 ghost use Rattle.o32_model.specs.GuestBytes.{unless_null};
-ghost use Rattle.o32_model.specs.Masks as spec;
 ghost use Rattle.o32_model.specs.Masks.{set_at};
 
-use crate::words::word_at;
-use bridge_signal_state::load_structure;
+use bridge_signal_state::set_in_program;
 use guest_space::Space;
-
-const SET_SIZE: usize = 16;
 
 /// The mask that is to stand while a call waits.
 #[derive(Clone, Copy)]
@@ -36,22 +32,8 @@ pub fn mask_at(space: &Space, address: u32) -> OwnMask
 fn mask_there(space: &Space, address: u32) -> OwnMask
     ensures { given_mask result ≡ Some (set_at space.now address) }
 {
-    let mut bytes = [0; SET_SIZE];
-    match load_structure(space, address, &mut bytes) {
+    match set_in_program(space, address) {
         Err(_) => OwnMask::Unreadable,
-        Ok(()) => OwnMask::Set(set_in(&bytes)),
+        Ok(set) => OwnMask::Set(set),
     }
-}
-
-/// The set of signals that some bytes are.
-fn set_in(bytes: &[u8]) -> [u32; 4]
-    requires { length bytes.now ≡ 16 }
-    ensures { result ≡ spec.set_in bytes.now }
-{
-    [
-        word_at(bytes, 0),
-        word_at(bytes, 4),
-        word_at(bytes, 8),
-        word_at(bytes, 12),
-    ]
 }

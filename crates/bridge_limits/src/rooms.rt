@@ -1,6 +1,6 @@
 //! What the native call is handed of time and mask in host memory (timespec(3); Linux
 //! `include/uapi/asm-generic/signal.h`).
-ghost use Rattle.std.specs.Prelude.{◌≡◌, ◌++◌, ◌<◌, ◌≤◌, ◌%◌, ◌^◌, ℕ, All, List, [], Ok, IfOk, OnOk, length};
+ghost use Rattle.std.specs.Prelude.{◌≡◌, ◌++◌, ◌<◌, ◌≤◌, ◌%◌, ℕ, List, [], Ok, IfOk, OnOk, length};
 ghost use Rattle.bridge_limits.specs.Limits.{given_mask};
 ghost use Rattle.bridge_limits.specs.inside.Rooms.{mask_room};
 ghost use Rattle.byteorder.specs.Endian.{little_bytes};
@@ -14,6 +14,7 @@ ghost use Rattle.native_calls.specs.SignalBytes.{set_at};
 ghost use Rattle.native_calls.specs.Times.{time_in};
 
 use crate::masks::OwnMask;
+use bridge_signal_state::is_set;
 use byteorder::{ByteOrder, LittleEndian};
 use host_mem::HostMem;
 use kernel_core::NoMemory;
@@ -106,25 +107,6 @@ fn set_bytes(set: [u32; 4]) -> [u8; SIZE]
     let words = to_native(set);
     two_numbers(words[0], words[1])
 }
-
-/// A set has four words of 32 bits: it does nothing, and tells its caller this.
-fn is_set(set: [u32; 4])
-    ensures { IsSet set }
-{
-    words_fit(&set);
-}
-
-fn words_fit(set: &[u32; 4])
-    ensures { All (λ word. word < 2 ^ 32) set.now }
-{
-    for word in set {
-        fits(*word);
-    }
-}
-
-fn fits(word: u32)
-    ensures { word < 2 ^ 32 }
-{}
 
 /// The bytes of two numbers, the first of each counting least.
 fn two_numbers(first: u64, second: u64) -> [u8; SIZE]

@@ -3,17 +3,10 @@ ghost use Rattle.std.specs.Prelude.{◌≡◌, ◌+◌, ◌++◌, ◌≤◌, dro
 ghost use Rattle.byteorder.specs.Endian.{big_bytes};
 ghost use Rattle.layouts.specs.Number.{unsigned, value_of};
 
+use bridge_signal_state::word_at;
 use byteorder::{BigEndian, ByteOrder};
 
-/// The number at a place in a structure.
-pub(crate) fn word_at(bytes: &[u8], place: usize) -> u32
-    requires { place + 4 ≤ length bytes.now }
-    ensures { result ≡ unsigned true 4 (drop place bytes.now) }
-{
-    BigEndian::read_u32(&bytes[place..])
-}
-
-/// The same as a number that may be below 0.
+/// The number at a place in a structure, which may be below 0.
 pub(crate) fn signed_word_at(bytes: &[u8], place: usize) -> i32
     requires { place + 4 ≤ length bytes.now }
     ensures { result ≡ value_of true 4 (unsigned true 4 (drop place bytes.now)) }

@@ -15,7 +15,8 @@ mod storing;
 pub use below::Below;
 // Passed on: who makes native calls for a program names one crate for the kernel, for its host's rooms and for the program's memory.
 pub use bridge_mem::{
-    PathError, Vector, fresh_room, load_buffer, load_structure, path, six_words, stack_pair,
+    PathError, Vector, fresh_room, load_buffer, load_structure, path, signed_word_at, six_words,
+    stack_pair, word_at,
 };
 pub use effects::{sent, wrote};
 pub use native_kernel::NativeKernel;

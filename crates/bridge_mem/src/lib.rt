@@ -10,7 +10,7 @@ mod words;
 
 pub use buffers::{fresh_room, load_buffer, store_buffer};
 pub use paths::{PathError, path};
-pub use structures::{load_structure, store_structure};
+pub use structures::{load_structure, signed_word_at, store_structure, word_at};
 pub use vectors::Vector;
 pub use words::{args, register_words, six_words, stack_pair};
 

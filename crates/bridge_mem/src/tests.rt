@@ -1,7 +1,7 @@
 //! Each call with ample memory, over bytes that end on an absent page.
 use super::{
     PathError, Vector, args, fresh_room, load_buffer, load_structure, path, register_words,
-    six_words, stack_pair, store_buffer, store_structure,
+    signed_word_at, six_words, stack_pair, store_buffer, store_structure, word_at,
 };
 use guest_space::Space;
 use host_mem::{FIRST_ADDRESS, HostMem};
@@ -60,6 +60,20 @@ fn words_of_a_call(rt: HostRuntime) -> Result<(), Fail> {
     assert_eq!(rt; words.nr, 4003);
     assert!(rt; words.reg == [10, 20, 30, 40]);
     assert!(rt; words.stack == [None; 4]);
+    Ok(())
+}
+
+#[test]
+fn words_of_a_structure(rt: HostRuntime) -> Result<(), Fail> {
+    let bytes = b"\x00\xFF\xFF\xFF\xFE\x7F\x00\x00\x01";
+    for (place, word, signed) in [
+        (0, 0x00FF_FFFF, 0x00FF_FFFF),
+        (1, 0xFFFF_FFFE, -2),
+        (5, 0x7F00_0001, 0x7F00_0001),
+    ] {
+        assert!(rt; word_at(bytes, place) == word, "at {place}");
+        assert!(rt; signed_word_at(bytes, place) == signed, "at {place}");
+    }
     Ok(())
 }
 

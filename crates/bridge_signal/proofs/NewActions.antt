@@ -22,7 +22,7 @@ use Rattle.signal_sets.proofs.Turned.{IsNativeSet-native_of}
 use Rattle.signal_sets.specs.NativeSets.{native_of}
 use Rattle.bridge_signal_state.proofs.Rooms.{action_back, length-action_bytes, own_bytes}
 use Rattle.bridge_signal_state.proofs.StateLooks.{named}
-use Rattle.bridge_signal_state.specs.inside.Acting.{IsAct}
+use Rattle.bridge_signal_state.specs.Acting.{IsAct}
 use Rattle.bridge_signal.specs.inside.Asked.{action_set_to}
 
 -- what is put there

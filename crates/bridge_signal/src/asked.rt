@@ -12,7 +12,8 @@ ghost use Rattle.o32_model.specs.Actions.{action_at};
 ghost use Rattle.o32_model.specs.GuestBytes.{unless_null};
 ghost use Rattle.o32_model.specs.Masks.{set_at};
 
-use crate::structures::{action_in_program, set_in_program};
+use crate::structures::action_in_program;
+use bridge_signal_state::set_in_program;
 use guest_space::Space;
 use kernel_core::{Errno, MaskChange, Sig};
 use kernel_model::Action;

@@ -8,8 +8,7 @@ ghost use Rattle.number_tables.specs.Codes.{native_code, o32_code};
 ghost use Rattle.o32_model.specs.GuestBytes.{read_as, structure};
 ghost use Rattle.o32_model.specs.Sending.{sent_in};
 
-use crate::words::word_at;
-use bridge_signal_state::load_structure;
+use bridge_signal_state::{load_structure, word_at};
 use guest_space::Space;
 use host_mem::HostMem;
 use kernel_core::NoMemory;

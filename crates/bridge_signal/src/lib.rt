@@ -10,13 +10,11 @@ mod named;
 mod numbers;
 mod returning;
 mod sending;
-mod sets;
 mod setting;
 mod stacks;
 mod storing;
 mod structures;
 mod suspending;
 mod telling;
-mod words;
 
 pub use call::signal_call;

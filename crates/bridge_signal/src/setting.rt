@@ -1,23 +1,18 @@
 //! New actions in host memory, and the native call that sets them.
-ghost use Rattle.std.specs.Prelude.{◌≡◌, ◌∷◌, ◌<◌, ◌^◌, [], ℕ, List, All, OnOk, false, map, pos};
-ghost use Rattle.bridge_signal_state.specs.Passed.{AreUnusedZero, IsPlaced, Proceeds, built_call};
+ghost use Rattle.std.specs.Prelude.{◌≡◌, ◌∷◌, ◌<◌, OnOk, false, map, pos};
+ghost use Rattle.bridge_signal_state.specs.Passed.{Proceeds};
 ghost use Rattle.bridge_signal.specs.inside.Asked.{action_set_to};
 ghost use Rattle.bridge_signal_state.specs.Acts.{Acts};
-ghost use Rattle.bridge_signal_state.specs.inside.Acting.{Answers, IsAct};
-ghost use Rattle.kernel_core.specs.declared.reply.Reply.{Reply};
-ghost use Rattle.kernel_model.specs.Always.{IsSet};
 ghost use Rattle.kernel_model.specs.SignalRows.{is_unblockable};
-ghost use Rattle.kernel_model.specs.State.{Kernel};
 ghost use Rattle.native_calls.specs.SignalBytes as spec;
-ghost use Rattle.native_calls.specs.Table.{native_call};
 ghost use Rattle.number_tables.specs.SaNumbers.{native_sa};
 ghost use Rattle.outside.specs.Streams.{contents};
 ghost use Rattle.signal_sets.specs.NativeSets.{native_of};
 
 use crate::numbers::SIGSETSIZE;
-use bridge_signal_state::Below;
+use bridge_signal_state::{Below, act, is_set};
 use host_mem::{FIRST_ADDRESS, HostMem};
-use kernel_core::{NoMemory, Reply, Sig, Stop};
+use kernel_core::{NoMemory, Sig, Stop};
 use kernel_model::Action;
 use layouts::{NativeStructure, native_layout, put_record};
 use native_numbers::RT_SIGACTION;
@@ -45,44 +40,6 @@ pub(crate) fn set_action<I: Source, O: Sink, E: Sink>(
     let args = [sig.to_native(), FIRST_ADDRESS, 0, SIGSETSIZE, 0, 0];
     act(RT_SIGACTION, args, dev, below)?;
     Ok(())
-}
-
-/// A set has four words of 32 bits: it does nothing, and tells its caller this.
-fn is_set(set: [u32; 4])
-    ensures { IsSet set }
-{
-    words_fit(&set);
-}
-
-fn words_fit(set: &[u32; 4])
-    ensures { All (λ word. word < 2 ^ 32) set.now }
-{
-    for word in set {
-        fits(*word);
-    }
-}
-
-fn fits(word: u32)
-    ensures { word < 2 ^ 32 }
-{}
-
-/// Makes a native call that takes and sends nothing.
-fn act<I: Source, O: Sink, E: Sink>(
-    nr: u64,
-    args: [u64; 6],
-    dev: &mut Devices<I, O, E>,
-    below: &mut Below,
-) -> Result<Reply, Stop>
-    requires built { built_call nr ≡ native_call nr }
-    requires unused { AreUnusedZero nr args }
-    requires placed { IsPlaced nr below.old.memory.now }
-    ensures acts { (to : Kernel) (reply : Reply) (memory : List ℕ)
-        → ((left : List ℕ) → IsAct to reply memory left (native_call nr args below.old.kernel.now below.old.memory.now left))
-        → Acts (Answers to reply memory below.new.memory.now) result below.old.kernel.now below.new.kernel.now
-        (contents I.left O.written E.written dev.old) (contents I.left O.written E.written dev.new) below.old.log.now below.new.log.now }
-    ensures proceeds { Proceeds I.faults O.faults E.faults result below.old below.new dev.old dev.new }
-{
-    below.native(nr, args, dev)
 }
 
 /// Makes host memory of an action.

@@ -7,8 +7,7 @@ ghost use Rattle.o32_model.specs.Actions as actions;
 ghost use Rattle.o32_model.specs.GuestBytes.{read_as, structure};
 ghost use Rattle.o32_model.specs.Masks as masks;
 
-use crate::words::word_at;
-use bridge_signal_state::load_structure;
+use bridge_signal_state::{load_structure, word_at};
 use byteorder::{BigEndian, ByteOrder};
 use guest_space::Space;
 use kernel_core::Errno;
@@ -21,29 +20,6 @@ const SET_SIZE: usize = 16;
 const ACTION_SIZE: usize = 24;
 
 const STACK_SIZE: usize = 12;
-
-/// The set in the program's memory, or EFAULT where it can't be loaded.
-pub(crate) fn set_in_program(space: &Space, address: u32) -> Result<[u32; 4], Errno>
-    ensures { result ≡ masks.set_at space.now address }
-{
-    let mut bytes = [0; SET_SIZE];
-    match load_structure(space, address, &mut bytes) {
-        Err(error) => Err(error),
-        Ok(()) => Ok(set_in(&bytes)),
-    }
-}
-
-fn set_in(bytes: &[u8]) -> [u32; 4]
-    requires { length bytes.now ≡ 16 }
-    ensures { result ≡ masks.set_in bytes.now }
-{
-    [
-        word_at(bytes, 0),
-        word_at(bytes, 4),
-        word_at(bytes, 8),
-        word_at(bytes, 12),
-    ]
-}
 
 /// The bytes of a set.
 pub(crate) fn set_bytes(set: [u32; 4]) -> [u8; SET_SIZE]

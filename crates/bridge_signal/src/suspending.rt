@@ -11,8 +11,7 @@ ghost use Rattle.outside.specs.Streams.{contents};
 
 use crate::asked::asked_mask;
 use crate::numbers::SIGSETSIZE;
-use crate::sets::put_set;
-use bridge_signal_state::{Below, mask, outcome_of, set_mask};
+use bridge_signal_state::{Below, mask, outcome_of, put_set, set_mask};
 use guest_space::Space;
 use host_mem::FIRST_ADDRESS;
 use kernel_core::{Errno, Stop};

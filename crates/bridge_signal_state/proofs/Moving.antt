@@ -17,7 +17,7 @@ use Rattle.bridge_log.proofs.Looking.{looked}
 use Rattle.bridge_log.specs.Keeping.{Logged, Keeps, reached}
 use Rattle.bridge_log.specs.Looks.{Unmoved, Looked}
 use Rattle.bridge_signal_state.specs.Acts.{Moves, Acted}
-use Rattle.bridge_signal_state.specs.inside.Acting.{Answers, IsAct}
+use Rattle.bridge_signal_state.specs.Acting.{Answers, IsAct}
 
 -- One native call
 

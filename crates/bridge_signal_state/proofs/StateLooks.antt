@@ -39,7 +39,7 @@ use Rattle.bridge_log.specs.Looks.{IsLook}
 use Rattle.bridge_signal_state.proofs.OneSignal.{no_bit}
 use Rattle.bridge_signal_state.proofs.Rooms.{length-set_bytes, own_bytes, set_back, stack_back}
 use Rattle.bridge_signal_state.specs.Setting.{is_done, stack_set}
-use Rattle.bridge_signal_state.specs.inside.Acting.{IsAct}
+use Rattle.bridge_signal_state.specs.Acting.{IsAct}
 use Rattle.bridge_signal_state.specs.inside.Shown.{is_fine}
 
 -- Looks. Whether there is room is not asked: what was put there is.

@@ -37,7 +37,7 @@ use Rattle.signal_sets.proofs.Turned.{IsNativeSet-native_of}
 use Rattle.signal_sets.specs.NativeSets.{native_of}
 use Rattle.bridge_signal_state.proofs.OneSignal.{only_is_set, pending_first, pending_none}
 use Rattle.bridge_signal_state.proofs.Rooms.{native_words, set_back, two, words_bytes}
-use Rattle.bridge_signal_state.specs.inside.Acting.{IsAct}
+use Rattle.bridge_signal_state.specs.Acting.{IsAct}
 use Rattle.bridge_signal_state.specs.inside.Shown.{found_in, info_in, info_of, info_shown, info_with, taking_room}
 
 -- What host memory holds before the call

@@ -3,7 +3,7 @@ ghost use Rattle.std.specs.Prelude.{◌≡◌, ℕ, List};
 ghost use Rattle.bridge_log.specs.Proceeding.{Proceeds};
 ghost use Rattle.bridge_log.specs.Arguments.{AreUnusedZero, IsPlaced};
 ghost use Rattle.bridge_signal_state.specs.Acts.{Acts};
-ghost use Rattle.bridge_signal_state.specs.inside.Acting.{Answers, IsAct};
+ghost use Rattle.bridge_signal_state.specs.Acting.{Answers, IsAct};
 ghost use Rattle.kernel_core.specs.declared.reply.Reply.{Reply};
 ghost use Rattle.kernel_model.specs.State.{Kernel};
 ghost use Rattle.native_calls.specs.Table.{native_call};
@@ -15,7 +15,7 @@ use kernel_core::{Reply, Stop};
 use outside::{Devices, Sink, Source};
 
 /// Makes a native call that takes and sends nothing, and keeps it as one entry.
-pub(crate) fn act<I: Source, O: Sink, E: Sink>(
+pub fn act<I: Source, O: Sink, E: Sink>(
     nr: u64,
     args: [u64; 6],
     dev: &mut Devices<I, O, E>,

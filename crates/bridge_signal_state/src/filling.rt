@@ -1,5 +1,5 @@
 //! Structures that a native call is handed, in host memory (Linux `include/uapi/asm-generic/signal.h`).
-ghost use Rattle.std.specs.Prelude.{◌≡◌, ◌∷◌, [], OnOk, false, length, map, pos};
+ghost use Rattle.std.specs.Prelude.{◌≡◌, [], OnOk, false, length};
 ghost use Rattle.std.specs.List.{flat_map};
 ghost use Rattle.layouts.specs.Number.{bytes_of};
 ghost use Rattle.bridge_signal_state.specs.inside.Shown.{taking_room};
@@ -18,8 +18,8 @@ use signal_sets::to_native;
 /// time 16.
 const TAKING_ZEROS: u32 = 144;
 
-/// Makes host memory of a set of signals.
-pub(crate) fn put_set(set: [u32; 4], mem: &mut HostMem) -> Result<(), NoMemory>
+/// Makes host memory of a set of signals: two numbers of 8 bytes.
+pub fn put_set(set: [u32; 4], mem: &mut HostMem) -> Result<(), NoMemory>
     ensures { OnOk result (mem.new ≡ set_bytes set) }
 {
     mem.clear();

@@ -5,6 +5,7 @@ mod acting;
 mod filling;
 mod numbers;
 mod places;
+mod program_sets;
 mod reading;
 mod setting;
 mod showing;
@@ -12,9 +13,13 @@ mod taking;
 mod words;
 
 pub use bridge_log::{
-    Below, NativeKernel, load_structure, outcome_of, put, six_words, store, store_unless_null,
-    wrote,
+    Below, NativeKernel, load_structure, outcome_of, put, signed_word_at, six_words, store,
+    store_unless_null, word_at, wrote,
 };
+pub use acting::act;
+pub use filling::put_set;
+pub use program_sets::set_in_program;
 pub use reading::{action, mask, pending, stack};
 pub use setting::{set_default, set_mask, set_stack};
 pub use taking::take;
+pub use words::is_set;

@@ -6,7 +6,7 @@ ghost use Rattle.native_signal.specs.Fitting.{IsNumberedStack};
 use kernel_model::SigStack;
 
 /// A set has four words of 32 bits: it does nothing, and tells its caller this.
-pub(crate) fn is_set(set: [u32; 4])
+pub fn is_set(set: [u32; 4])
     ensures { IsSet set }
 {
     words_fit(&set);

@@ -1,14 +1,12 @@
 //! Settings of the timer that the native kernel is given: a period and then a value, each seconds and microseconds
 //! of 64 bits (struct itimerval of setitimer(2)).
-ghost use Rattle.std.specs.Prelude.{◌≡◌, ◌+◌, ◌≤◌, [], Ok, Some, IfOk, pos, true, drop, length};
-ghost use Rattle.layouts.specs.Number.{unsigned, value_of};
+ghost use Rattle.std.specs.Prelude.{◌≡◌, [], Ok, Some, IfOk, pos, length};
 ghost use Rattle.native_calls.specs.Clocks as native;
 ghost use Rattle.native_calls.specs.HostBytes.{unless_null};
 ghost use Rattle.o32_model.specs.Sleeps as o32;
 
 use crate::shown::PROGRAM_SIZE;
-use bridge_log::load_structure;
-use byteorder::{BigEndian, ByteOrder};
+use bridge_log::{load_structure, signed_word_at};
 use guest_space::Space;
 use host_mem::HostMem;
 use kernel_core::NoMemory;
@@ -52,30 +50,11 @@ fn push_read(bytes: &[u8], mem: &mut HostMem) -> Result<u64, NoMemory>
     requires whole { length bytes.now ≡ 16 }
     ensures { IfOk result (λ place. unless_null place (native.setting_at mem.new place) ≡ Some (Ok (o32.setting_in bytes.now))) }
 {
-    let period_seconds = word_at(bytes, 0);
-    let period_part = word_at(bytes, 4);
-    let value_seconds = word_at(bytes, 8);
-    let value_part = word_at(bytes, 12);
+    let period_seconds = signed_word_at(bytes, 0);
+    let period_part = signed_word_at(bytes, 4);
+    let value_seconds = signed_word_at(bytes, 8);
+    let value_part = signed_word_at(bytes, 12);
     push_setting(period_seconds, period_part, value_seconds, value_part, mem)
-}
-
-/// A number of four bytes, the first counting most, that may be below 0.
-fn word_at(bytes: &[u8], place: usize) -> i64
-    requires { place + 4 ≤ length bytes.now }
-    ensures { result ≡ value_of true 4 (unsigned true 4 (drop place bytes.now)) }
-{
-    signed(BigEndian::read_u32(&bytes[place..]))
-}
-
-/// What 32 bits are as a number that may be below 0.
-fn signed(word: u32) -> i64
-    ensures { result ≡ value_of true 4 word }
-{
-    if word < 0x8000_0000 {
-        i64::from(word)
-    } else {
-        i64::from(word) - 0x1_0000_0000
-    }
 }
 
 /// Puts a setting, of which each part is microseconds, into empty host memory, and gives its place there.

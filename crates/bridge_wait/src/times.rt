@@ -1,12 +1,10 @@
 //! Times that the native kernel is given: seconds and nanoseconds, each of 64 bits.
-ghost use Rattle.std.specs.Prelude.{◌≡◌, ◌+◌, ◌≤◌, [], Ok, IfOk, true, drop, length};
-ghost use Rattle.layouts.specs.Number.{unsigned, value_of};
+ghost use Rattle.std.specs.Prelude.{◌≡◌, [], Ok, IfOk, length};
 ghost use Rattle.native_calls.specs.Times.{time_at, time_in};
 ghost use Rattle.o32_model.specs.Times.{spec_at, spec_in};
 
 use crate::clock_times::PROGRAM_SIZE;
-use bridge_log::load_structure;
-use byteorder::{BigEndian, ByteOrder};
+use bridge_log::{load_structure, signed_word_at};
 use guest_space::Space;
 use host_mem::HostMem;
 use kernel_core::NoMemory;
@@ -33,28 +31,9 @@ fn push_read(bytes: &[u8], mem: &mut HostMem) -> Result<u64, NoMemory>
     requires whole { length bytes.now ≡ 8 }
     ensures { IfOk result (λ place. time_at mem.new place ≡ Ok (spec_in bytes.now)) }
 {
-    let seconds = word_at(bytes, 0);
-    let nanoseconds = word_at(bytes, 4);
+    let seconds = signed_word_at(bytes, 0);
+    let nanoseconds = signed_word_at(bytes, 4);
     push_time(seconds, nanoseconds, mem)
-}
-
-/// A number of four bytes, the first counting most, that may be below 0.
-fn word_at(bytes: &[u8], place: usize) -> i64
-    requires { place + 4 ≤ length bytes.now }
-    ensures { result ≡ value_of true 4 (unsigned true 4 (drop place bytes.now)) }
-{
-    signed(BigEndian::read_u32(&bytes[place..]))
-}
-
-/// What 32 bits are as a number that may be below 0.
-fn signed(word: u32) -> i64
-    ensures { result ≡ value_of true 4 word }
-{
-    if word < 0x8000_0000 {
-        i64::from(word)
-    } else {
-        i64::from(word) - 0x1_0000_0000
-    }
 }
 
 /// Puts a time into empty host memory, and gives its place there.

@@ -1,4 +1,7 @@
 //! What the words of scripts, of programs and of trees stand for.
+use script_words::named;
+
+pub use script_words::number_of;
 
 /// Names, each with its number behind it: registers (MIPS32 Architecture for Programmers, Volume I, by their o32 names), with the
 /// hardware register `$29` and the condition `$fcc0`; calls (Linux `arch/mips/include/uapi/asm/unistd.h`, the o32 table); errors (Linux
@@ -40,55 +43,6 @@ pub(crate) const PATHS: &str = "
 /// The page where a program's data begin.
 pub(crate) const DATA: u32 = 0x41_0000;
 
-/// What a digit stands for, up to 15.
-pub(crate) fn digit(byte: u8) -> Option<u8> {
-    match byte {
-        b'0'..=b'9' => Some(byte - b'0'),
-        b'a'..=b'f' => Some(byte - b'a' + 10),
-        b'A'..=b'F' => Some(byte - b'A' + 10),
-        _ => None,
-    }
-}
-
-/// A number in digits of a radix.
-fn of_digits(digits: &str, radix: u64) -> Option<u64> {
-    if digits.is_empty() {
-        return None;
-    }
-    let mut number: u64 = 0;
-    for byte in digits.as_bytes() {
-        let next = u64::from(digit(*byte)?);
-        if next >= radix {
-            return None;
-        }
-        number = number.checked_mul(radix)?.checked_add(next)?;
-    }
-    Some(number)
-}
-
-/// A number in decimal digits, in hexadecimal ones behind `0x`, or in octal ones behind `0o`.
-pub fn number_of(word: &str) -> Option<u64> {
-    if let Some(digits) = word.strip_prefix("0x") {
-        return of_digits(digits, 16);
-    }
-    if let Some(digits) = word.strip_prefix("0o") {
-        return of_digits(digits, 8);
-    }
-    of_digits(word, 10)
-}
-
-/// The number of a name.
-fn named(word: &str) -> Option<u64> {
-    let mut is_next = false;
-    for item in NAMES.split_whitespace() {
-        if is_next {
-            return number_of(item);
-        }
-        is_next = item == word;
-    }
-    None
-}
-
 /// The address of a path.
 fn address_of(path: &str) -> Option<u32> {
     let mut address = DATA;
@@ -111,7 +65,7 @@ pub fn value(word: &str) -> Option<u32> {
     }
     let number = match number_of(word) {
         Some(number) => number,
-        None => named(word)?,
+        None => named(NAMES, word)?,
     };
     u32::try_from(number).ok()
 }

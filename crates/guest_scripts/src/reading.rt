@@ -1,60 +1,15 @@
 //! The lines of a script, their words and their texts.
-use crate::numbers::{digit, number_of};
+use script_words::digit;
 use std::alloc::Global;
 use std::test::Fail;
+
+pub use script_words::Words;
 
 /// The first word of a line, and what stands behind it.
 pub fn parts(line: &str) -> (&str, &str) {
     match line.split_once(' ') {
         Some((word, rest)) => (word, rest.trim()),
         None => (line, ""),
-    }
-}
-
-/// The words of a line that are left.
-#[derive(Drop)]
-pub struct Words<'a> {
-    words: &'a [&'a str],
-    place: usize,
-}
-
-impl<'a> Words<'a> {
-    /// All of these words.
-    pub fn new(words: &'a [&'a str]) -> Words<'a> {
-        Words { words, place: 0 }
-    }
-
-    /// The next word.
-    pub fn next(&mut self) -> Result<&'a str, Fail> {
-        let word = *self.words.get(self.place).ok_or("a word is missing")?;
-        self.place = self.place.saturating_add(1);
-        Ok(word)
-    }
-
-    /// The number that it stands for.
-    pub fn number(&mut self) -> Result<u64, Fail> {
-        let word = self.next()?;
-        Ok(number_of(word).ok_or("no number")?)
-    }
-
-    /// The place that it stands for.
-    pub fn place(&mut self) -> Result<usize, Fail> {
-        let number = self.number()?;
-        Ok(usize::try_from(number).ok().ok_or("no place")?)
-    }
-
-    /// The byte that it stands for.
-    pub fn byte(&mut self) -> Result<u8, Fail> {
-        let number = self.number()?;
-        Ok(u8::try_from(number).ok().ok_or("no byte")?)
-    }
-
-    /// That no word is left.
-    pub fn end(&self) -> Result<(), Fail> {
-        if self.place < self.words.len() {
-            return Err(Fail::from("a word too many"));
-        }
-        Ok(())
     }
 }
 

@@ -10,7 +10,7 @@
 use kernel_model::{TerminalSettings, Winsize};
 use native_files::{CoreError, Errno, Files, PipeFlags};
 use native_scripts::trees::{EMPTY_TREE, tree_of};
-use native_scripts::words::{Words, words_of};
+use native_scripts::Words;
 use std::alloc::Global;
 use std::test::Fail;
 
@@ -282,7 +282,7 @@ fn first_wrong(alloc: Global, files: &mut Files, text: &str) -> Result<Option<us
     let mut place: usize = 0;
     for line in text.lines() {
         let words: Vec<&str> = line.split_whitespace().collect(alloc)?;
-        if !words.is_empty() && !is_right(files, &mut words_of(words.as_slice()))? {
+        if !words.is_empty() && !is_right(files, &mut Words::new(words.as_slice()))? {
             return Ok(Some(place));
         }
         place = place.saturating_add(1);

@@ -6,4 +6,6 @@ pub mod memory;
 mod numbers;
 pub mod rows;
 pub mod trees;
-pub mod words;
+
+// Passed on: the scripts' lines are read by it.
+pub use script_words::Words;

@@ -13,7 +13,7 @@ use kernel_core::{RealTime, Sig};
 use native_kernel::Post;
 use native_scripts::memory::Memory;
 use native_scripts::rows::{Call, read_call};
-use native_scripts::words::{Words, words_of};
+use native_scripts::Words;
 use std::alloc::Global;
 use std::test::Fail;
 
@@ -143,7 +143,7 @@ fn read_many(alloc: Global, name: &str, rest: &[&str]) -> Result<Option<Step>, F
 
 fn many_calls(alloc: Global, words: &[&str]) -> Result<(u64, Call), Fail> {
     let (first, call) = words.split_first().ok_or("no count")?;
-    let most = words_of(&[*first]).number()?;
+    let most = Words::new(&[*first]).number()?;
     Ok((most, read_call(alloc, call)?))
 }
 
@@ -157,7 +157,7 @@ fn read_words(alloc: Global, words: &[&str]) -> Result<Step, Fail> {
     if let Some(step) = read_many(alloc, name, rest)? {
         return Ok(step);
     }
-    let mut left = words_of(rest);
+    let mut left = Words::new(rest);
     match read_event(name, &mut left)? {
         Some(step) if left.is_over() => Ok(step),
         Some(_) => Err(Fail::from("a word too many")),

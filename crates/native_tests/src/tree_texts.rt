@@ -7,7 +7,7 @@
 //!     7 0o777 100 link d/b                 a link with its target
 use kernel_core::{Block, DirEntry, Kind, Node, Tree};
 use native_scripts::memory::character;
-use native_scripts::words::{Words, words_of};
+use native_scripts::Words;
 use std::alloc::Global;
 use std::test::Fail;
 
@@ -107,7 +107,7 @@ pub(crate) fn is_tree(alloc: Global, tree: &Tree, text: &str) -> Result<bool, Fa
             continue;
         }
         let node = nodes.get(place).ok_or("a node is missing")?;
-        if !is_node(node, &mut words_of(words.as_slice()))? {
+        if !is_node(node, &mut Words::new(words.as_slice()))? {
             return Ok(false);
         }
         place = place.saturating_add(1);

@@ -4,7 +4,7 @@ use Rattle.native_calls.specs.SignalBytes.{action_bytes}
 use Rattle.native_calls.specs.Step.{value}
 use Rattle.native_calls.specs.Table.{native_call}
 use Rattle.bridge_signal_state.proofs.Moving.{acted_stop}
-use Rattle.bridge_signal_state.specs.inside.Acting.{IsAct}
+use Rattle.bridge_signal_state.specs.Acting.{IsAct}
 use Rattle.bridge_signal.proofs.NewActions.{set_act}
 use Rattle.bridge_signal.specs.inside.Asked.{action_set_to}
 use Rattle.bridge_signal.proofs.setting.set_action.Goals as goal

@@ -5,7 +5,7 @@ use Rattle.kernel_model.specs.SignalRows.{after_action, no_action, with_signals}
 use Rattle.native_calls.specs.Step.{value}
 use Rattle.bridge_signal_state.proofs.StateLooks.{default_act}
 use Rattle.bridge_signal_state.proofs.Moving.{acted_stop}
-use Rattle.bridge_signal_state.specs.inside.Acting.{IsAct}
+use Rattle.bridge_signal_state.specs.Acting.{IsAct}
 use Rattle.bridge_signal_state.proofs.setting.set_default.Goals as goal
 
 pub returns-clause-acts : goal.returns-clause-acts

@@ -6,7 +6,7 @@ use Rattle.native_calls.specs.SignalBytes.{set_bytes}
 use Rattle.native_calls.specs.Step.{value}
 use Rattle.bridge_signal_state.proofs.StateLooks.{mask_act}
 use Rattle.bridge_signal_state.proofs.Moving.{acted_stop}
-use Rattle.bridge_signal_state.specs.inside.Acting.{IsAct}
+use Rattle.bridge_signal_state.specs.Acting.{IsAct}
 use Rattle.bridge_signal_state.proofs.setting.set_mask.Goals as goal
 
 pub returns-clause-acts : goal.returns-clause-acts

@@ -6,7 +6,7 @@ use Rattle.bridge_signal_state.proofs.StateLooks.{reply_of, stack_act, stack_fin
 use Rattle.bridge_signal_state.specs.Setting.{stack_set}
 use Rattle.bridge_signal_state.specs.inside.Shown.{is_fine}
 use Rattle.bridge_signal_state.proofs.Moving.{acted_stop}
-use Rattle.bridge_signal_state.specs.inside.Acting.{IsAct}
+use Rattle.bridge_signal_state.specs.Acting.{IsAct}
 use Rattle.bridge_signal_state.proofs.setting.set_stack.Goals as goal
 
 pub returns-clause-acts : goal.returns-clause-acts

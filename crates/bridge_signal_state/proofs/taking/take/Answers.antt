@@ -5,7 +5,7 @@ use Rattle.kernel_model.specs.SignalRows.{pending_at}
 use Rattle.bridge_signal_state.proofs.TakeLooks.{take_act, taken, taken_memory, taken_reply, taken_state, taken_told}
 use Rattle.bridge_signal_state.specs.inside.Shown.{info_shown, taking_room}
 use Rattle.bridge_signal_state.proofs.Moving.{acted_stop}
-use Rattle.bridge_signal_state.specs.inside.Acting.{IsAct}
+use Rattle.bridge_signal_state.specs.Acting.{IsAct}
 use Rattle.bridge_signal_state.proofs.taking.take.Goals as goal
 
 pub returns-clause-acts : goal.returns-clause-acts

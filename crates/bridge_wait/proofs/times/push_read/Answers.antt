@@ -10,9 +10,9 @@ use Rattle.bridge_wait.proofs.times.push_read.Goals as goal
 
 pub returns : goal.returns
 returns c =
-    let first : to_z w64 (of_z w64 c.word_at-seconds.result) ≡ c.word_at-seconds.result = omega (arith, ints) in
-    let second : to_z w64 (of_z w64 c.word_at-nanoseconds.result) ≡ c.word_at-nanoseconds.result = omega (arith, ints) in
+    let first : to_z w64 (of_z w64 c.signed_word_at-seconds.result) ≡ c.signed_word_at-seconds.result = omega (arith, ints) in
+    let second : to_z w64 (of_z w64 c.signed_word_at-nanoseconds.result) ≡ c.signed_word_at-nanoseconds.result = omega (arith, ints) in
     subst (λ (t : TimeSpec). IfOk c.push_time.result (λ place. time_at c.push_time.new.mem place ≡ Ok t))
-    (ap (λ (z : ℤ). told z (to_z w64 (of_z w64 c.word_at-nanoseconds.result))) (first ∙ c.word_at-seconds.ensures)
-    ∙ ap (λ (z : ℤ). told (spec_in c.args.bytes.now).seconds z) (second ∙ c.word_at-nanoseconds.ensures))
+    (ap (λ (z : ℤ). told z (to_z w64 (of_z w64 c.signed_word_at-nanoseconds.result))) (first ∙ c.signed_word_at-seconds.ensures)
+    ∙ ap (λ (z : ℤ). told (spec_in c.args.bytes.now).seconds z) (second ∙ c.signed_word_at-nanoseconds.ensures))
     c.push_time.ensures
