@@ -12,11 +12,11 @@ mod showing;
 mod taking;
 mod words;
 
+pub use acting::act;
 pub use bridge_log::{
     Below, NativeKernel, load_structure, outcome_of, put, signed_word_at, six_words, store,
     store_unless_null, word_at, wrote,
 };
-pub use acting::act;
 pub use filling::put_set;
 pub use program_sets::set_in_program;
 pub use reading::{action, mask, pending, stack};

@@ -1,6 +1,5 @@
 //! What the words of scripts, of programs and of trees stand for.
 use script_words::named;
-
 pub use script_words::number_of;
 
 /// Names, each with its number behind it: registers (MIPS32 Architecture for Programmers, Volume I, by their o32 names), with the

@@ -1,9 +1,8 @@
 //! The lines of a script, their words and their texts.
+pub use script_words::Words;
 use script_words::digit;
 use std::alloc::Global;
 use std::test::Fail;
-
-pub use script_words::Words;
 
 /// The first word of a line, and what stands behind it.
 pub fn parts(line: &str) -> (&str, &str) {

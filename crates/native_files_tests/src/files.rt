@@ -9,8 +9,8 @@
 
 use kernel_model::{TerminalSettings, Winsize};
 use native_files::{CoreError, Errno, Files, PipeFlags};
-use native_scripts::trees::{EMPTY_TREE, tree_of};
 use native_scripts::Words;
+use native_scripts::trees::{EMPTY_TREE, tree_of};
 use std::alloc::Global;
 use std::test::Fail;
 

@@ -11,9 +11,9 @@
 //!     blocks 9 pwrite64 3 = 9     the same, where each writes one byte to another block of an open file
 use kernel_core::{RealTime, Sig};
 use native_kernel::Post;
+use native_scripts::Words;
 use native_scripts::memory::Memory;
 use native_scripts::rows::{Call, read_call};
-use native_scripts::Words;
 use std::alloc::Global;
 use std::test::Fail;
 

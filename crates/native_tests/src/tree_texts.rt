@@ -6,8 +6,8 @@
 //!                                          others are 0; `_` stands for a space
 //!     7 0o777 100 link d/b                 a link with its target
 use kernel_core::{Block, DirEntry, Kind, Node, Tree};
-use native_scripts::memory::character;
 use native_scripts::Words;
+use native_scripts::memory::character;
 use std::alloc::Global;
 use std::test::Fail;
 
