@@ -9,4 +9,4 @@ use Rattle.bridge_signal.proofs.storing.store_stack_unless_null.Goals as goal
 pub returns-in-Ok-clause-ends : goal.returns-in-Ok-clause-ends
 returns-in-Ok-clause-ends c =
     subst (λ (t : Given SigStack). IfOk c.store_unless_null.result (λ outcome. stores_told_unless_null actions.stack_bytes c.args.space.now c.args.address t ≡ ending outcome c.store_unless_null.new.space)) (sym c.in-Ok.is)
-    (subst (λ (b : List ℕ). IfOk c.store_unless_null.result (λ outcome. stores_unless_null c.args.space.now c.args.address b ≡ ending outcome c.store_unless_null.new.space)) c.stack_bytes.ensures c.store_unless_null.ensures.ends)
+    (subst (λ (b : List ℕ). IfOk c.store_unless_null.result (λ outcome. stores_unless_null c.args.space.now c.args.address b 0 ≡ ending outcome c.store_unless_null.new.space)) c.stack_bytes.ensures c.store_unless_null.ensures.ends)
